@@ -1,0 +1,23 @@
+//! Plain types that every part of the cluster speaks of, and the traits through which it meets the outside.
+//!
+//! It stands at the bottom of the path: `lard_app::run` reads a `Source`, makes an `Event` of each line,
+//! and writes to a `Sink`; all that lies between names connections, nodes and bytes by the types of this crate.
+#![tactic(auto)]
+
+pub mod bytes;
+pub mod config;
+pub mod errors;
+pub mod event;
+pub mod ids;
+pub mod items;
+pub mod parts;
+pub mod place;
+
+pub use bytes::{Bytes, Path};
+pub use config::{Config, ConfigFault, Key};
+pub use errors::{Failed, NoMemory};
+pub use event::Event;
+pub use ids::{ConnId, Epoch, Millis, NodeId};
+pub use items::{Calls, Events, Items, Nodes, Paths, Sends};
+pub use parts::EndpointParts;
+pub use place::{Place, Reason, TimerKind, Via};

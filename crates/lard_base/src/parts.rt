@@ -1,0 +1,30 @@
+//! A connection's endpoint, taken apart for its way to another place.
+
+use crate::bytes::Bytes;
+
+/// The numbers and bytes from which an endpoint goes on elsewhere.
+#[derive(Debug, Drop)]
+pub struct EndpointParts {
+    /// The client's initial sequence number.
+    pub irs: u32,
+    /// The cluster's initial sequence number.
+    pub iss: u32,
+    /// The client's bytes received in order, the unread ones among them; at most 2^30.
+    pub got: u32,
+    /// The client's FIN was taken.
+    pub fin: bool,
+    /// The sequence numbers of the send side that are acknowledged, the SYN among them; 1 to 2^30 + 1.
+    pub una: u32,
+    /// The client's window.
+    pub wnd: u16,
+    /// The sequence number of the segment that last changed the window.
+    pub wl1: u32,
+    /// The acknowledgement number of that segment.
+    pub wl2: u32,
+    /// The client's maximum segment size, 1 to 1,460.
+    pub mss: u16,
+    /// The responses that were queued before; at most `got` less the unread bytes.
+    pub served: u32,
+    /// The received bytes that no request was read from yet; at most 16,384, and no more than `got`.
+    pub unread: Bytes,
+}
