@@ -1,0 +1,62 @@
+-- The exit codes of the program, and what it says of a status.
+use Rattle.std.specs.Prelude.{ℕ, List, [], ◌++◌, codes, decimal}
+use Rattle.lard_base.specs.Spelling.{key_word}
+use Rattle.lard_app.specs.declared.status.Form.{Form}
+use Rattle.lard_app.specs.declared.status.Form.TheVariants.{File, Fill, Open, Get, Write, Shut, Abort, Hold, Take, Deliver, Lose, Timer, Disk, Clock, Settle, Inject, Key}
+use Rattle.lard_app.specs.declared.status.Why.{Why}
+use Rattle.lard_app.specs.declared.status.Why.TheVariants.{Syntax, NotSent, FormNotBuilt}
+use Rattle.lard_app.specs.declared.status.What.{What}
+use Rattle.lard_app.specs.declared.status.What.TheVariants.{Input}
+use Rattle.lard_app.specs.declared.status.Status.{Status}
+use Rattle.lard_app.specs.declared.status.Status.TheVariants.{Done, Usage, Refused, ReadFault, WriteFault, NoMemory, Limit}
+
+abbrev pub code_of : Status → ℕ
+code_of Done = 0
+code_of Usage = 1
+code_of (Refused line why) = 2
+code_of ReadFault = 3
+code_of WriteFault = 4
+code_of NoMemory = 5
+code_of (Limit line what) = 6
+
+-- the first word of a form's lines
+abbrev pub form_word : Form → List ℕ
+form_word File = codes "file"
+form_word Fill = codes "fill"
+form_word Open = codes "open"
+form_word Get = codes "get"
+form_word Write = codes "write"
+form_word Shut = codes "shut"
+form_word Abort = codes "abort"
+form_word Hold = codes "hold"
+form_word Take = codes "take"
+form_word Deliver = codes "deliver"
+form_word Lose = codes "lose"
+form_word Timer = codes "timer"
+form_word Disk = codes "disk"
+form_word Clock = codes "clock"
+form_word Settle = codes "settle"
+form_word Inject = codes "inject"
+form_word (Key key) = key_word key
+
+-- the line's number, before what is wrong with it
+abbrev pub line_prefix : ℕ → List ℕ
+line_prefix line = codes "line " ++ decimal line ++ codes ": "
+
+abbrev pub why_text : ℕ → Why → List ℕ
+why_text line Syntax = line_prefix line ++ codes "not a line of the schedule"
+why_text line (NotSent k sent) = line_prefix line ++ codes "packet " ++ decimal k ++ codes " of " ++ decimal sent ++ codes " sent"
+why_text line (FormNotBuilt form) = line_prefix line ++ codes "not built yet: " ++ form_word form
+
+abbrev pub what_word : What → List ℕ
+what_word Input = codes "input"
+
+-- what is printed to standard error, without the line feed
+abbrev pub line_text : Status → List ℕ
+line_text Done = []
+line_text Usage = codes "usage: lardsim replay | generate SEED CLIENTS"
+line_text (Refused line why) = why_text line why
+line_text ReadFault = codes "read fault"
+line_text WriteFault = codes "write fault"
+line_text NoMemory = codes "no memory"
+line_text (Limit line what) = line_prefix line ++ codes "limit " ++ what_word what

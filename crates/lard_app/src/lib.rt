@@ -1,0 +1,10 @@
+//! The top call `run`: it reads a schedule, replays it through the core, and writes the report.
+//!
+//! It stands at the top of the path. `run` reads its words and the input, `lines` makes an event of each
+//! line, `world` does the step (`client`, `front`, `net`), and the step's records go to the sink as lines.
+#![tactic(auto)]
+
+mod lines;
+mod status;
+
+pub use status::{Form, Status, What, Why};

@@ -1,0 +1,207 @@
+//! How a run ends, as a status, an exit code and a line for a person.
+
+ghost use Rattle.std.specs.Prelude.{◌≡◌, ◌++◌, IfOk, OnOk, decimal};
+ghost use Rattle.std.specs.String.{string_bytes};
+ghost use Rattle.lard_app.specs.Status.{code_of, form_word, line_prefix, line_text, why_text};
+
+use itoa::Buffer;
+use lard_base::{Key, NoMemory};
+use std::alloc::Global;
+
+/// The forms of line of a schedule, by their first words. `Key` stands for a configuration line.
+#[derive(Clone, Copy, Debug, PartialEq, Eq)]
+pub enum Form {
+    File,
+    Fill,
+    Open,
+    Get,
+    Write,
+    Shut,
+    Abort,
+    Hold,
+    Take,
+    Deliver,
+    Lose,
+    Timer,
+    Disk,
+    Clock,
+    Settle,
+    Inject,
+    Key(Key),
+}
+
+/// Why a line was refused.
+#[derive(Clone, Copy, Debug, PartialEq, Eq)]
+pub enum Why {
+    /// It is no line of the schedule in its place.
+    Syntax,
+    /// It delivers packet `k` where only `sent` were sent.
+    NotSent { k: u32, sent: u32 },
+    /// It is a line of the schedule whose form, or this use of it, is not built yet.
+    FormNotBuilt(Form),
+}
+
+/// Which limit was reached.
+#[derive(Clone, Copy, Debug, PartialEq, Eq)]
+pub enum What {
+    /// The input has more than 2^26 bytes.
+    Input,
+}
+
+/// How a run ended. Lines are counted from 1.
+#[derive(Clone, Copy, Debug, PartialEq, Eq)]
+pub enum Status {
+    /// The input was read to its end, and the whole report was written.
+    Done,
+    /// The words are no command with its arguments.
+    Usage,
+    /// The line was refused; the report of the steps before it was written.
+    Refused { line: u64, why: Why },
+    /// The input could not be read.
+    ReadFault,
+    /// The report could not be written.
+    WriteFault,
+    /// Memory ran out.
+    NoMemory,
+    /// The line goes past a limit; the report of the steps before it was written.
+    Limit { line: u64, what: What },
+}
+
+impl Form {
+    /// The first word of its lines.
+    pub fn word(self) -> &'static str
+        ensures { result.now ≡ form_word self }
+    {
+        match self {
+            Form::File => "file",
+            Form::Fill => "fill",
+            Form::Open => "open",
+            Form::Get => "get",
+            Form::Write => "write",
+            Form::Shut => "shut",
+            Form::Abort => "abort",
+            Form::Hold => "hold",
+            Form::Take => "take",
+            Form::Deliver => "deliver",
+            Form::Lose => "lose",
+            Form::Timer => "timer",
+            Form::Disk => "disk",
+            Form::Clock => "clock",
+            Form::Settle => "settle",
+            Form::Inject => "inject",
+            Form::Key(key) => key_word(key),
+        }
+    }
+}
+
+fn key_word(key: Key) -> &'static str
+    ensures { result.now ≡ form_word (Form.Key key) }
+{
+    match key {
+        Key::Nodes => "nodes",
+        Key::Low => "low",
+        Key::High => "high",
+        Key::Age => "age",
+        Key::Idle => "idle",
+        Key::Over => "over",
+        Key::Miss => "miss",
+        Key::Cache => "cache",
+        Key::Stream => "stream",
+    }
+}
+
+impl Status {
+    /// The exit status of the program: 0 to 6, in the order of the variants.
+    pub fn code(&self) -> u8
+        ensures { result ≡ code_of self.now }
+    {
+        match self {
+            Status::Done => 0,
+            Status::Usage => 1,
+            Status::Refused { .. } => 2,
+            Status::ReadFault => 3,
+            Status::WriteFault => 4,
+            Status::NoMemory => 5,
+            Status::Limit { .. } => 6,
+        }
+    }
+
+    /// The line that the program prints to standard error, without its line feed; empty for `Done`.
+    pub fn line(&self, alloc: Global) -> Result<String, NoMemory>
+        ensures { IfOk result (λ text. string_bytes text ≡ line_text self.now) }
+    {
+        match self {
+            Status::Done => return owned(alloc, ""),
+            Status::Usage => {
+                return owned(alloc, "usage: lardsim replay | generate SEED CLIENTS");
+            }
+            Status::Refused { line, why } => return refusal(alloc, *line, *why),
+            Status::ReadFault => return owned(alloc, "read fault"),
+            Status::WriteFault => return owned(alloc, "write fault"),
+            Status::NoMemory => return owned(alloc, "no memory"),
+            Status::Limit { line, what } => return limit(alloc, *line, *what),
+        }
+    }
+}
+
+fn owned(alloc: Global, text: &str) -> Result<String, NoMemory>
+    ensures { IfOk result (λ copy. string_bytes copy ≡ text.now) }
+{
+    let copy = String::from_str(alloc, text)?;
+    Ok(copy)
+}
+
+fn refusal(alloc: Global, line: u64, why: Why) -> Result<String, NoMemory>
+    ensures { IfOk result (λ text. string_bytes text ≡ why_text line why) }
+{
+    let mut text = at_line(alloc, line)?;
+    match why {
+        Why::Syntax => {
+            text.push_str("not a line of the schedule")?;
+            return Ok(text);
+        }
+        Why::NotSent { k, sent } => {
+            text.push_str("packet ")?;
+            push_number(&mut text, u64::from(k))?;
+            text.push_str(" of ")?;
+            push_number(&mut text, u64::from(sent))?;
+            text.push_str(" sent")?;
+            return Ok(text);
+        }
+        Why::FormNotBuilt(form) => {
+            text.push_str("not built yet: ")?;
+            text.push_str(form.word())?;
+            return Ok(text);
+        }
+    }
+}
+
+fn limit(alloc: Global, line: u64, what: What) -> Result<String, NoMemory>
+    ensures { IfOk result (λ text. string_bytes text ≡ line_text (Status.Limit line what)) }
+{
+    let mut text = at_line(alloc, line)?;
+    text.push_str("limit ")?;
+    match what {
+        What::Input => {
+            text.push_str("input")?;
+            return Ok(text);
+        }
+    }
+}
+
+fn at_line(alloc: Global, line: u64) -> Result<String, NoMemory>
+    ensures { IfOk result (λ text. string_bytes text ≡ line_prefix line) }
+{
+    let mut text = String::from_str(alloc, "line ")?;
+    push_number(&mut text, line)?;
+    text.push_str(": ")?;
+    Ok(text)
+}
+
+fn push_number(text: &mut String, n: u64) -> Result<(), NoMemory>
+    ensures { OnOk result (string_bytes text.new ≡ string_bytes text.old ++ decimal n) }
+{
+    let mut buffer = Buffer::new();
+    text.push_str(buffer.format(n))?;
+    Ok(())
+}
