@@ -1,0 +1,5 @@
+pub mod Sums
+pub mod OptionSteps
+pub mod InOrder
+pub mod Written
+pub mod Again

@@ -1,0 +1,4 @@
+pub mod Fields
+pub mod Checksum
+pub mod Options
+pub mod Segment

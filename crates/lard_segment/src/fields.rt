@@ -1,0 +1,85 @@
+//! Where the parts of a segment stand in its bytes.
+
+ghost use Rattle.std.specs.Prelude.{◌≡◌, ◌+◌, ◌≤◌, length};
+ghost use Rattle.lard_segment.specs.Fields.{word_at, number_at, flags_of, flag_byte, source_port, target_port};
+
+use crate::segment::{Dir, Flags};
+
+/// The length of a header without options.
+pub const FIXED: usize = 20;
+/// The place of the checksum.
+pub const CHECKSUM: usize = 16;
+/// The port that the cluster listens on.
+pub const CLUSTER_PORT: u16 = 80;
+/// The port that each client opens its connection from.
+pub const CLIENT_PORT: u16 = 40_000;
+
+const FIN: u8 = 1;
+
+const SYN: u8 = 2;
+
+const RST: u8 = 4;
+
+const PSH: u8 = 8;
+
+const ACK: u8 = 16;
+
+/// The word of 16 bits at this place.
+pub fn word(bytes: &[u8], at: usize) -> u16
+    requires { at + 2 ≤ length bytes.now }
+    ensures { result ≡ word_at bytes.now at }
+{
+    u16::from_be_bytes([bytes[at], bytes[at + 1]])
+}
+
+/// The number of 32 bits at this place.
+pub fn number(bytes: &[u8], at: usize) -> u32
+    requires { at + 4 ≤ length bytes.now }
+    ensures { result ≡ number_at bytes.now at }
+{
+    u32::from_be_bytes([bytes[at], bytes[at + 1], bytes[at + 2], bytes[at + 3]])
+}
+
+/// The control bits in their byte. The three that the cluster doesn't speak of are ignored.
+pub fn flags(byte: u8) -> Flags
+    ensures { result ≡ flags_of byte }
+{
+    Flags {
+        syn: byte & SYN != 0,
+        ack: byte & ACK != 0,
+        fin: byte & FIN != 0,
+        rst: byte & RST != 0,
+        psh: byte & PSH != 0,
+    }
+}
+
+/// The byte of these control bits.
+pub fn byte(flags: Flags) -> u8
+    ensures { result ≡ flag_byte flags }
+{
+    u8::from(flags.fin) * FIN
+        + u8::from(flags.syn) * SYN
+        + u8::from(flags.rst) * RST
+        + u8::from(flags.psh) * PSH
+        + u8::from(flags.ack) * ACK
+}
+
+/// The port that a segment of this direction comes from.
+pub fn source(dir: Dir) -> u16
+    ensures { result ≡ source_port dir }
+{
+    match dir {
+        Dir::ToCluster => CLIENT_PORT,
+        Dir::ToClient => CLUSTER_PORT,
+    }
+}
+
+/// The port that a segment of this direction goes to.
+pub fn target(dir: Dir) -> u16
+    ensures { result ≡ target_port dir }
+{
+    match dir {
+        Dir::ToCluster => CLUSTER_PORT,
+        Dir::ToClient => CLIENT_PORT,
+    }
+}

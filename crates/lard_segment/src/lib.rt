@@ -1,0 +1,21 @@
+//! TCP segments: their parts, the one spelling that is written, and what bytes say (RFC 9293, 3.1).
+//!
+//! It stands above `lard_seq` and below the endpoint and the client: what arrives goes through `decode`,
+//! and what is to be sent is an endpoint's `Ready`, filled to a `Segment` and written by `encode`.
+#![tactic(auto)]
+
+pub mod checksum;
+pub mod fault;
+pub mod fields;
+pub mod laws;
+pub mod options;
+pub mod reading;
+pub mod segment;
+#[cfg(test)]
+mod tests;
+pub mod writing;
+
+pub use fault::SegFault;
+pub use reading::decode;
+pub use segment::{Dir, Flags, Ready, Segment};
+pub use writing::encode;

@@ -1,0 +1,88 @@
+//! Writing a segment to its bytes.
+
+ghost use Rattle.std.specs.Prelude.{◌≡◌, ◌+◌, ◌≤◌, ◌++◌, length, take, drop};
+ghost use Rattle.byteorder.specs.Endian.{big_bytes};
+ghost use Rattle.lard_segment.specs.Options.{option_bytes};
+ghost use Rattle.lard_segment.specs.Segment.{said, spelled, fixed_bytes, IsSendable};
+
+use crate::checksum::checksum;
+use crate::fields::{CHECKSUM, FIXED, byte, source, target};
+use crate::options::{MSS, MSS_LEN};
+use crate::segment::{Dir, Segment};
+use byteorder::{BigEndian, ByteOrder};
+use lard_base::ConnId;
+
+/// Writes the one spelling of the segment on connection `c` to the front of `buf`, and answers its length,
+/// at most 1,484.
+pub fn encode(segment: &Segment<'_>, c: ConnId, dir: Dir, buf: &mut [u8]) -> usize
+    requires room { 1520 ≤ length buf.old }
+    requires sendable { IsSendable (said segment.now) }
+    ensures len { result ≡ length (spelled c dir (said segment.now)) }
+    ensures bytes { buf.new ≡ spelled c dir (said segment.now) ++ drop result buf.old }
+{
+    let len = put_rest(buf, segment.mss, segment.payload);
+    put_fixed(buf, segment, dir, len - segment.payload.len());
+    let agreeing = checksum(&buf[..len], c);
+    put_checksum(buf, agreeing);
+    len
+}
+
+/// Writes the options and the data behind the fixed part, and answers where they end.
+fn put_rest(buf: &mut [u8], mss: Option<u16>, payload: &[u8]) -> usize
+    requires { 24 + length payload.now ≤ length buf.old }
+    ensures len { result ≡ 20 + length (option_bytes mss) + length payload.now }
+    ensures bytes { buf.new ≡ take 20 buf.old ++ (option_bytes mss ++ payload.now) ++ drop result buf.old }
+{
+    let rest = &mut buf[FIXED..];
+    let len = put_options(rest, mss);
+    put_payload(rest, len, payload);
+    FIXED + len + payload.len()
+}
+
+/// Writes the options, and answers how many bytes they take.
+fn put_options(buf: &mut [u8], mss: Option<u16>) -> usize
+    requires { 4 ≤ length buf.old }
+    ensures len { result ≡ length (option_bytes mss) }
+    ensures bytes { buf.new ≡ option_bytes mss ++ drop result buf.old }
+{
+    let Some(size) = mss else {
+        return 0;
+    };
+    buf[0] = MSS;
+    buf[1] = MSS_LEN;
+    BigEndian::write_u16(&mut buf[2..], size);
+    4
+}
+
+/// Writes the data at its place.
+fn put_payload(buf: &mut [u8], at: usize, payload: &[u8])
+    requires { at + length payload.now ≤ length buf.old }
+    ensures { buf.new ≡ take at buf.old ++ payload.now ++ drop (at + length payload.now) buf.old }
+{
+    let place = &mut buf[at..at + payload.len()];
+    place.copy_from_slice(payload);
+}
+
+/// Writes the header without its options, where the data begins at `begins`, with checksum 0.
+fn put_fixed(buf: &mut [u8], segment: &Segment<'_>, dir: Dir, begins: usize)
+    requires room { 20 ≤ length buf.old }
+    requires header { begins ≤ 60 }
+    ensures { buf.new ≡ fixed_bytes dir (said segment.now) begins 0 ++ drop 20 buf.old }
+{
+    BigEndian::write_u16(buf, source(dir));
+    BigEndian::write_u16(&mut buf[2..], target(dir));
+    BigEndian::write_u32(&mut buf[4..], segment.seq.0);
+    BigEndian::write_u32(&mut buf[8..], segment.ack.0);
+    buf[12] = (begins / 4 * 16) as u8;
+    buf[13] = byte(segment.flags);
+    BigEndian::write_u16(&mut buf[14..], segment.wnd);
+    BigEndian::write_u32(&mut buf[16..], 0);
+}
+
+/// Writes the checksum to its place.
+fn put_checksum(buf: &mut [u8], checksum: u16)
+    requires { 20 ≤ length buf.old }
+    ensures { buf.new ≡ take 16 buf.old ++ big_bytes 2 checksum ++ drop 18 buf.old }
+{
+    BigEndian::write_u16(&mut buf[CHECKSUM..], checksum);
+}
