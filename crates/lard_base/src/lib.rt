@@ -10,6 +10,8 @@ pub mod errors;
 pub mod event;
 pub mod ids;
 pub mod items;
+pub mod memory;
+pub mod outside;
 pub mod parts;
 pub mod place;
 
@@ -19,5 +21,7 @@ pub use errors::{Failed, NoMemory};
 pub use event::Event;
 pub use ids::{ConnId, Epoch, Millis, NodeId};
 pub use items::{Calls, Events, Items, Nodes, Paths, Sends};
+pub use memory::{MemSink, MemSource};
+pub use outside::{Sink, Source, write_all};
 pub use parts::EndpointParts;
 pub use place::{Place, Reason, TimerKind, Via};
