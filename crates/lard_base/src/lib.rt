@@ -14,6 +14,7 @@ pub mod memory;
 pub mod outside;
 pub mod parts;
 pub mod place;
+pub mod sure;
 
 pub use bytes::{Bytes, Path};
 pub use config::{Config, ConfigFault, Key};
@@ -25,3 +26,4 @@ pub use memory::{MemSink, MemSource};
 pub use outside::{Sink, Source, write_all};
 pub use parts::EndpointParts;
 pub use place::{Place, Reason, TimerKind, Via};
+pub use sure::{SureSink, SureSource};

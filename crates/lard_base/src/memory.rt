@@ -12,28 +12,25 @@ use crate::bytes::Bytes;
 use crate::errors::{Failed, NoMemory};
 use crate::items::Calls;
 use crate::outside::{Sink, Source};
+use crate::sure::SureSource;
 use std::alloc::Global;
 use std::marker::Model;
 
 /// A source that gives bytes from memory, and fails in the calls that are named.
 #[derive(Debug, Drop)]
 pub struct MemSource {
-    bytes: Bytes,
-    at: usize,
+    source: SureSource,
     failing: Calls,
     calls: u64,
     faults: u64,
 }
 
 impl Model for MemSource {
-    ghost use Rattle.std.specs.Prelude.{drop, length, ◌≤◌};
     ghost use Rattle.lard_base.specs.Memory.{SourceState};
 
     ghost Value = { SourceState };
 
-    ghost view = { λ s. record { left = drop s.at s.bytes; failing = s.failing; calls = s.calls; faults = s.faults } };
-
-    ghost invariant = { λ s. s.at ≤ length s.bytes };
+    ghost view = { λ s. record { left = s.source; failing = s.failing; calls = s.calls; faults = s.faults } };
 }
 
 impl MemSource {
@@ -42,8 +39,7 @@ impl MemSource {
         ensures { result ≡ record { left = bytes; failing = failing; calls = 0; faults = 0 } }
     {
         MemSource {
-            bytes,
-            at: 0,
+            source: SureSource::new(bytes),
             failing,
             calls: 0,
             faults: 0,
@@ -69,11 +65,7 @@ impl Source for MemSource {
             self.faults = self.faults.saturating_add(1);
             return Err(Failed);
         }
-        let rest = &self.bytes.as_slice()[self.at..];
-        let n = buf.len().min(rest.len());
-        buf[..n].copy_from_slice(&rest[..n]);
-        self.at += n;
-        Ok(n)
+        self.source.read(buf)
     }
 }
 
