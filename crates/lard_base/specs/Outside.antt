@@ -1,6 +1,6 @@
--- What was written where not all was.
+-- What was written where not all was, and what was read into a text.
 use Rattle.std.specs.Prelude.{◌≡◌, ℕ, List, ◌++◌, Option}
-use Rattle.std.specs.Io.KnownBytes.{Appends}
+use Rattle.std.specs.Io.KnownBytes.{Appends, Consumes}
 
 -- a front of the bytes was written
 pub record Front (old new : Option (List ℕ)) (all : List ℕ) : Type 0 where
@@ -8,3 +8,9 @@ pub record Front (old new : Option (List ℕ)) (all : List ℕ) : Type 0 where
   pub rest : List ℕ
   pub is : front ++ rest ≡ all
   pub written : Appends old new front
+
+-- what a text gained was taken from the front of what was left
+pub record TakesIn (left left_now : Option (List ℕ)) (old new : List ℕ) : Type 0 where
+  pub taken : List ℕ
+  pub consumed : Consumes left left_now taken
+  pub text : new ≡ old ++ taken
