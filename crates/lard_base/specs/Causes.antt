@@ -1,5 +1,5 @@
 -- When a source or a sink may answer that it failed.
-use Rattle.std.specs.Prelude.{ℕ, ◌≤◌, ◌+◌, ◌-◌, ◌^◌, min, OnErr, Result}
+use Rattle.std.specs.Prelude.{ℕ, ◌≤◌, ◌+◌, ◌-◌, ◌^◌, min, OnErr, Result, Ok, Err}
 
 -- a count with one more, which stays at the greatest u64
 abbrev pub raised : ℕ → ℕ
@@ -13,3 +13,8 @@ Rose before now = raised before ≤ now
 pub record HasCause {T E : Type 0} (before now : ℕ) (result : Result T E) : Type 0 where
   pub later : before ≤ now
   pub failed : OnErr result (Rose before now)
+
+-- a count of faults after an answer
+abbrev pub counted : {T E : Type 0} → ℕ → Result T E → ℕ
+counted count (Ok _) = count
+counted count (Err _) = raised count

@@ -14,3 +14,8 @@ pub record TakesIn (left left_now : Option (List ℕ)) (old new : List ℕ) : Ty
   pub taken : List ℕ
   pub consumed : Consumes left left_now taken
   pub text : new ≡ old ++ taken
+
+-- the reader or writer below, and how often it failed
+pub record Adapter (T : Type 0) : Type 0 where
+  pub inner : T
+  pub faults : ℕ

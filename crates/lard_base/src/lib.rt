@@ -15,6 +15,7 @@ pub mod memory;
 pub mod outside;
 pub mod parts;
 pub mod place;
+pub mod standard;
 pub mod sure;
 
 pub use bytes::{Bytes, Path};
@@ -28,4 +29,5 @@ pub use memory::{MemSink, MemSource};
 pub use outside::{Sink, Source, write_all};
 pub use parts::EndpointParts;
 pub use place::{Place, Reason, TimerKind, Via};
+pub use standard::{StdSink, StdSource};
 pub use sure::{SureSink, SureSource};
