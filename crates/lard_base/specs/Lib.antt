@@ -1,3 +1,6 @@
+pub mod Causes
 pub mod Config
+pub mod Memory
+pub mod Outside
 pub mod Parts
 pub mod Spelling

@@ -1,0 +1,20 @@
+-- When a source or a sink may answer that it failed.
+use Rattle.std.specs.Prelude.{ℕ, ◌≤◌, ◌+◌, ◌-◌, ◌^◌, min, OnErr, Result, Ok, Err}
+
+-- a count with one more, which stays at the greatest u64
+abbrev pub raised : ℕ → ℕ
+raised count = min (count + 1) (2 ^ 64 - 1)
+
+-- the count rose, or stands at the greatest u64
+abbrev pub Rose : ℕ → ℕ → Type 0
+Rose before now = raised before ≤ now
+
+-- the count of faults never falls, and an answer that something failed has a cause
+pub record HasCause {T E : Type 0} (before now : ℕ) (result : Result T E) : Type 0 where
+  pub later : before ≤ now
+  pub failed : OnErr result (Rose before now)
+
+-- a count of faults after an answer
+abbrev pub counted : {T E : Type 0} → ℕ → Result T E → ℕ
+counted count (Ok _) = count
+counted count (Err _) = raised count
