@@ -5,5 +5,7 @@
 #![tactic(auto)]
 
 pub mod rec;
+mod event;
+mod text;
 
 pub use rec::{Rec, Recs};
