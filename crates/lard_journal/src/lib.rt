@@ -4,8 +4,14 @@
 //! `lard_app::run` writes the `line` of each to its sink, behind the heading and the lines of the files.
 #![tactic(auto)]
 
-pub mod rec;
 mod event;
+pub mod journal;
+pub mod lines;
+pub mod preface;
+pub mod rec;
 mod text;
 
+pub use journal::Journal;
+pub use lines::{line, push_line};
+pub use preface::{file_line, heading};
 pub use rec::{Rec, Recs};
