@@ -2,7 +2,8 @@
 
 ghost use Rattle.std.specs.Prelude.{◌≡◌, ◌++◌, [], ◌∷◌, IfOk, OnOk, OnErr, codes, decimal};
 ghost use Rattle.hex.specs.Hex.{encode_lower};
-ghost use Rattle.lard_base.specs.Spelling.{place_word, event_words};
+ghost use Rattle.std.specs.List.{fold};
+ghost use Rattle.lard_base.specs.Spelling.{spaced, place_word, event_words};
 ghost use Rattle.lard_journal.specs.Report.{node_word, choice_word, via_word, kind_word, rec_words, rec_line};
 ghost use Rattle.lard_journal.specs.Text.{with_words, BeginsWith};
 
@@ -37,6 +38,7 @@ pub fn push_line(text: &mut Vec<u8>, rec: &Rec) -> Result<(), NoMemory>
     }
 }
 
+#[tactic(auto, using(crate::proofs::Words::line_behind, crate::proofs::Begins::begins_words))]
 fn whole(out: &mut Vec<u8>, rec: &Rec) -> Result<(), NoMemory>
     ensures ok { OnOk result (out.new.items ≡ out.old.items ++ rec_line rec.now) }
     ensures err { OnErr result (BeginsWith out.old.items out.new.items) }
@@ -70,8 +72,7 @@ fn words(out: &mut Vec<u8>, rec: &Rec) -> Result<(), NoMemory>
         }
         Rec::AssignedLater { c, r, path, n, add, size, queue } => {
             assigned(out, *c, *r, b"later", path, *n, *add)?;
-            number(out, *size)?;
-            number(out, *queue)
+            batch(out, *size, *queue)
         }
         Rec::BatchOver(c) => of_connection(out, b"batchover", *c),
         Rec::Served { place, c, r, code, length, via } => {
@@ -165,7 +166,18 @@ fn assigned(
     choice(out, add)
 }
 
+/// The size and the queue of a batch.
+fn batch(out: &mut Vec<u8>, size: u32, queue: u32) -> Result<(), NoMemory>
+    ensures ok { OnOk result (out.new.items ≡ fold spaced out.old.items
+        (decimal size ∷ decimal queue ∷ [])) }
+    ensures err { OnErr result (BeginsWith out.old.items out.new.items) }
+{
+    number(out, size)?;
+    number(out, queue)
+}
+
 /// A response.
+#[tactic(auto, using(crate::proofs::Begins::begins_less))]
 fn served(
     out: &mut Vec<u8>,
     at: Place,
@@ -179,9 +191,7 @@ fn served(
         (codes "served" ∷ place_word at ∷ decimal c ∷ decimal r ∷ decimal code ∷ decimal length ∷ via_word source ∷ [])) }
     ensures err { OnErr result (BeginsWith out.old.items out.new.items) }
 {
-    bytes(out, b"served")?;
-    place(out, at)?;
-    connection(out, c)?;
+    at_place(out, b"served", at, c)?;
     number(out, r)?;
     number(out, code)?;
     number(out, length)?;
@@ -205,9 +215,7 @@ fn reset(out: &mut Vec<u8>, at: Place, c: ConnId, count: u32) -> Result<(), NoMe
         (codes "reset" ∷ place_word at ∷ decimal c ∷ decimal count ∷ [])) }
     ensures err { OnErr result (BeginsWith out.old.items out.new.items) }
 {
-    bytes(out, b"reset")?;
-    place(out, at)?;
-    connection(out, c)?;
+    at_place(out, b"reset", at, c)?;
     number(out, count)
 }
 
@@ -264,9 +272,7 @@ fn of_owner(
         (name.now ∷ place_word at ∷ decimal c ∷ decimal epoch.0 ∷ [])) }
     ensures err { OnErr result (BeginsWith out.old.items out.new.items) }
 {
-    bytes(out, name)?;
-    place(out, at)?;
-    connection(out, c)?;
+    at_place(out, name, at, c)?;
     number(out, epoch.0)
 }
 
@@ -304,8 +310,17 @@ fn of_timer(
         (name.now ∷ place_word at ∷ decimal c ∷ kind_word what ∷ [])) }
     ensures err { OnErr result (BeginsWith out.old.items out.new.items) }
 {
+    at_place(out, name, at, c)?;
+    kind(out, what)
+}
+
+/// A record that begins with a place and a connection.
+fn at_place(out: &mut Vec<u8>, name: &[u8], at: Place, c: ConnId) -> Result<(), NoMemory>
+    ensures ok { OnOk result (out.new.items ≡ with_words out.old.items
+        (name.now ∷ place_word at ∷ decimal c ∷ [])) }
+    ensures err { OnErr result (BeginsWith out.old.items out.new.items) }
+{
     bytes(out, name)?;
     place(out, at)?;
-    connection(out, c)?;
-    kind(out, what)
+    connection(out, c)
 }
