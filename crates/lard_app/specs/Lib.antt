@@ -1,2 +1,6 @@
+pub mod Client
+pub mod Front
 pub mod Lines
 pub mod Status
+pub mod Tcp
+pub mod Turn

@@ -4,7 +4,11 @@
 //! line, `world` does the step (`client`, `front`, `net`), and the step's records go to the sink as lines.
 #![tactic(auto)]
 
+mod client;
+mod front;
 mod lines;
 mod status;
+mod tcp;
+mod turn;
 
 pub use status::{Form, Status, What, Why};
