@@ -3,3 +3,4 @@ pub mod OptionSteps
 pub mod InOrder
 pub mod Written
 pub mod Again
+pub mod Decoded

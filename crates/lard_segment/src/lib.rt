@@ -4,16 +4,16 @@
 //! and what is to be sent is an endpoint's `Ready`, filled to a `Segment` and written by `encode`.
 #![tactic(auto)]
 
-pub mod checksum;
+mod checksum;
 pub mod fault;
-pub mod fields;
+mod fields;
 pub mod laws;
-pub mod options;
-pub mod reading;
+mod options;
+mod reading;
 pub mod segment;
 #[cfg(test)]
 mod tests;
-pub mod writing;
+mod writing;
 
 pub use fault::SegFault;
 pub use reading::decode;

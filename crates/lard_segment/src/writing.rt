@@ -18,6 +18,7 @@ pub fn encode(segment: &Segment<'_>, c: ConnId, dir: Dir, buf: &mut [u8]) -> usi
     requires room { 1520 ≤ length buf.old }
     requires sendable { IsSendable (said segment.now) }
     ensures len { result ≡ length (spelled c dir (said segment.now)) }
+    ensures within { (20 ≤ result) × (result ≤ 1484) }
     ensures bytes { buf.new ≡ spelled c dir (said segment.now) ++ drop result buf.old }
 {
     let len = put_rest(buf, segment.mss, segment.payload);
