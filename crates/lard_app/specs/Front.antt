@@ -80,10 +80,11 @@ front_armed (Some x) = not (nat_eq x.una.0 x.nxt.0)
 abbrev pub front_says : ℕ → Says → Option Conn × Turn
 front_says c says = (says.conn, record { note = says.note; packet = packet_of c ToClient not_found says.ready })
 
-abbrev pub front_takes : ℕ → ℕ → Option Conn → Result Said SegFault → Option Conn × Turn
-front_takes c iss conn (Err e) = front_says c (silent conn)
-front_takes c iss conn (Ok s) = front_says c (front_heard c iss conn s)
+-- what does not decode is dropped
+abbrev pub front_takes : ℕ → ℕ → Option Conn → Result Said SegFault → Says
+front_takes c iss conn (Err e) = silent conn
+front_takes c iss conn (Ok s) = front_heard c iss conn s
 
--- a packet of client c comes: what does not decode is dropped
+-- a packet of client c comes
 unfoldable pub front_turn : ℕ → ℕ → Option Conn → List ℕ → Option Conn × Turn
-front_turn c iss conn bytes = front_takes c iss conn (decoded bytes c ToCluster)
+front_turn c iss conn bytes = front_says c (front_takes c iss conn (decoded bytes c ToCluster))

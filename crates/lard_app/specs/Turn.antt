@@ -1,7 +1,5 @@
 -- What a place does in its turn, when a packet comes to it.
-use Rattle.std.specs.Prelude.{ℕ, List, [], ◌∷◌, Option, Some, None}
-use Rattle.lard_base.specs.declared.bytes.Bytes.{Bytes}
-use Rattle.lard_journal.specs.declared.rec.Rec.{Rec}
+use Rattle.std.specs.Prelude.{ℕ, ◌≤◌, length, List, [], ◌∷◌, Option, Some, None}
 use Rattle.lard_segment.specs.declared.segment.Dir.{Dir}
 use Rattle.lard_segment.specs.declared.segment.Ready.{Ready}
 use Rattle.lard_segment.specs.Segment.{ready_said, spelled}
@@ -15,3 +13,8 @@ listed (Some x) = x ∷ []
 abbrev pub packet_of : ℕ → Dir → List ℕ → Option Ready → Option (List ℕ)
 packet_of c dir queued None = None
 packet_of c dir queued (Some r) = Some (spelled c dir (ready_said queued r))
+
+-- a packet has at most 1,520 bytes
+abbrev pub IsShort : Option (List ℕ) → Type 0
+IsShort None = Unit {0}
+IsShort (Some bytes) = length bytes ≤ 1520

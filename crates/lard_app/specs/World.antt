@@ -1,5 +1,5 @@
 -- The world: one step of the whole, as a function of the state and the event.
-use Rattle.std.specs.Prelude.{◌≡◌, ℕ, ◌+◌, ◌-◌, ◌≤◌, Bool, true, false, ◌&&◌, ◌||◌, not, List, [], ◌∷◌, ◌++◌, length, slice_get, Option, Some, None, Result, Ok, Err, is_some, nat_eq, nat_le, nat_lt, if◌then◌else◌}
+use Rattle.std.specs.Prelude.{◌≡◌, ℕ, ◌+◌, ◌-◌, ◌≤◌, ◌<◌, ◌^◌, Bool, true, false, ◌&&◌, ◌||◌, not, List, [], ◌∷◌, ◌++◌, length, slice_get, Option, Some, None, Result, Ok, Err, is_some, nat_eq, nat_le, nat_lt, if◌then◌else◌}
 use Rattle.std.specs.List.{list_all}
 use Rattle.lard_base.specs.declared.place.Place.{Place}
 use Rattle.lard_base.specs.declared.place.Place.TheVariants as place
@@ -10,9 +10,11 @@ use Rattle.lard_journal.specs.declared.rec.Rec.{Rec}
 use Rattle.lard_journal.specs.declared.rec.Rec.TheVariants as rec
 use Rattle.lard_segment.specs.declared.segment.Dir.TheVariants.{ToCluster}
 use Rattle.lard_segment.specs.Segment.{ready_said, spelled}
+use Rattle.lard_base.specs.declared.errors.NoMemory as memory
 use Rattle.lard_app.specs.declared.client.Client.{Client}
 use Rattle.lard_app.specs.declared.net.Packet.{Packet}
 use Rattle.lard_app.specs.declared.status.Form.{Form}
+use Rattle.lard_app.specs.declared.turn.Turn.{Turn}
 use Rattle.lard_app.specs.declared.status.Form.TheVariants as form
 use Rattle.lard_app.specs.declared.world.Move.{Move}
 use Rattle.lard_app.specs.declared.world.StepFault.{StepFault}
@@ -80,29 +82,46 @@ timer_change p c false true = Some (rec.Armed p c Tcp)
 timer_change p c true false = Some (rec.Cleared p c Tcp)
 timer_change p c true true = None
 
-abbrev pub sent_record : ℕ → Move → Option (List ℕ) → Option Rec
-sent_record k v None = None
-sent_record k v (Some bytes) = Some (rec.Sent k v.from v.to bytes)
+abbrev pub sent_record : ℕ → Place → Place → Option (List ℕ) → Option Rec
+sent_record k from to None = None
+sent_record k from to (Some bytes) = Some (rec.Sent k from to bytes)
 
-abbrev pub packet_sent : Move → Option (List ℕ) → Option Packet
-packet_sent v None = None
-packet_sent v (Some bytes) = Some (record { from = v.from; to = v.to; bytes = bytes })
+abbrev pub packet_sent : Place → Place → Option (List ℕ) → Option Packet
+packet_sent from to None = None
+packet_sent from to (Some bytes) = Some (record { from = from; to = to; bytes = bytes })
 
 -- the records of a step, in order: the event, its own record, the place's note, the segment sent, the timer that changed
 abbrev pub records : World → Event → Move → List Rec
 records w e v =
-    rec.Event (w.events + 1) e ∷ v.own ∷ [] ++ listed v.note ++ listed (sent_record (length w.net + 1) v v.packet) ++ listed v.timer
+    rec.Event (w.events + 1) e ∷ v.own ∷ [] ++ listed v.note ++ listed (sent_record (length w.net + 1) v.from v.to v.packet) ++ listed v.timer
 
 -- the world after a step in which a place moved
 abbrev pub acted : World → Event → Move → World
-acted w e v = record w { net = w.net ++ listed (packet_sent v v.packet); events = w.events + 1; journal = w.journal ++ records w e v }
+acted w e v = record w { net = w.net ++ listed (packet_sent v.from v.to v.packet); events = w.events + 1; journal = w.journal ++ records w e v }
 
 -- ---- the steps
+
+-- nobody has opened, and nothing was sent
+abbrev pub start : World
+start = record { net = []; delivered = 0; iss = 0; client = None; front = None; events = 0; journal = []; spoiled = false }
+
+-- the numbers of the next packet and the next event can be written
+pub record HasRoom (w : World) : Type 0 where
+  pub packets : length w.net < 2 ^ 32 - 1
+  pub events : w.events < 2 ^ 64 - 1
+
+-- a step is one event, and sends at most one packet
+pub record Grows (old new : World) : Type 0 where
+  pub packets : length new.net ≤ length old.net + 1
+  pub events : new.events ≡ old.events + 1
 
 -- the client's SYN goes out
 abbrev pub opening : ℕ → ℕ → ℕ → ℕ → ℕ → Move
 opening c isn iss wnd mss = record {
-  own = rec.Opened c isn iss wnd mss; note = None; from = place.Client c; to = place.Front;
+  own = rec.Opened c isn iss wnd mss;
+  note = None;
+  from = place.Client c;
+  to = place.Front;
   packet = Some (spelled c ToCluster (ready_said [] (opening_syn (numbered isn) wnd mss)));
   timer = Some (rec.Armed (place.Client c) c Tcp);
 }
@@ -111,18 +130,22 @@ unfoldable pub opened : World → ℕ → ℕ → ℕ → ℕ → ℕ → World
 opened w c isn iss wnd mss =
     acted (record w { client = Some (opened_client c isn wnd); iss = iss }) (event.Open c isn iss wnd mss) (opening c isn iss wnd mss)
 
--- a client's move, from its state before and after it
-abbrev pub client_move : Rec → Client → Client → Option Rec → Option (List ℕ) → Move
-client_move own x y note packet = record {
-  own = own; note = note; from = place.Client x.c; to = place.Front; packet = packet;
-  timer = timer_change (place.Client x.c) x.c (client_armed x) (client_armed y);
+-- a client's move, from its timer before it and its state after it
+abbrev pub client_move : Rec → Client → Bool → Turn → Move
+client_move own y was turn = record {
+  own = own;
+  note = turn.note;
+  from = place.Client y.c;
+  to = place.Front;
+  packet = turn.packet;
+  timer = timer_change (place.Client y.c) y.c was (client_armed y);
 }
 
 -- the client writes its request
 abbrev pub requested : World → ℕ → List ℕ → Client → World
 requested w c path x =
     let answer = client_writes x (request path) in
-    acted (record w { client = Some answer.0 }) (event.Get c path) (client_move (rec.Wrote c (request path)) x answer.0 None answer.1)
+    acted (record w { client = Some answer.0 }) (event.Get c path) (client_move (rec.Wrote c (request path)) answer.0 (client_armed x) (record { note = None; packet = answer.1 }))
 
 unfoldable pub asked : World → ℕ → List ℕ → Option Client → World
 asked w c path None = w
@@ -132,21 +155,30 @@ asked w c path (Some x) = requested w c path x
 abbrev pub to_client : World → ℕ → List ℕ → Client → World
 to_client w k bytes x =
     let answer = client_turn x bytes in
-    acted (record w { delivered = k; client = Some answer.0 }) (event.Deliver k) (client_move (rec.Got k) x answer.0 answer.1.note answer.1.packet)
+    acted (record w { delivered = k; client = Some answer.0 }) (event.Deliver k) (client_move (rec.Got k) answer.0 (client_armed x) answer.1)
 
 -- a packet of client c comes to the front end
 abbrev pub to_front : World → ℕ → ℕ → List ℕ → World
 to_front w k c bytes =
     let answer = front_turn c w.iss w.front bytes in
     acted (record w { delivered = k; front = answer.0 }) (event.Deliver k) (record {
-      own = rec.Got k; note = answer.1.note; from = place.Front; to = place.Client c; packet = answer.1.packet;
+      own = rec.Got k;
+      note = answer.1.note;
+      from = place.Front;
+      to = place.Client c;
+      packet = answer.1.packet;
       timer = timer_change place.Front c (front_armed w.front) (front_armed answer.0);
     })
 
 -- a packet comes where nobody takes it
 abbrev pub to_nobody : World → ℕ → World
 to_nobody w k = acted (record w { delivered = k }) (event.Deliver k) (record {
-  own = rec.Got k; note = None; from = place.Front; to = place.Front; packet = None; timer = None;
+  own = rec.Got k;
+  note = None;
+  from = place.Front;
+  to = place.Front;
+  packet = None;
+  timer = None;
 })
 
 abbrev pub from_place : World → ℕ → List ℕ → Place → World
@@ -163,10 +195,14 @@ to_place w k p place.Front = from_place w k p.bytes p.from
 to_place w k p (place.Client c) = to_opened w k p.bytes w.client
 to_place w k p (place.Node n) = to_nobody w k
 
+abbrev pub passed_on : World → ℕ → Option Packet → World
+passed_on w k None = w
+passed_on w k (Some p) = to_place w k p p.to
+
 -- a packet that was sent comes to its place; a number that was not sent is refused
 unfoldable pub delivered : World → ℕ → Option Packet → Result World StepFault
 delivered w k None = Err (NotSent k (length w.net))
-delivered w k (Some p) = Ok (to_place w k p p.to)
+delivered w k (Some p) = Ok (passed_on w k (Some p))
 
 abbrev pub packet_at : World → ℕ → Option Packet
 packet_at w k = if nat_eq k 0 then None else slice_get w.net (k - 1)
@@ -177,6 +213,11 @@ world_step w (event.Open c isn iss wnd mss) = Ok (opened w c isn iss wnd mss)
 world_step w (event.Get c path) = Ok (asked w c path w.client)
 world_step w (event.Deliver k) = delivered w k (packet_at w k)
 world_step w _ = Ok w
+
+-- how a step ends: its memory sufficed, or the world is spoiled
+abbrev pub Closes : Result (Unit {0}) memory.NoMemory → World → World → Result (Unit {0}) StepFault → Type 0
+Closes (Ok _) old new result = (result ≡ Ok tt) × (new ≡ old)
+Closes (Err _) old new result = (result ≡ Err NoMemory) × (new ≡ record old { spoiled = true })
 
 -- A step does what the rules give. After a fault but want of memory the whole world is as before; after want of
 -- memory it is spoiled, and its journal is as before.

@@ -4,6 +4,7 @@ ghost use Rattle.std.specs.Prelude.{◌≡◌, ◌≤◌, ◌<◌, ◌^◌, IfOk
 ghost use Rattle.lard_segment.specs.Segment.{said};
 ghost use Rattle.lard_app.specs.Client.{accepted_note, client_armed, client_takes, client_turn, client_writes, emitted, greeted, has_unsent, heard, is_owed, opened_client, request, request_len, sent_all, told};
 ghost use Rattle.lard_app.specs.Tcp.{MayBeSent, data_ready};
+ghost use Rattle.lard_app.specs.Turn.{IsShort};
 
 use crate::tcp::{acknowledged, data, is_next, plain_ack};
 use crate::turn::{Turn, packet};
@@ -70,6 +71,7 @@ impl Client {
 
     /// Takes a segment, where it is the next in order.
     fn hear(&mut self, segment: &Segment<'_>) -> Heard
+        requires { length segment.now.payload.now < 2 ^ 32 }
         ensures { (self.new, result) ≡ heard self.old (said segment.now) }
     {
         match self.rcv {
@@ -150,7 +152,8 @@ impl Client {
 
     /// Writes the client's one request, and sends it where the client may.
     pub fn write(&mut self, alloc: Global, bytes: Bytes) -> Result<Option<Bytes>, NoMemory>
-        ensures { IfOk result (λ packet. (self.new, packet) ≡ client_writes self.old bytes) }
+        ensures given { IfOk result (λ packet. (self.new, packet) ≡ client_writes self.old bytes) }
+        ensures short { IfOk result IsShort }
     {
         self.written = bytes;
         let ready = self.emit(false);
@@ -167,7 +170,8 @@ impl Client {
     #[tactic(auto, unfolding(crate::specs::Client::client_turn))]
     pub fn turn(&mut self, alloc: Global, bytes: &[u8]) -> Result<Turn, NoMemory>
         requires { length bytes.now ≤ 65535 }
-        ensures { IfOk result (λ turn. (self.new, turn) ≡ client_turn self.old bytes.now) }
+        ensures given { IfOk result (λ turn. (self.new, turn) ≡ client_turn self.old bytes.now) }
+        ensures short { IfOk result (λ turn. IsShort turn.packet) }
     {
         match decode(bytes, self.c, Dir::ToClient) {
             Ok(segment) => return self.answer(alloc, &segment),
@@ -183,7 +187,8 @@ impl Client {
     /// Takes a segment, and says what is to be said then.
     fn answer(&mut self, alloc: Global, segment: &Segment<'_>) -> Result<Turn, NoMemory>
         requires { length segment.now.payload.now < 2 ^ 32 }
-        ensures { IfOk result (λ turn. (self.new, turn) ≡ client_takes self.old (Ok (said segment.now))) }
+        ensures given { IfOk result (λ turn. (self.new, turn) ≡ client_takes self.old (Ok (said segment.now))) }
+        ensures short { IfOk result (λ turn. IsShort turn.packet) }
     {
         let heard = self.hear(segment);
         let ready = self.emit(is_owed(heard));

@@ -1,9 +1,10 @@
 //! The front end's side of a connection (RFC 9293), as far as one request and segments in order need it.
 
 ghost use Rattle.std.specs.Prelude.{◌≡◌, ◌≤◌, ◌<◌, ◌^◌, IfOk, length};
-ghost use Rattle.lard_segment.specs.Segment.{said};
-ghost use Rattle.lard_app.specs.Front.{acknowledging, answering, begun, ends_head, front_armed, front_heard, front_says, front_turn, is_plain_syn, not_found, silent, taken, went_on};
+ghost use Rattle.lard_segment.specs.Segment.{decoded, said};
+ghost use Rattle.lard_app.specs.Front.{acknowledging, answering, begun, ends_head, front_armed, front_heard, front_says, front_takes, front_turn, is_plain_syn, not_found, silent, taken, went_on};
 ghost use Rattle.lard_app.specs.Tcp.{MayBeSent};
+ghost use Rattle.lard_app.specs.Turn.{IsShort};
 
 use crate::tcp::{acknowledged, data, greeting, is_next, plain_ack};
 use crate::turn::{Turn, packet};
@@ -17,7 +18,7 @@ use std::alloc::Global;
 const WINDOW: u16 = 16_384;
 
 /// The response to a request for a path that names no file (RFC 9110, 15.5.5).
-const NOT_FOUND: &str = "HTTP/1.1 404 Not Found\r\nContent-Length: 0\r\n\r\n";
+const NOT_FOUND: &[u8] = b"HTTP/1.1 404 Not Found\r\nContent-Length: 0\r\n\r\n";
 
 /// A connection that the front end holds.
 #[derive(Clone, Copy, Debug, PartialEq, Eq)]
@@ -40,29 +41,44 @@ struct Says {
     pub ready: Option<Ready>,
 }
 
-/// A packet of client `c` comes. What does not decode is dropped. `iss` is the first sequence number that the
-/// cluster is to use.
+/// A packet of client `c` comes: the connection after it, and the front end's turn. `iss` is the first sequence
+/// number that the cluster is to use.
 #[tactic(auto, unfolding(crate::specs::Front::front_turn))]
 pub fn turn(
     alloc: Global,
     c: ConnId,
     iss: u32,
-    conn: &mut Option<Conn>,
+    conn: Option<Conn>,
     bytes: &[u8],
-) -> Result<Turn, NoMemory>
+) -> Result<(Option<Conn>, Turn), NoMemory>
     requires { length bytes.now ≤ 65535 }
-    ensures { IfOk result (λ turn. (conn.new, turn) ≡ front_turn c iss conn.old bytes.now) }
+    ensures given { IfOk result (λ given. given ≡ front_turn c iss conn bytes.now) }
+    ensures short { IfOk result (λ given. IsShort given.1.packet) }
 {
-    let says = match decode(bytes, c, Dir::ToCluster) {
-        Ok(segment) => hear(c, iss, *conn, &segment),
-        Err(_) => silent(*conn),
-    };
-    let packet = packet(alloc, says.ready, NOT_FOUND.as_bytes(), c, Dir::ToClient)?;
-    *conn = says.conn;
-    Ok(Turn {
-        note: says.note,
-        packet,
-    })
+    speak(alloc, c, take_in(c, iss, conn, bytes))
+}
+
+/// The connection and the turn of what is said, with the packet of its segment.
+fn speak(alloc: Global, c: ConnId, says: Says) -> Result<(Option<Conn>, Turn), NoMemory>
+    requires { MayBeSent not_found says.ready }
+    ensures given { IfOk result (λ given. given ≡ front_says c says) }
+    ensures short { IfOk result (λ given. IsShort given.1.packet) }
+{
+    let Says { conn, note, ready } = says;
+    let packet = packet(alloc, ready, NOT_FOUND, c, Dir::ToClient)?;
+    Ok((conn, Turn { note, packet }))
+}
+
+/// Takes the bytes of a packet. What does not decode is dropped.
+fn take_in(c: ConnId, iss: u32, conn: Option<Conn>, bytes: &[u8]) -> Says
+    requires { length bytes.now ≤ 65535 }
+    ensures said { result ≡ front_takes c iss conn (decoded bytes.now c Dir.ToCluster) }
+    ensures sendable { MayBeSent not_found result.ready }
+{
+    match decode(bytes, c, Dir::ToCluster) {
+        Ok(segment) => return hear(c, iss, conn, &segment),
+        Err(_) => return silent(conn),
+    }
 }
 
 /// Nothing is said.

@@ -7,8 +7,10 @@
 mod client;
 mod front;
 mod lines;
+mod net;
 mod status;
 mod tcp;
 mod turn;
+mod world;
 
 pub use status::{Form, Status, What, Why};

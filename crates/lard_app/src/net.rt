@@ -61,7 +61,7 @@ impl Net {
         ensures packet { option_copied result ≡ slice_get self.now (k - 1) }
         ensures short { IfSome result (λ packet. length packet.now.bytes ≤ 1520) }
     {
-        self.packets.get(k as usize - 1)
+        at(self.packets.as_slice(), k as usize - 1)
     }
 
     /// How many packets were sent.
@@ -70,4 +70,10 @@ impl Net {
     {
         self.packets.len() as u32
     }
+}
+
+fn at(packets: &[Packet], i: usize) -> Option<&Packet>
+    ensures { option_copied result ≡ slice_get packets.now i }
+{
+    packets.get(i)
 }

@@ -3,7 +3,7 @@
 ghost use Rattle.std.specs.Prelude.{◌≡◌, ◌≤◌, IfOk, IfSome, length};
 ghost use Rattle.lard_segment.specs.Segment.{ready_said, spelled};
 ghost use Rattle.lard_app.specs.Tcp.{CanBeSent, MayBeSent};
-ghost use Rattle.lard_app.specs.Turn.{packet_of};
+ghost use Rattle.lard_app.specs.Turn.{IsShort, packet_of};
 
 use lard_base::{Bytes, ConnId, NoMemory};
 use lard_journal::Rec;
@@ -29,7 +29,8 @@ pub fn packet(
     dir: Dir,
 ) -> Result<Option<Bytes>, NoMemory>
     requires { MayBeSent queued.now ready }
-    ensures { IfOk result (λ packet. packet ≡ packet_of c dir queued.now ready) }
+    ensures given { IfOk result (λ packet. packet ≡ packet_of c dir queued.now ready) }
+    ensures short { IfOk result IsShort }
 {
     match ready {
         None => return Ok(None),
@@ -49,7 +50,8 @@ pub fn segment(
     dir: Dir,
 ) -> Result<Bytes, NoMemory>
     requires { CanBeSent queued.now ready }
-    ensures { IfOk result (λ bytes. bytes ≡ spelled c dir (ready_said queued.now ready)) }
+    ensures given { IfOk result (λ bytes. bytes ≡ spelled c dir (ready_said queued.now ready)) }
+    ensures short { IfOk result (λ bytes. length bytes ≤ 1520) }
 {
     let segment = Segment {
         seq: ready.seq,
