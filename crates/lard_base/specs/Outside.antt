@@ -1,6 +1,6 @@
 -- What was written where not all was, and what was read into a text.
 use Rattle.std.specs.Prelude.{◌≡◌, ℕ, List, ◌++◌, Option}
-use Rattle.std.specs.Io.KnownBytes.{Appends, Consumes}
+use Rattle.std.specs.Io.KnownBytes.{Appends, Consumes, append_known}
 
 -- a front of the bytes was written
 pub record Front (old new : Option (List ℕ)) (all : List ℕ) : Type 0 where
@@ -15,7 +15,17 @@ pub record TakesIn (left left_now : Option (List ℕ)) (old new : List ℕ) : Ty
   pub consumed : Consumes left left_now taken
   pub text : new ≡ old ++ taken
 
--- the reader or writer below, and how often it failed
-pub record Adapter (T : Type 0) : Type 0 where
-  pub inner : T
+-- a reader, and how often it failed
+pub record ReaderState (R : Type 0) : Type 0 where
+  pub reader : R
   pub faults : ℕ
+
+-- a writer, the bytes that are held back from it, and how often it failed
+pub record WriterState (W : Type 0) : Type 0 where
+  pub writer : W
+  pub held : List ℕ
+  pub faults : ℕ
+
+-- all bytes that a sink took, where its writer tells them: those that were passed on, and those that are held back
+abbrev pub contents_of : {W : Type 0} → (W → Option (List ℕ)) → WriterState W → Option (List ℕ)
+contents_of contents s = append_known (contents s.writer) s.held

@@ -1,5 +1,7 @@
 //! The configuration of a run: how many nodes, the thresholds and costs of the policy, and the limits.
 
+ghost use Rattle.std.specs.Prelude.{◌≡◌, ◌≤◌, ◌<◌, IsTrue, OnOk};
+
 use thiserror::Error;
 
 /// The numbers of a run.
@@ -48,4 +50,136 @@ pub enum ConfigFault {
     LowHigh { low: u32, high: u32 },
     #[error("no connection can be admitted")]
     NoRoom,
+}
+
+impl Key {
+    ghost use Rattle.lard_base.specs.Config.{range_check, range_of};
+
+    /// The keys, in their order.
+    const ALL: [Key; 9] = [
+        Key::Nodes,
+        Key::Low,
+        Key::High,
+        Key::Age,
+        Key::Idle,
+        Key::Over,
+        Key::Miss,
+        Key::Cache,
+        Key::Stream,
+    ];
+
+    /// Answers a fault exactly where the value is out of this key's range.
+    fn check(self, value: u64) -> Result<(), ConfigFault>
+        ensures { result ≡ range_check self value }
+    {
+        let (least, greatest) = self.range();
+        if value < least || value > greatest {
+            return Err(ConfigFault::Range { key: self, value });
+        }
+        Ok(())
+    }
+
+    /// The least and the greatest value.
+    fn range(self) -> (u64, u64)
+        ensures { result ≡ range_of self }
+    {
+        match self {
+            Key::Nodes => (1, 64),
+            Key::Low | Key::High => (1, 1000),
+            Key::Age => (0, 0xffff_ffff),
+            Key::Idle | Key::Over | Key::Miss => (0, 1_000_000),
+            Key::Cache | Key::Stream => (1, 1 << 30),
+        }
+    }
+}
+
+impl Config {
+    ghost use Rattle.lard_base.specs.Config.{standard, value_of, IsInRange, range_check, after_set, room_of, config_check};
+
+    /// The numbers of a run whose schedule sets none.
+    pub fn standard() -> Config
+        ensures numbers { result ≡ standard }
+        ensures usable { config_check result ≡ Ok tt }
+    {
+        Config {
+            nodes: 2,
+            low: 25,
+            high: 65,
+            age: 20_000,
+            idle: 25,
+            over: 130,
+            miss: 50,
+            cache: 1_048_576,
+            stream: 1 << 30,
+        }
+    }
+
+    /// The number of a key.
+    pub fn get(&self, key: Key) -> u64
+        ensures { result ≡ value_of self.now key }
+    {
+        match key {
+            Key::Nodes => self.nodes as u64,
+            Key::Low => self.low as u64,
+            Key::High => self.high as u64,
+            Key::Age => self.age,
+            Key::Idle => self.idle as u64,
+            Key::Over => self.over as u64,
+            Key::Miss => self.miss as u64,
+            Key::Cache => self.cache as u64,
+            Key::Stream => self.stream as u64,
+        }
+    }
+
+    /// Sets the number of a key. A value out of the key's range is answered as a fault, and changes nothing.
+    pub fn set(&mut self, key: Key, value: u64) -> Result<(), ConfigFault>
+        ensures answer { result ≡ range_check key value }
+        ensures after { self.new ≡ after_set self.old key value }
+    {
+        key.check(value)?;
+        match key {
+            Key::Nodes => self.nodes = value as u8,
+            Key::Low => self.low = value as u32,
+            Key::High => self.high = value as u32,
+            Key::Age => self.age = value,
+            Key::Idle => self.idle = value as u32,
+            Key::Over => self.over = value as u32,
+            Key::Miss => self.miss = value as u32,
+            Key::Cache => self.cache = value as u32,
+            Key::Stream => self.stream = value as u32,
+        }
+        Ok(())
+    }
+
+    /// How many connections are admitted at a time, to 63,999.
+    pub fn room(&self) -> u32
+        requires { IsInRange self.now }
+        ensures room { result ≡ room_of self.now }
+        ensures most { result ≤ 63999 }
+    {
+        (self.nodes as u32 - 1) * self.high + self.low - 1
+    }
+
+    /// Whether the configuration can be used: each number is in its range, low is at most high, and at least one
+    /// connection is admitted. Else it answers the first fault, keys in their order.
+    pub fn check(&self) -> Result<(), ConfigFault>
+        ensures answer { result ≡ config_check self.now }
+        ensures in_range { OnOk result (IsInRange self.now) }
+        ensures ordered { OnOk result (self.now.low ≤ self.now.high) }
+        ensures some_room { OnOk result (0 < room_of self.now) }
+    {
+        for key in Key::ALL {
+            key.check(self.get(key))?;
+        }
+        if self.low > self.high {
+            return Err(ConfigFault::LowHigh {
+                low: self.low,
+                high: self.high,
+            });
+        }
+        if self.room() == 0 {
+            return Err(ConfigFault::NoRoom);
+        }
+        Ok(())
+    }
 }

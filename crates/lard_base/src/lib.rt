@@ -11,12 +11,15 @@ pub mod event;
 pub mod ids;
 pub mod input;
 pub mod items;
+pub mod members;
 pub mod memory;
 pub mod outside;
 pub mod parts;
 pub mod place;
 pub mod standard;
 pub mod sure;
+#[cfg(test)]
+mod tests;
 
 pub use bytes::{Bytes, Path};
 pub use config::{Config, ConfigFault, Key};
@@ -25,6 +28,7 @@ pub use event::Event;
 pub use ids::{ConnId, Epoch, Millis, NodeId};
 pub use input::{InputFault, read_up_to};
 pub use items::{Calls, Events, Items, Nodes, Paths, Sends};
+pub use members::Members;
 pub use memory::{MemSink, MemSource};
 pub use outside::{Sink, Source, write_all};
 pub use parts::EndpointParts;

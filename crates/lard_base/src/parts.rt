@@ -1,5 +1,7 @@
 //! A connection's endpoint, taken apart for its way to another place.
 
+ghost use Rattle.std.specs.Prelude.{◌↔◌, IsTrue};
+
 use crate::bytes::Bytes;
 
 /// The numbers and bytes from which an endpoint goes on elsewhere.
@@ -27,4 +29,23 @@ pub struct EndpointParts {
     pub served: u32,
     /// The received bytes that no request was read from yet; at most 16,384, and no more than `got`.
     pub unread: Bytes,
+}
+
+impl EndpointParts {
+    ghost use Rattle.lard_base.specs.Parts.{IsValidParts};
+
+    /// Whether an endpoint can be made of these parts: each number is in the range that stands beside it.
+    pub fn is_valid(&self) -> bool
+        ensures { IsTrue result ↔ IsValidParts self.now }
+    {
+        let unread = self.unread.len();
+        let got = self.got as usize;
+        if unread > 16_384 || unread > got || got > 1 << 30 {
+            return false;
+        }
+        if self.una < 1 || self.una > (1 << 30) + 1 || self.mss < 1 || self.mss > 1460 {
+            return false;
+        }
+        self.served as usize <= got - unread
+    }
 }

@@ -63,8 +63,12 @@ impl Source for SureSource {
 pub struct SureSink;
 
 impl SureSink {
+    ghost use Rattle.lard_base.specs.declared.sure.SureSink.{SureSink};
+
     /// The sink. It tells nothing of what was written.
-    pub fn new() -> SureSink {
+    pub fn new() -> SureSink
+        ensures { (sink : SureSink) → sink ≡ result }
+    {
         SureSink
     }
 }
