@@ -2,17 +2,18 @@
 
 ghost use Rattle.std.specs.Prelude.{◌≡◌, [], ◌∷◌, IfOk, OnOk, decimal};
 ghost use Rattle.std.specs.List.{fold};
-ghost use Rattle.lard_base.specs.Spelling.{spaced, line_of, key_word};
+ghost use Rattle.lard_base.specs.Spelling.{spaced, key_word};
 ghost use Rattle.lard_base.specs.declared.config.Key.TheVariants.{Nodes, Low, High, Age, Idle, Over, Miss, Cache, Stream};
-ghost use Rattle.lard_journal.specs.Report.{heading_words, file_words};
+ghost use Rattle.lard_journal.specs.Report.{heading_line, file_text};
 
 use crate::text::{bytes, number, word};
 use lard_base::{Bytes, Config, NoMemory};
 use std::alloc::Global;
 
 /// The heading: the version of the format, and the numbers of the configuration.
+#[tactic(auto, unfolding(crate::specs::Report::heading_line))]
 pub fn heading(alloc: Global, config: &Config) -> Result<Bytes, NoMemory>
-    ensures { IfOk result (λ text. text ≡ line_of (heading_words config.now)) }
+    ensures { IfOk result (λ text. text ≡ heading_line config.now) }
 {
     let mut text = Vec::new(alloc);
     bytes(&mut text, b"report 1")?;
@@ -25,7 +26,7 @@ pub fn heading(alloc: Global, config: &Config) -> Result<Bytes, NoMemory>
 
 /// The line of a file, of its path and its length in bytes.
 pub fn file_line(alloc: Global, path: &[u8], length: u64) -> Result<Bytes, NoMemory>
-    ensures { IfOk result (λ text. text ≡ line_of (file_words (path.now, length))) }
+    ensures { IfOk result (λ text. text ≡ file_text (path.now, length)) }
 {
     let mut text = Vec::from_slice(alloc, b"file")?;
     word(&mut text, path)?;
