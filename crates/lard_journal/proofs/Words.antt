@@ -1,5 +1,5 @@
 -- Words behind a text make the same line as words alone.
-use Rattle.std.proofs.Common.{◌≡◌, ℕ, List, [], ◌∷◌, ◌++◌, refl, sym, ◌∙◌, ap, append_assoc, append-nil}
+use Rattle.std.proofs.Common.{◌≡◌, ℕ, List, [], ◌∷◌, ◌++◌, refl, ◌∙◌, ap, append_assoc}
 use Rattle.std.specs.List.{fold}
 use Rattle.lard_base.specs.Spelling.{spaced, line_of}
 use Rattle.lard_journal.specs.Text.{with_words}

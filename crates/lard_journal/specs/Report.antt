@@ -75,10 +75,18 @@ rec_line r = line_of (rec_words r)
 abbrev pub heading_words : Config → List (List ℕ)
 heading_words c = codes "report" ∷ codes "1" ∷ key_word Nodes ∷ decimal c.nodes ∷ key_word Low ∷ decimal c.low ∷ key_word High ∷ decimal c.high ∷ key_word Age ∷ decimal c.age ∷ key_word Idle ∷ decimal c.idle ∷ key_word Over ∷ decimal c.over ∷ key_word Miss ∷ decimal c.miss ∷ key_word Cache ∷ decimal c.cache ∷ key_word Stream ∷ decimal c.stream ∷ []
 
+-- the heading, with its line feed
+unfoldable pub heading_line : Config → List ℕ
+heading_line config = line_of (heading_words config)
+
 -- a file's words, of its path and its length in bytes
 abbrev pub file_words : List ℕ × ℕ → List (List ℕ)
 file_words (path, length) = codes "file" ∷ path ∷ decimal length ∷ []
 
+-- a file's line, with its line feed
+abbrev pub file_text : List ℕ × ℕ → List ℕ
+file_text file = line_of (file_words file)
+
 -- the report of a run: its configuration, its files in the order given, its records in order
 abbrev pub report : Config → List (List ℕ × ℕ) → List Rec → List ℕ
-report config files recs = line_of (heading_words config) ++ flat_map (λ file. line_of (file_words file)) files ++ flat_map rec_line recs
+report config files recs = heading_line config ++ flat_map file_text files ++ flat_map rec_line recs

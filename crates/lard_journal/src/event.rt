@@ -15,7 +15,13 @@ pub fn event(out: &mut Vec<u8>, event: &Event) -> Result<(), NoMemory>
     ensures err { OnErr result (BeginsWith out.old.items out.new.items) }
 {
     match event {
-        Event::Open { c, isn, iss, wnd, mss } => {
+        Event::Open {
+            c,
+            isn,
+            iss,
+            wnd,
+            mss,
+        } => {
             word(out, b"open")?;
             offered(out, *c, *isn, *iss, u32::from(*wnd), u32::from(*mss))
         }

@@ -9,9 +9,13 @@ pub mod journal;
 pub mod lines;
 pub mod preface;
 pub mod rec;
+pub mod report;
+#[cfg(test)]
+mod tests;
 mod text;
 
 pub use journal::Journal;
 pub use lines::{line, push_line};
 pub use preface::{file_line, heading};
 pub use rec::{Rec, Recs};
+pub use report::report_grows;

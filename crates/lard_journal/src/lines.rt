@@ -38,6 +38,7 @@ pub fn push_line(text: &mut Vec<u8>, rec: &Rec) -> Result<(), NoMemory>
     }
 }
 
+/// The line of a record. Without memory a part of it stands behind the text.
 #[tactic(auto, using(crate::proofs::Words::line_behind, crate::proofs::Begins::begins_words))]
 fn whole(out: &mut Vec<u8>, rec: &Rec) -> Result<(), NoMemory>
     ensures ok { OnOk result (out.new.items ≡ out.old.items ++ rec_line rec.now) }
@@ -47,6 +48,7 @@ fn whole(out: &mut Vec<u8>, rec: &Rec) -> Result<(), NoMemory>
     bytes(out, b"\n")
 }
 
+/// The words of a record's line.
 fn words(out: &mut Vec<u8>, rec: &Rec) -> Result<(), NoMemory>
     ensures ok { OnOk result (out.new.items ≡ with_words out.old.items (rec_words rec.now)) }
     ensures err { OnErr result (BeginsWith out.old.items out.new.items) }
@@ -54,7 +56,13 @@ fn words(out: &mut Vec<u8>, rec: &Rec) -> Result<(), NoMemory>
     match rec {
         Rec::Event { i, event } => numbered(out, *i, event),
         Rec::Inner(event) => inner(out, event),
-        Rec::Opened { c, isn, iss, wnd, mss } => opened(out, *c, *isn, *iss, *wnd, *mss),
+        Rec::Opened {
+            c,
+            isn,
+            iss,
+            wnd,
+            mss,
+        } => opened(out, *c, *isn, *iss, *wnd, *mss),
         Rec::Wrote { c, bytes } => of_bytes(out, b"wrote", *c, bytes),
         Rec::Sent { k, from, to, bytes } => sent(out, *k, *from, *to, bytes),
         Rec::Got(k) => of_number(out, b"got", *k),
@@ -66,18 +74,38 @@ fn words(out: &mut Vec<u8>, rec: &Rec) -> Result<(), NoMemory>
         Rec::Waits(c) => of_connection(out, b"waits", *c),
         Rec::Admitted(c) => of_connection(out, b"admitted", *c),
         Rec::Released(c) => of_connection(out, b"released", *c),
-        Rec::AssignedFirst { c, r, path, n, add, remove } => {
+        Rec::AssignedFirst {
+            c,
+            r,
+            path,
+            n,
+            add,
+            remove,
+        } => {
             assigned(out, *c, *r, b"first", path, *n, *add)?;
             choice(out, *remove)
         }
-        Rec::AssignedLater { c, r, path, n, add, size, queue } => {
+        Rec::AssignedLater {
+            c,
+            r,
+            path,
+            n,
+            add,
+            size,
+            queue,
+        } => {
             assigned(out, *c, *r, b"later", path, *n, *add)?;
             batch(out, *size, *queue)
         }
         Rec::BatchOver(c) => of_connection(out, b"batchover", *c),
-        Rec::Served { place, c, r, code, length, via } => {
-            served(out, *place, *c, *r, *code, *length, *via)
-        }
+        Rec::Served {
+            place,
+            c,
+            r,
+            code,
+            length,
+            via,
+        } => served(out, *place, *c, *r, *code, *length, *via),
         Rec::Hit { n, path } => hit(out, *n, path),
         Rec::Queued { n, m, c, r, path } => of_job(out, b"queued", *n, *m, *c, *r, path),
         Rec::Read { n, m, c, r, path } => of_job(out, b"read", *n, *m, *c, *r, path),

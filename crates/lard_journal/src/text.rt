@@ -127,7 +127,11 @@ pub fn hex(out: &mut Vec<u8>, bytes: &Bytes) -> Result<(), NoMemory>
 {
     out.push(b' ')?;
     let start = out.len();
-    let Some(end) = bytes.len().checked_mul(2).and_then(|digits| start.checked_add(digits)) else {
+    let Some(end) = bytes
+        .len()
+        .checked_mul(2)
+        .and_then(|digits| start.checked_add(digits))
+    else {
         return Err(NoMemory);
     };
     out.resize(end, 0)?;
