@@ -1,2 +1,4 @@
+pub mod Going
+pub mod Growth
 pub mod Packets
 pub mod Words

@@ -2,6 +2,8 @@ pub mod Client
 pub mod Front
 pub mod Lines
 pub mod Net
+pub mod Replay
+pub mod Run
 pub mod Status
 pub mod Tcp
 pub mod Turn

@@ -1,5 +1,5 @@
 -- What a line of a schedule stands for: words with single spaces between them, numbers in decimal.
-use Rattle.std.specs.Prelude.{◌≡◌, ℕ, ◌+◌, ◌-◌, ◌*◌, ◌^◌, Bool, true, false, ◌&&◌, not, nat_eq, nat_le, nat_lt, List, [], ◌∷◌, length, Option, Some, None, Result, Ok, Err, codes, bytes_eq, if◌then◌else◌}
+use Rattle.std.specs.Prelude.{◌≡◌, ℕ, ◌+◌, ◌≤◌, ◌-◌, ◌*◌, ◌^◌, Bool, true, false, ◌&&◌, not, nat_eq, nat_le, nat_lt, List, [], ◌∷◌, length, Option, Some, None, Result, Ok, Err, codes, bytes_eq, if◌then◌else◌}
 use Rattle.std.specs.List.{slice_split, find, list_all}
 use Rattle.std.specs.Borrow.{Bor}
 use Rattle.lard_base.specs.declared.event.Event.{Event}
@@ -7,6 +7,8 @@ use Rattle.lard_base.specs.declared.event.Event.TheVariants.{Open, Get, Deliver}
 use Rattle.lard_base.specs.declared.config.Key.TheVariants as key
 use Rattle.lard_app.specs.declared.status.Form.{Form}
 use Rattle.lard_app.specs.declared.status.Form.TheVariants as form
+use Rattle.lard_app.specs.declared.status.Why.{Why}
+use Rattle.lard_app.specs.declared.status.Why.TheVariants as why
 use Rattle.lard_app.specs.declared.lines.Words.{Words}
 use Rattle.lard_app.specs.declared.lines.Stage.{Stage}
 use Rattle.lard_app.specs.declared.lines.Stage.TheVariants.{Start, Heading, Running}
@@ -163,26 +165,36 @@ first_of (word ∷ words) = word
 abbrev pub first_word : List ℕ → List ℕ
 first_word line = first_of (words_of line)
 
-abbrev pub exactly : List ℕ → List ℕ → Item → Result Item LineFault
-exactly line text what = if bytes_eq line text then Ok what else Err Syntax
+abbrev pub exactly : List ℕ → List ℕ → Item → Result Item Why
+exactly line text what = if bytes_eq line text then Ok what else Err why.Syntax
 
-abbrev pub event_item : Option Event → Result Item LineFault
-event_item None = Err Syntax
+abbrev pub event_item : Option Event → Result Item Why
+event_item None = Err why.Syntax
 event_item (Some e) = Ok (item.Event e)
 
+-- an event's numbers are in the ranges that its line allows, as far as a step relies on them
+abbrev pub IsInRange : Event → Type 0
+IsInRange (Open c isn iss wnd mss) = (1 ≤ mss) × (mss ≤ 1460)
+IsInRange _ = Unit {0}
+
+abbrev pub HasRange : Item → Type 0
+HasRange item.Header = Unit {0}
+HasRange item.Go = Unit {0}
+HasRange (item.Event e) = IsInRange e
+
 -- what a line that is judged by more than its first word stands for in its place
-abbrev pub item_of : Stage → List ℕ → Result Item LineFault
+abbrev pub item_of : Stage → List ℕ → Result Item Why
 item_of Start line = exactly line (codes "lard 1") item.Header
 item_of Heading line = exactly line (codes "go") item.Go
 item_of Running line = event_item (event_of (words_of line))
 
 -- what a line stands for in its place; its first word alone decides where its form is not built
-unfoldable pub judged : Stage → List ℕ → Result Item LineFault
-judged stage line = elim (unbuilt (first_word line)) [ None ↦ item_of stage line | Some form ↦ Err (NotBuilt form) ]
+unfoldable pub judged : Stage → List ℕ → Result Item Why
+judged stage line = elim (unbuilt (first_word line)) [ None ↦ item_of stage line | Some form ↦ Err (why.FormNotBuilt form) ]
 
 -- a call gives what the line stands for, unless memory runs out
-abbrev pub Judges : Result Item LineFault → Result Item LineFault → Type 0
+abbrev pub Judges : Result Item LineFault → Result Item Why → Type 0
 Judges (Err NoMemory) given = Unit {0}
 Judges (Ok x) given = given ≡ Ok x
-Judges (Err Syntax) given = given ≡ Err Syntax
-Judges (Err (NotBuilt form)) given = given ≡ Err (NotBuilt form)
+Judges (Err Syntax) given = given ≡ Err why.Syntax
+Judges (Err (NotBuilt form)) given = given ≡ Err (why.FormNotBuilt form)

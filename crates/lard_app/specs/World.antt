@@ -14,6 +14,8 @@ use Rattle.lard_base.specs.declared.errors.NoMemory as memory
 use Rattle.lard_app.specs.declared.client.Client.{Client}
 use Rattle.lard_app.specs.declared.net.Packet.{Packet}
 use Rattle.lard_app.specs.declared.status.Form.{Form}
+use Rattle.lard_app.specs.declared.status.Why.{Why}
+use Rattle.lard_app.specs.declared.status.Why.TheVariants as why
 use Rattle.lard_app.specs.declared.turn.Turn.{Turn}
 use Rattle.lard_app.specs.declared.status.Form.TheVariants as form
 use Rattle.lard_app.specs.declared.world.Move.{Move}
@@ -68,11 +70,6 @@ missing w (event.Clock ms) = Some form.Clock
 missing w (event.Settle rounds) = Some form.Settle
 missing w (event.Inject c bytes) = Some form.Inject
 
--- an event's numbers are in the ranges that its line allows, as far as a step relies on them
-abbrev pub IsInRange : Event → Type 0
-IsInRange (event.Open c isn iss wnd mss) = (1 ≤ mss) × (mss ≤ 1460)
-IsInRange _ = Unit {0}
-
 -- ---- a step's records
 
 -- the record of a timer that changed, from its flags before and after the step
@@ -110,10 +107,12 @@ pub record HasRoom (w : World) : Type 0 where
   pub packets : length w.net < 2 ^ 32 - 1
   pub events : w.events < 2 ^ 64 - 1
 
--- a step is one event, and sends at most one packet
+-- a step is one event, sends at most one packet, and takes no record back
 pub record Grows (old new : World) : Type 0 where
   pub packets : length new.net ≤ length old.net + 1
   pub events : new.events ≡ old.events + 1
+  pub journal : length old.journal ≤ length new.journal
+  pub spoiled : new.spoiled ≡ old.spoiled
 
 -- the client's SYN goes out
 abbrev pub opening : ℕ → ℕ → ℕ → ℕ → ℕ → Move
@@ -200,15 +199,15 @@ passed_on w k None = w
 passed_on w k (Some p) = to_place w k p p.to
 
 -- a packet that was sent comes to its place; a number that was not sent is refused
-unfoldable pub delivered : World → ℕ → Option Packet → Result World StepFault
-delivered w k None = Err (NotSent k (length w.net))
+unfoldable pub delivered : World → ℕ → Option Packet → Result World Why
+delivered w k None = Err (why.NotSent k (length w.net))
 delivered w k (Some p) = Ok (passed_on w k (Some p))
 
 abbrev pub packet_at : World → ℕ → Option Packet
 packet_at w k = if nat_eq k 0 then None else slice_get w.net (k - 1)
 
 -- one step
-unfoldable pub world_step : World → Event → Result World StepFault
+unfoldable pub world_step : World → Event → Result World Why
 world_step w (event.Open c isn iss wnd mss) = Ok (opened w c isn iss wnd mss)
 world_step w (event.Get c path) = Ok (asked w c path w.client)
 world_step w (event.Deliver k) = delivered w k (packet_at w k)
@@ -221,7 +220,7 @@ Closes (Err _) old new result = (result ≡ Err NoMemory) × (new ≡ record old
 
 -- A step does what the rules give. After a fault but want of memory the whole world is as before; after want of
 -- memory it is spoiled, and its journal is as before.
-abbrev pub Steps : Result World StepFault → World → World → Result (Unit {0}) StepFault → Type 0
+abbrev pub Steps : Result World Why → World → World → Result (Unit {0}) StepFault → Type 0
 Steps given old new (Ok _) = given ≡ Ok new
-Steps given old new (Err (NotSent k sent)) = (new ≡ old) × (given ≡ Err (NotSent k sent))
+Steps given old new (Err (NotSent k sent)) = (new ≡ old) × (given ≡ Err (why.NotSent k sent))
 Steps given old new (Err NoMemory) = (new.spoiled ≡ true) × (new.journal ≡ old.journal)

@@ -5,12 +5,15 @@
 #![tactic(auto)]
 
 mod client;
+mod commands;
 mod front;
 mod lines;
 mod net;
+mod replay;
 mod status;
 mod tcp;
 mod turn;
 mod world;
 
+pub use commands::run;
 pub use status::{Form, Status, What, Why};

@@ -1,8 +1,8 @@
 //! A line of a schedule, read as what it stands for.
 
-ghost use Rattle.std.specs.Prelude.{◌≡◌, ◌≤◌, IfSome, bytes_eq};
+ghost use Rattle.std.specs.Prelude.{◌≡◌, ◌≤◌, IfOk, IfSome, bytes_eq};
 ghost use Rattle.std.specs.List.{list_all, position};
-ghost use Rattle.lard_app.specs.Lines.{Finds, Judges, deliver_of, digit_on, digits_on, ended, event_item, event_of, exactly, first_word, form_in, get_of, getting, is_path, is_space, is_visible, item_of, judged, left_of, number_of, number_then, open_of, range_then, seen_get, seen_number, seen_word, unbuilt, word_then};
+ghost use Rattle.lard_app.specs.Lines.{Finds, HasRange, IsInRange, Judges, deliver_of, digit_on, digits_on, ended, event_item, event_of, exactly, first_word, form_in, get_of, getting, is_path, is_space, is_visible, item_of, judged, left_of, number_of, number_then, open_of, range_then, seen_get, seen_number, seen_word, unbuilt, word_then};
 
 use crate::status::Form;
 use lard_base::{ConnId, Event, Key, NoMemory, Path};
@@ -77,7 +77,8 @@ const UNBUILT: [Form; 22] = [
 /// What the line stands for in its place. The line is given without its line feed.
 #[tactic(auto, unfolding(crate::specs::Lines::judged))]
 pub fn read_line(alloc: Global, stage: Stage, line: &[u8]) -> Result<Item, LineFault>
-    ensures { Judges result (judged stage line.now) }
+    ensures judged { Judges result (judged stage line.now) }
+    ensures range { IfOk result HasRange }
 {
     if let Some(form) = unbuilt_form(first_word(line)) {
         return Err(LineFault::NotBuilt(form));
@@ -90,7 +91,9 @@ pub fn read_line(alloc: Global, stage: Stage, line: &[u8]) -> Result<Item, LineF
 }
 
 fn exactly(line: &[u8], text: &str, item: Item) -> Result<Item, LineFault>
-    ensures { result ≡ exactly line.now text.now item }
+    requires { HasRange item }
+    ensures judged { Judges result (exactly line.now text.now item) }
+    ensures range { IfOk result HasRange }
 {
     if is(line, text) {
         return Ok(item);
@@ -119,7 +122,8 @@ fn form_among(forms: &[Form], word: &[u8]) -> Option<Form>
 /// An event, from its line.
 #[tactic(auto, unfolding(crate::specs::Lines::event_of))]
 fn read_event(alloc: Global, line: &[u8]) -> Result<Item, LineFault>
-    ensures { Judges result (item_of Stage.Running line.now) }
+    ensures judged { Judges result (item_of Stage.Running line.now) }
+    ensures range { IfOk result HasRange }
 {
     let Some((verb, words)) = next(Words { rest: Some(line) }) else {
         return Err(LineFault::Syntax);
@@ -137,7 +141,9 @@ fn read_event(alloc: Global, line: &[u8]) -> Result<Item, LineFault>
 }
 
 fn found(event: Option<Event>) -> Result<Item, LineFault>
-    ensures { result ≡ event_item event }
+    requires { IfSome event IsInRange }
+    ensures judged { Judges result (event_item event) }
+    ensures range { IfOk result HasRange }
 {
     match event {
         Some(event) => return Ok(Item::Event(event)),
@@ -147,7 +153,8 @@ fn found(event: Option<Event>) -> Result<Item, LineFault>
 
 /// A `get` line, of which the first word was read.
 fn read_get(alloc: Global, words: Words<'_>) -> Result<Item, LineFault>
-    ensures { Judges result (event_item (getting (get_of (left_of words.entry)))) }
+    ensures range { IfOk result HasRange }
+    ensures judged { Judges result (event_item (getting (get_of (left_of words.entry)))) }
 {
     let Some((c, text)) = get(words) else {
         return Err(LineFault::Syntax);
@@ -259,7 +266,8 @@ fn range(words: Words<'_>, most: u16) -> Option<(u16, Words<'_>)>
 /// What comes after the word `open`.
 #[tactic(auto, unfolding(crate::specs::Lines::open_of))]
 fn open(words: Words<'_>) -> Option<Event>
-    ensures { result ≡ open_of (left_of words.entry) }
+    ensures event { result ≡ open_of (left_of words.entry) }
+    ensures range { IfSome result IsInRange }
 {
     let (c, words) = range(words, 16_384)?;
     let (isn, words) = number(words)?;
@@ -294,7 +302,8 @@ fn get(words: Words<'_>) -> Option<(u16, &[u8])>
 /// What comes after the word `deliver`.
 #[tactic(auto, unfolding(crate::specs::Lines::deliver_of))]
 fn deliver(words: Words<'_>) -> Option<Event>
-    ensures { result ≡ deliver_of (left_of words.entry) }
+    ensures event { result ≡ deliver_of (left_of words.entry) }
+    ensures range { IfSome result IsInRange }
 {
     let (k, words) = number(words)?;
     end(words)?;

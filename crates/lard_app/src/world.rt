@@ -2,8 +2,9 @@
 
 ghost use Rattle.std.specs.Prelude.{◌≡◌, ◌+◌, ◌-◌, ◌≤◌, ◌<◌, ◌^◌, ◌++◌, false, None, length, IfOk, IsSome, OnOk, OnErr};
 ghost use Rattle.std.specs.List.{list_all};
+ghost use Rattle.lard_app.specs.Lines.{IsInRange};
 ghost use Rattle.lard_app.specs.Turn.{IsShort, listed};
-ghost use Rattle.lard_app.specs.World.{Closes, Grows, HasRoom, IsInRange, Steps, acted, asked, client_move, delivered, is_built_deliver, is_built_get, is_built_open, is_plain_byte, missing, opened, packet_at, packet_sent, passed_on, sent_record, start, timer_change, to_front, to_nobody, to_opened, unless, world_step};
+ghost use Rattle.lard_app.specs.World.{Closes, Grows, HasRoom, Steps, acted, asked, client_move, delivered, is_built_deliver, is_built_get, is_built_open, is_plain_byte, missing, opened, packet_at, packet_sent, passed_on, sent_record, start, timer_change, to_front, to_nobody, to_opened, unless, world_step};
 
 use crate::client::{Client, request};
 use crate::front::{self, Conn};

@@ -1,0 +1,50 @@
+-- What an answer of `run` says of the bytes that were read and written.
+use Rattle.std.specs.Prelude.{◌≡◌, ℕ, ◌+◌, ◌≤◌, ◌^◌, List, [], ◌∷◌, length, map, codes, Option}
+use Rattle.std.specs.Io.KnownBytes.{Appends, Consumes, IsAtEnd}
+use Rattle.std.specs.String.{string_bytes}
+use Rattle.std.specs.declared.string.String.{String}
+use Rattle.std.specs.declared.alloc.Global.{Global}
+use Rattle.lard_base.specs.Outside.{Front}
+use Rattle.lard_app.specs.declared.status.Status.{Status}
+use Rattle.lard_app.specs.declared.status.Status.TheVariants.{Done, Usage, Refused, ReadFault, WriteFault, NoMemory, Limit}
+use Rattle.lard_app.specs.declared.status.What.{What}
+use Rattle.lard_app.specs.declared.status.Why.{Why}
+use Rattle.lard_app.specs.Replay.{whole, report_of, input_limit}
+
+-- the words ask for a replay
+abbrev pub IsReplay : List (String Global) → Type 0
+IsReplay words = map string_bytes words ≡ codes "replay" ∷ []
+
+-- the status is that of the whole text, and the whole report of its replay was written
+pub record Completes (status : Status) (text : List ℕ) (old new : Option (List ℕ)) : Type 0 where
+  pub status_is : (whole text).1 ≡ status
+  pub written : Appends old new (report_of (whole text).0)
+
+-- how the replay of a text ends, once the text is read
+abbrev pub Replays : Status → List ℕ → Option (List ℕ) → Option (List ℕ) → Type 0
+Replays Done text old new = (length text ≤ input_limit) × Completes Done text old new
+Replays (Refused line why) text old new = Completes (Refused line why) text old new
+Replays (Limit line what) text old new = Completes (Limit line what) text old new
+Replays WriteFault text old new = Front old new (report_of (whole text).0)
+Replays NoMemory text old new = Front old new (report_of (whole text).0)
+Replays ReadFault text old new = ⊥
+Replays Usage text old new = ⊥
+
+-- How a run ends over the text that it read. A fault of reading ends it before anything is written; a fault of
+-- writing and want of memory leave a front of the report.
+abbrev pub Ended : Status → List ℕ → Option (List ℕ) → Option (List ℕ) → Option (List ℕ) → Type 0
+Ended Done text left old new = IsAtEnd left × (length text ≤ input_limit) × Completes Done text old new
+Ended (Refused line why) text left old new = Completes (Refused line why) text old new
+Ended (Limit line what) text left old new = Completes (Limit line what) text old new
+Ended ReadFault text left old new = Appends old new []
+Ended WriteFault text left old new = Front old new (report_of (whole text).0)
+Ended NoMemory text left old new = Front old new (report_of (whole text).0)
+Ended Usage text left old new = ⊥
+
+-- The text that was read, and what came of it. It is the whole input, or the first 2^26 + 1 bytes of a longer one,
+-- or what a fault or want of memory let it read.
+pub record Ran (status : Status) (left left_now old new : Option (List ℕ)) : Type 0 where
+  pub text : List ℕ
+  pub consumed : Consumes left left_now text
+  pub bounded : length text ≤ input_limit + 1
+  pub ended : Ended status text left_now old new
