@@ -1,5 +1,5 @@
 -- Sources and sinks over memory, whose calls fail where they are told to.
-use Rattle.std.specs.Prelude.{ℕ, ◌-◌, min, Bool, ◌&&◌, nat_eq, nat_lt, if◌then◌else◌, List, ◌++◌, length, take, drop, Option, Some, None}
+use Rattle.std.specs.Prelude.{ℕ, ◌-◌, min, Bool, ◌&&◌, nat_eq, nat_lt, if◌then◌else◌, List, [], ◌++◌, length, take, drop, Option, Some, None}
 use Rattle.std.specs.List.{list_any}
 use Rattle.lard_base.specs.Causes.{raised}
 
@@ -17,6 +17,13 @@ pub record SinkState : Type 0 where
   pub failing : List ℕ
   pub calls : ℕ
   pub faults : ℕ
+
+-- a source of these bytes, and a sink with this room, before their first call
+abbrev pub fresh_source : List ℕ → List ℕ → SourceState
+fresh_source bytes failing = record { left = bytes; failing = failing; calls = 0; faults = 0 }
+
+abbrev pub fresh_sink : ℕ → List ℕ → SinkState
+fresh_sink room failing = record { written = []; room = room; failing = failing; calls = 0; faults = 0 }
 
 -- after so many calls the next is one that fails; calls are counted from 1, and the count stays at the greatest u64
 abbrev pub is_named : List ℕ → ℕ → Bool

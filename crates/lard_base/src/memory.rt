@@ -1,12 +1,12 @@
 //! A source and a sink over memory, whose calls fail where they are told to.
 
-ghost use Rattle.std.specs.Prelude.{◌≡◌, ℕ, ◌≤◌, ◌<◌, [], length, Option, Some, nat_eq, IfOk};
+ghost use Rattle.std.specs.Prelude.{◌≡◌, ℕ, ◌≤◌, ◌<◌, length, Option, Some, nat_eq, IfOk};
 ghost use Rattle.std.specs.Io.{ReadsAtMost, WritesAtMost};
 ghost use Rattle.std.specs.Io.KnownBytes.{ReadConsumes, WriteAppends};
 ghost use Rattle.std.specs.List.{list_any};
 ghost use Rattle.std.specs.Result.{result_ok};
 ghost use Rattle.lard_base.specs.Causes.{HasCause};
-ghost use Rattle.lard_base.specs.Memory.{SourceState, SinkState, read_count, read_into, after_read, write_count, after_write};
+ghost use Rattle.lard_base.specs.Memory.{fresh_source, fresh_sink, read_count, read_into, after_read, write_count, after_write};
 
 use crate::bytes::Bytes;
 use crate::errors::{Failed, NoMemory};
@@ -36,7 +36,7 @@ impl Model for MemSource {
 impl MemSource {
     /// A source of these bytes. The calls with the numbers in `failing`, counted from 1, fail.
     pub fn new(bytes: Bytes, failing: Calls) -> MemSource
-        ensures { result ≡ record { left = bytes; failing = failing; calls = 0; faults = 0 } }
+        ensures { result ≡ fresh_source bytes failing }
     {
         MemSource {
             source: SureSource::new(bytes),
@@ -85,7 +85,13 @@ impl Model for MemSink {
 
     ghost Value = { SinkState };
 
-    ghost view = { λ s. record { written = take s.len s.bytes.items; room = length s.bytes.items; failing = s.failing; calls = s.calls; faults = s.faults } };
+    ghost view = { λ s. record {
+      written = take s.len s.bytes.items;
+      room = length s.bytes.items;
+      failing = s.failing;
+      calls = s.calls;
+      faults = s.faults;
+    } };
 
     ghost invariant = { λ s. s.len ≤ length s.bytes.items };
 }
@@ -94,7 +100,7 @@ impl MemSink {
     /// An empty sink with room for so many bytes, which it takes at once. The calls with the numbers in `failing`,
     /// counted from 1, fail.
     pub fn new(alloc: Global, room: usize, failing: Calls) -> Result<MemSink, NoMemory>
-        ensures { IfOk result (λ sink. sink ≡ record { written = []; room = room; failing = failing; calls = 0; faults = 0 }) }
+        ensures { IfOk result (λ sink. sink ≡ fresh_sink room failing) }
     {
         let bytes = vec![in alloc; 0; room]?;
         Ok(MemSink {
