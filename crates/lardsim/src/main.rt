@@ -1,0 +1,106 @@
+//! The program `lardsim`: a thin `main` over `lard_app::run`.
+//!
+//! It answers `--help` and `--version` itself. All other words go to `run`, with standard input and output; the
+//! status is said in a line on standard error, and is the exit status.
+#![tactic(auto)]
+
+use lard_app::{Status, run};
+use lard_base::{Failed, StdSink, StdSource};
+use std::env;
+use std::io::{self, ErrorKind};
+use std::process::ExitCode;
+use std::rt::Env;
+
+const VERSION: &str = "lardsim 0.1.0\n";
+
+const HELP: &str = "\
+lardsim: replays schedules through a content-aware web cluster behind one address
+
+usage: lardsim replay
+       lardsim --help
+       lardsim --version
+
+replay      reads a schedule from standard input, replays it, and writes the
+            report, with every record of what happened, to standard output
+
+exit statuses, each with a line on standard error:
+  0  done: the input was read to its end, and the whole report was written
+  1  usage: the words are no command with its arguments
+  2  a line of the schedule was refused; the report of the steps before it stands
+  3  the input could not be read
+  4  the report could not be written
+  5  memory ran out
+  6  a limit was reached; the report of the steps before it stands
+
+The lines of a schedule and of a report are described in docs/FORMATS.md.
+";
+
+fn main(rt: HostRuntime) -> ExitCode {
+    let status = status_of(&rt);
+    say(&rt, &status);
+    ExitCode::from(status.code())
+}
+
+/// Does what the words ask for.
+fn status_of(rt: &(impl Env + Input + Print + AllocGlobal)) -> Status {
+    let words = match words(rt) {
+        Ok(words) => words,
+        Err(status) => return status,
+    };
+    match words.as_slice() {
+        [word] if word.as_str() == "--help" => print(rt, HELP),
+        [word] if word.as_str() == "--version" => print(rt, VERSION),
+        words => run_all(rt, words),
+    }
+}
+
+/// The words after the program's name. Words that are no text ask for nothing that there is.
+fn words(rt: &(impl Env + AllocGlobal)) -> Result<Vec<String>, Status> {
+    let mut all = match env::args(rt) {
+        Ok(all) => all,
+        Err(error) => return Err(unread_words(error.kind())),
+    };
+    let _name = all.next();
+    match all.collect(rt.alloc()) {
+        Ok(words) => Ok(words),
+        Err(_) => Err(Status::NoMemory),
+    }
+}
+
+fn unread_words(kind: ErrorKind) -> Status {
+    match kind {
+        ErrorKind::OutOfMemory => Status::NoMemory,
+        _ => Status::Usage,
+    }
+}
+
+/// Prints a text of the program's own.
+fn print(rt: &impl Print, text: &str) -> Status {
+    match rt.print(text) {
+        Ok(()) => Status::Done,
+        Err(_) => Status::WriteFault,
+    }
+}
+
+/// Runs the words over standard input and output. What the sink holds back is passed on at the end.
+fn run_all(rt: &(impl Input + Print + AllocGlobal), words: &[String]) -> Status {
+    let mut source = StdSource::new(rt.reader());
+    let Ok(mut sink) = StdSink::new(rt.alloc(), io::writer(rt)) else {
+        return Status::NoMemory;
+    };
+    let status = run(rt.alloc(), words, &mut source, &mut sink);
+    match sink.flush() {
+        Ok(()) => status,
+        Err(Failed) => Status::WriteFault,
+    }
+}
+
+/// Says the status on standard error. Nothing is said for `Done`, nor where the line finds no memory.
+fn say(rt: &(impl Eprint + AllocGlobal), status: &Status) {
+    if *status == Status::Done {
+        return;
+    }
+    if let Ok(line) = status.line(rt.alloc()) {
+        let _ = rt.eprintln(line.as_str());
+    }
+}
