@@ -6,7 +6,9 @@ ghost use Rattle.lard_segment.specs.Options.{option_bytes};
 ghost use Rattle.lard_segment.specs.Segment.{said, spelled, fixed_bytes, IsSendable};
 
 use crate::checksum::checksum;
-use crate::fields::{CHECKSUM, FIXED, byte, source, target};
+use crate::fields::{
+    ACK_NUMBER, CHECKSUM, CONTROL, FIXED, OFFSET, SEQ, SOURCE, TARGET, WINDOW, byte, source, target,
+};
 use crate::options::{MSS, MSS_LEN};
 use crate::segment::{Dir, Segment};
 use byteorder::{BigEndian, ByteOrder};
@@ -70,14 +72,15 @@ fn put_fixed(buf: &mut [u8], segment: &Segment<'_>, dir: Dir, begins: usize)
     requires header { begins ≤ 60 }
     ensures { buf.new ≡ fixed_bytes dir (said segment.now) begins 0 ++ drop 20 buf.old }
 {
-    BigEndian::write_u16(buf, source(dir));
-    BigEndian::write_u16(&mut buf[2..], target(dir));
-    BigEndian::write_u32(&mut buf[4..], segment.seq.0);
-    BigEndian::write_u32(&mut buf[8..], segment.ack.0);
-    buf[12] = (begins / 4 * 16) as u8;
-    buf[13] = byte(segment.flags);
-    BigEndian::write_u16(&mut buf[14..], segment.wnd);
-    BigEndian::write_u32(&mut buf[16..], 0);
+    BigEndian::write_u16(&mut buf[SOURCE..], source(dir));
+    BigEndian::write_u16(&mut buf[TARGET..], target(dir));
+    BigEndian::write_u32(&mut buf[SEQ..], segment.seq.0);
+    BigEndian::write_u32(&mut buf[ACK_NUMBER..], segment.ack.0);
+    buf[OFFSET] = (begins / 4 * 16) as u8;
+    buf[CONTROL] = byte(segment.flags);
+    BigEndian::write_u16(&mut buf[WINDOW..], segment.wnd);
+    // the urgent pointer as well
+    BigEndian::write_u32(&mut buf[CHECKSUM..], 0);
 }
 
 /// Writes the checksum to its place.
