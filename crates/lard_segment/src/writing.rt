@@ -1,9 +1,9 @@
 //! Writing a segment to its bytes.
 
-ghost use Rattle.std.specs.Prelude.{◌≡◌, ◌+◌, ◌≤◌, ◌++◌, length, take, drop};
+ghost use Rattle.std.specs.Prelude.{◌≡◌, ◌+◌, ◌≤◌, ◌++◌, length, take, drop, IfSome, false};
 ghost use Rattle.byteorder.specs.Endian.{big_bytes};
 ghost use Rattle.lard_segment.specs.Options.{option_bytes};
-ghost use Rattle.lard_segment.specs.Segment.{said, spelled, fixed_bytes, IsSendable};
+ghost use Rattle.lard_segment.specs.Segment.{said, spelled, fixed_bytes};
 
 use crate::checksum::checksum;
 use crate::fields::{
@@ -18,7 +18,10 @@ use lard_base::ConnId;
 /// at most 1,484.
 pub fn encode(segment: &Segment<'_>, c: ConnId, dir: Dir, buf: &mut [u8]) -> usize
     requires room { 1520 ≤ length buf.old }
-    requires sendable { IsSendable (said segment.now) }
+    requires some_mss { IfSome segment.now.mss (λ m. 1 ≤ m) }
+    requires small_mss { IfSome segment.now.mss (λ m. m ≤ 1460) }
+    requires small_payload { length segment.now.payload.now ≤ 1460 }
+    requires no_ack { segment.now.flags.ack ≡ false → segment.now.ack.0 ≡ 0 }
     ensures len { result ≡ length (spelled c dir (said segment.now)) }
     ensures within { (20 ≤ result) × (result ≤ 1484) }
     ensures bytes { buf.new ≡ spelled c dir (said segment.now) ++ drop result buf.old }
