@@ -1,3 +1,5 @@
 pub mod Begins
+pub mod Cut
 pub mod Growth
+pub mod Told
 pub mod Words
