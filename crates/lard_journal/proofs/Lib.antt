@@ -2,4 +2,5 @@ pub mod Begins
 pub mod Cut
 pub mod Growth
 pub mod Told
+pub mod Unique
 pub mod Words

@@ -27,36 +27,44 @@ use Rattle.lard_journal.specs.Report.{node_word, choice_word, via_word, kind_wor
 use Rattle.lard_journal.proofs.Cut.{is_plain, is_plain_byte, all_plain, is_sentence, cut, cut-line_of, plain-decimal, plain-encode_lower}
 
 -- the word at a place, counted from 0
-abbrev word_at : List (List ℕ) → ℕ → List ℕ
+abbrev pub word_at : List (List ℕ) → ℕ → List ℕ
 word_at ws i = slice_index_or ws i []
 
 -- what each kind of word stands for
 
-abbrev number_of : List ℕ → ℕ
+-- a number
+abbrev pub number_of : List ℕ → ℕ
 number_of word = digits_value 10 word
 
+-- a node written as a place
 abbrev node_of : List ℕ → ℕ
 node_of word = number_of (drop 1 word)
 
+-- bytes in hexadecimal
 abbrev bytes_of : List ℕ → List ℕ
 bytes_of word = result_unwrap_or (decode_of word) []
 
+-- a place
 abbrev place_of : List ℕ → Place
 place_of [] = Front
 place_of (b ∷ digits) = cond (b == 110) (Node (number_of digits)) (cond (b == 99) (Client (number_of digits)) Front)
 
+-- the number of a node, or a dash
 abbrev choice_of : List ℕ → Option ℕ
 choice_of [] = None
 choice_of (b ∷ digits) = cond (b == 45) None (Some (number_of (b ∷ digits)))
 
+-- where a content came from
 abbrev via_of : List ℕ → Via
 via_of [] = via.Own
 via_of (b ∷ word) = cond (b == 110) (via.Node (number_of (drop 3 word))) (cond (b == 99) via.Cache (cond (b == 100) via.Disk via.Own))
 
+-- the kind of a timer
 abbrev kind_of : List ℕ → TimerKind
 kind_of [] = Tcp
 kind_of (b ∷ _) = cond (b == 111) Offer (cond (b == 97) Ask (cond (b == 102) Fetch (cond (b == 101) Ended Tcp)))
 
+-- the words of an event
 abbrev event_of : List (List ℕ) → Event
 event_of ws =
     cond (bytes_eq (word_at ws 0) (codes "open")) (event.Open (number_of (word_at ws 1)) (number_of (word_at ws 2)) (number_of (word_at ws 3)) (number_of (word_at ws 4)) (number_of (word_at ws 5))) (
@@ -73,6 +81,7 @@ event_of ws =
     cond (bytes_eq (word_at ws 0) (codes "clock")) (event.Clock (number_of (word_at ws 1))) (
     cond (bytes_eq (word_at ws 0) (codes "settle")) (event.Settle (number_of (word_at ws 1))) (event.Inject (number_of (word_at ws 1)) (bytes_of (word_at ws 2)))))))))))))))
 
+-- the words of a record
 abbrev rec_of : List (List ℕ) → Rec
 rec_of ws =
     cond (bytes_eq (word_at ws 0) (codes "event")) (rec.Event (number_of (word_at ws 1)) (event_of (drop 2 ws))) (
@@ -106,12 +115,15 @@ rec_of ws =
 
 -- what each kind of word is read back as
 
-number_back : (n : ℕ) → IsNumber n → number_of (decimal n) ≡ n
+-- a number is read back
+pub number_back : (n : ℕ) → IsNumber n → number_of (decimal n) ≡ n
 number_back n h = (decimal_is_IsNumeral n h).1
 
+-- bytes are read back
 bytes_back : (bytes : List ℕ) → IsBytes bytes → bytes_of (encode_lower bytes) ≡ bytes
 bytes_back bytes h = ap (λ r. result_unwrap_or r []) (decode_of-encode_lower bytes h)
 
+-- a place is read back
 place_back : (place : Place) → IsPlaceInRange place → place_of (place_word place) ≡ place
 place_back Front h = refl
 place_back (Node n) h = ap Node (number_back n h)
@@ -121,20 +133,24 @@ place_back (Client c) h = ap Client (number_back c h)
 not_dash : (b : ℕ) → digit_value b < 10 → (b == 45) ≡ false
 not_dash b h = grind (arith, nat_tests)
 
+-- what has digits alone is no dash
 some_back : (word : List ℕ) → IsNumeral 10 word → choice_of word ≡ Some (number_of word)
 some_back [] h = absurd (omega arith)
 some_back (b ∷ digits) h = rw (not_dash b h.1.0) refl
 
+-- a choice is read back
 choice_back : (n : Option ℕ) → IsChoiceInRange n → choice_of (choice_word n) ≡ n
 choice_back None h = refl
 choice_back (Some n) h = some_back (decimal n) (decimal_is_IsNumeral n h).0 ∙ ap Some (number_back n h)
 
+-- where a content came from is read back
 via_back : (v : Via) → IsViaInRange v → via_of (via_word v) ≡ v
 via_back via.Own h = refl
 via_back via.Cache h = refl
 via_back via.Disk h = refl
 via_back (via.Node m) h = ap via.Node (number_back m h)
 
+-- a timer's kind is read back
 kind_back : (kind : TimerKind) → kind_of (kind_word kind) ≡ kind
 kind_back Tcp = refl
 kind_back Offer = refl
@@ -142,6 +158,7 @@ kind_back Ask = refl
 kind_back Fetch = refl
 kind_back Ended = refl
 
+-- an event is read back from its words
 event_back : (e : Event) → IsEventInRange e → event_of (event_words e) ≡ e
 event_back (event.Open c isn iss wnd mss) h = cc (number_back c h.0, number_back isn h.1, number_back iss h.2, number_back wnd h.3, number_back mss h.4)
 event_back (event.Get c path) h = cc (number_back c h.0)
@@ -160,30 +177,37 @@ event_back (event.Inject c bytes) h = cc (number_back c h.0, bytes_back bytes h.
 
 -- the words are plain
 
+-- a byte above the space is plain
 plain_byte : (b : ℕ) → 32 < b → is_plain_byte b ≡ true
 plain_byte b h = grind (arith, nat_tests)
 
-plain-path : (path : List ℕ) → IsUnspaced path → is_plain path ≡ true
+-- a path without spaces is plain
+pub plain-path : (path : List ℕ) → IsUnspaced path → is_plain path ≡ true
 plain-path path h = list_all-from_AllPass is_plain_byte path (λ k d within. plain_byte (slice_index_or path k d) (h k d within))
 
+-- a node is plain
 plain-node : (n : ℕ) → is_plain (node_word n) ≡ true
 plain-node n = plain-decimal n
 
+-- a place is plain
 plain-place : (place : Place) → is_plain (place_word place) ≡ true
 plain-place Front = refl
 plain-place (Node n) = plain-decimal n
 plain-place (Client c) = plain-decimal c
 
+-- a choice is plain
 plain-choice : (n : Option ℕ) → is_plain (choice_word n) ≡ true
 plain-choice None = refl
 plain-choice (Some n) = plain-decimal n
 
+-- where a content came from is plain
 plain-via : (v : Via) → is_plain (via_word v) ≡ true
 plain-via via.Own = refl
 plain-via via.Cache = refl
 plain-via via.Disk = refl
 plain-via (via.Node m) = plain-decimal m
 
+-- a timer's kind is plain
 plain-kind : (kind : TimerKind) → is_plain (kind_word kind) ≡ true
 plain-kind Tcp = refl
 plain-kind Offer = refl
@@ -191,6 +215,7 @@ plain-kind Ask = refl
 plain-kind Fetch = refl
 plain-kind Ended = refl
 
+-- the words of an event are plain
 plain-event : (e : Event) → IsEventInRange e → all_plain (event_words e) ≡ true
 plain-event (event.Open c isn iss wnd mss) h = rw (plain-decimal c, plain-decimal isn, plain-decimal iss, plain-decimal wnd, plain-decimal mss) refl
 plain-event (event.Get c path) h = rw (plain-decimal c, plain-path path h.1) refl
@@ -207,6 +232,7 @@ plain-event (event.Clock ms) h = rw (plain-decimal ms) refl
 plain-event (event.Settle rounds) h = rw (plain-decimal rounds) refl
 plain-event (event.Inject c bytes) h = rw (plain-decimal c, plain-encode_lower bytes h.1) refl
 
+-- a record has words, and they are plain
 plain-rec : (r : Rec) → IsInRange r → is_sentence (rec_words r) ≡ true
 plain-rec (rec.Event i event) h = rw (plain-decimal i, plain-event event h.1) refl
 plain-rec (rec.Inner event) h = rw (plain-event event h) refl
@@ -270,11 +296,18 @@ rec_back (rec.Clock time) h = rw (number_back time.0 h) refl
 rec_back (rec.Settled rounds) h = rw (number_back rounds h) refl
 rec_back (rec.Unsettled rounds left) h = rw (number_back rounds h.0, number_back left h.1) refl
 
--- what a record's line is read back as
-told : (r : Rec) → IsInRange r → rec_of (cut (rec_line r)) ≡ r
-told r h = ap rec_of (cut-line_of (rec_words r) (plain-rec r h)) ∙ rec_back r h
+-- the words of a record's line
+pub cut-rec_line : (r : Rec) (rest : List ℕ) → IsInRange r → cut (rec_line r ++ rest) ≡ rec_words r
+cut-rec_line r rest h = cut-line_of (rec_words r) rest (plain-rec r h)
+
+-- two texts that begin with lines of records begin with the same record
+pub first_rec : (r s : Rec) (behind also_behind : List ℕ) → IsInRange r → IsInRange s → rec_line r ++ behind ≡ rec_line s ++ also_behind → r ≡ s
+first_rec r s behind also_behind in_range also_in_range same =
+    sym (rec_back r in_range)
+    ∙ ap rec_of (sym (cut-rec_line r behind in_range) ∙ ap cut same ∙ cut-rec_line s also_behind also_in_range)
+    ∙ rec_back s also_in_range
 
 -- different records have different lines
 pub rec_line-injective : (r s : Rec) → IsInRange r → IsInRange s → rec_line r ≡ rec_line s → r ≡ s
 rec_line-injective r s in_range also_in_range same =
-    sym (told r in_range) ∙ ap (λ line. rec_of (cut line)) same ∙ told s also_in_range
+    first_rec r s [] [] in_range also_in_range (ap (λ line. line ++ []) same)

@@ -1,6 +1,7 @@
 -- Which records their lines tell apart.
 use Rattle.std.specs.Prelude.{ℕ, ◌<◌, ◌^◌, List, Option, Some, None, All}
 use Rattle.hex.specs.Hex.{IsBytes}
+use Rattle.lard_base.specs.declared.config.Config.{Config}
 use Rattle.lard_base.specs.declared.event.Event.{Event}
 use Rattle.lard_base.specs.declared.event.Event.TheVariants as event
 use Rattle.lard_base.specs.declared.place.Place.{Place}
@@ -10,6 +11,7 @@ use Rattle.lard_base.specs.declared.place.Via.TheVariants as via
 use Rattle.lard_journal.specs.declared.rec.Rec.{Rec}
 use Rattle.lard_journal.specs.declared.rec.Rec.TheVariants as rec
 
+-- a number of at most 64 bits
 abbrev pub IsNumber : ℕ → Type 0
 IsNumber n = n < 2 ^ 64
 
@@ -80,3 +82,16 @@ IsInRange (rec.Injected c) = IsNumber c
 IsInRange (rec.Clock time) = IsNumber time.0
 IsInRange (rec.Settled rounds) = IsNumber rounds
 IsInRange (rec.Unsettled rounds left) = IsNumber rounds × IsNumber left
+
+-- the same of a file's path and length
+abbrev pub IsFileInRange : List ℕ × ℕ → Type 0
+IsFileInRange (path, length) = IsUnspaced path × IsNumber length
+
+abbrev pub IsConfigInRange : Config → Type 0
+IsConfigInRange c = IsNumber c.nodes × IsNumber c.low × IsNumber c.high × IsNumber c.age × IsNumber c.idle × IsNumber c.over × IsNumber c.miss × IsNumber c.cache × IsNumber c.stream
+
+-- all that a report is made of is in range
+pub record IsReportInRange (config : Config) (files : List (List ℕ × ℕ)) (recs : List Rec) : Type 0 where
+  pub numbers : IsConfigInRange config
+  pub paths : All IsFileInRange files
+  pub records : All IsInRange recs
