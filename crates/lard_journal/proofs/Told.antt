@@ -1,6 +1,5 @@
 -- A record can be read back from its line, so different records have different lines.
-use Rattle.std.proofs.Common.{◌≡◌, ℕ, zero, suc, ◌<◌, ◌==◌, nat_lt, cond, Bool, true, false, ◌&&◌, List, [], ◌∷◌, ◌++◌, slice_index_or, drop, codes, Option, Some, None, refl, sym, ◌∙◌, ap, arith}
-use Rattle.std.specs.List.{list_all, All}
+use Rattle.std.proofs.Common.{◌≡◌, ℕ, ◌<◌, ◌==◌, cond, true, false, ◌&&◌, List, [], ◌∷◌, ◌++◌, slice_index_or, drop, codes, Option, Some, None, refl, sym, ◌∙◌, ap, arith}
 use Rattle.std.specs.Fmt.{decimal}
 use Rattle.std.specs.Str.{bytes_eq}
 use Rattle.std.specs.Str.Parse.{IsNumeral, digits_value}
@@ -19,7 +18,7 @@ use Rattle.lard_base.specs.declared.place.TimerKind.{TimerKind}
 use Rattle.lard_base.specs.declared.place.TimerKind.TheVariants.{Tcp, Offer, Ask, Fetch, Ended}
 use Rattle.lard_base.specs.declared.place.Via.{Via}
 use Rattle.lard_base.specs.declared.place.Via.TheVariants as via
-use Rattle.lard_base.specs.Spelling.{place_word, event_words, line_of}
+use Rattle.lard_base.specs.Spelling.{place_word, event_words}
 use Rattle.lard_journal.specs.declared.rec.Rec.{Rec}
 use Rattle.lard_journal.specs.declared.rec.Rec.TheVariants as rec
 use Rattle.lard_journal.specs.Range.{IsNumber, IsUnspaced, IsPlaceInRange, IsChoiceInRange, IsViaInRange, IsEventInRange, IsInRange}

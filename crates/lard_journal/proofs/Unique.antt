@@ -1,17 +1,15 @@
 -- A report tells its configuration, its files and its records.
-use Rattle.std.proofs.Common.{◌≡◌, ℕ, ◌<◌, cond, Bool, true, false, List, [], ◌∷◌, ◌++◌, codes, refl, sym, ◌∙◌, ap, append_assoc, arith}
+use Rattle.std.proofs.Common.{◌≡◌, ℕ, cond, List, [], ◌∷◌, ◌++◌, codes, refl, sym, ◌∙◌, ap, append_assoc, arith}
 use Rattle.std.specs.List.{flat_map, All}
 use Rattle.std.specs.Str.{bytes_eq}
-use Rattle.std.specs.Fmt.{decimal}
 use Rattle.std.proofs.lemmas.List.{append_cancel_left}
 use Rattle.std.proofs.lemmas.List.Elements.{All-head, All-tail}
 use Rattle.lard_base.specs.declared.config.Config.{Config}
-use Rattle.lard_base.specs.Spelling.{line_of}
 use Rattle.lard_journal.specs.declared.rec.Rec.{Rec}
 use Rattle.lard_journal.specs.declared.rec.Rec.TheVariants as rec
-use Rattle.lard_journal.specs.Range.{IsNumber, IsInRange, IsFileInRange, IsConfigInRange, IsReportInRange}
+use Rattle.lard_journal.specs.Range.{IsInRange, IsFileInRange, IsConfigInRange, IsReportInRange}
 use Rattle.lard_journal.specs.Report.{rec_words, rec_line, heading_words, heading_line, file_words, file_text, report}
-use Rattle.lard_journal.proofs.Cut.{is_sentence, cut, cut-line_of, plain-decimal}
+use Rattle.lard_journal.proofs.Cut.{cut, cut-line_of, plain-decimal}
 use Rattle.lard_journal.proofs.Told.{word_at, number_of, number_back, plain-path, cut-rec_line, first_rec}
 
 -- what a line is of: nothing, a file, or else a record
