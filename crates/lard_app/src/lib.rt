@@ -12,6 +12,8 @@ mod net;
 mod replay;
 mod status;
 mod tcp;
+#[cfg(test)]
+mod tests;
 mod turn;
 mod world;
 

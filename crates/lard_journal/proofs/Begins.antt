@@ -12,6 +12,7 @@ begins_less text more longer h =
     let within : length text ≤ length (text ++ more) = omega (arith, length-append text more) in
     record { begins = sym (take-take _ _ longer within) ∙ ap (take (length text)) h.begins ∙ take-append_seam text more }
 
+-- the same of a text and words behind it, each behind a space
 begins_spaced : (text : List ℕ) (words : List (List ℕ)) (longer : List ℕ) → BeginsWith (fold spaced text words) longer → BeginsWith text longer
 begins_spaced text [] longer h = h
 begins_spaced text (word ∷ words) longer h =

@@ -1,3 +1,6 @@
 pub mod Begins
+pub mod Cut
 pub mod Growth
+pub mod Told
+pub mod Unique
 pub mod Words

@@ -28,6 +28,7 @@ via_word via.Cache = codes "cache"
 via_word via.Disk = codes "disk"
 via_word (via.Node m) = codes "node" ++ decimal m
 
+-- tcp, offer, ask, fetch, ended
 abbrev pub kind_word : TimerKind → List ℕ
 kind_word Tcp = codes "tcp"
 kind_word Offer = codes "offer"
@@ -35,7 +36,7 @@ kind_word Ask = codes "ask"
 kind_word Fetch = codes "fetch"
 kind_word Ended = codes "ended"
 
--- the words of a record's line
+-- the words of a record's line: in an assignment nodes are plain numbers, in hit, queued and read they are places
 abbrev pub rec_words : Rec → List (List ℕ)
 rec_words (rec.Event i event) = codes "event" ∷ decimal i ∷ event_words event
 rec_words (rec.Inner event) = codes "inner" ∷ event_words event

@@ -18,4 +18,4 @@ pub use journal::Journal;
 pub use lines::{line, push_line};
 pub use preface::{file_line, heading};
 pub use rec::{Rec, Recs};
-pub use report::report_grows;
+pub use report::{report_grows, report_tells_all};

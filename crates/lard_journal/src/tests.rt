@@ -423,5 +423,6 @@ fn report_of_a_journal(rt: HostRuntime) -> Result<(), Fail> {
         "report 1 nodes 2 low 25 high 65 age 20000 idle 25 over 130 miss 50 cache 1048576 stream 1073741824\nfile /a 5\ngot 1\neof 1\n";
     assert_eq!(rt; text.as_slice(), want.as_bytes());
     report_grows();
+    report_tells_all();
     Ok(())
 }

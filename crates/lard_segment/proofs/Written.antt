@@ -6,7 +6,7 @@ use Rattle.std.proofs.lemmas.Slice.{drop-append-drop}
 use Rattle.lard_segment.specs.declared.segment.Dir.{Dir}
 use Rattle.lard_segment.specs.Checksum.{checksum_of}
 use Rattle.lard_segment.specs.Options.{option_bytes}
-use Rattle.lard_segment.specs.Segment.{Said, spelled, fixed_bytes, with_checksum, IsSendable}
+use Rattle.lard_segment.specs.Segment.{Said, spelled, fixed_bytes, with_checksum}
 
 -- how long a segment with some checksum is
 length-with_checksum : (dir : Dir) (s : Said) (checksum : ℕ) → length (with_checksum dir s checksum) ≡ 20 + length (option_bytes s.mss) + length s.payload
@@ -26,9 +26,9 @@ length-spelled c dir s = length-with_checksum dir s (checksum_of c dir (with_che
 pub length-spelled-least : (c : ℕ) (dir : Dir) (s : Said) → 20 ≤ length (spelled c dir s)
 length-spelled-least c dir s = omega (arith, length-spelled c dir s)
 
--- and at most 1,484 where it may be sent
-pub length-spelled-most : (c : ℕ) (dir : Dir) (s : Said) → IsSendable s → length (spelled c dir s) ≤ 1484
-length-spelled-most c dir s sendable = omega (arith, length-spelled c dir s, length-option_bytes s.mss, sendable.small_payload)
+-- and at most 1,484 with the data that may be sent
+pub length-spelled-most : (c : ℕ) (dir : Dir) (s : Said) → length s.payload ≤ 1460 → length (spelled c dir s) ≤ 1484
+length-spelled-most c dir s small = omega (arith, length-spelled c dir s, length-option_bytes s.mss, small)
 
 -- the options and then the data, in the room behind a fixed part that stays
 pub behind : (options payload old first second : List ℕ) (len : ℕ) → len ≡ length options → first ≡ options ++ drop len (take (length old - 20) (drop 20 old)) → second ≡ take len first ++ payload ++ drop (len + length payload) first

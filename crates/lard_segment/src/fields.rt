@@ -7,7 +7,21 @@ use crate::segment::{Dir, Flags};
 
 /// The length of a header without options.
 pub const FIXED: usize = 20;
-/// The place of the checksum.
+/// The place of the source port, of 16 bits.
+pub const SOURCE: usize = 0;
+/// The place of the destination port, of 16 bits.
+pub const TARGET: usize = 2;
+/// The place of the sequence number, of 32 bits.
+pub const SEQ: usize = 4;
+/// The place of the acknowledgement number, of 32 bits.
+pub const ACK_NUMBER: usize = 8;
+/// The place of the byte with the data offset in its upper four bits.
+pub const OFFSET: usize = 12;
+/// The place of the byte with the control bits.
+pub const CONTROL: usize = 13;
+/// The place of the window, of 16 bits.
+pub const WINDOW: usize = 14;
+/// The place of the checksum, of 16 bits; the urgent pointer stands behind it.
 pub const CHECKSUM: usize = 16;
 /// The port that the cluster listens on.
 pub const CLUSTER_PORT: u16 = 80;

@@ -5,7 +5,10 @@ ghost use Rattle.lard_segment.specs.Segment.{are_ports, begins_at, decoded, Give
 
 use crate::checksum::checksum;
 use crate::fault::SegFault;
-use crate::fields::{CHECKSUM, FIXED, flags, number, source, target, word};
+use crate::fields::{
+    ACK_NUMBER, CHECKSUM, CONTROL, FIXED, OFFSET, SEQ, SOURCE, TARGET, WINDOW, flags, number,
+    source, target, word,
+};
 use crate::options::mss_of;
 use crate::segment::{Dir, Segment};
 use lard_base::ConnId;
@@ -35,10 +38,10 @@ pub fn decode(bytes: &[u8], c: ConnId, dir: Dir) -> Result<Segment<'_>, SegFault
     };
     let mss = mss_of(&bytes[FIXED..begins])?;
     Ok(Segment {
-        seq: Seq(number(bytes, 4)),
-        ack: Seq(number(bytes, 8)),
-        flags: flags(bytes[13]),
-        wnd: word(bytes, 14),
+        seq: Seq(number(bytes, SEQ)),
+        ack: Seq(number(bytes, ACK_NUMBER)),
+        flags: flags(bytes[CONTROL]),
+        wnd: word(bytes, WINDOW),
         mss,
         payload: &bytes[begins..],
     })
@@ -49,7 +52,7 @@ fn has_ports(bytes: &[u8], dir: Dir) -> bool
     requires { 20 ≤ length bytes.now }
     ensures { result ≡ are_ports bytes.now dir }
 {
-    word(bytes, 0) == source(dir) && word(bytes, 2) == target(dir)
+    word(bytes, SOURCE) == source(dir) && word(bytes, TARGET) == target(dir)
 }
 
 /// Where the data begins, unless that is in the header's fixed part or past the end.
@@ -58,7 +61,7 @@ fn data_at(bytes: &[u8]) -> Option<usize>
     ensures value { result ≡ begins_at bytes.now }
     ensures within { IfSome result (λ n. (20 ≤ n) × (n ≤ length bytes.now)) }
 {
-    let begins = bytes[12] as usize / 16 * 4;
+    let begins = bytes[OFFSET] as usize / 16 * 4;
     if begins < FIXED || bytes.len() < begins {
         return None;
     }

@@ -21,10 +21,15 @@ const OPENING: &[u8] =
     b"\x9c\x40\x00\x50\x00\x00\x03\xe8\x00\x00\x00\x00\x60\x02\xff\xff\xe3\xab\x00\x00\x02\x04\x05\xb4";
 
 /// What client 1 may send from 7 on with a window of 9, and the size that it names.
-const READ: [(&str, &[u8], Option<u16>); 13] = [
+const READ: &[(&str, &[u8], Option<u16>)] = &[
     (
         "no option",
         b"\x9c\x40\x00\x50\x00\x00\x00\x07\x00\x00\x00\x00\x50\x02\x00\x09\xff\x3f\x00\x00",
+        None,
+    ),
+    (
+        "urgent data, two bits on congestion and the reserved bits",
+        b"\x9c\x40\x00\x50\x00\x00\x00\x07\x00\x00\x00\x00\x5f\xe2\x00\x09\xdd\x2b\x12\x34",
         None,
     ),
     (
@@ -90,7 +95,7 @@ const READ: [(&str, &[u8], Option<u16>); 13] = [
 ];
 
 /// What no segment of client 1 to the cluster is, and why.
-const REFUSED: [(&str, &[u8], SegFault); 22] = [
+const REFUSED: &[(&str, &[u8], SegFault)] = &[
     ("nothing at all", b"", SegFault::Short),
     (
         "one byte less than a header",
@@ -331,7 +336,7 @@ fn writes_and_reads(rt: HostRuntime) {
 #[test]
 fn reads_options(rt: HostRuntime) {
     let c = ConnId::new(1).expect(&rt, "the number of a connection");
-    for (name, bytes, mss) in READ {
+    for &(name, bytes, mss) in READ {
         assert!(rt; bytes.len() <= 65_535);
         let segment = Segment {
             seq: Seq(7),
@@ -346,24 +351,9 @@ fn reads_options(rt: HostRuntime) {
 }
 
 #[test]
-fn ignores_urgent_data_and_reserved_bits(rt: HostRuntime) {
-    let c = ConnId::new(1).expect(&rt, "the number of a connection");
-    let bytes = b"\x9c\x40\x00\x50\x00\x00\x00\x07\x00\x00\x00\x00\x5f\xe2\x00\x09\xdd\x2b\x12\x34";
-    let segment = Segment {
-        seq: Seq(7),
-        ack: Seq(0),
-        flags: Flags { syn: true, ..NONE },
-        wnd: 9,
-        mss: None,
-        payload: b"",
-    };
-    assert_eq!(rt; decode(bytes, c, Dir::ToCluster), Ok(segment));
-}
-
-#[test]
 fn refuses(rt: HostRuntime) {
     let c = ConnId::new(1).expect(&rt, "the number of a connection");
-    for (name, bytes, fault) in REFUSED {
+    for &(name, bytes, fault) in REFUSED {
         assert!(rt; bytes.len() <= 65_535);
         assert_eq!(rt; decode(bytes, c, Dir::ToCluster), Err(fault), "{name}");
     }

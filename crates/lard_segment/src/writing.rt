@@ -1,12 +1,14 @@
 //! Writing a segment to its bytes.
 
-ghost use Rattle.std.specs.Prelude.{◌≡◌, ◌+◌, ◌≤◌, ◌++◌, length, take, drop};
+ghost use Rattle.std.specs.Prelude.{◌≡◌, ◌+◌, ◌≤◌, ◌++◌, length, take, drop, IfSome, false};
 ghost use Rattle.byteorder.specs.Endian.{big_bytes};
 ghost use Rattle.lard_segment.specs.Options.{option_bytes};
-ghost use Rattle.lard_segment.specs.Segment.{said, spelled, fixed_bytes, IsSendable};
+ghost use Rattle.lard_segment.specs.Segment.{said, spelled, fixed_bytes};
 
 use crate::checksum::checksum;
-use crate::fields::{CHECKSUM, FIXED, byte, source, target};
+use crate::fields::{
+    ACK_NUMBER, CHECKSUM, CONTROL, FIXED, OFFSET, SEQ, SOURCE, TARGET, WINDOW, byte, source, target,
+};
 use crate::options::{MSS, MSS_LEN};
 use crate::segment::{Dir, Segment};
 use byteorder::{BigEndian, ByteOrder};
@@ -16,7 +18,10 @@ use lard_base::ConnId;
 /// at most 1,484.
 pub fn encode(segment: &Segment<'_>, c: ConnId, dir: Dir, buf: &mut [u8]) -> usize
     requires room { 1520 ≤ length buf.old }
-    requires sendable { IsSendable (said segment.now) }
+    requires some_mss { IfSome segment.now.mss (λ m. 1 ≤ m) }
+    requires small_mss { IfSome segment.now.mss (λ m. m ≤ 1460) }
+    requires small_payload { length segment.now.payload.now ≤ 1460 }
+    requires no_ack { segment.now.flags.ack ≡ false → segment.now.ack.0 ≡ 0 }
     ensures len { result ≡ length (spelled c dir (said segment.now)) }
     ensures within { (20 ≤ result) × (result ≤ 1484) }
     ensures bytes { buf.new ≡ spelled c dir (said segment.now) ++ drop result buf.old }
@@ -70,14 +75,15 @@ fn put_fixed(buf: &mut [u8], segment: &Segment<'_>, dir: Dir, begins: usize)
     requires header { begins ≤ 60 }
     ensures { buf.new ≡ fixed_bytes dir (said segment.now) begins 0 ++ drop 20 buf.old }
 {
-    BigEndian::write_u16(buf, source(dir));
-    BigEndian::write_u16(&mut buf[2..], target(dir));
-    BigEndian::write_u32(&mut buf[4..], segment.seq.0);
-    BigEndian::write_u32(&mut buf[8..], segment.ack.0);
-    buf[12] = (begins / 4 * 16) as u8;
-    buf[13] = byte(segment.flags);
-    BigEndian::write_u16(&mut buf[14..], segment.wnd);
-    BigEndian::write_u32(&mut buf[16..], 0);
+    BigEndian::write_u16(&mut buf[SOURCE..], source(dir));
+    BigEndian::write_u16(&mut buf[TARGET..], target(dir));
+    BigEndian::write_u32(&mut buf[SEQ..], segment.seq.0);
+    BigEndian::write_u32(&mut buf[ACK_NUMBER..], segment.ack.0);
+    buf[OFFSET] = (begins / 4 * 16) as u8;
+    buf[CONTROL] = byte(segment.flags);
+    BigEndian::write_u16(&mut buf[WINDOW..], segment.wnd);
+    // the urgent pointer as well
+    BigEndian::write_u32(&mut buf[CHECKSUM..], 0);
 }
 
 /// Writes the checksum to its place.

@@ -14,4 +14,4 @@ returns-clause-bytes c =
     (omega (arith, c.requires.room)) c.put_rest-len.ensures.len (omega (arith, c.put_rest-len.ensures.len)) c.put_rest-len.ensures.bytes c.put_fixed.ensures (c.checksum-agreeing.ensures c.args.dir) c.put_checksum.ensures
 
 pub returns-clause-within : goal.returns-clause-within
-returns-clause-within c = (omega (arith, c.put_rest-len.ensures.len), omega (arith, returns-clause-len c, length-spelled-most c.args.c c.args.dir (said c.args.segment.now) c.requires.sendable))
+returns-clause-within c = (omega (arith, c.put_rest-len.ensures.len), omega (arith, returns-clause-len c, length-spelled-most c.args.c c.args.dir (said c.args.segment.now) c.requires.small_payload))
