@@ -1,5 +1,5 @@
 -- What an answer of `run` says of the bytes that were read and written.
-use Rattle.std.specs.Prelude.{◌≡◌, ℕ, ◌+◌, ◌≤◌, ◌^◌, ◌⊎◌, List, [], ◌∷◌, length, map, codes, Option}
+use Rattle.std.specs.Prelude.{◌≡◌, ℕ, ◌+◌, ◌≤◌, ◌⊎◌, List, [], ◌∷◌, length, map, codes, Option}
 use Rattle.std.specs.Io.KnownBytes.{Appends, Consumes, IsAtEnd}
 use Rattle.std.specs.String.{string_bytes}
 use Rattle.std.specs.declared.string.String.{String}
@@ -7,8 +7,6 @@ use Rattle.std.specs.declared.alloc.Global.{Global}
 use Rattle.lard_base.specs.Outside.{Front}
 use Rattle.lard_app.specs.declared.status.Status.{Status}
 use Rattle.lard_app.specs.declared.status.Status.TheVariants.{Done, Usage, Refused, ReadFault, WriteFault, NoMemory, Limit}
-use Rattle.lard_app.specs.declared.status.What.{What}
-use Rattle.lard_app.specs.declared.status.Why.{Why}
 use Rattle.lard_app.specs.Replay.{whole, report_of, input_limit}
 
 -- the words ask for a replay
