@@ -1,4 +1,5 @@
 pub mod Going
 pub mod Growth
 pub mod Packets
+pub mod Records
 pub mod Words

@@ -1,5 +1,7 @@
 pub mod Client
 pub mod Front
+pub mod Journal
+pub mod Laws
 pub mod Lines
 pub mod Net
 pub mod Replay

@@ -98,6 +98,23 @@ replayed s [] = (s, Done)
 replayed s (last ∷ []) = (s, ending s last)
 replayed s (line ∷ next ∷ more) = elim (passed s line) [ Err status ↦ (s, status) | Ok t ↦ replayed t (next ∷ more) ]
 
+-- the event of a line, where it stands for one
+abbrev pub event_listed : Result Item Why → List Event
+event_listed (Err why) = []
+event_listed (Ok item.Header) = []
+event_listed (Ok item.Go) = []
+event_listed (Ok (item.Event e)) = e ∷ []
+
+-- the events of the lines that are passed from a state on
+abbrev pub events_from : Replay → List (List ℕ) → List Event
+events_from s [] = []
+events_from s (last ∷ []) = []
+events_from s (line ∷ next ∷ more) = elim (passed s line) [ Err status ↦ [] | Ok t ↦ event_listed (judged s.stage line) ++ events_from t (next ∷ more) ]
+
+-- the events that a text's lines passed
+unfoldable pub events_of : List ℕ → List Event
+events_of text = events_from begin (lines_of text)
+
 -- a whole text
 unfoldable pub whole : List ℕ → Replay × Status
 whole text = replayed begin (lines_of text)
