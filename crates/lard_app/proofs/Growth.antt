@@ -1,7 +1,6 @@
 -- The report of a replay grows by what each line adds.
-use Rattle.std.proofs.Common.{◌≡◌, ℕ, ◌+◌, List, [], ◌∷◌, ◌++◌, length, take, drop, Bool, true, false, cond, Option, Some, None, Result, Ok, Err, refl, sym, ap, ◌∙◌, subst, append_assoc, append-nil}
+use Rattle.std.proofs.Common.{◌≡◌, ℕ, ◌+◌, List, [], ◌∷◌, ◌++◌, length, drop, Bool, true, false, cond, Option, Some, None, Result, Ok, Err, refl, sym, ap, ◌∙◌, subst, append_assoc, append-nil}
 use Rattle.std.proofs.Math.Seq.{drop-append_seam}
-use Rattle.std.specs.List.{flat_map}
 use Rattle.std.specs.Prelude.{bytes_eq, codes}
 use Rattle.lard_base.specs.Config.{standard}
 use Rattle.lard_base.specs.declared.event.Event.{Event}
@@ -9,7 +8,7 @@ use Rattle.lard_base.specs.declared.event.Event.TheVariants as event
 use Rattle.lard_base.specs.declared.place.Place.{Place}
 use Rattle.lard_base.specs.declared.place.Place.TheVariants as place
 use Rattle.lard_journal.specs.declared.rec.Rec.{Rec}
-use Rattle.lard_journal.specs.Report.{heading_line, rec_line, report}
+use Rattle.lard_journal.specs.Report.{report}
 use Rattle.lard_journal.proofs.Growth.{report-append, report-heading}
 use Rattle.lard_app.specs.declared.client.Client.{Client}
 use Rattle.lard_app.specs.declared.lines.Item.{Item}

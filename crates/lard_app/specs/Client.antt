@@ -1,5 +1,5 @@
 -- A client's side of its connection (RFC 9293), as far as one request and segments in order need it.
-use Rattle.std.specs.Prelude.{ℕ, Bool, true, false, List, [], ◌∷◌, ◌++◌, length, min, Option, Some, None, Result, Ok, Err, codes, if◌then◌else◌, nat_eq, ◌&&◌, ◌||◌, not}
+use Rattle.std.specs.Prelude.{ℕ, Bool, true, false, List, [], ◌++◌, length, min, Option, Some, None, Result, Ok, Err, codes, if◌then◌else◌, nat_eq, ◌&&◌, ◌||◌, not}
 use Rattle.lard_journal.specs.declared.rec.Rec.{Rec}
 use Rattle.lard_journal.specs.declared.rec.Rec.TheVariants.{Accepted}
 use Rattle.lard_seq.specs.declared.Seq.{Seq}

@@ -1,13 +1,9 @@
 -- The front end's side of a connection (RFC 9293), as far as one request and segments in order need it.
-use Rattle.std.specs.Prelude.{ℕ, ◌-◌, Bool, true, false, List, [], ◌∷◌, ◌++◌, length, drop, Option, Some, None, Result, Ok, Err, codes, bytes_eq, if◌then◌else◌, nat_eq, nat_le, ◌&&◌, not}
-use Rattle.lard_base.specs.declared.ids.Epoch.{Epoch}
+use Rattle.std.specs.Prelude.{ℕ, ◌-◌, Bool, true, false, List, length, drop, Option, Some, None, Result, Ok, Err, codes, bytes_eq, if◌then◌else◌, nat_eq, nat_le, ◌&&◌, not}
 use Rattle.lard_base.specs.declared.place.Place.TheVariants.{Front}
 use Rattle.lard_base.specs.declared.place.Via.TheVariants.{Own}
-use Rattle.lard_journal.specs.declared.rec.Rec.{Rec}
 use Rattle.lard_journal.specs.declared.rec.Rec.TheVariants.{Took, Served}
-use Rattle.lard_seq.specs.declared.Seq.{Seq}
 use Rattle.lard_segment.specs.declared.segment.Dir.TheVariants.{ToCluster, ToClient}
-use Rattle.lard_segment.specs.declared.segment.Ready.{Ready}
 use Rattle.lard_segment.specs.declared.fault.SegFault.{SegFault}
 use Rattle.lard_segment.specs.Segment.{Said, decoded}
 use Rattle.lard_app.specs.declared.front.Conn.{Conn}

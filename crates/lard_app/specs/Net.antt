@@ -1,5 +1,5 @@
 -- The network: a list of packets.
-use Rattle.std.specs.Prelude.{ℕ, ◌≤◌, List, [], ◌∷◌, length}
+use Rattle.std.specs.Prelude.{◌≤◌, List, [], ◌∷◌, length}
 use Rattle.lard_app.specs.declared.net.Packet.{Packet}
 
 -- no packet has more than 1,520 bytes

@@ -1,5 +1,5 @@
 -- What an answer of `run` says of the bytes that were read and written.
-use Rattle.std.specs.Prelude.{◌≡◌, ℕ, ◌+◌, ◌≤◌, ◌^◌, List, [], ◌∷◌, length, map, codes, Option}
+use Rattle.std.specs.Prelude.{◌≡◌, ℕ, ◌+◌, ◌≤◌, ◌⊎◌, List, [], ◌∷◌, length, map, codes, Option}
 use Rattle.std.specs.Io.KnownBytes.{Appends, Consumes, IsAtEnd}
 use Rattle.std.specs.String.{string_bytes}
 use Rattle.std.specs.declared.string.String.{String}
@@ -7,8 +7,6 @@ use Rattle.std.specs.declared.alloc.Global.{Global}
 use Rattle.lard_base.specs.Outside.{Front}
 use Rattle.lard_app.specs.declared.status.Status.{Status}
 use Rattle.lard_app.specs.declared.status.Status.TheVariants.{Done, Usage, Refused, ReadFault, WriteFault, NoMemory, Limit}
-use Rattle.lard_app.specs.declared.status.What.{What}
-use Rattle.lard_app.specs.declared.status.Why.{Why}
 use Rattle.lard_app.specs.Replay.{whole, report_of, input_limit}
 
 -- the words ask for a replay
@@ -30,19 +28,23 @@ Replays NoMemory text old new = Front old new (report_of (whole text).0)
 Replays ReadFault text old new = ⊥
 Replays Usage text old new = ⊥
 
+-- the text is the whole input, or the first 2^26 + 1 bytes of a longer one
+abbrev pub IsRead : List ℕ → Option (List ℕ) → Type 0
+IsRead text left = IsAtEnd left ⊎ (length text ≡ input_limit + 1)
+
 -- How a run ends over the text that it read. A fault of reading ends it before anything is written; a fault of
 -- writing and want of memory leave a front of the report.
 abbrev pub Ended : Status → List ℕ → Option (List ℕ) → Option (List ℕ) → Option (List ℕ) → Type 0
 Ended Done text left old new = IsAtEnd left × (length text ≤ input_limit) × Completes Done text old new
-Ended (Refused line why) text left old new = Completes (Refused line why) text old new
-Ended (Limit line what) text left old new = Completes (Limit line what) text old new
+Ended (Refused line why) text left old new = IsRead text left × Completes (Refused line why) text old new
+Ended (Limit line what) text left old new = IsRead text left × Completes (Limit line what) text old new
+Ended WriteFault text left old new = IsRead text left × Front old new (report_of (whole text).0)
 Ended ReadFault text left old new = Appends old new []
-Ended WriteFault text left old new = Front old new (report_of (whole text).0)
 Ended NoMemory text left old new = Front old new (report_of (whole text).0)
 Ended Usage text left old new = ⊥
 
--- The text that was read, and what came of it. It is the whole input, or the first 2^26 + 1 bytes of a longer one,
--- or what a fault or want of memory let it read.
+-- The text that was read, and what came of it. Where no fault of reading and no want of memory came, it is the whole
+-- input, or the first 2^26 + 1 bytes of a longer one.
 pub record Ran (status : Status) (left left_now old new : Option (List ℕ)) : Type 0 where
   pub text : List ℕ
   pub consumed : Consumes left left_now text

@@ -1,4 +1,4 @@
-use Rattle.std.proofs.Common.{List, ℕ, ◌+◌, arith, refl, sym, ◌∙◌, subst}
+use Rattle.std.proofs.Common.{List, ℕ, ◌+◌, arith, sym, ◌∙◌, subst}
 use Rattle.lard_app.proofs.Going.{Going, going_end, going_first, going_on, going_stop}
 use Rattle.lard_app.proofs.Words.{slice_rest}
 use Rattle.lard_app.proofs.commands.replay_text.Goals as goal

@@ -1,5 +1,4 @@
-use Rattle.std.proofs.Common.{◌≡◌, ◌<◌, ◌+◌, ◌-◌, ◌^◌, arith, length, List, ◌++◌, ◌∷◌, [], ap, length-append}
-use Rattle.lard_app.specs.declared.net.Packet.{Packet}
+use Rattle.std.proofs.Common.{◌≡◌, ◌<◌, ◌+◌, ◌-◌, ◌^◌, arith, length, ap, length-append}
 use Rattle.lard_app.proofs.Packets.{AreShort-push}
 use Rattle.lard_app.proofs.net.Net.send.Goals as goal
 
