@@ -76,7 +76,7 @@ step-extends w t _ e = result-extends w t w (unchanged w) e
 
 -- ---- what a line stands for fits its place
 
-abbrev Fits : Stage → Result Item Why → Type 0
+abbrev pub Fits : Stage → Result Item Why → Type 0
 Fits stage (Err why) = Unit {0}
 Fits Start (Ok item.Header) = Unit {0}
 Fits Heading (Ok item.Go) = Unit {0}
@@ -98,7 +98,7 @@ item-fits Heading line = go (bytes_eq line (codes "go")) where
   go false = tt
 item-fits Running line = event-fits (event_of (words_of line))
 
-judged-fits : (stage : Stage) (line : List ℕ) → Fits stage (judged stage line)
+pub judged-fits : (stage : Stage) (line : List ℕ) → Fits stage (judged stage line)
 unfolding judged
 judged-fits stage line = go (unbuilt (first_word line)) where
   go : (o : Option Form) → Fits stage (elim o as (λ _. Result Item Why) [ None ↦ item_of stage line | Some form ↦ Err (why.FormNotBuilt form) ])

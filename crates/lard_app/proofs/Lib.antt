@@ -1,5 +1,10 @@
+pub mod Following
 pub mod Going
 pub mod Growth
+pub mod Kept
+pub mod Lawful
 pub mod Packets
 pub mod Records
+pub mod Steps
+pub mod Turns
 pub mod Words

@@ -88,7 +88,7 @@ quiet_listed J n goals held None q l = subst (λ K. Linked K n goals held) (sym 
 quiet_listed J n goals held (Some r) q l = quiet J n goals held r q l
 
 some_goal : (goal : Option Place) (place : Place) → goal ≡ Some place → IsSome goal
-some_goal goal place e = subst (λ (o : Option Place). IsSome o) (sym e) tt
+some_goal goal place e = subst (λ (o : Option Place). IsSome o) (sym e) refl
 
 -- a packet that was sent is got, in the step that delivers it
 pub got : (J : List Rec) (n : ℕ) (goals : ℕ → Option Place) (held : Bool) (i k : ℕ) (place : Place) → goals k ≡ Some place → Linked J n goals held
@@ -97,7 +97,7 @@ got J n goals held i k place e l =
     let K : List Rec = J ++ rec.Event i (Deliver k) ∷ [] in
     let m : Linked K n goals held = quiet J n goals held (rec.Event i (Deliver k)) refl l in
     still K n goals held m (rec.Got k) ((some_goal (goal_of K k) place (m.goals_are k ∙ e), ap (acting_at K) (fold-append event_step None J (rec.Event i (Deliver k) ∷ [])), m.none_lost k), tt, tt)
-        (λ x. refl) (λ j x. refl) (λ j x. refl) (λ c x. refl) (λ c x. refl)
+    (λ x. refl) (λ j x. refl) (λ j x. refl) (λ c x. refl) (λ c x. refl)
 
 -- the front end takes the connection of client 1, which nobody owns
 pub took : (J : List Rec) (n : ℕ) (goals : ℕ → Option Place) → Linked J n goals false → Linked (J ++ rec.Took Front 1 (record { 0 = 1 }) ∷ []) n goals true

@@ -29,18 +29,19 @@ wrote x bytes = record x { written = bytes }
 -- ---- taking a segment
 
 -- while the SYN is not acknowledged, only the cluster's SYN with the right acknowledgement counts (3.10.7.3)
+abbrev pub established : Client → Said → Client
+established x s = record x { una = numbered s.ack; rcv = Some (on (numbered s.seq) 1) }
+
 abbrev pub greeted : Client → Said → Client × Heard
-greeted x s =
-    if s.flags.syn && s.flags.ack && nat_eq s.ack x.nxt.0
-    then (record x { una = numbered s.ack; rcv = Some (on (numbered s.seq) 1) }, Greeting)
-    else (x, Nothing)
+greeted x s = if s.flags.syn && s.flags.ack && nat_eq s.ack x.nxt.0 then (established x s, Greeting) else (x, Nothing)
 
 -- the next segment in order acknowledges, and its data is taken
+abbrev pub told_on : Client → Seq → Said → Client × Heard
+told_on x rcv s =
+    (record x { una = una_after x.una x.nxt (numbered s.ack); rcv = Some (on rcv (length s.payload)) }, if is_nil s.payload then Nothing else Data)
+
 abbrev pub told : Client → Seq → Said → Client × Heard
-told x rcv s =
-    if is_next rcv s
-    then (record x { una = una_after x.una x.nxt (numbered s.ack); rcv = Some (on rcv (length s.payload)) }, if is_nil s.payload then Nothing else Data)
-    else (x, Nothing)
+told x rcv s = if is_next rcv s then told_on x rcv s else (x, Nothing)
 
 abbrev pub heard_from : Client → Option Seq → Said → Client × Heard
 heard_from x None s = greeted x s

@@ -35,11 +35,15 @@ abbrev pub silent : Option Conn → Says
 silent conn = record { conn = conn; note = None; ready = None }
 
 -- a connection begins with a plain SYN, and the front end is its first owner
+abbrev pub began : ℕ → ℕ → Said → Says
+began c iss s = record {
+  conn = Some (listening iss s.seq);
+  note = Some (Took Front c (record { 0 = 1 }));
+  ready = Some (greeting (numbered iss) (on (numbered s.seq) 1) 16384);
+}
+
 abbrev pub begun : ℕ → ℕ → Said → Says
-begun c iss s =
-    if is_plain_syn s
-    then record { conn = Some (listening iss s.seq); note = Some (Took Front c (record { 0 = 1 })); ready = Some (greeting (numbered iss) (on (numbered s.seq) 1) 16384) }
-    else silent None
+begun c iss s = if is_plain_syn s then began c iss s else silent None
 
 -- the connection after the next segment in order
 abbrev pub taken : Conn → Said → Conn

@@ -1,10 +1,11 @@
 -- What a schedule stands for, line by line: how far a replay comes, and what its report gains.
-use Rattle.std.specs.Prelude.{◌≡◌, ℕ, ◌+◌, ◌≤◌, ◌^◌, Bool, List, [], ◌∷◌, length, drop, Option, Some, None, Result, Ok, Err, nat_eq, nat_lt, false, if◌then◌else◌}
+use Rattle.std.specs.Prelude.{◌≡◌, ℕ, ◌+◌, ◌≤◌, ◌^◌, Bool, List, [], ◌∷◌, ◌++◌, length, drop, Option, Some, None, Result, Ok, Err, nat_eq, nat_lt, false, if◌then◌else◌}
 use Rattle.std.specs.List.{slice_split, flat_map}
 use Rattle.std.specs.Io.KnownBytes.{Appends}
 use Rattle.lard_base.specs.Config.{standard}
 use Rattle.lard_base.specs.Outside.{Front}
 use Rattle.lard_base.specs.declared.event.Event.{Event}
+use Rattle.lard_journal.specs.declared.rec.Rec.{Rec}
 use Rattle.lard_journal.specs.Report.{heading_line, rec_line, report}
 use Rattle.lard_app.specs.declared.lines.Item.{Item}
 use Rattle.lard_app.specs.declared.lines.Item.TheVariants as item
@@ -118,6 +119,10 @@ events_of text = events_from begin (lines_of text)
 -- a whole text
 unfoldable pub whole : List ℕ → Replay × Status
 whole text = replayed begin (lines_of text)
+
+-- the journal that a text leads to
+abbrev pub journal_of : List ℕ → List Rec
+journal_of text = (whole text).0.world.journal
 
 -- ---- the report
 

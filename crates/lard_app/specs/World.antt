@@ -12,6 +12,7 @@ use Rattle.lard_segment.specs.declared.segment.Dir.TheVariants.{ToCluster}
 use Rattle.lard_segment.specs.Segment.{ready_said, spelled}
 use Rattle.lard_base.specs.declared.errors.NoMemory as memory
 use Rattle.lard_app.specs.declared.client.Client.{Client}
+use Rattle.lard_app.specs.declared.front.Conn.{Conn}
 use Rattle.lard_app.specs.declared.net.Packet.{Packet}
 use Rattle.lard_app.specs.declared.status.Form.{Form}
 use Rattle.lard_app.specs.declared.status.Why.{Why}
@@ -156,29 +157,30 @@ to_client w k bytes x =
     let answer = client_turn x bytes in
     acted (record w { delivered = k; client = Some answer.0 }) (event.Deliver k) (client_move (rec.Got k) answer.0 (client_armed x) answer.1)
 
+-- the front end's move in the step of packet k, from its timer before it, and its state and turn after it
+abbrev pub front_move : ℕ → ℕ → Bool → Option Conn × Turn → Move
+front_move k c was given = record {
+  own = rec.Got k;
+  note = given.1.note;
+  from = place.Front;
+  to = place.Client c;
+  packet = given.1.packet;
+  timer = timer_change place.Front c was (front_armed given.0);
+}
+
 -- a packet of client c comes to the front end
 abbrev pub to_front : World → ℕ → ℕ → List ℕ → World
 to_front w k c bytes =
-    let answer = front_turn c w.iss w.front bytes in
-    acted (record w { delivered = k; front = answer.0 }) (event.Deliver k) (record {
-      own = rec.Got k;
-      note = answer.1.note;
-      from = place.Front;
-      to = place.Client c;
-      packet = answer.1.packet;
-      timer = timer_change place.Front c (front_armed w.front) (front_armed answer.0);
-    })
+    let given = front_turn c w.iss w.front bytes in
+    acted (record w { delivered = k; front = given.0 }) (event.Deliver k) (front_move k c (front_armed w.front) given)
+
+-- nobody moves in the step of packet k
+abbrev pub no_move : ℕ → Move
+no_move k = record { own = rec.Got k; note = None; from = place.Front; to = place.Front; packet = None; timer = None }
 
 -- a packet comes where nobody takes it
 abbrev pub to_nobody : World → ℕ → World
-to_nobody w k = acted (record w { delivered = k }) (event.Deliver k) (record {
-  own = rec.Got k;
-  note = None;
-  from = place.Front;
-  to = place.Front;
-  packet = None;
-  timer = None;
-})
+to_nobody w k = acted (record w { delivered = k }) (event.Deliver k) (no_move k)
 
 abbrev pub from_place : World → ℕ → List ℕ → Place → World
 from_place w k bytes (place.Client c) = to_front w k c bytes

@@ -1,9 +1,11 @@
 //! The top call.
 
-ghost use Rattle.std.specs.Prelude.{◌≡◌, ◌≤◌, ◌+◌, ◌↔◌, length, codes, IsTrue, IsErrOf, position};
+ghost use Rattle.std.specs.Prelude.{◌≡◌, ◌≤◌, ◌+◌, ◌↔◌, ℕ, List, length, codes, IsTrue};
 ghost use Rattle.std.specs.Io.KnownBytes.{Keeps};
+ghost use Rattle.std.specs.List.{position};
 ghost use Rattle.lard_base.specs.Causes.{Rose};
-ghost use Rattle.lard_app.specs.Replay.{input_limit, is_feed};
+ghost use Rattle.lard_app.specs.Laws.{Follows, IsNetwork, IsOwnership, IsSoleSender};
+ghost use Rattle.lard_app.specs.Replay.{events_of, input_limit, is_feed, journal_of};
 ghost use Rattle.lard_app.specs.Run.{IsReplay, Ran, Replays};
 
 use crate::replay::{INPUT_LIMIT, Replay};
@@ -28,6 +30,12 @@ pub fn run<S: Source, K: Sink>(
 
     ensures read_fault { result ≡ Status.ReadFault → Rose (S.faults source.old) (S.faults source.new) }
     ensures write_fault { result ≡ Status.WriteFault → Rose (K.faults sink.old) (K.faults sink.new) }
+
+    // Whatever text it is, the journal of its replay obeys these laws.
+    ensures follows { (text : List ℕ) → Follows 1 (events_of text) (journal_of text) }
+    ensures network { (text : List ℕ) → IsNetwork (journal_of text) }
+    ensures ownership { (text : List ℕ) → IsOwnership (journal_of text) }
+    ensures sole_sender { (text : List ℕ) → IsSoleSender (journal_of text) }
 {
     if !asks_replay(words) {
         return Status::Usage;

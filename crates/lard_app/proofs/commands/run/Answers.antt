@@ -1,0 +1,26 @@
+use Rattle.lard_app.proofs.Lawful.{lawful}
+use Rattle.lard_app.proofs.commands.run.Goals as goal
+
+pub returns-then-not-asks_replay-clause-follows : goal.returns-then-not-asks_replay-clause-follows
+returns-then-not-asks_replay-clause-follows g c = λ text. (lawful text).follows
+
+pub returns-then-not-asks_replay-clause-network : goal.returns-then-not-asks_replay-clause-network
+returns-then-not-asks_replay-clause-network g c = λ text. (lawful text).network
+
+pub returns-then-not-asks_replay-clause-ownership : goal.returns-then-not-asks_replay-clause-ownership
+returns-then-not-asks_replay-clause-ownership g c = λ text. (lawful text).ownership
+
+pub returns-then-not-asks_replay-clause-sole_sender : goal.returns-then-not-asks_replay-clause-sole_sender
+returns-then-not-asks_replay-clause-sole_sender g c = λ text. (lawful text).sole_sender
+
+pub returns-clause-follows : goal.returns-clause-follows
+returns-clause-follows g c = λ text. (lawful text).follows
+
+pub returns-clause-network : goal.returns-clause-network
+returns-clause-network g c = λ text. (lawful text).network
+
+pub returns-clause-ownership : goal.returns-clause-ownership
+returns-clause-ownership g c = λ text. (lawful text).ownership
+
+pub returns-clause-sole_sender : goal.returns-clause-sole_sender
+returns-clause-sole_sender g c = λ text. (lawful text).sole_sender
