@@ -1,0 +1,10 @@
+//! Worked rows over `run`: an input, the status and the report that it must give.
+//!
+//! It stands above the whole path and calls `lard_app::run` alone, over the source and the sink in memory and over
+//! two that move one byte at a time.
+#![tactic(auto)]
+
+pub mod report;
+pub mod slow;
+#[cfg(test)]
+mod tests;

@@ -1,0 +1,323 @@
+//! The rows: for each input the status and the report that the rules give, worked out by hand.
+
+use crate::report::{HEADING, PARTS};
+use crate::slow::{Drip, Trickle};
+use lard_app::{Form, Status, What, Why, run};
+use lard_base::{Bytes, Calls, Key, MemSink, MemSource, NoMemory};
+use std::alloc::Global;
+use std::process::Abort;
+use std::test::Fail;
+
+const WORKED: &str = "\
+lard 1
+go
+open 1 1000 5000 65535 1460
+get 1 /x
+deliver 1
+deliver 2
+deliver 3
+deliver 4
+deliver 5
+";
+
+/// The words of a command line, as `run` takes them.
+fn words_of(alloc: Global, line: &str) -> Result<Vec<String>, NoMemory> {
+    let mut all = Vec::new(alloc);
+    for word in line.split_whitespace() {
+        all.push(String::from_str(alloc, word)?)?;
+    }
+    Ok(all)
+}
+
+/// Runs `replay` over an input, with a sink of which these calls fail.
+fn replayed(alloc: Global, input: &[u8], failing: Calls) -> Result<(Status, Bytes), NoMemory> {
+    let words = words_of(alloc, "replay")?;
+    let mut source = MemSource::new(Bytes::from_slice(alloc, input)?, Calls::new(alloc));
+    let mut sink = MemSink::new(alloc, 10_000, failing)?;
+    let status = run(alloc, words.as_slice(), &mut source, &mut sink);
+    Ok((status, Bytes::from_slice(alloc, sink.bytes())?))
+}
+
+/// The first parts of the worked example's report.
+fn first_parts(alloc: Global, count: usize) -> Result<Vec<u8>, NoMemory> {
+    let mut text = Vec::new(alloc);
+    for part in PARTS.iter().take(count) {
+        text.extend_from_slice(part.as_bytes())?;
+    }
+    Ok(text)
+}
+
+/// Two texts, one after the other.
+fn joined(alloc: Global, first: &str, second: &str) -> Result<Vec<u8>, NoMemory> {
+    let mut text = Vec::from_slice(alloc, first.as_bytes())?;
+    text.extend_from_slice(second.as_bytes())?;
+    Ok(text)
+}
+
+/// Each input gives its status, and a report of so many parts of the worked example's.
+fn check(rt: &(impl Abort + AllocGlobal), rows: &[(&str, Status, usize)]) -> Result<(), NoMemory> {
+    let alloc = rt.alloc();
+    for (input, status, parts) in rows {
+        let (given, report) = replayed(alloc, input.as_bytes(), Calls::new(alloc))?;
+        assert_eq!(rt; given, *status, "at {input:?}");
+        assert_eq!(rt;
+            report.as_slice(),
+            first_parts(alloc, *parts)?.as_slice(),
+            "at {input:?}"
+        );
+    }
+    Ok(())
+}
+
+fn refused(line: u64, why: Why) -> Status {
+    Status::Refused { line, why }
+}
+
+#[test]
+fn the_worked_example(rt: HostRuntime) -> Result<(), Fail> {
+    check(
+        &rt,
+        &[
+            (WORKED, Status::Done, 8),
+            ("lard 1\ngo\n", Status::Done, 1),
+            ("", refused(1, Why::Syntax), 0),
+            ("lard 1\n", refused(2, Why::Syntax), 0),
+        ],
+    )?;
+    Ok(())
+}
+
+#[test]
+fn packets_that_were_not_sent(rt: HostRuntime) -> Result<(), Fail> {
+    let not_sent = |k| refused(5, Why::NotSent { k, sent: 1 });
+    check(
+        &rt,
+        &[
+            (
+                "lard 1\ngo\nopen 1 1000 5000 65535 1460\nget 1 /x\ndeliver 0\n",
+                not_sent(0),
+                3,
+            ),
+            (
+                "lard 1\ngo\nopen 1 1000 5000 65535 1460\nget 1 /x\ndeliver 2\n",
+                not_sent(2),
+                3,
+            ),
+            (
+                "lard 1\ngo\ndeliver 1\n",
+                refused(3, Why::NotSent { k: 1, sent: 0 }),
+                1,
+            ),
+        ],
+    )?;
+    Ok(())
+}
+
+#[test]
+fn uses_that_are_not_built(rt: HostRuntime) -> Result<(), Fail> {
+    let open = |line| refused(line, Why::FormNotBuilt(Form::Open));
+    let get = |line| refused(line, Why::FormNotBuilt(Form::Get));
+    let deliver = |line| refused(line, Why::FormNotBuilt(Form::Deliver));
+    check(
+        &rt,
+        &[
+            (
+                "lard 1\ngo\nopen 1 1000 5000 65535 1460\nopen 1 1 1 45 45\n",
+                open(4),
+                2,
+            ),
+            ("lard 1\ngo\nopen 2 1000 5000 65535 1460\n", open(3), 1),
+            ("lard 1\ngo\nopen 1 1000 5000 44 1460\n", open(3), 1),
+            ("lard 1\ngo\nopen 1 1000 5000 65535 44\n", open(3), 1),
+            ("lard 1\ngo\nget 1 /x\n", get(3), 1),
+            (
+                "lard 1\ngo\nopen 1 1000 5000 65535 1460\nget 2 /x\n",
+                get(4),
+                2,
+            ),
+            (
+                "lard 1\ngo\nopen 1 1000 5000 65535 1460\nget 1 /x?y\n",
+                get(4),
+                2,
+            ),
+            (
+                "lard 1\ngo\nopen 1 1000 5000 65535 1460\nget 1 /x\nget 1 /x\n",
+                get(5),
+                3,
+            ),
+            (
+                "lard 1\ngo\nopen 1 1000 5000 65535 1460\nget 1 /x\ndeliver 1\ndeliver 1\n",
+                deliver(6),
+                4,
+            ),
+        ],
+    )?;
+    Ok(())
+}
+
+#[test]
+fn forms_that_are_not_built(rt: HostRuntime) -> Result<(), Fail> {
+    let form = |line, form| refused(line, Why::FormNotBuilt(form));
+    check(
+        &rt,
+        &[
+            ("file /a -\n", form(1, Form::File), 0),
+            ("lard 1\nfill\n", form(2, Form::Fill), 0),
+            ("lard 1\nnodes 3\n", form(2, Form::Key(Key::Nodes)), 0),
+            ("lard 1\nstream x y z\n", form(2, Form::Key(Key::Stream)), 0),
+            ("lard 1\ngo\nlose 1\n", form(3, Form::Lose), 1),
+            ("lard 1\ngo\nsettle 10\n", form(3, Form::Settle), 1),
+            ("lard 1\ngo\ndisk", refused(3, Why::Syntax), 1),
+            ("lard 1\ngo\ndrain 1\n", refused(3, Why::Syntax), 1),
+        ],
+    )?;
+    Ok(())
+}
+
+#[test]
+fn lines_that_are_none(rt: HostRuntime) -> Result<(), Fail> {
+    let rt = &rt;
+    for line in [
+        "open  1 1000 5000 65535 1460\n",
+        "open 1 1000 5000 65535 1460 \n",
+        " open 1 1000 5000 65535 1460\n",
+        "open 1 1000 5000 65535\n",
+        "open 01 1000 5000 65535 1460\n",
+        "open 1 +1000 5000 65535 1460\n",
+        "open 1 -1 5000 65535 1460\n",
+        "open 0 1000 5000 65535 1460\n",
+        "open 16385 1000 5000 65535 1460\n",
+        "open 1 4294967296 5000 65535 1460\n",
+        "open 1 1000 5000 0 1460\n",
+        "open 1 1000 5000 65536 1460\n",
+        "open 1 1000 5000 65535 0\n",
+        "open 1 1000 5000 65535 1461\n",
+        "OPEN 1 1000 5000 65535 1460\n",
+        "opens 1 1000 5000 65535 1460\n",
+        "get 1 x\n",
+        "get 1 /\u{7f}\n",
+        "get 1 /x y\n",
+        "get 1 \n",
+        "deliver 4294967296\n",
+        "deliver 1\r\n",
+        "deliver 1",
+        "deliver\n",
+        "go\n",
+        "lard 1\n",
+        "\n",
+    ] {
+        let input = joined(rt.alloc(), "lard 1\ngo\n", line)?;
+        let (status, report) = replayed(rt.alloc(), input.as_slice(), Calls::new(rt.alloc()))?;
+        assert_eq!(rt; status, refused(3, Why::Syntax), "at {line:?}");
+        assert_eq!(rt; report.as_slice(), HEADING.as_bytes(), "at {line:?}");
+    }
+    for (input, line) in [
+        ("go\n", 1),
+        ("lard 2\n", 1),
+        ("LARD 1\n", 1),
+        ("lard 1\nlard 1\n", 2),
+    ] {
+        let (status, report) = replayed(rt.alloc(), input.as_bytes(), Calls::new(rt.alloc()))?;
+        assert_eq!(rt; status, refused(line, Why::Syntax), "at {input:?}");
+        assert_eq!(rt; report.as_slice().len(), 0, "at {input:?}");
+    }
+    Ok(())
+}
+
+#[test]
+fn paths_at_their_greatest_length(rt: HostRuntime) -> Result<(), Fail> {
+    let alloc = rt.alloc();
+    for (length, wanted) in [(1_023, Status::Done), (1_024, refused(4, Why::Syntax))] {
+        let mut input = joined(
+            alloc,
+            "lard 1\ngo\nopen 1 1000 5000 65535 1460\n",
+            "get 1 /",
+        )?;
+        for _ in 0..length {
+            input.push(b'a')?;
+        }
+        input.push(b'\n')?;
+        let (status, _) = replayed(alloc, input.as_slice(), Calls::new(alloc))?;
+        assert_eq!(rt; status, wanted, "at {length}");
+    }
+    Ok(())
+}
+
+#[test]
+fn words_that_are_no_command(rt: HostRuntime) -> Result<(), Fail> {
+    let alloc = rt.alloc();
+    for line in ["", "replay x", "generate 7 0", "--help", "Replay"] {
+        let words = words_of(alloc, line)?;
+        let mut source = MemSource::new(
+            Bytes::from_slice(alloc, b"lard 1\ngo\n")?,
+            Calls::new(alloc),
+        );
+        let mut sink = MemSink::new(alloc, 1_000, Calls::new(alloc))?;
+        let status = run(alloc, words.as_slice(), &mut source, &mut sink);
+        assert_eq!(rt; status, Status::Usage);
+        assert_eq!(rt; sink.bytes().len(), 0);
+    }
+    Ok(())
+}
+
+#[test]
+fn a_sink_whose_third_call_fails(rt: HostRuntime) -> Result<(), Fail> {
+    let alloc = rt.alloc();
+    let mut failing = Calls::new(alloc);
+    failing.push(3)?;
+    let (status, report) = replayed(alloc, WORKED.as_bytes(), failing)?;
+    assert_eq!(rt; status, Status::WriteFault);
+    assert_eq!(rt; report.as_slice(), first_parts(alloc, 2)?.as_slice());
+    Ok(())
+}
+
+#[test]
+fn a_source_that_fails_in_the_middle_of_a_line(rt: HostRuntime) -> Result<(), Fail> {
+    let alloc = rt.alloc();
+    let words = words_of(alloc, "replay")?;
+    let mut source = Trickle {
+        rest: WORKED.as_bytes(),
+        before_fault: 44,
+        faults: 0,
+    };
+    let mut sink = MemSink::new(alloc, 1_000, Calls::new(alloc))?;
+    let status = run(alloc, words.as_slice(), &mut source, &mut sink);
+    assert_eq!(rt; status, Status::ReadFault);
+    assert_eq!(rt; sink.bytes().len(), 0);
+    Ok(())
+}
+
+#[test]
+fn one_byte_at_a_time(rt: HostRuntime) -> Result<(), Fail> {
+    let alloc = rt.alloc();
+    let words = words_of(alloc, "replay")?;
+    let mut source = Trickle {
+        rest: WORKED.as_bytes(),
+        before_fault: 1_000,
+        faults: 0,
+    };
+    let mut sink = Drip {
+        bytes: Vec::new(alloc),
+        faults: 0,
+    };
+    let status = run(alloc, words.as_slice(), &mut source, &mut sink);
+    let (wanted, report) = replayed(alloc, WORKED.as_bytes(), Calls::new(alloc))?;
+    assert_eq!(rt; status, wanted);
+    assert_eq!(rt; sink.bytes.as_slice(), report.as_slice());
+    Ok(())
+}
+
+#[test]
+fn an_input_past_its_limit(rt: HostRuntime) -> Result<(), Fail> {
+    let alloc = rt.alloc();
+    let mut input = joined(alloc, "lard 1\n", "go\n")?;
+    input.resize((1 << 26) + 1, b'x')?;
+    let (status, report) = replayed(alloc, input.as_slice(), Calls::new(alloc))?;
+    let limit = Status::Limit {
+        line: 3,
+        what: What::Input,
+    };
+    assert_eq!(rt; status, limit);
+    assert_eq!(rt; report.as_slice(), HEADING.as_bytes());
+    Ok(())
+}
