@@ -1,7 +1,7 @@
 -- The journal follows the events: each step is the event, its own record, and records that are no event.
 use Rattle.std.proofs.Common.{◌≡◌, ℕ, ◌+◌, List, [], ◌∷◌, ◌++◌, length, Bool, true, false, cond, not, Option, Some, None, Result, Ok, Err, refl, sym, ap, ◌∙◌, subst, append_assoc, append-nil, arith}
 use Rattle.std.proofs.lemmas.Option.{none-some}
-use Rattle.std.specs.Prelude.{is_some, ◌&&◌, nat_eq}
+use Rattle.std.specs.Prelude.{is_some, ◌&&◌}
 use Rattle.std.specs.List.{list_all}
 use Rattle.lard_base.specs.declared.event.Event.{Event}
 use Rattle.lard_base.specs.declared.event.Event.TheVariants as event
@@ -18,11 +18,10 @@ use Rattle.lard_app.specs.declared.client.Heard.TheVariants.{Nothing, Greeting, 
 use Rattle.lard_app.specs.declared.front.Conn.{Conn}
 use Rattle.lard_app.specs.declared.net.Packet.{Packet}
 use Rattle.lard_app.specs.declared.status.Why.{Why}
-use Rattle.lard_app.specs.declared.turn.Turn.{Turn}
 use Rattle.lard_app.specs.declared.world.Move.{Move}
 use Rattle.lard_app.specs.declared.world.World.{World}
 use Rattle.lard_app.specs.Client.{accepted_note, client_armed, client_takes, client_turn, client_writes, heard, request}
-use Rattle.lard_app.specs.Front.{acknowledging, answering, begun, began, ends_head, front_armed, front_says, front_takes, front_turn, is_plain_syn, silent, taken, went_on}
+use Rattle.lard_app.specs.Front.{acknowledging, answering, began, ends_head, front_armed, front_takes, front_turn, is_plain_syn, silent, taken}
 use Rattle.lard_app.specs.Laws.{Follows, IsOwn, IsStep, is_event}
 use Rattle.lard_app.specs.Lines.{is_nil}
 use Rattle.lard_app.specs.Tcp.{is_next}

@@ -1,7 +1,7 @@
 -- The steps of the world, one by one: each keeps what holds of it.
-use Rattle.std.proofs.Common.{◌≡◌, ◌⊎◌, ℕ, ◌+◌, ◌-◌, List, [], ◌∷◌, ◌++◌, length, Bool, true, false, cond, not, Option, Some, None, Result, Ok, Err, refl, sym, ap, ◌∙◌, subst, inl, inr, ⊎_elim, append_assoc, append-nil, nat_eq, arith}
+use Rattle.std.proofs.Common.{◌≡◌, ℕ, ◌+◌, List, [], ◌∷◌, ◌++◌, length, Bool, true, false, not, Option, Some, None, Result, Ok, refl, sym, ap, ◌∙◌, subst, inl, inr, ⊎_elim, append_assoc, nat_eq}
 use Rattle.std.proofs.lemmas.Bool.{eqb-true}
-use Rattle.std.specs.Prelude.{is_some, ◌&&◌, nat_le, slice_get}
+use Rattle.std.specs.Prelude.{is_some, ◌&&◌, nat_le}
 use Rattle.std.specs.List.{list_all}
 use Rattle.lard_base.specs.declared.event.Event.{Event}
 use Rattle.lard_base.specs.declared.event.Event.TheVariants as event
@@ -23,7 +23,7 @@ use Rattle.lard_app.specs.Turn.{listed}
 use Rattle.lard_app.specs.World.{acted, asked, client_move, delivered, from_place, has_written, is_built_get, is_built_open, is_plain_byte, front_move, missing, no_move, opened, opening, packet_at, to_front, to_nobody, to_opened, to_place, unless, world_step}
 use Rattle.lard_app.proofs.Records.{AreQuiet, Linked, got, quiet, quiet_listed, took}
 use Rattle.lard_app.proofs.Steps.{Holds, IsBetween, MaySpeak, acted-holds, numbered_in, timer-quiet, to_of}
-use Rattle.lard_app.proofs.Turns.{FrontMay, client_turn-may, client_writes-same, front_turn-may}
+use Rattle.lard_app.proofs.Turns.{client_turn-may, client_writes-same, front_turn-may}
 
 -- ---- uses that are built
 

@@ -1,7 +1,6 @@
 -- The journal of a replay obeys the laws.
 use Rattle.std.proofs.Common.{◌≡◌, ℕ, ◌+◌, List, [], ◌∷◌, ◌++◌, length, Bool, true, false, cond, Option, Some, None, Result, Ok, Err, refl, sym, ap, ◌∙◌, subst, append_assoc, append-nil, length-append, arith}
 use Rattle.lard_base.specs.declared.event.Event.{Event}
-use Rattle.lard_journal.specs.declared.rec.Rec.{Rec}
 use Rattle.lard_app.specs.declared.lines.Item.{Item}
 use Rattle.lard_app.specs.declared.lines.Item.TheVariants as item
 use Rattle.lard_app.specs.declared.lines.Stage.{Stage}

@@ -1,26 +1,20 @@
 -- Each step keeps what holds of the world and its journal.
-use Rattle.std.proofs.Common.{◌≡◌, ◌⊎◌, ℕ, ◌+◌, ◌-◌, ◌≤◌, zero, suc, List, [], ◌∷◌, ◌++◌, length, Bool, true, false, cond, not, Option, Some, None, Result, Ok, Err, refl, sym, ap, ◌∙◌, subst, inl, inr, ⊎_elim, append_assoc, append-nil, length-append, arith, nat_eq, nat_le}
+use Rattle.std.proofs.Common.{◌≡◌, ◌⊎◌, ℕ, ◌+◌, ◌-◌, zero, suc, List, [], ◌∷◌, ◌++◌, length, Bool, true, false, cond, Option, Some, None, refl, sym, ap, ◌∙◌, subst, inl, inr, ⊎_elim, append_assoc, append-nil, length-append, arith, nat_eq}
 use Rattle.std.proofs.lemmas.Bool.Decides.{nat_tests}
-use Rattle.std.specs.Prelude.{is_some, slice_get, ◌&&◌}
-use Rattle.std.specs.List.{list_all}
+use Rattle.std.specs.Prelude.{is_some, slice_get}
 use Rattle.lard_base.specs.declared.event.Event.{Event}
-use Rattle.lard_base.specs.declared.event.Event.TheVariants as event
 use Rattle.lard_base.specs.declared.place.Place.{Place}
 use Rattle.lard_base.specs.declared.place.Place.TheVariants as place
-use Rattle.lard_base.specs.declared.place.TimerKind.TheVariants.{Tcp}
 use Rattle.lard_journal.specs.declared.rec.Rec.{Rec}
 use Rattle.lard_journal.specs.declared.rec.Rec.TheVariants as rec
 use Rattle.lard_app.specs.declared.client.Client.{Client}
-use Rattle.lard_app.specs.declared.front.Conn.{Conn}
 use Rattle.lard_app.specs.declared.net.Packet.{Packet}
-use Rattle.lard_app.specs.declared.status.Why.{Why}
-use Rattle.lard_app.specs.declared.turn.Turn.{Turn}
 use Rattle.lard_app.specs.declared.world.Move.{Move}
 use Rattle.lard_app.specs.declared.world.World.{World}
 use Rattle.lard_app.specs.Laws.{OwnerSends}
 use Rattle.lard_app.specs.Turn.{listed}
-use Rattle.lard_app.specs.World.{acted, packet_at, packet_sent, records, sent_record, start, timer_change}
-use Rattle.lard_app.proofs.Records.{AreQuiet, Linked, goals_with, got, is_quiet, owned_by, quiet, quiet_listed, regoal, sent, took}
+use Rattle.lard_app.specs.World.{acted, packet_sent, sent_record, start, timer_change}
+use Rattle.lard_app.proofs.Records.{AreQuiet, Linked, owned_by, quiet_listed, regoal, sent}
 
 -- ---- packets by their numbers
 

@@ -2,7 +2,6 @@
 use Rattle.std.proofs.Common.{◌≡◌, ◌⊎◌, ℕ, List, Bool, true, false, cond, not, Option, Some, None, Result, Ok, Err, refl, ◌∙◌, inl, inr}
 use Rattle.std.specs.Prelude.{is_some, ◌&&◌, nat_eq}
 use Rattle.lard_base.specs.declared.place.Place.TheVariants.{Front}
-use Rattle.lard_journal.specs.declared.rec.Rec.{Rec}
 use Rattle.lard_journal.specs.declared.rec.Rec.TheVariants.{Took}
 use Rattle.lard_seq.specs.declared.Seq.{Seq}
 use Rattle.lard_segment.specs.declared.segment.Dir.TheVariants.{ToCluster, ToClient}
@@ -13,12 +12,11 @@ use Rattle.lard_app.specs.declared.client.Client.{Client}
 use Rattle.lard_app.specs.declared.client.Heard.{Heard}
 use Rattle.lard_app.specs.declared.client.Heard.TheVariants.{Nothing, Greeting, Data}
 use Rattle.lard_app.specs.declared.front.Conn.{Conn}
-use Rattle.lard_app.specs.declared.front.Says.{Says}
 use Rattle.lard_app.specs.declared.turn.Turn.{Turn}
-use Rattle.lard_app.specs.Client.{accepted_note, client_answers, client_takes, client_turn, client_writes, emitted, emitted_to, established, greeted, has_unsent, heard, heard_from, is_owed, sent_all, told, told_on, wrote}
-use Rattle.lard_app.specs.Front.{acknowledging, answering, begun, began, ends_head, front_heard, front_says, front_takes, front_turn, is_plain_syn, silent, taken, went_on}
+use Rattle.lard_app.specs.Client.{accepted_note, client_takes, client_turn, client_writes, emitted_to, established, has_unsent, heard, heard_from, is_owed, sent_all, told_on, wrote}
+use Rattle.lard_app.specs.Front.{acknowledging, answering, begun, began, ends_head, front_says, front_takes, front_turn, is_plain_syn, silent, taken, went_on}
 use Rattle.lard_app.specs.Lines.{is_nil}
-use Rattle.lard_app.specs.Tcp.{is_next, numbered}
+use Rattle.lard_app.specs.Tcp.{is_next}
 use Rattle.lard_app.proofs.Records.{AreQuiet}
 
 -- ---- the front end
