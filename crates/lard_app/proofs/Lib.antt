@@ -5,6 +5,7 @@ pub mod Kept
 pub mod Lawful
 pub mod Packets
 pub mod Records
+pub mod Settled
 pub mod Steps
 pub mod Turns
 pub mod Words

@@ -1,5 +1,5 @@
 -- What an answer of `run` says of the bytes that were read and written.
-use Rattle.std.specs.Prelude.{◌≡◌, ℕ, ◌+◌, ◌≤◌, ◌⊎◌, List, [], ◌∷◌, length, map, codes, Option}
+use Rattle.std.specs.Prelude.{◌≡◌, ℕ, ◌+◌, ◌≤◌, ◌⊎◌, List, [], ◌∷◌, length, map, take, codes, Option, Some, None}
 use Rattle.std.specs.Io.KnownBytes.{Appends, Consumes, IsAtEnd}
 use Rattle.std.specs.String.{string_bytes}
 use Rattle.std.specs.declared.string.String.{String}
@@ -50,3 +50,8 @@ pub record Ran (status : Status) (left left_now old new : Option (List ℕ)) : T
   pub consumed : Consumes left left_now text
   pub bounded : length text ≤ input_limit + 1
   pub ended : Ended status text left_now old new
+
+-- The status is that of the first 2^26 + 1 bytes of a known input, unless memory ran out.
+abbrev pub IsSettled : Status → Option (List ℕ) → Type 0
+IsSettled status None = Unit {0}
+IsSettled status (Some input) = (status ≡ (whole (take (input_limit + 1) input)).1) ⊎ (status ≡ NoMemory)

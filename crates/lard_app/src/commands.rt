@@ -6,7 +6,7 @@ ghost use Rattle.std.specs.List.{position};
 ghost use Rattle.lard_base.specs.Causes.{Rose};
 ghost use Rattle.lard_app.specs.Laws.{Follows, IsNetwork, IsOwnership, IsSoleSender};
 ghost use Rattle.lard_app.specs.Replay.{events_of, input_limit, is_feed, journal_of};
-ghost use Rattle.lard_app.specs.Run.{IsReplay, Ran, Replays};
+ghost use Rattle.lard_app.specs.Run.{IsReplay, IsSettled, Ran, Replays};
 
 use crate::replay::{INPUT_LIMIT, Replay};
 use crate::status::Status;
@@ -30,6 +30,10 @@ pub fn run<S: Source, K: Sink>(
 
     ensures read_fault { result ≡ Status.ReadFault → Rose (S.faults source.old) (S.faults source.new) }
     ensures write_fault { result ≡ Status.WriteFault → Rose (K.faults sink.old) (K.faults sink.new) }
+
+    // Where no count of faults rose, the input alone decides how the run ends, unless memory runs out.
+    ensures complete { IsReplay words.now → ¬ Rose (S.faults source.old) (S.faults source.new) → ¬ Rose (K.faults sink.old) (K.faults sink.new)
+        → IsSettled result (S.left source.old) }
 
     // Whatever text it is, the journal of its replay obeys these laws.
     ensures follows { (text : List ℕ) → Follows 1 (events_of text) (journal_of text) }

@@ -1,4 +1,5 @@
 use Rattle.lard_app.proofs.Lawful.{lawful}
+use Rattle.lard_app.proofs.Settled.{settled}
 use Rattle.lard_app.proofs.commands.run.Goals as goal
 
 pub returns-then-not-asks_replay-clause-follows : goal.returns-then-not-asks_replay-clause-follows
@@ -24,3 +25,6 @@ returns-clause-ownership g c = λ text. (lawful text).ownership
 
 pub returns-clause-sole_sender : goal.returns-clause-sole_sender
 returns-clause-sole_sender g c = λ text. (lawful text).sole_sender
+
+pub returns-clause-complete : goal.returns-clause-complete
+returns-clause-complete g c = λ asked read written. settled c.replay.result _ _ _ _ c.replay.ensures.ran (λ e. read (c.replay.ensures.read_fault e)) (λ e. written (c.replay.ensures.write_fault e))
