@@ -73,3 +73,23 @@ consumed r n = record r { unread = drop n r.unread }
 -- What is unread is dropped, and all that comes later too.
 abbrev pub discarded : Received → Received
 discarded r = record r { unread = []; discarding = true }
+
+-- All bytes that came: so many as were counted, and unless it discards the unread ones are the last of them, in order.
+pub record IsUnusedPart (r : Received) (all : List ℕ) : Type 0 where
+  pub count : length all ≡ r.got
+  pub part : r.discarding ≡ false → r.unread ≡ drop (r.got - length r.unread) all
+
+-- The bytes that a segment adds to them.
+abbrev pub gained : Received → ℕ → List ℕ → List ℕ
+gained r seq data_ =
+    if begins_after seq (awaited r) then [] else
+    if r.fin then [] else
+    fresh r seq data_
+
+-- What is unread stays the unused part when a segment arrives, and when bytes are read.
+abbrev pub ArrivalKeepsThePart : Type 0
+ArrivalKeepsThePart = (r : Received) (all : List ℕ) (seq : ℕ) (data_ : List ℕ) (fin : Bool)
+    → IsUnusedPart r all → IsUnusedPart (arrived r seq data_ fin) (all ++ gained r seq data_)
+
+abbrev pub ReadingKeepsThePart : Type 0
+ReadingKeepsThePart = (r : Received) (all : List ℕ) (n : ℕ) → IsUnusedPart r all → IsUnusedPart (consumed r n) all

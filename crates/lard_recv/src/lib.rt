@@ -6,6 +6,7 @@
 
 mod buffer;
 mod half;
+pub mod laws;
 #[cfg(test)]
 mod tests;
 
