@@ -1,6 +1,6 @@
 -- The sending half of a connection, by counts. What is sent is a list of symbols: the SYN, then the queued bytes, then
 -- the FIN once it is finished. UNA and NXT count the symbols that are acknowledged, and those that are sent.
-use Rattle.std.specs.Prelude.{◌≡◌, ℕ, ◌+◌, ◌-◌, ◌^◌, ◌≤◌, ◌==◌, nat_lt, nat_le, min, max, not, ◌&&◌, ◌||◌, Bool, true, false, if◌then◌else◌, List, [], ◌++◌, length, drop, Option, Some, None}
+use Rattle.std.specs.Prelude.{◌≡◌, ℕ, ◌+◌, ◌-◌, ◌^◌, ◌≤◌, ◌==◌, nat_lt, nat_le, min, max, not, ◌&&◌, ◌||◌, Bool, true, false, if◌then◌else◌, List, [], ◌++◌, length, take, drop, Option, Some, None}
 use Rattle.lard_base.specs.declared.parts.EndpointParts.{EndpointParts}
 use Rattle.lard_seq.specs.Seq.{seq_offset}
 use Rattle.lard_send.specs.declared.piece.Piece.{Piece}
@@ -162,3 +162,24 @@ after_resend s =
     if nat_lt s.una s.nxt then s else
     if nat_lt s.nxt (symbols s) then record s { nxt = s.nxt + 1 } else
     s
+
+-- All bytes that were queued: so many as were counted, and those that are not acknowledged are the last of them, in order.
+pub record IsUnacknowledgedPart (s : Sending) (all : List ℕ) : Type 0 where
+  pub count : length all ≡ s.total
+  pub part : s.rest ≡ drop (acknowledged_bytes s) all
+
+-- What is kept stays that part when bytes are queued, acknowledged and sent.
+abbrev pub QueueingKeepsThePart : Type 0
+QueueingKeepsThePart = (s : Sending) (all bytes : List ℕ) → IsUnacknowledgedPart s all → IsUnacknowledgedPart (queued_too s bytes) (all ++ bytes)
+
+abbrev pub AckKeepsThePart : Type 0
+AckKeepsThePart = (s : Sending) (all : List ℕ) (ack seq wnd : ℕ) → IsUnacknowledgedPart s all → IsUnacknowledgedPart (after_ack s ack seq wnd) all
+
+abbrev pub SendingKeepsThePart : Type 0
+SendingKeepsThePart = (s : Sending) (all : List ℕ) → IsUnacknowledgedPart s all
+    → IsUnacknowledgedPart (after_next s) all × IsUnacknowledgedPart (after_resend s) all
+
+-- What is filled in for a piece are the queued bytes of its place.
+abbrev pub PiecesAreParts : Type 0
+PiecesAreParts = (s : Sending) (all : List ℕ) (at len : ℕ) → acknowledged_bytes s ≤ at → IsUnacknowledgedPart s all
+    → take len (drop (at - acknowledged_bytes s) s.rest) ≡ take len (drop at all)

@@ -5,6 +5,7 @@
 #![tactic(auto)]
 
 mod half;
+pub mod laws;
 mod piece;
 mod rest;
 #[cfg(test)]
