@@ -79,13 +79,7 @@ end-alone (a ∷ rest) n h z = go (λ m f. end-alone rest m f z) (ending a rest 
 
 -- ---- the loop that looks at each place
 
--- at no place yet, and one place further
-pub end-start : (bs : List ℕ) → head_end bs ≡ option_map (λ n. n + 0) (head_end bs)
-end-start bs = go (head_end bs) where
-  go : (o : Option ℕ) → o ≡ option_map (λ n. n + 0) o
-  go None = refl
-  go (Some n) = let e : n ≡ n + 0 = omega arith in ap Some e
-
+-- no end at this place: one place further
 pub end-further : (bs : List ℕ) (at : ℕ) → at < length bs → ends_here (drop at bs) ≡ false → option_map (λ n. n + at) (head_end (drop at bs)) ≡ option_map (λ n. n + (at + 1)) (head_end (drop (at + 1) bs))
 end-further bs at h e =
     let front : drop at bs ≡ get_or bs at 0 ∷ drop (suc at) bs = drop-cons bs at 0 h in
