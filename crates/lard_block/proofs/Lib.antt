@@ -1,0 +1,5 @@
+mod Ends
+mod Pairs
+mod Cutting
+pub mod Division
+mod Skips

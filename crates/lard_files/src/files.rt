@@ -1,0 +1,126 @@
+//! The map from paths to bytes.
+
+ghost use Rattle.std.specs.Prelude.{◌≡◌, ◌≢◌, ℕ, ◌<◌, ◌≤◌, ◌^◌, List, [], ◌∷◌, ◌++◌, length, OnOk, OnErr, option_copied};
+ghost use Rattle.lard_files.specs.Files.{file_at, add_check, Answers, first_fault as first_fault_of};
+
+use crate::fault::FileFault;
+use indexmap::IndexMap;
+use lard_base::{Bytes, NoMemory};
+use std::alloc::Global;
+use std::marker::Model;
+
+/// The most bytes of one file.
+const MOST_BYTES: u64 = 1 << 20;
+
+/// The most files.
+const MOST_FILES: u64 = 65_536;
+
+/// The most bytes of all files together.
+const MOST_IN_ALL: u64 = 1 << 26;
+
+/// Files by their paths, in the order in which they were added.
+#[derive(Drop)]
+pub struct Files {
+    files: IndexMap<Vec<u8>, Bytes>,
+    bytes: u64,
+}
+
+impl Model for Files {
+    ghost use Rattle.std.specs.Prelude.{ℕ, ◌≡◌, ◌≤◌, ◌^◌, List};
+    ghost use Rattle.lard_files.specs.Files.{shown, total};
+
+    ghost Value = { List (List ℕ × List ℕ) };
+
+    ghost view = { λ f. shown f.files.entries };
+
+    ghost invariant = { λ f. (f.bytes ≡ total (shown f.files.entries)) × (f.bytes ≤ 2 ^ 26) };
+}
+
+impl Files {
+    /// No files. It takes no memory yet.
+    pub fn new(alloc: Global) -> Files
+        ensures { result ≡ [] }
+    {
+        Files {
+            files: IndexMap::new(alloc),
+            bytes: 0,
+        }
+    }
+
+    /// Adds a file. The first of these answers that applies comes, and the files are then as they were: `Repeated` where
+    /// the path is there, `TooLong` with the file's length above 2^20 bytes, `TooMany` with the number of files above
+    /// 65,536, `TooMuch` with the sum of their lengths above 2^26 bytes, both counted with this one, `NoMemory`.
+    pub fn add(&mut self, path: &[u8], bytes: &[u8]) -> Result<(), FileFault>
+        requires some_path { 1 ≤ length path.now }
+        requires short_path { length path.now ≤ 1024 }
+        ensures answer { Answers (add_check self.old path.now (length bytes.now)) result }
+        ensures ok { OnOk result (self.new ≡ self.old ++ (path.now, bytes.now) ∷ []) }
+        ensures err { OnErr result (self.new ≡ self.old) }
+        ensures found { OnOk result (file_at self.new path.now ≡ Some bytes.now) }
+        ensures others { OnOk result ((other : List ℕ) → other ≢ path.now → file_at self.new other ≡ file_at self.old other) }
+    {
+        self.check(path, bytes.len() as u64)?;
+        match self.keep(path, bytes) {
+            Ok(()) => Ok(()),
+            Err(NoMemory) => Err(FileFault::NoMemory),
+        }
+    }
+
+    /// The bytes of the file with this path, lent. `None` where there is no such file.
+    pub fn get(&self, path: &[u8]) -> Option<&[u8]>
+        ensures { option_copied result ≡ file_at self.now path.now }
+    {
+        match self.files.get(path) {
+            Some(bytes) => Some(bytes.as_slice()),
+            None => None,
+        }
+    }
+
+    /// Whether a file of so many bytes may be added under this path, or the first fault that speaks against it.
+    fn check(&self, path: &[u8], len: u64) -> Result<(), FileFault>
+        ensures { result ≡ add_check self.now path.now len }
+    {
+        first_fault(
+            self.files.contains_key(path),
+            self.files.len() as u64,
+            self.bytes,
+            len,
+        )
+    }
+
+    /// Keeps a file that may be added.
+    fn keep(&mut self, path: &[u8], bytes: &[u8]) -> Result<(), NoMemory>
+        requires { add_check self.old path.now (length bytes.now) ≡ Ok tt }
+        ensures ok { OnOk result (self.new ≡ self.old ++ (path.now, bytes.now) ∷ []) }
+        ensures err { OnErr result (self.new ≡ self.old) }
+    {
+        let alloc = *self.files.allocator();
+        let key = Vec::from_slice(alloc, path)?;
+        let value = Bytes::from_slice(alloc, bytes)?;
+        self.files.insert(key, value)?;
+        self.bytes += bytes.len() as u64;
+        Ok(())
+    }
+}
+
+/// The first fault of one more file of `len` bytes, beside `count` files with `sum` bytes in all. `there` is true where
+/// one of them has its path.
+fn first_fault(there: bool, count: u64, sum: u64, len: u64) -> Result<(), FileFault>
+    requires count_fits { count < 2 ^ 63 }
+    requires sum_fits { sum ≤ 2 ^ 26 }
+    ensures { result ≡ first_fault_of there count sum len }
+{
+    if there {
+        return Err(FileFault::Repeated);
+    }
+    if len > MOST_BYTES {
+        return Err(FileFault::TooLong(len));
+    }
+    if count + 1 > MOST_FILES {
+        return Err(FileFault::TooMany(count + 1));
+    }
+    if sum + len > MOST_IN_ALL {
+        return Err(FileFault::TooMuch(sum + len));
+    }
+    Ok(())
+}

@@ -1,0 +1,13 @@
+//! The files of a run: what each path holds.
+//!
+//! It stands above `lard_base`: a schedule's `file` lines go through `Files::add`, and the front end and the nodes
+//! ask `Files::get` for the bytes of a path. It never changes once the run goes.
+#![tactic(auto)]
+
+mod fault;
+mod files;
+#[cfg(test)]
+mod tests;
+
+pub use fault::FileFault;
+pub use files::Files;
