@@ -1,0 +1,5 @@
+//! The bytes of a response (RFC 9112, 4; RFC 9110, 15).
+//!
+//! It stands behind `lard_request`: what was judged, and the file that was found for it, are written as one response,
+//! whose bytes are then queued on the connection.
+#![tactic(auto)]
