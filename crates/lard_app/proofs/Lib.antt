@@ -1,9 +1,11 @@
+pub mod Decimals
 pub mod Following
 pub mod Going
 pub mod Growth
 pub mod Kept
 pub mod Lawful
 pub mod Packets
+pub mod Readings
 pub mod Records
 pub mod Settled
 pub mod Steps

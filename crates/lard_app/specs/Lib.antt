@@ -1,3 +1,4 @@
+pub mod Built
 pub mod Client
 pub mod Front
 pub mod Journal

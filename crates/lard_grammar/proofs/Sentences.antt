@@ -17,8 +17,8 @@ use Rattle.lard_app.specs.declared.status.Why.{Why}
 use Rattle.lard_app.specs.declared.status.Why.TheVariants as why
 use Rattle.lard_app.specs.Lines.{words_of, is_space, is_visible, is_path, event_of, event_item, first_word, first_of, item_of, judged, unbuilt}
 use Rattle.lard_app.proofs.Words.{first_part}
-use Rattle.lard_grammar.specs.Built.{IsBuilt}
-use Rattle.lard_grammar.proofs.Readings.{event_spelled, event_read}
+use Rattle.lard_app.specs.Built.{IsBuilt}
+use Rattle.lard_app.proofs.Readings.{event_spelled, event_read}
 
 -- ---- words without a space
 

@@ -11,7 +11,7 @@ ghost use Rattle.lard_app.specs.declared.lines.Stage.TheVariants.{Running};
 ghost use Rattle.lard_app.specs.declared.status.Form.{Form};
 ghost use Rattle.lard_app.specs.declared.status.Why.TheVariants as why;
 ghost use Rattle.lard_app.specs.Lines.{event_of, first_word, judged, number_of, unbuilt};
-ghost use Rattle.lard_grammar.specs.Built.{IsBuilt};
+ghost use Rattle.lard_app.specs.Built.{IsBuilt};
 
 /// A word is read as a number exactly where it is that number in decimal, below 2^32: no sign, no leading zero.
 pub fn numbers()

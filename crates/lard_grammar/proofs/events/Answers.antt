@@ -1,6 +1,6 @@
 use Rattle.std.proofs.Common.{◌∙◌, ap}
 use Rattle.lard_app.specs.Lines.{event_of}
-use Rattle.lard_grammar.proofs.Readings.{event_spelled, event_read}
+use Rattle.lard_app.proofs.Readings.{event_spelled, event_read}
 use Rattle.lard_grammar.proofs.events.Goals as goal
 
 -- src/lib.rt:20:1

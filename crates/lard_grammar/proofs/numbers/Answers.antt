@@ -1,4 +1,4 @@
-use Rattle.lard_grammar.proofs.Decimals.{number_spelled, number_read}
+use Rattle.lard_app.proofs.Decimals.{number_spelled, number_read}
 use Rattle.std.proofs.Common.{◌∙◌, ap}
 use Rattle.lard_app.specs.Lines.{number_of}
 use Rattle.lard_grammar.proofs.numbers.Goals as goal

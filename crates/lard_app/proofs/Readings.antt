@@ -7,8 +7,8 @@ use Rattle.lard_base.specs.Spelling.{event_words}
 use Rattle.lard_base.specs.declared.event.Event.{Event}
 use Rattle.lard_base.specs.declared.event.Event.TheVariants.{Open, Get, Deliver}
 use Rattle.lard_app.specs.Lines.{◌>>=◌, number_of, word_then, number_then, range_then, ended, is_path, open_of, get_of, deliver_of, getting, event_of}
-use Rattle.lard_grammar.specs.Built.{IsUpTo, IsBuilt}
-use Rattle.lard_grammar.proofs.Decimals.{number_spelled, number_read}
+use Rattle.lard_app.specs.Built.{IsUpTo, IsBuilt}
+use Rattle.lard_app.proofs.Decimals.{number_spelled, number_read}
 
 -- ---- what readings find
 
