@@ -4,6 +4,7 @@
 //! block's head by `httparse`, keeps its fields by name in `http_header`'s map, and answers a `Verdict`.
 #![tactic(auto)]
 
+pub mod laws;
 mod verdict;
 
 pub use verdict::{Code, Verdict, Verdicts};

@@ -1,0 +1,3 @@
+mod Words
+mod Sections
+pub mod Reading
