@@ -3,3 +3,5 @@
 //! It stands above the leaves that cut, judge and write, and below the laws of the journal. No code calls it: its
 //! functions are laws, and have no body.
 #![tactic(auto)]
+
+pub mod laws;
