@@ -1,6 +1,6 @@
 -- What a server answers to all the bytes that a client wrote (RFC 9112, 9.3.2): the responses to its requests, in order.
-use Rattle.std.specs.Prelude.{◌≡◌, ℕ, ◌+◌, Bool, true, false, List, [], ◌∷◌, ◌++◌, map, Option, Some, None, is_some, if◌then◌else◌}
-use Rattle.std.specs.List.{concat}
+use Rattle.std.specs.Prelude.{◌≡◌, ℕ, ◌+◌, ◌<◌, Bool, true, false, List, [], ◌∷◌, ◌++◌, map, Option, Some, None, is_some, if◌then◌else◌}
+use Rattle.std.specs.List.{concat, list_any, slice_get}
 use Rattle.lard_block.specs.Blocks.{Piece, Head, Long, blocks}
 use Rattle.lard_request.specs.declared.verdict.Code.TheVariants.{Ok, NotFound, FieldsTooLarge}
 use Rattle.lard_request.specs.declared.verdict.Verdict.{Verdict}
@@ -34,6 +34,10 @@ abbrev pub piece_verdict : Piece → Verdict
 piece_verdict (Head block after) = verdict block
 piece_verdict Long = Fault FieldsTooLarge
 
+-- the verdicts on these pieces
+abbrev pub verdicts_on : List Piece → List Verdict
+verdicts_on ps = map piece_verdict ps
+
 -- the first verdicts, up to and with the first that closes
 unfoldable pub until_close : List Verdict → List Verdict
 until_close [] = []
@@ -41,7 +45,7 @@ until_close (v ∷ vs) = v ∷ (if closes v then [] else until_close vs)
 
 -- the verdicts on what a client wrote, as far as they are answered
 unfoldable pub verdicts : List ℕ → List Verdict
-verdicts wrote = until_close (map piece_verdict (blocks wrote))
+verdicts wrote = until_close (verdicts_on (blocks wrote))
 
 -- the responses to what a client wrote
 unfoldable pub answers : FilesAt → List ℕ → List (List ℕ)
@@ -69,6 +73,21 @@ goods_from files r (v ∷ vs) = numbered r (good_path files v) (goods_from files
 -- the requests for files, each with its number, counted from 1
 unfoldable pub goods : FilesAt → List ℕ → List (ℕ × List ℕ)
 goods files wrote = goods_from files 1 (verdicts wrote)
+
+-- the verdict with this number, counted from 1, is on a request for the file of this path
+abbrev pub IsGoodAt : FilesAt → List Verdict → ℕ → List ℕ → Type 0
+IsGoodAt files vs r path = (i : ℕ) × (v : Verdict) × (r ≡ i + 1) × (slice_get vs i ≡ Some v) × (good_path files v ≡ Some path)
+
+-- the numbers rise, from above n on
+abbrev pub Rises : ℕ → List (ℕ × List ℕ) → Type 0
+Rises n [] = Unit {0}
+Rises n (good ∷ later) = (n < good.0) × Rises good.0 later
+
+-- ---- what ends the answers
+
+-- the connection closes behind one of these answers
+abbrev pub closes_any : List Verdict → Bool
+closes_any vs = list_any closes vs
 
 -- ---- what begins with what
 
