@@ -1,5 +1,12 @@
 //! The bytes of a response (RFC 9112, 4; RFC 9110, 15).
 //!
-//! It stands behind `lard_request`: what was judged, and the file that was found for it, are written as one response,
-//! whose bytes are then queued on the connection.
+//! It stands behind `lard_request`: what was judged, and the file that was found for it, are written by `write` as one
+//! response, whose bytes are then queued on the connection.
 #![tactic(auto)]
+
+mod bytes;
+pub mod laws;
+#[cfg(test)]
+mod tests;
+
+pub use bytes::{may_write, write};

@@ -1,0 +1,87 @@
+//! The bytes of one response, written to one buffer.
+
+ghost use Rattle.std.specs.Prelude.{◌≡◌, ◌↔◌, ◌++◌, length, IsTrue, IfOk, OnOk};
+ghost use Rattle.lard_response.specs.Response.{status_line, length_line, close_line, content, response, IsClosing, HasItsBody};
+
+use itoa::Buffer;
+use lard_base::{Bytes, NoMemory};
+use lard_request::Code;
+use std::alloc::{AllocError, Global};
+
+/// Room for the longest head: 46 bytes of a status line, 38 of a length, 19 of a close and 2 of the empty line.
+const HEAD_BYTES: usize = 105;
+
+/// Whether a response of this code may have this body, and leave the connection open or close it as `close` says. Only
+/// the answer 200 has a body, and all but 200 and 404 close.
+pub fn may_write(code: Code, body: &[u8], close: bool) -> bool
+    ensures { IsTrue result ↔ (HasItsBody code body.now × IsClosing code close) }
+{
+    match code {
+        Code::Ok => true,
+        Code::NotFound => body.is_empty(),
+        _ => body.is_empty() && close,
+    }
+}
+
+/// The response with this body, of which the answer to HEAD has the length alone (RFC 9110, 9.3.2). Where `close`, it
+/// says that the connection closes behind it (RFC 9112, 9.6).
+#[tactic(auto, unfolding(crate::specs::Response::response))]
+pub fn write(
+    alloc: Global,
+    code: Code,
+    body: &[u8],
+    head: bool,
+    close: bool,
+) -> Result<Bytes, NoMemory>
+    requires body { HasItsBody code body.now }
+    requires close { IsClosing code close }
+    ensures { IfOk result (λ bytes. bytes ≡ response code body.now head close) }
+{
+    let sent = content_of(body, head);
+    let mut bytes = Vec::with_capacity(alloc, HEAD_BYTES + sent.len())?;
+    bytes.extend_from_slice(status_of(code))?;
+    push_length(&mut bytes, body.len())?;
+    bytes.extend_from_slice(close_of(close))?;
+    bytes.extend_from_slice(b"\r\n")?;
+    bytes.extend_from_slice(sent)?;
+    Ok(Bytes::from_vec(bytes))
+}
+
+/// The status line of a code (RFC 9112, 4).
+fn status_of(code: Code) -> &'static [u8]
+    ensures { result.now ≡ status_line code }
+{
+    match code {
+        Code::Ok => b"HTTP/1.1 200 OK\r\n",
+        Code::BadRequest => b"HTTP/1.1 400 Bad Request\r\n",
+        Code::NotFound => b"HTTP/1.1 404 Not Found\r\n",
+        Code::TooLarge => b"HTTP/1.1 413 Content Too Large\r\n",
+        Code::FieldsTooLarge => b"HTTP/1.1 431 Request Header Fields Too Large\r\n",
+        Code::NotImplemented => b"HTTP/1.1 501 Not Implemented\r\n",
+    }
+}
+
+/// Adds the line that gives a length (RFC 9110, 8.6).
+fn push_length(bytes: &mut Vec<u8>, len: usize) -> Result<(), AllocError>
+    ensures { OnOk result (bytes.new.items ≡ bytes.old.items ++ length_line len) }
+{
+    let mut digits = Buffer::new();
+    bytes.extend_from_slice(b"Content-Length: ")?;
+    bytes.extend_from_slice(digits.format(len).as_bytes())?;
+    bytes.extend_from_slice(b"\r\n")?;
+    Ok(())
+}
+
+/// The line that says that the connection closes, or nothing.
+fn close_of(close: bool) -> &'static [u8]
+    ensures { result.now ≡ close_line close }
+{
+    if close { b"Connection: close\r\n" } else { b"" }
+}
+
+/// The content of a response to this body.
+fn content_of(body: &[u8], head: bool) -> &[u8]
+    ensures { result.now ≡ content body.now head }
+{
+    if head { b"" } else { body }
+}
