@@ -24,8 +24,10 @@ use Rattle.lard_app.specs.declared.status.What.TheVariants.{Input}
 use Rattle.lard_app.specs.declared.status.Why.{Why}
 use Rattle.lard_app.specs.declared.status.Why.TheVariants as why
 use Rattle.lard_app.specs.declared.world.World.{World}
+use Rattle.lard_app.specs.Built.{IsBuilt}
 use Rattle.lard_app.specs.Lines.{judged, unbuilt, first_word, item_of, event_item, event_of, words_of}
 use Rattle.lard_app.specs.Replay.{counted, gain, is_past, item_taken, judged_gain, moved, passed, refused_at, replayed, report_of, stepped, step_gain}
+use Rattle.lard_app.proofs.Readings.{event_spelled}
 use Rattle.lard_app.specs.World.{asked, delivered, missing, opened, packet_at, start, to_opened, to_place, from_place, world_step}
 
 -- the journal is the old one with some records after it
@@ -74,18 +76,18 @@ step-extends w t (event.Get c path) e = result-extends w t (asked w c path w.cli
 step-extends w t (event.Deliver k) e = delivered-extends w t k (packet_at w k) e
 step-extends w t _ e = result-extends w t w (unchanged w) e
 
--- ---- what a line stands for fits its place
+-- ---- what a line stands for fits its place, and an event has the ranges of its line
 
 abbrev pub Fits : Stage → Result Item Why → Type 0
 Fits stage (Err why) = Unit {0}
 Fits Start (Ok item.Header) = Unit {0}
 Fits Heading (Ok item.Go) = Unit {0}
-Fits Running (Ok (item.Event e)) = Unit {0}
+Fits Running (Ok (item.Event e)) = IsBuilt e
 Fits _ _ = ⊥
 
-event-fits : (e : Option Event) → Fits Running (event_item e)
-event-fits None = tt
-event-fits (Some e) = tt
+event-fits : (words : List (List ℕ)) (e : Option Event) → event_of words ≡ e → Fits Running (event_item e)
+event-fits words None is = tt
+event-fits words (Some e) is = (event_spelled words e is).1
 
 item-fits : (stage : Stage) (line : List ℕ) → Fits stage (item_of stage line)
 item-fits Start line = go (bytes_eq line (codes "lard 1")) where
@@ -96,7 +98,7 @@ item-fits Heading line = go (bytes_eq line (codes "go")) where
   go : (b : Bool) → Fits Heading (cond {A = Result Item Why} b (Ok item.Go) (Err why.Syntax))
   go true = tt
   go false = tt
-item-fits Running line = event-fits (event_of (words_of line))
+item-fits Running line = event-fits (words_of line) (event_of (words_of line)) refl
 
 pub judged-fits : (stage : Stage) (line : List ℕ) → Fits stage (judged stage line)
 unfolding judged

@@ -1,7 +1,7 @@
 -- The steps of the world, one by one: each keeps what holds of it.
 use Rattle.std.proofs.Common.{◌≡◌, ℕ, ◌+◌, List, [], ◌∷◌, ◌++◌, length, Bool, true, false, not, Option, Some, None, Result, Ok, refl, sym, ap, ◌∙◌, subst, inl, inr, ⊎_elim, append_assoc, nat_eq}
-use Rattle.std.proofs.lemmas.Bool.{eqb-true}
-use Rattle.std.specs.Prelude.{is_some, ◌&&◌, nat_le}
+use Rattle.std.proofs.lemmas.Bool.{and_parts, eqb-true}
+use Rattle.std.specs.Prelude.{is_some, ◌&&◌, nat_le, nat_lt}
 use Rattle.std.specs.List.{list_all}
 use Rattle.lard_base.specs.declared.event.Event.{Event}
 use Rattle.lard_base.specs.declared.event.Event.TheVariants as event
@@ -20,7 +20,7 @@ use Rattle.lard_app.specs.declared.world.World.{World}
 use Rattle.lard_app.specs.Client.{client_armed, client_turn, client_writes, opened_client, request}
 use Rattle.lard_app.specs.Front.{front_armed, front_turn}
 use Rattle.lard_app.specs.Turn.{listed}
-use Rattle.lard_app.specs.World.{acted, asked, client_move, delivered, from_place, has_written, is_built_get, is_built_open, is_plain_byte, front_move, missing, no_move, opened, opening, packet_at, to_front, to_nobody, to_opened, to_place, unless, world_step}
+use Rattle.lard_app.specs.World.{acted, asked, client_move, delivered, from_place, has_written, is_built_deliver, is_built_get, is_built_open, is_plain_byte, front_move, missing, no_move, opened, opening, packet_at, to_front, to_nobody, to_opened, to_place, unless, world_step}
 use Rattle.lard_app.proofs.Records.{AreQuiet, Linked, got, quiet, quiet_listed, took}
 use Rattle.lard_app.proofs.Steps.{Holds, IsBetween, MaySpeak, acted-holds, numbered_in, timer-quiet, to_of}
 use Rattle.lard_app.proofs.Turns.{client_turn-may, client_writes-same, front_turn-may}
@@ -31,28 +31,36 @@ unless-built : (b : Bool) (f : Form) → unless b f ≡ None → b ≡ true
 unless-built true f e = refl
 unless-built false f e = cc
 
-and-left : (a b : Bool) → a && b ≡ true → a ≡ true
-and-left true b e = refl
-and-left false b e = e
-
-and-right : (a b : Bool) → a && b ≡ true → b ≡ true
-and-right true b e = e
-and-right false b e = cc
-
 pub open-first : (w : World) (c isn iss wnd mss : ℕ) → missing w (event.Open c isn iss wnd mss) ≡ None → c ≡ 1
 open-first w c isn iss wnd mss e =
     let built : is_built_open w c wnd mss ≡ true = unless-built (is_built_open w c wnd mss) form.Open e in
-    eqb-true c 1 (and-right (not (is_some w.client)) (nat_eq c 1) (and-left (not (is_some w.client) && nat_eq c 1) (nat_le 45 wnd) (and-left (not (is_some w.client) && nat_eq c 1 && nat_le 45 wnd) (nat_le 45 mss) built)))
+    eqb-true c 1 ((and_parts (not (is_some w.client)) (nat_eq c 1) ((and_parts (not (is_some w.client) && nat_eq c 1) (nat_le 45 wnd) ((and_parts (not (is_some w.client) && nat_eq c 1 && nat_le 45 wnd) (nat_le 45 mss) built).0)).0)).1)
+
+pub open-free : (w : World) (c isn iss wnd mss : ℕ) → missing w (event.Open c isn iss wnd mss) ≡ None → not (is_some w.client) ≡ true
+open-free w c isn iss wnd mss e =
+    let built : is_built_open w c wnd mss ≡ true = unless-built (is_built_open w c wnd mss) form.Open e in
+    (and_parts (not (is_some w.client)) (nat_eq c 1) ((and_parts (not (is_some w.client) && nat_eq c 1) (nat_le 45 wnd) ((and_parts (not (is_some w.client) && nat_eq c 1 && nat_le 45 wnd) (nat_le 45 mss) built).0)).0)).0
 
 module _ (w : World) (c : ℕ) (path : List ℕ) (e : missing w (event.Get c path) ≡ None) where
   built_get : is_built_get w c path ≡ true
   built_get = unless-built (is_built_get w c path) form.Get e
 
   pub get-first : c ≡ 1
-  get-first = eqb-true c 1 (and-right (is_some w.client && not (has_written w.client)) (nat_eq c 1) (and-left (is_some w.client && not (has_written w.client) && nat_eq c 1) (list_all is_plain_byte path) built_get))
+  get-first = eqb-true c 1 ((and_parts (is_some w.client && not (has_written w.client)) (nat_eq c 1) ((and_parts (is_some w.client && not (has_written w.client) && nat_eq c 1) (list_all is_plain_byte path) built_get).0)).1)
 
   pub get-opened : is_some w.client ≡ true
-  get-opened = and-left (is_some w.client) (not (has_written w.client)) (and-left (is_some w.client && not (has_written w.client)) (nat_eq c 1) (and-left (is_some w.client && not (has_written w.client) && nat_eq c 1) (list_all is_plain_byte path) built_get))
+  get-opened = (and_parts (is_some w.client) (not (has_written w.client)) ((and_parts (is_some w.client && not (has_written w.client)) (nat_eq c 1) ((and_parts (is_some w.client && not (has_written w.client) && nat_eq c 1) (list_all is_plain_byte path) built_get).0)).0)).0
+
+  pub get-unwritten : not (has_written w.client) ≡ true
+  get-unwritten = (and_parts (is_some w.client) (not (has_written w.client)) ((and_parts (is_some w.client && not (has_written w.client)) (nat_eq c 1) ((and_parts (is_some w.client && not (has_written w.client) && nat_eq c 1) (list_all is_plain_byte path) built_get).0)).0)).1
+
+  pub get-plain : list_all is_plain_byte path ≡ true
+  get-plain = (and_parts (is_some w.client && not (has_written w.client) && nat_eq c 1) (list_all is_plain_byte path) built_get).1
+
+pub deliver-next : (w : World) (k : ℕ) → missing w (event.Deliver k) ≡ None → nat_eq k 0 ≡ false → nat_lt (length w.net) k ≡ false → k ≡ w.delivered + 1
+deliver-next w k e first last =
+    let built : is_built_deliver w k ≡ true = unless-built (is_built_deliver w k) form.Deliver e in
+    eqb-true k (w.delivered + 1) (rw (first, last) at built)
 
 -- ---- the beginning of a step
 
@@ -150,17 +158,18 @@ module _ (w : World) (h : Holds w) (k : ℕ) (p : Packet) (is : numbered_in w.ne
 
 -- ---- a step
 
-done : (t given : World) → Holds given → ◌≡◌ {A = Result World Why} (Ok given) (Ok t) → Holds t
-done t given h e = let same : given ≡ t = cc in subst Holds same h
+-- what holds of the world of a step that is done
+pub done : (P : World → Type 0) (t given : World) → P given → ◌≡◌ {A = Result World Why} (Ok given) (Ok t) → P t
+done P t given h e = let same : given ≡ t = cc in subst P same h
 
 delivered-holds : (w t : World) (k : ℕ) (o : Option Packet) → Holds w → numbered_in w.net k ≡ o → delivered w k o ≡ Ok t → Holds t
 unfolding delivered
 delivered-holds w t k None h is e = cc
-delivered-holds w t k (Some p) h is e = done t (to_place w k p p.to) (place-holds w h k p is) e
+delivered-holds w t k (Some p) h is e = done Holds t (to_place w k p p.to) (place-holds w h k p is) e
 
 pub step-holds : (w t : World) (e : Event) → Holds w → missing w e ≡ None → world_step w e ≡ Ok t → Holds t
 unfolding world_step
-step-holds w t (event.Open c isn iss wnd mss) h m e = done t (opened w c isn iss wnd mss) (subst (λ d. Holds (opened w d isn iss wnd mss)) (sym (open-first w c isn iss wnd mss m)) (opened-holds w isn iss wnd mss h)) e
-step-holds w t (event.Get c path) h m e = done t (asked w c path w.client) (subst (λ d. Holds (asked w d path w.client)) (sym (get-first w c path m)) (asked-holds w path (get-opened w c path m) h)) e
+step-holds w t (event.Open c isn iss wnd mss) h m e = done Holds t (opened w c isn iss wnd mss) (subst (λ d. Holds (opened w d isn iss wnd mss)) (sym (open-first w c isn iss wnd mss m)) (opened-holds w isn iss wnd mss h)) e
+step-holds w t (event.Get c path) h m e = done Holds t (asked w c path w.client) (subst (λ d. Holds (asked w d path w.client)) (sym (get-first w c path m)) (asked-holds w path (get-opened w c path m) h)) e
 step-holds w t (event.Deliver k) h m e = delivered-holds w t k (packet_at w k) h refl e
-step-holds w t _ h m e = done t w h e
+step-holds w t _ h m e = done Holds t w h e

@@ -12,15 +12,19 @@ use Rattle.lard_app.specs.declared.status.Status.TheVariants.{Limit}
 use Rattle.lard_app.specs.declared.status.What.TheVariants.{Input}
 use Rattle.lard_app.specs.declared.status.Why.{Why}
 use Rattle.lard_app.specs.declared.world.World.{World}
+use Rattle.lard_app.specs.Built.{IsBuilt}
 use Rattle.lard_app.specs.Laws.{Follows, IsLawful, IsStep, MayInNetwork, MayOwn, MaySend}
 use Rattle.lard_app.specs.Lines.{judged}
 use Rattle.lard_app.specs.Replay.{begin, counted, event_listed, events_from, events_of, is_past, item_taken, journal_of, lines_of, moved, passed, refused_at, replayed, stepped, whole}
 use Rattle.lard_app.specs.World.{missing, start, world_step}
+use Rattle.lard_app.proofs.Accounts.{Accounts, start-accounts}
 use Rattle.lard_app.proofs.Following.{Adds, follows-push, step-adds}
 use Rattle.lard_app.proofs.Growth.{Fits, judged-fits}
 use Rattle.lard_app.proofs.Kept.{step-holds}
+use Rattle.lard_app.proofs.Paid.{step-accounts}
 use Rattle.lard_app.proofs.Records.{May, each_weaker}
 use Rattle.lard_app.proofs.Steps.{Holds, start-holds}
+use Rattle.lard_app.proofs.Tally.{at_every_moment}
 
 -- no event was passed before `go`
 abbrev IsBefore : Stage → List Event → Type 0
@@ -32,43 +36,45 @@ IsBefore Heading es = es ≡ []
 pub record Keeps (s : Replay) (es : List Event) : Type 0 where
   pub before : IsBefore s.stage es
   pub world : Holds s.world
+  pub accounts : Accounts s.world
   pub follows : Follows 1 es s.world.journal
   pub count : s.world.events ≡ length es
 
 begin-keeps : Keeps begin []
-begin-keeps = record { before = refl; world = start-holds; follows = refl; count = refl }
+begin-keeps = record { before = refl; world = start-holds; accounts = start-accounts; follows = refl; count = refl }
 
 module _ (lines read : ℕ) (w : World) (n : ℕ) (t : Replay) (es : List Event) where
-  moved-keeps : (e : Event) (r : Result World Why) → missing w e ≡ None → world_step w e ≡ r → Keeps (record { stage = Running; lines = lines; read = read; world = w }) es
+  moved-keeps : (e : Event) (r : Result World Why) → IsBuilt e → missing w e ≡ None → world_step w e ≡ r → Keeps (record { stage = Running; lines = lines; read = read; world = w }) es
       → refused_at n (moved (record { stage = Running; lines = lines; read = read; world = w }) r) ≡ Ok t → Keeps t (es ++ e ∷ [])
-  moved-keeps e (Err why) m is k h = cc
-  moved-keeps e (Ok v) m is k h =
+  moved-keeps e (Err why) b m is k h = cc
+  moved-keeps e (Ok v) b m is k h =
       let same : record { stage = Running; lines = lines; read = read; world = v } ≡ t = cc in
       let adds : Adds w v e = step-adds w v e m is in
       let number : w.events + 1 ≡ 1 + length es = omega (arith, k.count) in
       subst (λ (u : Replay). Keeps u (es ++ e ∷ [])) same (record {
         before = tt;
         world = step-holds w v e k.world m is;
+        accounts = step-accounts w v e k.world k.accounts m b is;
         follows = subst (Follows 1 (es ++ e ∷ [])) (sym adds.journal) (follows-push 1 es w.journal e adds.step k.follows (subst (λ i. IsStep i e adds.step) number adds.is));
         count = adds.events ∙ ap (λ i. i + 1) k.count ∙ sym (length-append es (e ∷ []));
       })
 
-  event-keeps : (e : Event) (o : Option Form) → missing w e ≡ o → Keeps (record { stage = Running; lines = lines; read = read; world = w }) es
+  event-keeps : (e : Event) (o : Option Form) → IsBuilt e → missing w e ≡ o → Keeps (record { stage = Running; lines = lines; read = read; world = w }) es
       → refused_at n (stepped (record { stage = Running; lines = lines; read = read; world = w }) e o) ≡ Ok t → Keeps t (es ++ e ∷ [])
-  event-keeps e (Some form) m k h = cc
-  event-keeps e None m k h = moved-keeps e (world_step w e) m refl k h
+  event-keeps e (Some form) b m k h = cc
+  event-keeps e None b m k h = moved-keeps e (world_step w e) b m refl k h
 
   item-keeps : (stage : Stage) (j : Result Item Why) → Fits stage j → Keeps (record { stage = stage; lines = lines; read = read; world = w }) es
       → refused_at n (item_taken (record { stage = stage; lines = lines; read = read; world = w }) j) ≡ Ok t → Keeps t (es ++ event_listed j)
   item-keeps stage (Err why) f k h = cc
   item-keeps Start (Ok item.Header) f k h =
       let same : record { stage = Heading; lines = lines; read = read; world = w } ≡ t = cc in
-      subst (λ (u : Replay). Keeps u (es ++ [])) same (subst (λ ds. Keeps (record { stage = Heading; lines = lines; read = read; world = w }) ds) (sym (append-nil es)) (record { before = k.before; world = k.world; follows = k.follows; count = k.count }))
+      subst (λ (u : Replay). Keeps u (es ++ [])) same (subst (λ ds. Keeps (record { stage = Heading; lines = lines; read = read; world = w }) ds) (sym (append-nil es)) (record { before = k.before; world = k.world; accounts = k.accounts; follows = k.follows; count = k.count }))
   item-keeps Heading (Ok item.Go) f k h =
       let same : record { stage = Running; lines = lines; read = read; world = start } ≡ t = cc in
       let none : [] ≡ es ++ [] = sym (append-nil es ∙ k.before) in
-      subst (λ (u : Replay). Keeps u (es ++ [])) same (subst (λ ds. Keeps (record { stage = Running; lines = lines; read = read; world = start }) ds) none (record { before = tt; world = start-holds; follows = refl; count = refl }))
-  item-keeps Running (Ok (item.Event e)) f k h = event-keeps e (missing w e) refl k h
+      subst (λ (u : Replay). Keeps u (es ++ [])) same (subst (λ ds. Keeps (record { stage = Running; lines = lines; read = read; world = start }) ds) none (record { before = tt; world = start-holds; accounts = start-accounts; follows = refl; count = refl }))
+  item-keeps Running (Ok (item.Event e)) f k h = event-keeps e (missing w e) f refl k h
   item-keeps Start (Ok item.Go) f k h = absurd f
   item-keeps Start (Ok (item.Event e)) f k h = absurd f
   item-keeps Heading (Ok item.Header) f k h = absurd f
@@ -82,7 +88,7 @@ passed-keeps s t line es k e = go (is_past s line) e where
   go : (b : Bool) → cond b (Err (Limit (s.lines + 1) Input)) (refused_at (s.lines + 1) (item_taken (counted s line) (judged s.stage line))) ≡ Ok t → Keeps t (es ++ event_listed (judged s.stage line))
   go true h = cc
   go false h = item-keeps (s.lines + 1) (s.read + length line + 1) s.world (s.lines + 1) t es s.stage (judged s.stage line) (judged-fits s.stage line)
-      (record { before = k.before; world = k.world; follows = k.follows; count = k.count }) h
+      (record { before = k.before; world = k.world; accounts = k.accounts; follows = k.follows; count = k.count }) h
 
 replayed-keeps : (s : Replay) (lines : List (List ℕ)) (es : List Event) → Keeps s es → Keeps (replayed s lines).0 (es ++ events_from s lines)
 replayed-keeps s [] es k = subst (Keeps s) (sym (append-nil es)) k
@@ -105,5 +111,6 @@ lawful text =
       follows = k.follows;
       network = each_weaker May MayInNetwork (λ past r m. m.0) [] _ each;
       ownership = each_weaker May MayOwn (λ past r m. m.1) [] _ each;
+      prefix = at_every_moment _ k.accounts.tally.each;
       sole_sender = each_weaker May MaySend (λ past r m. m.2) [] _ each;
     }

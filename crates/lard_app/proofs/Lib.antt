@@ -1,3 +1,4 @@
+pub mod Accounts
 pub mod Decimals
 pub mod Following
 pub mod Going
@@ -5,9 +6,13 @@ pub mod Growth
 pub mod Kept
 pub mod Lawful
 pub mod Packets
+pub mod Paid
+pub mod Plain
 pub mod Readings
 pub mod Records
 pub mod Settled
+pub mod Spoken
 pub mod Steps
+pub mod Tally
 pub mod Turns
 pub mod Words

@@ -1,5 +1,6 @@
 -- Each step keeps what holds of the world and its journal.
 use Rattle.std.proofs.Common.{◌≡◌, ◌⊎◌, ℕ, ◌+◌, ◌-◌, zero, suc, List, [], ◌∷◌, ◌++◌, length, Bool, true, false, cond, Option, Some, None, refl, sym, ap, ◌∙◌, subst, inl, inr, ⊎_elim, append_assoc, append-nil, length-append, arith, nat_eq}
+use Rattle.std.proofs.lemmas.Bool.{eqb-true}
 use Rattle.std.proofs.lemmas.Bool.Decides.{nat_tests}
 use Rattle.std.specs.Prelude.{is_some, slice_get}
 use Rattle.lard_base.specs.declared.event.Event.{Event}
@@ -58,6 +59,17 @@ to_of-cond : (b : Bool) (p : Packet) (o : Option Packet) → to_of (cond b (Some
 to_of-cond true p o = refl
 to_of-cond false p o = refl
 
+-- no packet was sent yet
+pub none_sent : (k : ℕ) (p : Packet) → numbered_in [] k ≡ Some p → ⊥
+none_sent k p e = go (nat_eq k 0) (slice_get {X = Packet} [] (k - 1)) refl e where
+  go : (b : Bool) (o : Option Packet) → o ≡ None → cond b None o ≡ Some p → ⊥
+  go true o n f = cc
+  go false o n f = cc
+
+-- and none has the number 0
+pub none_zero : (net : List Packet) (k : ℕ) (p : Packet) → k ≡ 0 → numbered_in net k ≡ Some p → ⊥
+none_zero net k p z e = let none : numbered_in net 0 ≡ Some p = subst (λ n. numbered_in net n ≡ Some p) z e in cc
+
 -- ---- what holds of the world
 
 -- a packet goes between client 1 and the front end
@@ -72,16 +84,12 @@ pub record Holds (w : World) : Type 0 where
 pub start-holds : Holds start
 start-holds = record {
   linked = record { each = tt; sent = refl; goals_are = λ k. go (nat_eq k 0); none_lost = λ k. refl; owners = λ c. refl; epochs = λ c. refl };
-  packets = λ k p e. absurd (none (nat_eq k 0) (slice_get {X = Packet} [] (k - 1)) refl e);
+  packets = λ k p e. absurd (none_sent k p e);
   client = λ x e. absurd (no x e);
 } where
   go : (b : Bool) → None ≡ to_of (cond b None None)
   go true = refl
   go false = refl
-
-  none : (b : Bool) (o : Option Packet) → o ≡ None → {p : Packet} → cond b None o ≡ Some p → ⊥
-  none true o n e = cc
-  none false o n e = cc
 
   no : (x : Client) → ◌≡◌ {A = Option Client} None (Some x) → ⊥
   no x e = cc
@@ -123,21 +131,27 @@ module _ (net : List Packet) (J : List Rec) (held : Bool) (from to : Place) wher
       (regoal _ _ _ _ held (λ k. sym (ap to_of (numbered_push net p k) ∙ to_of-cond (nat_eq (length net + 1) k) p (numbered_in net k)))
       (sent J (length net) (λ k. to_of (numbered_in net k)) held from to bytes (owner-sends J (length net) (λ k. to_of (numbered_in net k)) held from to bytes may l) l))
 
--- the packets of a network with one more
-between_push : (net : List Packet) (p : Packet) → ((k : ℕ) (q : Packet) → numbered_in net k ≡ Some q → IsBetween q) → IsBetween p → (k : ℕ) (q : Packet) → numbered_in (net ++ p ∷ []) k ≡ Some q → IsBetween q
-between_push net p all one k q e = go (nat_eq (length net + 1) k) (sym (numbered_push net p k) ∙ e) where
-  go : (b : Bool) → cond b (Some p) (numbered_in net k) ≡ Some q → IsBetween q
-  go true f = let same : p ≡ q = cc in subst IsBetween same one
-  go false f = all k q f
+-- what is to hold of the packet that is sent
+abbrev pub NewMeets : (ℕ → Packet → Type 0) → ℕ → Place → Place → Option (List ℕ) → Type 0
+NewMeets P n from to None = Unit {0}
+NewMeets P n from to (Some bytes) = P n (record { from = from; to = to; bytes = bytes })
 
-between_with : (net : List Packet) (held : Bool) (from to : Place) (packet : Option (List ℕ)) → MaySpeak held from to packet → ((k : ℕ) (q : Packet) → numbered_in net k ≡ Some q → IsBetween q)
-    → (k : ℕ) (q : Packet) → numbered_in (net ++ listed (packet_sent from to packet)) k ≡ Some q → IsBetween q
-between_with net held from to None may all k q e = all k q (subst (λ (ps : List Packet). numbered_in ps k ≡ Some q) (append-nil net) e)
-between_with net held from to (Some bytes) may all k q e = between_push net (record { from = from; to = to; bytes = bytes }) all
-    (⊎_elim (λ (f : (from ≡ place.Client 1) × (to ≡ place.Front)). inl (f.0, f.1)) (λ (f : (from ≡ place.Front) × (to ≡ place.Client 1) × (held ≡ true)). inr (f.0, f.1)) may) k q e
+-- what holds of each packet, and of the one that is sent, holds of all
+pub each_with : (P : ℕ → Packet → Type 0) (net : List Packet) (from to : Place) (packet : Option (List ℕ)) → ((k : ℕ) (q : Packet) → numbered_in net k ≡ Some q → P k q) → NewMeets P (length net + 1) from to packet
+    → (k : ℕ) (q : Packet) → numbered_in (net ++ listed (packet_sent from to packet)) k ≡ Some q → P k q
+each_with P net from to None all new k q e = all k q (subst (λ (ps : List Packet). numbered_in ps k ≡ Some q) (append-nil net) e)
+each_with P net from to (Some bytes) all new k q e = go (nat_eq (length net + 1) k) refl (sym (numbered_push net (record { from = from; to = to; bytes = bytes }) k) ∙ e) where
+  go : (b : Bool) → nat_eq (length net + 1) k ≡ b → cond b (Some (record { from = from; to = to; bytes = bytes })) (numbered_in net k) ≡ Some q → P k q
+  go true is f = let same : record { from = from; to = to; bytes = bytes } ≡ q = cc in subst (P k) same (subst (λ n. P n (record { from = from; to = to; bytes = bytes })) (eqb-true (length net + 1) k is) new)
+  go false is f = all k q f
+
+-- what may be spoken goes between the client and the front end
+new_between : (n : ℕ) (held : Bool) (from to : Place) (packet : Option (List ℕ)) → MaySpeak held from to packet → NewMeets (λ k p. IsBetween p) n from to packet
+new_between n held from to None may = tt
+new_between n held from to (Some bytes) may = ⊎_elim (λ (f : (from ≡ place.Client 1) × (to ≡ place.Front)). inl (f.0, f.1)) (λ (f : (from ≡ place.Front) × (to ≡ place.Client 1) × (held ≡ true)). inr (f.0, f.1)) may
 
 -- the records of a step, part by part
-parts : (J A B C D : List Rec) → (((J ++ A) ++ B) ++ C) ++ D ≡ J ++ (((A ++ B) ++ C) ++ D)
+pub parts : (J A B C D : List Rec) → (((J ++ A) ++ B) ++ C) ++ D ≡ J ++ (((A ++ B) ++ C) ++ D)
 parts J A B C D =
     ap (λ xs. (xs ++ C) ++ D) (append_assoc J A B) ∙ ap (λ xs. xs ++ D) (append_assoc J (A ++ B) C) ∙ append_assoc J ((A ++ B) ++ C) D
 
@@ -152,6 +166,6 @@ acted-holds w e v held is client packets l may timer =
       linked = subst (λ (J : List Rec). Linked J (length (acted w e v).net) (λ k. to_of (numbered_in (acted w e v).net k)) (is_some w.front))
           (parts w.journal (rec.Event (w.events + 1) e ∷ v.own ∷ []) (listed v.note) (listed (sent_record (length w.net + 1) v.from v.to v.packet)) (listed v.timer))
           (subst (λ b. Linked (((((w.journal ++ rec.Event (w.events + 1) e ∷ v.own ∷ []) ++ listed v.note) ++ listed (sent_record (length w.net + 1) v.from v.to v.packet))) ++ listed v.timer) (length (acted w e v).net) (λ k. to_of (numbered_in (acted w e v).net k)) b) (sym is) all);
-      packets = between_with w.net held v.from v.to v.packet may packets;
+      packets = each_with (λ k p. IsBetween p) w.net v.from v.to v.packet packets (new_between (length w.net + 1) held v.from v.to v.packet may);
       client = client;
     }

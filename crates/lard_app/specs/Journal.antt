@@ -1,5 +1,5 @@
 -- What a journal says: folds over its records, the oldest first.
-use Rattle.std.specs.Prelude.{ℕ, ◌+◌, Bool, true, false, List, Option, Some, None, nat_eq, if◌then◌else◌}
+use Rattle.std.specs.Prelude.{ℕ, ◌+◌, Bool, true, false, List, [], ◌++◌, Option, Some, None, nat_eq, if◌then◌else◌}
 use Rattle.std.specs.List.{fold}
 use Rattle.lard_base.specs.declared.event.Event.{Event}
 use Rattle.lard_base.specs.declared.event.Event.TheVariants as event
@@ -88,3 +88,21 @@ epoch_step c last _ = last
 -- the epoch in which c was taken last, or 0
 abbrev pub last_epoch : List Rec → ℕ → ℕ
 last_epoch J c = fold (epoch_step c) 0 J
+
+-- ---- what clients write and accept
+
+abbrev pub wrote_step : ℕ → List ℕ → Rec → List ℕ
+wrote_step c bytes (rec.Wrote d more) = if nat_eq d c then bytes ++ more else bytes
+wrote_step c bytes _ = bytes
+
+-- all that client c wrote
+abbrev pub wrote : List Rec → ℕ → List ℕ
+wrote J c = fold (wrote_step c) [] J
+
+abbrev pub accepted_step : ℕ → List ℕ → Rec → List ℕ
+accepted_step c bytes (rec.Accepted d more) = if nat_eq d c then bytes ++ more else bytes
+accepted_step c bytes _ = bytes
+
+-- all that client c accepted
+abbrev pub accepted : List Rec → ℕ → List ℕ
+accepted J c = fold (accepted_step c) [] J

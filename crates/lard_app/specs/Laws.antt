@@ -8,7 +8,8 @@ use Rattle.lard_base.specs.declared.place.Place.TheVariants.{Front, Node, Client
 use Rattle.lard_journal.specs.declared.rec.Rec.{Rec}
 use Rattle.lard_journal.specs.declared.rec.Rec.TheVariants as rec
 use Rattle.lard_app.specs.Client.{request}
-use Rattle.lard_app.specs.Journal.{acting, goal_of, is_lost, last_epoch, owner, sent_count}
+use Rattle.lard_answers.specs.Answers.{FilesAt, IsFront, answer_bytes, no_files}
+use Rattle.lard_app.specs.Journal.{accepted, acting, goal_of, is_lost, last_epoch, owner, sent_count, wrote}
 
 -- each of these records may stand where it does, after those of the past
 abbrev pub EachMay : (List Rec → Rec → Type 0) → List Rec → List Rec → Type 0
@@ -56,6 +57,13 @@ MaySend past _ = Unit {0}
 abbrev pub IsSoleSender : List Rec → Type 0
 IsSoleSender J = EachMay MaySend [] J
 
+-- ---- the prefix law
+
+-- At every moment, the bytes that a client accepted are a front of the responses to what it wrote until then, which
+-- are sent in the order of its requests (RFC 9112, 9.3.2).
+abbrev pub AcceptsOnlyAnswers : FilesAt → List Rec → Type 0
+AcceptsOnlyAnswers files J = (past later : List Rec) (c : ℕ) → J ≡ past ++ later → IsFront (accepted past c) (answer_bytes files (wrote past c))
+
 -- ---- how a journal follows the events
 
 abbrev pub is_event : Rec → Bool
@@ -88,3 +96,4 @@ pub record IsLawful (events : List Event) (J : List Rec) : Type 0 where
   pub network : IsNetwork J
   pub ownership : IsOwnership J
   pub sole_sender : IsSoleSender J
+  pub prefix : AcceptsOnlyAnswers no_files J

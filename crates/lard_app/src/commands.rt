@@ -4,7 +4,8 @@ ghost use Rattle.std.specs.Prelude.{◌≡◌, ◌≤◌, ◌+◌, ◌↔◌, �
 ghost use Rattle.std.specs.Io.KnownBytes.{Keeps};
 ghost use Rattle.std.specs.List.{position};
 ghost use Rattle.lard_base.specs.Causes.{Rose};
-ghost use Rattle.lard_app.specs.Laws.{Follows, IsNetwork, IsOwnership, IsSoleSender};
+ghost use Rattle.lard_answers.specs.Answers.{no_files};
+ghost use Rattle.lard_app.specs.Laws.{AcceptsOnlyAnswers, Follows, IsNetwork, IsOwnership, IsSoleSender};
 ghost use Rattle.lard_app.specs.Replay.{events_of, input_limit, is_feed, journal_of};
 ghost use Rattle.lard_app.specs.Run.{IsReplay, IsSettled, Ran, Replays};
 
@@ -40,6 +41,7 @@ pub fn run<S: Source, K: Sink>(
     ensures network { (text : List ℕ) → IsNetwork (journal_of text) }
     ensures ownership { (text : List ℕ) → IsOwnership (journal_of text) }
     ensures sole_sender { (text : List ℕ) → IsSoleSender (journal_of text) }
+    ensures prefix { (text : List ℕ) → AcceptsOnlyAnswers no_files (journal_of text) }
 {
     if !asks_replay(words) {
         return Status::Usage;

@@ -14,6 +14,9 @@ returns-then-not-asks_replay-clause-ownership g c = λ text. (lawful text).owner
 pub returns-then-not-asks_replay-clause-sole_sender : goal.returns-then-not-asks_replay-clause-sole_sender
 returns-then-not-asks_replay-clause-sole_sender g c = λ text. (lawful text).sole_sender
 
+pub returns-then-not-asks_replay-clause-prefix : goal.returns-then-not-asks_replay-clause-prefix
+returns-then-not-asks_replay-clause-prefix g c = λ text. (lawful text).prefix
+
 pub returns-clause-follows : goal.returns-clause-follows
 returns-clause-follows g c = λ text. (lawful text).follows
 
@@ -25,6 +28,9 @@ returns-clause-ownership g c = λ text. (lawful text).ownership
 
 pub returns-clause-sole_sender : goal.returns-clause-sole_sender
 returns-clause-sole_sender g c = λ text. (lawful text).sole_sender
+
+pub returns-clause-prefix : goal.returns-clause-prefix
+returns-clause-prefix g c = λ text. (lawful text).prefix
 
 pub returns-clause-complete : goal.returns-clause-complete
 returns-clause-complete g c = λ asked read written. settled c.replay.result _ _ _ _ c.replay.ensures.ran (λ e. read (c.replay.ensures.read_fault e)) (λ e. written (c.replay.ensures.write_fault e))
