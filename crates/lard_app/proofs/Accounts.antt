@@ -1,5 +1,6 @@
 -- The account of the one request: what the client wrote, which packet carries the answer, and what the client took.
 use Rattle.std.proofs.Common.{◌≡◌, ◌⊎◌, ℕ, ◌<◌, ◌+◌, ◌^◌, List, [], ◌∷◌, ◌++◌, length, Bool, true, false, cond, Option, Some, None, refl, subst, inl, arith, nat_eq}
+use Rattle.std.specs.Prelude.{is_some}
 use Rattle.std.specs.List.{list_all}
 use Rattle.lard_base.specs.declared.event.Event.{Event}
 use Rattle.lard_base.specs.declared.place.Place.{Place}
@@ -59,7 +60,7 @@ pub record Accounts (w : World) : Type 0 where
   pub taken : List ℕ
   pub mark : ℕ
   pub stands : Stands w.iss w.front w.client w.delivered taken mark
-  pub tally : Tally w.journal (written_of w.client) taken
+  pub tally : Tally w.journal (written_of w.client) taken (is_some w.client) w.delivered
   pub packets : (k : ℕ) (p : Packet) → numbered_in w.net k ≡ Some p → Carries mark (written_of w.client) k p
 
 pub start-accounts : Accounts start
@@ -67,7 +68,7 @@ start-accounts = record {
   taken = [];
   mark = 0;
   stands = record { iss_fits = omega arith; front_fits = tt; clients_fit = tt; asked = inl refl; is_taken = inl refl; taken_later = λ e. refl; unanswered = λ e. (refl, refl); answered = λ (e : false ≡ true). cc };
-  tally = record { each = tt; wrote_is = λ c. none (nat_eq 1 c); accepted_is = λ c. none (nat_eq 1 c) };
+  tally = record { each = tt; wrote_is = λ c. none (nat_eq 1 c); accepted_is = λ c. none (nat_eq 1 c); opened_is = refl; got_is = refl };
   packets = λ k p e. absurd (none_sent k p e);
 } where
   none : (b : Bool) → ◌≡◌ {A = List ℕ} [] (cond b [] [])
@@ -88,15 +89,15 @@ timer-mute p c false false = tt
 
 -- After its event, its own record and its note, a step sends its packet and says its timer.
 pub acted-accounts : (w : World) (e : Event) (v : Move) (taken : List ℕ) (mark : ℕ) → Stands w.iss w.front w.client w.delivered taken mark
-    → Tally ((w.journal ++ rec.Event (w.events + 1) e ∷ v.own ∷ []) ++ listed v.note) (written_of w.client) taken
+    → Tally ((w.journal ++ rec.Event (w.events + 1) e ∷ v.own ∷ []) ++ listed v.note) (written_of w.client) taken (is_some w.client) w.delivered
     → ((k : ℕ) (p : Packet) → numbered_in w.net k ≡ Some p → Carries mark (written_of w.client) k p)
     → NewMeets (Carries mark (written_of w.client)) (length w.net + 1) v.from v.to v.packet → AreMute v.timer → Accounts (acted w e v)
 acted-accounts w e v taken mark stands t packets new timer = record {
   taken = taken;
   mark = mark;
   stands = stands;
-  tally = subst (λ (J : List Rec). Tally J (written_of w.client) taken)
+  tally = subst (λ (J : List Rec). Tally J (written_of w.client) taken (is_some w.client) w.delivered)
       (parts w.journal (rec.Event (w.events + 1) e ∷ v.own ∷ []) (listed v.note) (listed (sent_record (length w.net + 1) v.from v.to v.packet)) (listed v.timer))
-      (mute_listed _ _ _ v.timer timer (mute_listed _ _ _ (sent_record (length w.net + 1) v.from v.to v.packet) (sent-mute (length w.net + 1) v.from v.to v.packet) t));
+      (mute_listed _ _ _ _ _ v.timer timer (mute_listed _ _ _ _ _ (sent_record (length w.net + 1) v.from v.to v.packet) (sent-mute (length w.net + 1) v.from v.to v.packet) t));
   packets = each_with (Carries mark (written_of w.client)) w.net v.from v.to v.packet packets new;
 }

@@ -40,7 +40,7 @@ pub record Keeps (s : Replay) (es : List Event) : Type 0 where
   pub follows : Follows 1 es s.world.journal
   pub count : s.world.events ≡ length es
 
-begin-keeps : Keeps begin []
+pub begin-keeps : Keeps begin []
 begin-keeps = record { before = refl; world = start-holds; accounts = start-accounts; follows = refl; count = refl }
 
 module _ (lines read : ℕ) (w : World) (n : ℕ) (t : Replay) (es : List Event) where
@@ -82,7 +82,7 @@ module _ (lines read : ℕ) (w : World) (n : ℕ) (t : Replay) (es : List Event)
   item-keeps Running (Ok item.Header) f k h = absurd f
   item-keeps Running (Ok item.Go) f k h = absurd f
 
-passed-keeps : (s t : Replay) (line : List ℕ) (es : List Event) → Keeps s es → passed s line ≡ Ok t → Keeps t (es ++ event_listed (judged s.stage line))
+pub passed-keeps : (s t : Replay) (line : List ℕ) (es : List Event) → Keeps s es → passed s line ≡ Ok t → Keeps t (es ++ event_listed (judged s.stage line))
 unfolding passed
 passed-keeps s t line es k e = go (is_past s line) e where
   go : (b : Bool) → cond b (Err (Limit (s.lines + 1) Input)) (refused_at (s.lines + 1) (item_taken (counted s line) (judged s.stage line))) ≡ Ok t → Keeps t (es ++ event_listed (judged s.stage line))
@@ -90,7 +90,7 @@ passed-keeps s t line es k e = go (is_past s line) e where
   go false h = item-keeps (s.lines + 1) (s.read + length line + 1) s.world (s.lines + 1) t es s.stage (judged s.stage line) (judged-fits s.stage line)
       (record { before = k.before; world = k.world; accounts = k.accounts; follows = k.follows; count = k.count }) h
 
-replayed-keeps : (s : Replay) (lines : List (List ℕ)) (es : List Event) → Keeps s es → Keeps (replayed s lines).0 (es ++ events_from s lines)
+pub replayed-keeps : (s : Replay) (lines : List (List ℕ)) (es : List Event) → Keeps s es → Keeps (replayed s lines).0 (es ++ events_from s lines)
 replayed-keeps s [] es k = subst (Keeps s) (sym (append-nil es)) k
 replayed-keeps s (last ∷ []) es k = subst (Keeps s) (sym (append-nil es)) k
 replayed-keeps s (line ∷ next ∷ more) es k = go (passed s line) refl (λ t ds j. replayed-keeps t (next ∷ more) ds j) where

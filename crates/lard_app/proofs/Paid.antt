@@ -29,11 +29,11 @@ use Rattle.lard_app.proofs.Kept.{deliver-next, done, get-first, get-opened, get-
 use Rattle.lard_app.proofs.Plain.{bytes-plain}
 use Rattle.lard_app.proofs.Spoken.{ClientTells, ConnFits, client_turn-tells, client_writes-tells, data_in, front_turn-tells, has_answered, on_fits, packet_data, syn_carried}
 use Rattle.lard_app.proofs.Steps.{Holds, NewMeets, none_zero, numbered_in}
-use Rattle.lard_app.proofs.Tally.{AreMute, Tally, accepts, mute, mute_listed, writes}
+use Rattle.lard_app.proofs.Tally.{AreMute, Tally, accepts, gets, mute, mute_listed, opens, writes}
 
 -- the beginning of a step: its event and its own record
-joined : (J : List Rec) (a b : Rec) (w t : List ℕ) → Tally ((J ++ a ∷ []) ++ b ∷ []) w t → Tally (J ++ a ∷ b ∷ []) w t
-joined J a b w t l = subst (λ (K : List Rec). Tally K w t) (append_assoc J (a ∷ []) (b ∷ [])) l
+joined : (J : List Rec) (a b : Rec) (w t : List ℕ) (o : Bool) (g : ℕ) → Tally ((J ++ a ∷ []) ++ b ∷ []) w t o g → Tally (J ++ a ∷ b ∷ []) w t o g
+joined J a b w t o g l = subst (λ (K : List Rec). Tally K w t o g) (append_assoc J (a ∷ []) (b ∷ [])) l
 
 -- ---- open
 
@@ -42,8 +42,8 @@ unfolding opened
 opened-accounts w isn iss wnd mss n i d m none a =
     let empty : written_of w.client ≡ [] = ap written_of none in
     let s = a.stands in
-    let tally : Tally w.journal [] a.taken = subst (λ (bytes : List ℕ). Tally w.journal bytes a.taken) empty a.tally in
-    let said = mute _ _ _ (rec.Opened 1 isn iss wnd mss) refl (mute _ _ _ (rec.Event (w.events + 1) (event.Open 1 isn iss wnd mss)) refl tally) in
+    let tally : Tally w.journal [] a.taken (is_some w.client) w.delivered = subst (λ (bytes : List ℕ). Tally w.journal bytes a.taken (is_some w.client) w.delivered) empty a.tally in
+    let said = opens _ _ _ _ _ (mute _ _ _ _ _ tally (rec.Event (w.events + 1) (event.Open 1 isn iss wnd mss)) refl) isn iss wnd mss in
     acted-accounts (record w { client = Some (opened_client 1 isn wnd); iss = iss }) (event.Open 1 isn iss wnd mss) (opening 1 isn iss wnd mss) a.taken a.mark
     (record {
       iss_fits = i;
@@ -55,7 +55,7 @@ opened-accounts w isn iss wnd mss n i d m none a =
       unanswered = s.unanswered;
       answered = λ e. subst (λ (bytes : List ℕ). is_nil bytes ≡ false) empty (s.answered e);
     })
-    (mute_listed _ _ _ None tt (joined w.journal _ _ _ _ said))
+    (mute_listed _ _ _ _ _ None tt (joined w.journal _ _ _ _ _ _ said))
     (λ k p e. subst (λ (bytes : List ℕ). Carries a.mark bytes k p) empty (a.packets k p e))
     (inl (syn_carried 1 ToCluster isn wnd mss n (omega (arith, d.1)) m.0 m.1)) refl
 
@@ -89,8 +89,9 @@ asked-accounts w path x is one none path_is plain a =
     let t = client_writes-tells x (request path) (subst ClientsFit is s.clients_fit) in
     let empty : written_of w.client ≡ [] = ap written_of is ∙ nil_is x.written none in
     let some : is_nil answer.0.written ≡ false = subst (λ (bytes : List ℕ). is_nil bytes ≡ false) (sym t.1) refl in
-    let tally : Tally w.journal [] a.taken = subst (λ (bytes : List ℕ). Tally w.journal bytes a.taken) empty a.tally in
-    let said = writes _ _ _ (request path) (mute _ _ _ (rec.Event (w.events + 1) (event.Get 1 path)) refl tally) in
+    let opened : is_some w.client ≡ true = ap is_some is in
+    let tally : Tally w.journal [] a.taken true w.delivered = subst (λ b. Tally w.journal [] a.taken b w.delivered) opened (subst (λ (bytes : List ℕ). Tally w.journal bytes a.taken (is_some w.client) w.delivered) empty a.tally) in
+    let said = writes _ _ _ _ _ (mute _ _ _ _ _ tally (rec.Event (w.events + 1) (event.Get 1 path)) refl) (request path) in
     acted-accounts (record w { client = Some answer.0 }) (event.Get 1 path) (client_move (rec.Wrote 1 (request path)) answer.0 (client_armed x) (record { note = None; packet = answer.1 })) a.taken a.mark
     (record {
       iss_fits = s.iss_fits;
@@ -102,7 +103,7 @@ asked-accounts w path x is one none path_is plain a =
       unanswered = s.unanswered;
       answered = λ e. some;
     })
-    (mute_listed _ _ _ None tt (subst (λ (bytes : List ℕ). Tally (w.journal ++ rec.Event (w.events + 1) (event.Get 1 path) ∷ rec.Wrote 1 (request path) ∷ []) bytes a.taken) (sym t.1) (joined w.journal _ _ _ _ said)))
+    (mute_listed _ _ _ _ _ None tt (subst (λ (bytes : List ℕ). Tally (w.journal ++ rec.Event (w.events + 1) (event.Get 1 path) ∷ rec.Wrote 1 (request path) ∷ []) bytes a.taken true w.delivered) (sym t.1) (joined w.journal _ _ _ _ _ _ said)))
     (λ k p e. more_written a.mark (written_of w.client) answer.0.written k p.bytes p.to some (a.packets k p e))
     (client_sends a.mark answer.0.written (length w.net + 1) (place.Client answer.0.c) answer.1 (inr some))
     (timer-mute (place.Client answer.0.c) answer.0.c (client_armed x) (client_armed answer.0))
@@ -125,8 +126,8 @@ asked_bytes written (inl e) some = absurd (some_data written e some)
 asked_bytes written (inr q) some = ap (answer_bytes no_files) q.3 ∙ bytes-plain q.0 q.1 q.2
 
 module _ (w : World) (h : Holds w) (a : Accounts w) (k : ℕ) (p : Packet) (is : numbered_in w.net k ≡ Some p) (next : k ≡ w.delivered + 1) where
-  came : Tally (w.journal ++ rec.Event (w.events + 1) (event.Deliver k) ∷ rec.Got k ∷ []) (written_of w.client) a.taken
-  came = joined w.journal _ _ _ _ (mute _ _ _ (rec.Got k) refl (mute _ _ _ (rec.Event (w.events + 1) (event.Deliver k)) refl a.tally))
+  came : Tally (w.journal ++ rec.Event (w.events + 1) (event.Deliver k) ∷ rec.Got k ∷ []) (written_of w.client) a.taken (is_some w.client) k
+  came = joined w.journal _ _ _ _ _ _ (gets _ _ _ _ _ (mute _ _ _ _ _ a.tally (rec.Event (w.events + 1) (event.Deliver k)) refl) k)
 
   later : k < a.mark → a.taken ≡ []
   later l = a.stands.taken_later (omega (arith, l, next))
@@ -141,7 +142,7 @@ module _ (w : World) (h : Holds w) (a : Accounts w) (k : ℕ) (p : Packet) (is :
   nobody-accounts : Accounts (to_nobody w k)
   nobody-accounts = acted-accounts (record w { delivered = k }) (event.Deliver k) (no_move k) a.taken a.mark
       (record { iss_fits = a.stands.iss_fits; front_fits = a.stands.front_fits; clients_fit = a.stands.clients_fit; asked = a.stands.asked; is_taken = a.stands.is_taken; taken_later = later; unanswered = a.stands.unanswered; answered = a.stands.answered })
-      (mute_listed _ _ _ None tt came) a.packets tt tt
+      (mute_listed _ _ _ _ _ None tt came) a.packets tt tt
 
   -- ---- to the front end
 
@@ -153,7 +154,7 @@ module _ (w : World) (h : Holds w) (a : Accounts w) (k : ℕ) (p : Packet) (is :
   front_ends given mark fits note before unanswered answered packets sends =
       acted-accounts (record w { delivered = k; front = given.0 }) (event.Deliver k) (front_move k 1 (front_armed w.front) given) a.taken mark
       (record { iss_fits = a.stands.iss_fits; front_fits = fits; clients_fit = a.stands.clients_fit; asked = a.stands.asked; is_taken = a.stands.is_taken; taken_later = before; unanswered = unanswered; answered = answered })
-      (mute_listed _ _ _ given.1.note note came) packets (front_sends mark (written_of w.client) (length w.net + 1) given.1.packet sends)
+      (mute_listed _ _ _ _ _ given.1.note note came) packets (front_sends mark (written_of w.client) (length w.net + 1) given.1.packet sends)
       (timer-mute place.Front 1 (front_armed w.front) (front_armed given.0))
 
   -- data came from a client that has written
@@ -202,7 +203,7 @@ module _ (w : World) (h : Holds w) (a : Accounts w) (k : ℕ) (p : Packet) (is :
 
     -- the client took no more, or it took the answer
     client_ends : (taken : List ℕ) → (taken ≡ []) ⊎ (taken ≡ not_found) → (k < a.mark → taken ≡ []) → (has_answered w.front ≡ false → (a.mark ≡ 0) × (taken ≡ []))
-        → Tally ((w.journal ++ rec.Event (w.events + 1) (event.Deliver k) ∷ rec.Got k ∷ []) ++ listed given.1.note) (written_of w.client) taken → Accounts (to_client w k p.bytes x)
+        → Tally ((w.journal ++ rec.Event (w.events + 1) (event.Deliver k) ∷ rec.Got k ∷ []) ++ listed given.1.note) (written_of w.client) taken (is_some w.client) k → Accounts (to_client w k p.bytes x)
     client_ends taken is_taken before unanswered tally =
         acted-accounts (record w { delivered = k; client = Some given.0 }) (event.Deliver k) (client_move (rec.Got k) given.0 (client_armed x) given.1) taken a.mark
         (record {
@@ -215,7 +216,8 @@ module _ (w : World) (h : Holds w) (a : Accounts w) (k : ℕ) (p : Packet) (is :
           unanswered = unanswered;
           answered = λ e. subst (λ (bytes : List ℕ). is_nil bytes ≡ false) same_written (a.stands.answered e);
         })
-        (subst (λ (bytes : List ℕ). Tally ((w.journal ++ rec.Event (w.events + 1) (event.Deliver k) ∷ rec.Got k ∷ []) ++ listed given.1.note) bytes taken) same_written tally)
+        (subst (λ (bytes : List ℕ). Tally ((w.journal ++ rec.Event (w.events + 1) (event.Deliver k) ∷ rec.Got k ∷ []) ++ listed given.1.note) bytes taken true k) same_written
+        (subst (λ b. Tally ((w.journal ++ rec.Event (w.events + 1) (event.Deliver k) ∷ rec.Got k ∷ []) ++ listed given.1.note) (written_of w.client) taken b k) (ap is_some isx) tally))
         (λ j q e. subst (λ (bytes : List ℕ). Carries a.mark bytes j q) same_written (a.packets j q e))
         (client_sends a.mark given.0.written (length w.net + 1) (place.Client given.0.c) given.1.packet sends_none)
         (timer-mute (place.Client given.0.c) given.0.c (client_armed x) (client_armed given.0))
@@ -228,15 +230,15 @@ module _ (w : World) (h : Holds w) (a : Accounts w) (k : ℕ) (p : Packet) (is :
         let none : a.taken ≡ [] = a.stands.taken_later (omega (arith, next, r.0)) in
         let some = a.stands.answered (marked r.0) in
         let bytes = asked_bytes (written_of w.client) a.stands.asked some in
-        let before : Tally (w.journal ++ rec.Event (w.events + 1) (event.Deliver k) ∷ rec.Got k ∷ []) (written_of w.client) [] = subst (λ (xs : List ℕ). Tally (w.journal ++ rec.Event (w.events + 1) (event.Deliver k) ∷ rec.Got k ∷ []) (written_of w.client) xs) none came in
-        let after = accepts _ (written_of w.client) [] not_found ([], bytes ∙ sym (append-nil not_found)) before in
+        let before : Tally (w.journal ++ rec.Event (w.events + 1) (event.Deliver k) ∷ rec.Got k ∷ []) (written_of w.client) [] (is_some w.client) k = subst (λ (xs : List ℕ). Tally (w.journal ++ rec.Event (w.events + 1) (event.Deliver k) ∷ rec.Got k ∷ []) (written_of w.client) xs (is_some w.client) k) none came in
+        let after = accepts _ _ _ _ _ before not_found ([], bytes ∙ sym (append-nil not_found)) in
         let said : given.1.note ≡ Some (rec.Accepted 1 not_found) = note ∙ ap (λ c. Some (rec.Accepted c heard)) (h.client x isx) ∙ ap (λ (xs : List ℕ). Some (rec.Accepted 1 xs)) (heard_is ∙ r.1) in
         client_ends not_found (inr refl) (λ l. absurd (omega (arith, l, r.0))) (λ e. let both : true ≡ false = sym (marked r.0) ∙ e in cc)
-        (subst (λ (o : Option Rec). Tally ((w.journal ++ rec.Event (w.events + 1) (event.Deliver k) ∷ rec.Got k ∷ []) ++ listed o) (written_of w.client) not_found) (sym said) after)
+        (subst (λ (o : Option Rec). Tally ((w.journal ++ rec.Event (w.events + 1) (event.Deliver k) ∷ rec.Got k ∷ []) ++ listed o) (written_of w.client) not_found (is_some w.client) k) (sym said) after)
 
     client-accounts : p.to ≡ place.Client 1 → Accounts (to_client w k p.bytes x)
     client-accounts to = ⊎_elim
-        (λ (m : AreMute given.1.note). client_ends a.taken a.stands.is_taken later a.stands.unanswered (mute_listed _ _ _ given.1.note m came))
+        (λ (m : AreMute given.1.note). client_ends a.taken a.stands.is_taken later a.stands.unanswered (mute_listed _ _ _ _ _ given.1.note m came))
         (λ (m : (given.1.note ≡ Some (rec.Accepted x.c heard)) × (is_nil heard ≡ false)).
         ⊎_elim (λ (l : data_in 1 ToClient p.bytes ≡ []). absurd (some_data heard (heard_is ∙ l) m.1))
         (λ (r : (k ≡ a.mark) × (data_in 1 ToClient p.bytes ≡ not_found)). takes_answer m.0 r)

@@ -6,7 +6,7 @@ use Rattle.lard_journal.specs.declared.rec.Rec.{Rec}
 use Rattle.lard_journal.specs.declared.rec.Rec.TheVariants as rec
 use Rattle.lard_answers.specs.Answers.{IsFront, answer_bytes, no_files}
 use Rattle.lard_answers.proofs.Growing.{IsFront-trans, answer_bytes-grow}
-use Rattle.lard_app.specs.Journal.{accepted, accepted_step, wrote, wrote_step}
+use Rattle.lard_app.specs.Journal.{accepted, accepted_step, got_step, has_opened, last_got, opened_step, wrote, wrote_step}
 use Rattle.lard_app.specs.Laws.{AcceptsOnlyAnswers, EachMay}
 use Rattle.lard_app.specs.Turn.{listed}
 use Rattle.lard_app.proofs.Records.{each_append}
@@ -60,54 +60,85 @@ at_every_moment J each past later c is =
 
 -- ---- what a journal tells
 
--- client 1 wrote and accepted these bytes, and no other client any
-pub record Tally (J : List Rec) (written taken : List ℕ) : Type 0 where
+-- Client 1 wrote and accepted these bytes, and no other client any; whether a client opened, and which packet came last.
+pub record Tally (J : List Rec) (written taken : List ℕ) (opened : Bool) (last : ℕ) : Type 0 where
   pub each : EachMay MayAccept [] J
   pub wrote_is : (c : ℕ) → wrote J c ≡ cond (nat_eq 1 c) written []
   pub accepted_is : (c : ℕ) → accepted J c ≡ cond (nat_eq 1 c) taken []
+  pub opened_is : has_opened J ≡ opened
+  pub got_is : last_got J ≡ last
 
--- records that tell nothing of bytes written and accepted
+-- records that tell nothing of this
 abbrev pub is_mute : Rec → Bool
 is_mute (rec.Wrote c bytes) = false
 is_mute (rec.Accepted c bytes) = false
+is_mute (rec.Opened c isn iss wnd mss) = false
+is_mute (rec.Got k) = false
 is_mute _ = true
-
-pub mute : (J : List Rec) (w a : List ℕ) (r : Rec) → is_mute r ≡ true → Tally J w a → Tally (J ++ r ∷ []) w a
-mute J w a (rec.Wrote c bytes) m t = cc
-mute J w a (rec.Accepted c bytes) m t = cc
-mute J w a r m t = record {
-  each = each_append MayAccept [] J (r ∷ []) t.each (tt, tt);
-  wrote_is = λ c. wrote-more J r c ∙ t.wrote_is c;
-  accepted_is = λ c. accepted-more J r c ∙ t.accepted_is c;
-}
-
--- an optional record that tells nothing of them
-abbrev pub AreMute : Option Rec → Type 0
-AreMute None = Unit {0}
-AreMute (Some r) = is_mute r ≡ true
-
-pub mute_listed : (J : List Rec) (w a : List ℕ) (r : Option Rec) → AreMute r → Tally J w a → Tally (J ++ listed r) w a
-mute_listed J w a None m t = subst (λ (K : List Rec). Tally K w a) (sym (append-nil J)) t
-mute_listed J w a (Some r) m t = mute J w a r m t
 
 one_of : (b : Bool) (x y : List ℕ) → cond b (cond b x [] ++ y) (cond b x []) ≡ cond b (x ++ y) []
 one_of true x y = refl
 one_of false x y = refl
 
-pub writes : (J : List Rec) (w a bytes : List ℕ) → Tally J w a → Tally (J ++ rec.Wrote 1 bytes ∷ []) (w ++ bytes) a
-writes J w a bytes t = record {
-  each = each_append MayAccept [] J (rec.Wrote 1 bytes ∷ []) t.each (tt, tt);
-  wrote_is = λ c. wrote-more J (rec.Wrote 1 bytes) c ∙ ap (λ xs. cond (nat_eq 1 c) (xs ++ bytes) xs) (t.wrote_is c) ∙ one_of (nat_eq 1 c) w bytes;
-  accepted_is = λ c. accepted-more J (rec.Wrote 1 bytes) c ∙ t.accepted_is c;
-}
+module _ (J : List Rec) (w a : List ℕ) (o : Bool) (g : ℕ) (t : Tally J w a o g) where
+  pub mute : (r : Rec) → is_mute r ≡ true → Tally (J ++ r ∷ []) w a o g
+  mute (rec.Wrote c bytes) m = cc
+  mute (rec.Accepted c bytes) m = cc
+  mute (rec.Opened c isn iss wnd mss) m = cc
+  mute (rec.Got k) m = cc
+  mute r m = record {
+    each = each_append MayAccept [] J (r ∷ []) t.each (tt, tt);
+    wrote_is = λ c. wrote-more J r c ∙ t.wrote_is c;
+    accepted_is = λ c. accepted-more J r c ∙ t.accepted_is c;
+    opened_is = fold-append opened_step false J (r ∷ []) ∙ t.opened_is;
+    got_is = fold-append got_step 0 J (r ∷ []) ∙ t.got_is;
+  }
 
-pub accepts : (J : List Rec) (w a bytes : List ℕ) → IsFront (a ++ bytes) (answer_bytes no_files w) → Tally J w a → Tally (J ++ rec.Accepted 1 bytes ∷ []) w (a ++ bytes)
-accepts J w a bytes front t = record {
-  each = each_append MayAccept [] J (rec.Accepted 1 bytes ∷ []) t.each (
-    subst (λ (xs : List ℕ). IsFront (xs ++ bytes) (answer_bytes no_files (wrote J 1))) (sym (t.accepted_is 1))
-        (subst (λ (xs : List ℕ). IsFront (a ++ bytes) (answer_bytes no_files xs)) (sym (t.wrote_is 1)) front),
-    tt,
-  );
-  wrote_is = λ c. wrote-more J (rec.Accepted 1 bytes) c ∙ t.wrote_is c;
-  accepted_is = λ c. accepted-more J (rec.Accepted 1 bytes) c ∙ ap (λ xs. cond (nat_eq 1 c) (xs ++ bytes) xs) (t.accepted_is c) ∙ one_of (nat_eq 1 c) a bytes;
-}
+  pub opens : (isn iss wnd mss : ℕ) → Tally (J ++ rec.Opened 1 isn iss wnd mss ∷ []) w a true g
+  opens isn iss wnd mss = record {
+    each = each_append MayAccept [] J (rec.Opened 1 isn iss wnd mss ∷ []) t.each (tt, tt);
+    wrote_is = λ c. wrote-more J (rec.Opened 1 isn iss wnd mss) c ∙ t.wrote_is c;
+    accepted_is = λ c. accepted-more J (rec.Opened 1 isn iss wnd mss) c ∙ t.accepted_is c;
+    opened_is = fold-append opened_step false J (rec.Opened 1 isn iss wnd mss ∷ []);
+    got_is = fold-append got_step 0 J (rec.Opened 1 isn iss wnd mss ∷ []) ∙ t.got_is;
+  }
+
+  pub gets : (k : ℕ) → Tally (J ++ rec.Got k ∷ []) w a o k
+  gets k = record {
+    each = each_append MayAccept [] J (rec.Got k ∷ []) t.each (tt, tt);
+    wrote_is = λ c. wrote-more J (rec.Got k) c ∙ t.wrote_is c;
+    accepted_is = λ c. accepted-more J (rec.Got k) c ∙ t.accepted_is c;
+    opened_is = fold-append opened_step false J (rec.Got k ∷ []) ∙ t.opened_is;
+    got_is = fold-append got_step 0 J (rec.Got k ∷ []);
+  }
+
+  pub writes : (bytes : List ℕ) → Tally (J ++ rec.Wrote 1 bytes ∷ []) (w ++ bytes) a o g
+  writes bytes = record {
+    each = each_append MayAccept [] J (rec.Wrote 1 bytes ∷ []) t.each (tt, tt);
+    wrote_is = λ c. wrote-more J (rec.Wrote 1 bytes) c ∙ ap (λ xs. cond (nat_eq 1 c) (xs ++ bytes) xs) (t.wrote_is c) ∙ one_of (nat_eq 1 c) w bytes;
+    accepted_is = λ c. accepted-more J (rec.Wrote 1 bytes) c ∙ t.accepted_is c;
+    opened_is = fold-append opened_step false J (rec.Wrote 1 bytes ∷ []) ∙ t.opened_is;
+    got_is = fold-append got_step 0 J (rec.Wrote 1 bytes ∷ []) ∙ t.got_is;
+  }
+
+  pub accepts : (bytes : List ℕ) → IsFront (a ++ bytes) (answer_bytes no_files w) → Tally (J ++ rec.Accepted 1 bytes ∷ []) w (a ++ bytes) o g
+  accepts bytes front = record {
+    each = each_append MayAccept [] J (rec.Accepted 1 bytes ∷ []) t.each (
+      subst (λ (xs : List ℕ). IsFront (xs ++ bytes) (answer_bytes no_files (wrote J 1))) (sym (t.accepted_is 1))
+          (subst (λ (xs : List ℕ). IsFront (a ++ bytes) (answer_bytes no_files xs)) (sym (t.wrote_is 1)) front),
+      tt,
+    );
+    wrote_is = λ c. wrote-more J (rec.Accepted 1 bytes) c ∙ t.wrote_is c;
+    accepted_is = λ c. accepted-more J (rec.Accepted 1 bytes) c ∙ ap (λ xs. cond (nat_eq 1 c) (xs ++ bytes) xs) (t.accepted_is c) ∙ one_of (nat_eq 1 c) a bytes;
+    opened_is = fold-append opened_step false J (rec.Accepted 1 bytes ∷ []) ∙ t.opened_is;
+    got_is = fold-append got_step 0 J (rec.Accepted 1 bytes ∷ []) ∙ t.got_is;
+  }
+
+-- an optional record that tells nothing of it
+abbrev pub AreMute : Option Rec → Type 0
+AreMute None = Unit {0}
+AreMute (Some r) = is_mute r ≡ true
+
+pub mute_listed : (J : List Rec) (w a : List ℕ) (o : Bool) (g : ℕ) (r : Option Rec) → AreMute r → Tally J w a o g → Tally (J ++ listed r) w a o g
+mute_listed J w a o g None m t = subst (λ (K : List Rec). Tally K w a o g) (sym (append-nil J)) t
+mute_listed J w a o g (Some r) m t = mute J w a o g t r m

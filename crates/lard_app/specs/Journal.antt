@@ -106,3 +106,21 @@ accepted_step c bytes _ = bytes
 -- all that client c accepted
 abbrev pub accepted : List Rec → ℕ → List ℕ
 accepted J c = fold (accepted_step c) [] J
+
+-- ---- who opened, and what came
+
+abbrev pub opened_step : Bool → Rec → Bool
+opened_step opened (rec.Opened c isn iss wnd mss) = true
+opened_step opened _ = opened
+
+-- a client has opened
+abbrev pub has_opened : List Rec → Bool
+has_opened J = fold opened_step false J
+
+abbrev pub got_step : ℕ → Rec → ℕ
+got_step last (rec.Got k) = k
+got_step last _ = last
+
+-- the number of the packet that was delivered last, or 0
+abbrev pub last_got : List Rec → ℕ
+last_got J = fold got_step 0 J

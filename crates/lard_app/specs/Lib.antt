@@ -1,4 +1,5 @@
 pub mod Built
+pub mod Causes
 pub mod Client
 pub mod Front
 pub mod Journal

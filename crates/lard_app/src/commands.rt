@@ -5,8 +5,10 @@ ghost use Rattle.std.specs.Io.KnownBytes.{Keeps};
 ghost use Rattle.std.specs.List.{position};
 ghost use Rattle.lard_base.specs.Causes.{Rose};
 ghost use Rattle.lard_answers.specs.Answers.{no_files};
+ghost use Rattle.lard_app.specs.Causes.{Ends};
+ghost use Rattle.lard_app.specs.declared.status.Status.{Status};
 ghost use Rattle.lard_app.specs.Laws.{AcceptsOnlyAnswers, Follows, IsNetwork, IsOwnership, IsSoleSender};
-ghost use Rattle.lard_app.specs.Replay.{events_of, input_limit, is_feed, journal_of};
+ghost use Rattle.lard_app.specs.Replay.{events_of, input_limit, is_feed, journal_of, lines_of, whole};
 ghost use Rattle.lard_app.specs.Run.{IsReplay, IsSettled, Ran, Replays};
 
 use crate::replay::{INPUT_LIMIT, Replay};
@@ -35,6 +37,9 @@ pub fn run<S: Source, K: Sink>(
     // Where no count of faults rose, the input alone decides how the run ends, unless memory runs out.
     ensures complete { IsReplay words.now → ¬ Rose (S.faults source.old) (S.faults source.new) → ¬ Rose (K.faults sink.old) (K.faults sink.new)
         → IsSettled result (S.left source.old) }
+
+    // A text's replay ends with a status exactly where a line, or the text's end, gives its cause.
+    ensures causes { (text : List ℕ) (status : Status) → ((whole text).1 ≡ status) ↔ Ends (lines_of text) status }
 
     // Whatever text it is, the journal of its replay obeys these laws.
     ensures follows { (text : List ℕ) → Follows 1 (events_of text) (journal_of text) }

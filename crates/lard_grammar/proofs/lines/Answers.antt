@@ -2,7 +2,7 @@ use Rattle.std.proofs.Common.{Ok, subst, sym, ◌≡◌}
 use Rattle.lard_app.specs.declared.lines.Item.TheVariants as item
 use Rattle.lard_app.specs.declared.lines.Stage.TheVariants.{Running}
 use Rattle.lard_app.specs.Lines.{judged}
-use Rattle.lard_grammar.proofs.Sentences.{line_spelled, line_read, not_built_is, syntax_is}
+use Rattle.lard_app.proofs.Sentences.{line_spelled, line_read, not_built_is, syntax_is}
 use Rattle.lard_grammar.proofs.lines.Goals as goal
 
 -- src/lib.rt:28:1

@@ -1,3 +1,4 @@
+use Rattle.lard_app.proofs.Endings.{caused}
 use Rattle.lard_app.proofs.Lawful.{lawful}
 use Rattle.lard_app.proofs.Settled.{settled}
 use Rattle.lard_app.proofs.commands.run.Goals as goal
@@ -16,6 +17,12 @@ returns-then-not-asks_replay-clause-sole_sender g c = λ text. (lawful text).sol
 
 pub returns-then-not-asks_replay-clause-prefix : goal.returns-then-not-asks_replay-clause-prefix
 returns-then-not-asks_replay-clause-prefix g c = λ text. (lawful text).prefix
+
+pub returns-then-not-asks_replay-clause-causes : goal.returns-then-not-asks_replay-clause-causes
+returns-then-not-asks_replay-clause-causes g c = λ text status. caused text status
+
+pub returns-clause-causes : goal.returns-clause-causes
+returns-clause-causes g c = λ text status. caused text status
 
 pub returns-clause-follows : goal.returns-clause-follows
 returns-clause-follows g c = λ text. (lawful text).follows
