@@ -1,6 +1,6 @@
 -- What the fields of a head say (RFC 9110, 5).
-use Rattle.std.specs.Prelude.{ℕ, Bool, ◌||◌, not, List, [], ◌∷◌, map, filter, length, codes, nat_eq, nat_lt}
-use Rattle.std.specs.List.{flat_map, list_all, list_any, slice_split}
+use Rattle.std.specs.Prelude.{ℕ, Bool, false, ◌||◌, not, List, [], ◌∷◌, map, filter, length, codes, nat_eq, nat_lt}
+use Rattle.std.specs.List.{list_all, list_any, slice_split}
 use Rattle.std.specs.Char.{is_ascii_alphanumeric}
 use Rattle.std.specs.Str.{bytes_eq, str_eq_ignore_ascii_case}
 use Rattle.httparse.specs.Grammar.{Field, field_value, trim_ows}
@@ -20,23 +20,38 @@ is_host_byte b = is_ascii_alphanumeric b || list_any (nat_eq b) (codes "-._~!$&'
 abbrev pub is_host : List ℕ → Bool
 is_host value = list_all is_host_byte value
 
--- one Host field at most, none only in HTTP/1.0, and its value is one (RFC 9112, 3.2)
+-- one Host value at most, none only in HTTP/1.0, and it names a host
+abbrev pub good_hosts : ℕ → List (List ℕ) → Bool
+good_hosts minor [] = nat_eq minor 0
+good_hosts minor (value ∷ []) = is_host value
+good_hosts minor (value ∷ other ∷ more) = false
+
+-- the Host fields name one host (RFC 9112, 3.2)
 unfoldable pub has_good_host : ℕ → List Field → Bool
-has_good_host minor fields = is_good minor (values (codes "host") fields) where
-  is_good : ℕ → List (List ℕ) → Bool
-  is_good minor [] = nat_eq minor 0
-  is_good minor (value ∷ []) = is_host value
-  is_good minor (value ∷ other ∷ more) = nat_eq 1 0
+has_good_host minor fields = good_hosts minor (values (codes "host") fields)
+
+abbrev pub is_zero : List ℕ → Bool
+is_zero value = bytes_eq value (codes "0")
+
+-- some transfer coding, or a length other than 0
+abbrev pub told_content : List (List ℕ) → List (List ℕ) → Bool
+told_content codings lengths = nat_lt 0 (length codings) || not (list_all is_zero lengths)
 
 -- a request with content: a Transfer-Encoding, or a Content-Length other than 0 (RFC 9112, 6)
 unfoldable pub has_content : List Field → Bool
-has_content fields =
-    nat_lt 0 (length (values (codes "transfer-encoding") fields)) || not (list_all (bytes_eq (codes "0")) (values (codes "content-length") fields))
+has_content fields = told_content (values (codes "transfer-encoding") fields) (values (codes "content-length") fields)
 
--- the members of a list between commas, without the spaces and tabs around them (RFC 9110, 5.6.1)
-abbrev pub members : List ℕ → List (List ℕ)
-members value = map trim_ows (slice_split (nat_eq 44) value)
+abbrev pub is_comma : ℕ → Bool
+is_comma b = nat_eq b 44
+
+-- a member of a list, without the spaces and tabs around it, is `close` in any case (RFC 9110, 5.6.1)
+unfoldable pub is_close : List ℕ → Bool
+is_close member = str_eq_ignore_ascii_case (codes "close") (trim_ows member)
+
+-- one of the members between commas is
+abbrev pub lists_close : List ℕ → Bool
+lists_close value = list_any is_close (slice_split is_comma value)
 
 -- a member of a Connection field says close (RFC 9112, 9.6)
 unfoldable pub says_close : List Field → Bool
-says_close fields = list_any (str_eq_ignore_ascii_case (codes "close")) (flat_map members (values (codes "connection") fields))
+says_close fields = list_any lists_close (values (codes "connection") fields)

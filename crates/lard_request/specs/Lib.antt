@@ -1,4 +1,6 @@
 pub mod Fields
+pub mod Found
 pub mod Head
+pub mod Kept
 pub mod Target
 pub mod Verdict

@@ -27,18 +27,24 @@ is_get method = bytes_eq method (codes "GET")
 abbrev pub is_head : List ℕ → Bool
 is_head method = bytes_eq method (codes "HEAD")
 
--- a request for a path; HTTP/1.0 closes behind its answer (RFC 9112, 9.3)
-abbrev pub served : RequestHead → Option (List ℕ) → Verdict
-served h None = Fault code.BadRequest
-served h (Some path) = Serve path (is_head h.method) (nat_eq h.minor 0 || says_close h.fields)
+-- a request for a path
+abbrev pub served : Bool → Bool → Option (List ℕ) → Verdict
+served head close None = Fault code.BadRequest
+served head close (Some path) = Serve path head close
 
--- the verdict on a head, in the order of its judgements: hosts, content, method, target
-abbrev pub head_verdict : RequestHead → Verdict
+-- what a method asks of a target
+abbrev pub asked : List ℕ → List ℕ → Bool → Verdict
+asked method target close =
+    if not (is_get method || is_head method) then Fault code.NotImplemented
+    else served (is_head method) close (path_of target)
+
+-- the verdict on a head, in the order of its judgements: hosts, content, method, target; HTTP/1.0 closes behind its
+-- answer (RFC 9112, 9.3)
+unfoldable pub head_verdict : RequestHead → Verdict
 head_verdict h =
     if not (has_good_host h.minor h.fields) then Fault code.BadRequest
     else (if has_content h.fields then Fault code.TooLarge
-    else (if not (is_get h.method || is_head h.method) then Fault code.NotImplemented
-    else served h (path_of h.target)))
+    else asked h.method h.target (nat_eq h.minor 0 || says_close h.fields))
 
 -- what is no head is a bad request
 abbrev pub verdict_of : Option RequestHead → Verdict

@@ -4,7 +4,13 @@
 //! block's head by `httparse`, keeps its fields by name in `http_header`'s map, and answers a `Verdict`.
 #![tactic(auto)]
 
+mod fields;
+mod judgement;
 pub mod laws;
+mod lines;
+mod target;
+mod values;
 mod verdict;
 
+pub use judgement::judge;
 pub use verdict::{Code, Verdict, Verdicts};

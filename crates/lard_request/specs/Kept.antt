@@ -1,0 +1,17 @@
+-- Fields that are kept by name.
+use Rattle.std.specs.Prelude.{◌≡◌, ℕ, List, [], ◌∷◌, ◌++◌, map, filter}
+use Rattle.std.specs.Str.{str_eq_ignore_ascii_case}
+use Rattle.http_header.specs.FieldName.{IsHeaderName}
+use Rattle.http_header.specs.HeaderMap.{Entries, get_all}
+
+-- the values of the fields with a name, in order; a field is a name and a value
+unfoldable pub named : List ℕ → List (List ℕ × List ℕ) → List (List ℕ)
+named name fields = map (λ f. f.1) (filter (λ f. str_eq_ignore_ascii_case f.0 name) fields)
+
+-- under each name that a field may have, the map has the values of these fields, in order
+abbrev pub Keeps : Entries (List ℕ) → List (List ℕ × List ℕ) → Type 0
+Keeps m fields = (name : List ℕ) → IsHeaderName name → get_all m name ≡ named name fields
+
+-- the new map has this value behind those of the old one, under the field's name
+abbrev pub KeepsMore : Entries (List ℕ) → Entries (List ℕ) → List ℕ → List ℕ → Type 0
+KeepsMore old new field value = (name : List ℕ) → IsHeaderName name → get_all new name ≡ get_all old name ++ named name ((field, value) ∷ [])
