@@ -1,9 +1,10 @@
 -- Fields by name, in a map and in a list.
-use Rattle.std.proofs.Common.{◌≡◌, ℕ, suc, ◌+◌, ◌<◌, Bool, true, false, List, [], ◌∷◌, ◌++◌, length, take, map, cond, refl, sym, ap, ◌∙◌, subst, arith, append-nil, get_or}
+use Rattle.std.proofs.Common.{◌≡◌, ℕ, suc, ◌+◌, ◌<◌, Bool, true, false, List, [], ◌∷◌, ◌++◌, length, take, map, cond, refl, sym, ap, ◌∙◌, subst, arith, append-nil, get_or, ◌≤◌}
 use Rattle.std.specs.Prelude.{filter}
 use Rattle.std.specs.Str.{str_eq_ignore_ascii_case, bytes_eq}
 use Rattle.std.proofs.lemmas.Bool.{false≢true}
-use Rattle.std.proofs.lemmas.List.{map-append}
+use Rattle.std.proofs.lemmas.List.{map-append, length-append}
+use Rattle.std.proofs.lemmas.List.Sums.{sum_by-cons}
 use Rattle.std.proofs.Math.Seq.{take-suc}
 use Rattle.std.proofs.lemmas.Slice.Eq.{bytes_eq-Decides}
 use Rattle.httparse.specs.Grammar.{Field, field_value}
@@ -11,11 +12,11 @@ use Rattle.httparse.specs.declared.spans.HeaderSpan.{HeaderSpan}
 use Rattle.httparse.specs.Spans.{name_and_value, header_bytes}
 use Rattle.http_header.specs.Token.{lowercase}
 use Rattle.http_header.specs.FieldName.{IsFieldName, IsHeaderName}
-use Rattle.http_header.specs.HeaderMap.{Entries, get_all, append}
+use Rattle.http_header.specs.HeaderMap.{Entry, Entries, get_all, append, value_count}
 use Rattle.http_header.proofs.TokenLemmas.{IsFieldName-from_lowercase}
 use Rattle.http_header.proofs.HeaderMapLemmas.{get_all-append_same, get_all-append_other}
 use Rattle.lard_request.specs.Fields.{is_named, values}
-use Rattle.lard_request.specs.Kept.{named, Keeps, KeepsMore}
+use Rattle.lard_request.specs.Kept.{named, Keeps, KeepsMore, GrowsByOne}
 
 -- ---- values by name
 
@@ -95,3 +96,21 @@ keeps-next old new block spans at d inside so_far field value is_field is_value 
     ∙ ap (λ l. l ++ named name (header_bytes block (get_or spans at d) ∷ [])) (so_far name lower)
     ∙ sym (named-append name (map (header_bytes block) (take at spans)) (header_bytes block (get_or spans at d) ∷ []))
     ∙ ap (named name) (sym all)
+
+-- ---- room
+
+-- a value more is one value more, and one name more at most
+grown : (m : Entries (List ℕ)) (name value : List ℕ) → (length (append m name value) ≤ length m + 1) × (value_count (append m name value) ≡ value_count m + 1)
+grown [] name value = (omega arith, omega arith)
+grown (e ∷ m) name value = go (bytes_eq e.0 name) (grown m name value) where
+  count : (e : Entry (List ℕ)) (m : Entries (List ℕ)) → value_count (e ∷ m) ≡ length e.1 + value_count m
+  count e m = sum_by-cons (λ (e : Entry (List ℕ)). length e.1) e m
+
+  go : (t : Bool) → (length (append m name value) ≤ length m + 1) × (value_count (append m name value) ≡ value_count m + 1)
+      → (length (cond {A = Entries (List ℕ)} t ((e.0, e.1 ++ value ∷ []) ∷ m) (e ∷ append m name value)) ≤ length (e ∷ m) + 1)
+      × (value_count (cond {A = Entries (List ℕ)} t ((e.0, e.1 ++ value ∷ []) ∷ m) (e ∷ append m name value)) ≡ value_count (e ∷ m) + 1)
+  go true ih = (omega arith, omega (arith, count e m, count (e.0, e.1 ++ value ∷ []) m, length-append e.1 (value ∷ [])))
+  go false ih = (omega (arith, ih), omega (arith, ih, count e m, count e (append m name value)))
+
+pub grows-appended : (old new : Entries (List ℕ)) (name value : List ℕ) → new ≡ append old name value → GrowsByOne old new
+grows-appended old new name value is = subst (GrowsByOne old) (sym is) ((grown old name value).0, omega (arith, (grown old name value).1))

@@ -1,8 +1,8 @@
 -- Fields that are kept by name.
-use Rattle.std.specs.Prelude.{◌≡◌, ℕ, List, [], ◌∷◌, ◌++◌, map, filter}
+use Rattle.std.specs.Prelude.{◌≡◌, ℕ, ◌+◌, ◌<◌, ◌≤◌, length, List, [], ◌∷◌, ◌++◌, map, filter}
 use Rattle.std.specs.Str.{str_eq_ignore_ascii_case}
 use Rattle.http_header.specs.FieldName.{IsHeaderName}
-use Rattle.http_header.specs.HeaderMap.{Entries, get_all}
+use Rattle.http_header.specs.HeaderMap.{Entries, get_all, value_count}
 
 -- the values of the fields with a name, in order; a field is a name and a value
 unfoldable pub named : List ℕ → List (List ℕ × List ℕ) → List (List ℕ)
@@ -15,3 +15,11 @@ Keeps m fields = (name : List ℕ) → IsHeaderName name → get_all m name ≡ 
 -- the new map has this value behind those of the old one, under the field's name
 abbrev pub KeepsMore : Entries (List ℕ) → Entries (List ℕ) → List ℕ → List ℕ → Type 0
 KeepsMore old new field value = (name : List ℕ) → IsHeaderName name → get_all new name ≡ get_all old name ++ named name ((field, value) ∷ [])
+
+-- the map takes one more field, under any name
+abbrev pub HasRoom : Entries (List ℕ) → Type 0
+HasRoom m = (length m < 24576) × (value_count m < 24576)
+
+-- the map has one name and one value more, or fewer
+abbrev pub GrowsByOne : Entries (List ℕ) → Entries (List ℕ) → Type 0
+GrowsByOne old new = (length new ≤ length old + 1) × (value_count new ≤ value_count old + 1)

@@ -1,25 +1,26 @@
 //! The fields of a head: kept by name, and what they say.
 
-ghost use Rattle.std.specs.Prelude.{◌≡◌, ◌||◌, length, map, nat_eq, nat_lt, codes, All, IfOk, OnOk};
+ghost use Rattle.std.specs.Prelude.{◌≡◌, ◌≤◌, ◌||◌, length, map, nat_eq, nat_lt, codes, All, IfOk, OnOk};
 ghost use Rattle.std.specs.List.{list_all, list_any};
 ghost use Rattle.http_header.specs.HeaderMap.{get_all};
 ghost use Rattle.httparse.specs.Spans.{IsHeaderWithin, header_bytes};
 ghost use Rattle.lard_request.specs.Fields.{good_hosts, is_zero, told_content, lists_close};
-ghost use Rattle.lard_request.specs.Kept.{Keeps, KeepsMore};
+ghost use Rattle.lard_request.specs.Kept.{HasRoom, GrowsByOne, Keeps, KeepsMore};
 
 use crate::values::{has_close, names_host};
-use http_header::{HeaderMap, HeaderName, HeaderNameError};
+use http_header::{HeaderMap, HeaderMapError, HeaderName, HeaderNameError};
 use httparse::spans::HeaderSpan;
 use lard_base::{Bytes, NoMemory};
 use std::alloc::Global;
 
-/// The fields at these places, kept by name.
+/// The fields at these places, kept by name. A map takes 24,576 names.
 pub(crate) fn keep_fields(
     alloc: Global,
     block: &[u8],
     spans: &[HeaderSpan],
 ) -> Result<HeaderMap<Bytes>, NoMemory>
-    requires { All (IsHeaderWithin (length block.now)) spans.now }
+    requires within { All (IsHeaderWithin (length block.now)) spans.now }
+    requires few { length spans.now ≤ 24576 }
     ensures { IfOk result (λ m. Keeps m (map (header_bytes block.now) spans.now)) }
 {
     let mut fields: HeaderMap<Bytes> = HeaderMap::empty(alloc);
@@ -41,7 +42,9 @@ fn keep_field(
     name: &[u8],
     value: &[u8],
 ) -> Result<(), NoMemory>
-    ensures { OnOk result (KeepsMore fields.old fields.new name.now value.now) }
+    requires { HasRoom fields.old }
+    ensures kept { OnOk result (KeepsMore fields.old fields.new name.now value.now) }
+    ensures grown { OnOk result (GrowsByOne fields.old fields.new) }
 {
     let name = match HeaderName::from_bytes(alloc, name) {
         Ok(name) => name,
@@ -51,7 +54,8 @@ fn keep_field(
     let value = Bytes::from_slice(alloc, value)?;
     match fields.append(name, value) {
         Ok(_) => Ok(()),
-        Err(_) => Err(NoMemory),
+        Err(HeaderMapError::OutOfMemory) => Err(NoMemory),
+        Err(HeaderMapError::MaxSizeReached) => unreachable!(),
     }
 }
 

@@ -62,7 +62,8 @@ fn judge_head(
     spans: &[HeaderSpan],
     head: &RequestSpans,
 ) -> Result<Verdict, NoMemory>
-    requires { IsRequestWithin block.now spans.now head.now }
+    requires within { IsRequestWithin block.now spans.now head.now }
+    requires few { length spans.now ≤ MOST_PAIRS }
     ensures { (h : RequestHead) → IsRequestAt block.now spans.now head.now h
         → IfOk result (λ v. v ≡ head_verdict h) }
 {

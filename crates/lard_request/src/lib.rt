@@ -9,6 +9,8 @@ mod judgement;
 pub mod laws;
 mod lines;
 mod target;
+#[cfg(test)]
+mod tests;
 mod values;
 mod verdict;
 
