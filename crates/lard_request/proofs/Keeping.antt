@@ -4,6 +4,7 @@ use Rattle.std.specs.Prelude.{filter}
 use Rattle.std.specs.Str.{str_eq_ignore_ascii_case, bytes_eq}
 use Rattle.std.proofs.lemmas.Bool.{false≢true}
 use Rattle.std.proofs.lemmas.List.{map-append, length-append}
+use Rattle.std.proofs.lemmas.List.Elements.{filter-append}
 use Rattle.std.proofs.lemmas.List.Sums.{sum_by-cons}
 use Rattle.std.proofs.Math.Seq.{take-suc}
 use Rattle.std.proofs.lemmas.Slice.Eq.{bytes_eq-Decides}
@@ -35,13 +36,9 @@ named-miss name field value miss = ap (λ t. map (λ (f : List ℕ × List ℕ).
 -- the values of more fields stand behind those of the first
 pub named-append : (name : List ℕ) (first more : List (List ℕ × List ℕ)) → named name (first ++ more) ≡ named name first ++ named name more
 unfolding named
-named-append name [] more = refl
-named-append name (f ∷ first) more = go (str_eq_ignore_ascii_case f.0 name) (named-append name first more) where
-  go : (t : Bool) → named name (first ++ more) ≡ named name first ++ named name more
-      → map (λ (f : List ℕ × List ℕ). f.1) (cond t (f ∷ filter (λ (f : List ℕ × List ℕ). str_eq_ignore_ascii_case f.0 name) (first ++ more)) (filter (λ (f : List ℕ × List ℕ). str_eq_ignore_ascii_case f.0 name) (first ++ more)))
-      ≡ map (λ (f : List ℕ × List ℕ). f.1) (cond t (f ∷ filter (λ (f : List ℕ × List ℕ). str_eq_ignore_ascii_case f.0 name) first) (filter (λ (f : List ℕ × List ℕ). str_eq_ignore_ascii_case f.0 name) first)) ++ named name more
-  go true ih = ap (λ l. f.1 ∷ l) ih
-  go false ih = ih
+named-append name first more =
+    let has_name = λ (f : List ℕ × List ℕ). str_eq_ignore_ascii_case f.0 name in
+    ap (map (λ (f : List ℕ × List ℕ). f.1)) (filter-append has_name first more) ∙ map-append (λ (f : List ℕ × List ℕ). f.1) (filter has_name first) (filter has_name more)
 
 -- the fields of a head, as names and values
 pub named-values : (name : List ℕ) (fields : List Field) → named name (map name_and_value fields) ≡ values name fields
