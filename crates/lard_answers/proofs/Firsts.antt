@@ -1,7 +1,7 @@
 -- The verdicts by what is found at the front, and where they end.
-use Rattle.std.proofs.Common.{◌≡◌, ℕ, zero, suc, ◌+◌, ◌||◌, Bool, true, false, List, [], ◌∷◌, ◌++◌, map, length, take, drop, cond, refl, sym, ap, ◌∙◌}
+use Rattle.std.proofs.Common.{◌≡◌, ℕ, zero, suc, ◌+◌, ◌||◌, Bool, true, false, List, [], ◌∷◌, ◌++◌, take, drop, cond, refl, sym, ap, ◌∙◌}
 use Rattle.lard_block.specs.declared.block.Found.TheVariants.{Block, More, TooLong}
-use Rattle.lard_block.specs.Blocks.{cut_of, Piece, Head, Long, moved, blocks}
+use Rattle.lard_block.specs.Blocks.{cut_of, Piece, blocks}
 use Rattle.lard_block.proofs.Division.{grows, block-first, none-yet, long-last}
 use Rattle.lard_request.specs.declared.verdict.Code.TheVariants.{FieldsTooLarge}
 use Rattle.lard_request.specs.declared.verdict.Verdict.{Verdict}

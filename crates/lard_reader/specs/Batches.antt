@@ -1,8 +1,9 @@
 -- What a reader takes of the bytes that were not read yet (RFC 9112, 9.3.2): the next verdicts, and the bytes they use.
-use Rattle.std.specs.Prelude.{ℕ, zero, suc, ◌+◌, List, length, take, drop, if◌then◌else◌}
+use Rattle.std.specs.Prelude.{ℕ, zero, suc, ◌+◌, Bool, true, false, List, length, take, drop, if◌then◌else◌}
+use Rattle.std.specs.List.{list_any}
 use Rattle.lard_block.specs.declared.block.Found.{Found}
 use Rattle.lard_block.specs.declared.block.Found.TheVariants.{Block, More, TooLong}
-use Rattle.lard_block.specs.Blocks.{cut_of}
+use Rattle.lard_block.specs.Blocks.{cut_of, Piece, Head, Long, blocks}
 use Rattle.lard_request.specs.declared.verdict.Verdict.{Verdict}
 use Rattle.lard_request.specs.Verdict.{closes, verdict}
 use Rattle.lard_answers.specs.Answers.{verdicts}
@@ -22,3 +23,15 @@ used_from q later (TooLong skip) = length q
 unfoldable pub bytes_used : ℕ → List ℕ → ℕ
 bytes_used zero q = 0
 bytes_used (suc n) q = used_from q (bytes_used n) (cut_of q)
+
+-- the pieces that these verdicts are on
+abbrev pub batch_pieces : ℕ → List ℕ → List Piece
+batch_pieces n q = take (length (batch_of n q)) (blocks q)
+
+-- a head that is too long is among these pieces
+abbrev pub is_long : Piece → Bool
+is_long (Head block after) = false
+is_long Long = true
+
+abbrev pub has_long : List Piece → Bool
+has_long ps = list_any is_long ps
