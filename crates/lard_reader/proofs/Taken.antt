@@ -1,20 +1,20 @@
 -- What a batch uses, and what it leaves.
-use Rattle.std.proofs.Common.{◌≡◌, ℕ, zero, suc, ◌+◌, ◌≤◌, ◌<◌, ◌||◌, Bool, true, false, List, [], ◌∷◌, ◌++◌, map, length, take, drop, Option, Some, None, cond, refl, sym, ap, ◌∙◌, subst, arith, nat_lt, nat_eq}
+use Rattle.std.proofs.Common.{append_assoc, ◌≡◌, ℕ, zero, suc, ◌+◌, ◌≤◌, ◌<◌, ◌||◌, Bool, true, false, List, [], ◌∷◌, ◌++◌, map, length, take, drop, Option, Some, None, cond, refl, sym, ap, ◌∙◌, subst, arith, nat_lt, nat_eq}
 use Rattle.std.specs.List.{starts_with}
 use Rattle.std.proofs.Math.ListN.{drop_of_length-le}
 use Rattle.std.proofs.Math.Seq.{take-add}
 use Rattle.std.proofs.lemmas.Bool.{or_parts}
 use Rattle.std.proofs.lemmas.Bool.Decides.{nat_tests}
-use Rattle.std.proofs.lemmas.List.{length-take-le, drop-drop}
+use Rattle.std.proofs.lemmas.List.{take-append-drop, length-take-le, drop-drop}
 use Rattle.lard_block.specs.declared.block.Found.{Found}
 use Rattle.lard_block.specs.declared.block.Found.TheVariants.{Block, More, TooLong}
 use Rattle.lard_block.specs.Blocks.{skipped, head_end, found, found_in, cut_of, Piece, Head, Long, moved, blocks, Cuts}
 use Rattle.lard_block.proofs.Division.{block-first, long-last, cuts-nothing, cuts-block, cuts-join}
 use Rattle.lard_request.specs.Verdict.{closes, verdict}
-use Rattle.lard_answers.specs.Answers.{verdicts_on, verdicts, closes_any}
+use Rattle.lard_answers.specs.Answers.{FilesAt, answer, answers, verdicts_on, verdicts, closes_any}
 use Rattle.lard_answers.proofs.Growing.{blocks-nothing}
 use Rattle.lard_answers.proofs.Firsts.{verdicts-block}
-use Rattle.lard_answers.proofs.Following.{verdicts_on-moved}
+use Rattle.lard_answers.proofs.Following.{verdicts_on-moved, answers-follow}
 use Rattle.lard_reader.specs.Batches.{batch_of, bytes_used, batch_pieces, has_long}
 use Rattle.lard_reader.proofs.Going.{used-zero, used-suc, used-closed, used-open, batch-closed, batch-open, batch-more, batch-long}
 
@@ -124,6 +124,26 @@ batch-cut pairs (suc n) q h = go (λ r. batch-cut pairs n r) (cut_of q) refl whe
       subst (λ k. Cuts (take k q) (batch_pieces (suc n) q)) (skipped-is q s e ∙ sym (used-suc n q (More s) e))
       (subst (λ ps. Cuts (take (skipped q) q) ps) (sym (pieces-more (suc n) q s e)) (pairs q))
   go ih (TooLong s) e = let f : true ≡ false = sym (ap has_long (pieces-long n q s e)) ∙ h in absurd (let g : ⊥ = cc in g)
+
+-- where none closes, no head is too long
+no_long : (ps : List Piece) → closes_any (verdicts_on ps) ≡ false → has_long ps ≡ false
+no_long [] h = refl
+no_long (Head block after ∷ ps) h = no_long ps (or_parts (closes (verdict block)) (closes_any (verdicts_on ps)) h).1
+no_long (Long ∷ ps) h = h
+
+pub batch-open_cut : ((q : List ℕ) → Cuts (take (skipped q) q) []) → (n : ℕ) (q : List ℕ) → closes_any (batch_of n q) ≡ false → Cuts (take (bytes_used n q) q) (batch_pieces n q)
+batch-open_cut pairs n q h = batch-cut pairs n q (no_long (batch_pieces n q) (ap closes_any (batch-verdicts n q) ∙ h))
+
+-- and the answers to what is left follow those of the batch
+pub batch-answers : ((q : List ℕ) → Cuts (take (skipped q) q) []) → (files : FilesAt) (n : ℕ) (q z : List ℕ) → closes_any (batch_of n q) ≡ false
+    → answers files (q ++ z) ≡ map (answer files) (batch_of n q) ++ answers files (drop (bytes_used n q) q ++ z)
+batch-answers pairs files n q z h =
+    let v : verdicts_on (batch_pieces n q) ≡ batch_of n q = batch-verdicts n q in
+    let k : ℕ = bytes_used n q in
+    let split : q ++ z ≡ take k q ++ (drop k q ++ z) = ap (λ w. w ++ z) (sym (take-append-drop k q)) ∙ append_assoc (take k q) (drop k q) z in
+    ap (answers files) split
+    ∙ answers-follow files (take k q) (drop k q ++ z) (batch_pieces n q) (batch-open_cut pairs n q h) (ap closes_any v ∙ h)
+    ∙ ap (λ vs. map (answer files) vs ++ answers files (drop k q ++ z)) v
 
 -- ---- what is left
 
