@@ -1,7 +1,7 @@
 //! What holds of the bytes of a response.
 
 ghost use Rattle.std.specs.Prelude.{◌≡◌, ℕ, ◌++◌, Bool, true, false, List, [], length};
-ghost use Rattle.lard_request.specs.declared.verdict.Code.{Code as Coded};
+ghost use Rattle.lard_request.specs.declared.verdict.Code.{Code as AnyCode};
 ghost use Rattle.lard_response.specs.Response.{response};
 
 use lard_request::Code;
@@ -16,4 +16,12 @@ pub fn responses_have_these_lengths()
     ensures too_large { length (response Code.TooLarge [] false true) ≡ 72 }
     ensures fields_too_large { length (response Code.FieldsTooLarge [] false true) ≡ 86 }
     ensures not_implemented { length (response Code.NotImplemented [] false true) ≡ 70 }
+{}
+
+/// The answer to HEAD is that to GET without its content (RFC 9110, 9.3.2), and an answer with its content tells its
+/// code, the content, and whether the connection closes.
+pub fn a_response_tells_its_parts()
+    ensures head { (code : AnyCode) (body : List ℕ) (close : Bool) → response code body false close ≡ response code body true close ++ body }
+    ensures parts { (code other : AnyCode) (body text : List ℕ) (close shut : Bool) → response code body false close ≡ response other text false shut
+        → (code ≡ other) × (body ≡ text) × (close ≡ shut) }
 {}
