@@ -5,48 +5,47 @@ use lard_request::{Code, Verdict};
 use std::alloc::{AllocError, Global};
 use std::test::Fail;
 
-/// What a verdict is to be.
-#[derive(Clone, Copy, Debug)]
-enum Want {
-    /// A request for this path that leaves the connection open.
-    Get(&'static [u8]),
-    /// A request for this path that closes the connection.
-    Last(&'static [u8]),
-    /// A fault with this code.
-    Fault(Code),
-}
-
-/// Whether the verdict is what it is to be.
-fn is_wanted(verdict: &Verdict, want: Want) -> bool {
-    match verdict {
-        Verdict::Fault(code) => match want {
-            Want::Fault(wanted) => *code == wanted,
-            _ => false,
-        },
-        Verdict::Serve { path, head, close } => match want {
-            Want::Get(wanted) => !*head && !*close && path.as_slice() == wanted,
-            Want::Last(wanted) => !*head && *close && path.as_slice() == wanted,
-            Want::Fault(_) => false,
-        },
+/// The code of a fault, as text.
+fn code_text(code: Code) -> &'static [u8] {
+    match code {
+        Code::Ok => b"200",
+        Code::BadRequest => b"400",
+        Code::NotFound => b"404",
+        Code::TooLarge => b"413",
+        Code::FieldsTooLarge => b"431",
+        Code::NotImplemented => b"501",
     }
 }
 
-/// Whether the verdicts are these, in order.
-fn are_wanted(verdicts: &[Verdict], wants: &[Want]) -> bool {
-    if verdicts.len() != wants.len() {
-        return false;
-    }
-    for (verdict, want) in verdicts.iter().zip(wants) {
-        if !is_wanted(verdict, *want) {
-            return false;
+/// The verdicts as text: a path or a code, `^` for HEAD, `!` where the connection closes, and a space.
+fn spelled(alloc: Global, verdicts: &[Verdict]) -> Result<Vec<u8>, AllocError> {
+    let mut text = Vec::new(alloc);
+    for verdict in verdicts {
+        match verdict {
+            Verdict::Serve { path, head, close } => {
+                text.extend_from_slice(path.as_slice())?;
+                text.extend_from_slice(if *head { b"^" } else { b"" })?;
+                text.extend_from_slice(if *close { b"! " } else { b" " })?;
+            }
+            Verdict::Fault(code) => {
+                text.extend_from_slice(code_text(*code))?;
+                text.extend_from_slice(b"! ")?;
+            }
         }
     }
-    true
+    Ok(text)
 }
 
-/// The first bytes, so many times the same 28 bytes of a request, and then the last bytes.
-fn text(alloc: Global, first: &[u8], times: usize, last: &[u8]) -> Result<Vec<u8>, AllocError> {
+/// The first bytes, so many bytes `x`, so many times the same 28 bytes of a request, and then the last bytes.
+fn text(
+    alloc: Global,
+    first: &[u8],
+    fill: usize,
+    times: usize,
+    last: &[u8],
+) -> Result<Vec<u8>, AllocError> {
     let mut text = Vec::from_slice(alloc, first)?;
+    text.extend_from_slice(&vec![in alloc; b'x'; fill]?)?;
     for _ in 0..times {
         text.extend_from_slice(b"GET /a HTTP/1.1\r\nHost: h\r\n\r\n")?;
     }
@@ -56,127 +55,121 @@ fn text(alloc: Global, first: &[u8], times: usize, last: &[u8]) -> Result<Vec<u8
 
 #[test]
 fn batches_are_read(rt: HostRuntime) -> Result<(), Fail> {
-    for (first, times, last, wants, used) in [
-        (b"".as_slice(), 0, b"".as_slice(), [].as_slice(), 0),
-        (b"\r\n".as_slice(), 0, b"".as_slice(), [].as_slice(), 2),
+    for (first, fill, times, last, verdicts, used) in [
+        (b"".as_slice(), 0, 0, b"".as_slice(), b"".as_slice(), 0),
+        (b"\r\n".as_slice(), 0, 0, b"".as_slice(), b"".as_slice(), 2),
         (
             b"\r\n\r\n\r".as_slice(),
             0,
+            0,
             b"".as_slice(),
-            [].as_slice(),
+            b"".as_slice(),
             4,
         ),
         (
             b"\r\n".as_slice(),
             0,
+            0,
             b"GET /a".as_slice(),
-            [].as_slice(),
+            b"".as_slice(),
             2,
         ),
-        (
-            b"".as_slice(),
-            1,
-            b"".as_slice(),
-            [Want::Get(b"/a")].as_slice(),
-            28,
-        ),
+        (b"".as_slice(), 0, 1, b"".as_slice(), b"/a ".as_slice(), 28),
         (
             b"\r\n".as_slice(),
+            0,
             1,
             b"\r\nGET".as_slice(),
-            [Want::Get(b"/a")].as_slice(),
+            b"/a ".as_slice(),
             32,
         ),
         (
-            b"".as_slice(),
-            2,
-            b"GET /b HTTP/1.0\r\n\r\n\r\n".as_slice(),
-            [Want::Get(b"/a"), Want::Get(b"/a"), Want::Last(b"/b")].as_slice(),
-            75,
+            b"HEAD /b HTTP/1.1\r\nHost: h\r\n\r\n".as_slice(),
+            0,
+            1,
+            b"GET /c HTTP/1.0\r\n\r\n\r\n".as_slice(),
+            b"/b^ /a /c! ".as_slice(),
+            76,
         ),
         (
-            b"GET /b HTTP/1.0\r\n\r\n".as_slice(),
+            b"GET /c HTTP/1.0\r\n\r\n".as_slice(),
+            0,
             2,
             b"".as_slice(),
-            [Want::Last(b"/b")].as_slice(),
+            b"/c! ".as_slice(),
             19,
         ),
         (
             b"x\r\n\r\n".as_slice(),
+            0,
             1,
             b"".as_slice(),
-            [Want::Fault(Code::BadRequest)].as_slice(),
+            b"400! ".as_slice(),
             5,
         ),
         (
             b"".as_slice(),
+            0,
             8,
             b"\r\n".as_slice(),
-            [Want::Get(b"/a"); 8].as_slice(),
+            b"/a /a /a /a /a /a /a /a ".as_slice(),
             224,
         ),
         (
             b"".as_slice(),
+            0,
             9,
             b"".as_slice(),
-            [Want::Get(b"/a"); 8].as_slice(),
+            b"/a /a /a /a /a /a /a /a ".as_slice(),
             224,
         ),
         (
             b"\r\n\r\n".as_slice(),
+            0,
             7,
             b"\r\n".as_slice(),
-            [Want::Get(b"/a"); 7].as_slice(),
+            b"/a /a /a /a /a /a /a ".as_slice(),
             202,
         ),
-    ] {
-        let bytes = text(rt.alloc(), first, times, last)?;
-        let reading = batch(rt.alloc(), &bytes)?;
-        assert!(rt;
-            are_wanted(reading.verdicts.as_slice(), wants),
-            "at {first:?}, {times}, {last:?}"
-        );
-        assert_eq!(rt; reading.used, used, "at {first:?}, {times}, {last:?}");
-    }
-    Ok(())
-}
-
-#[test]
-fn heads_that_are_too_long_end_a_batch(rt: HostRuntime) -> Result<(), Fail> {
-    for (first, fill, times, wants, used) in [
-        (b"".as_slice(), 8_191, 0, [].as_slice(), 0),
-        (b"\r\n".as_slice(), 8_191, 0, [].as_slice(), 2),
+        (b"".as_slice(), 8_191, 0, b"".as_slice(), b"".as_slice(), 0),
         (
             b"".as_slice(),
             8_192,
             0,
-            [Want::Fault(Code::FieldsTooLarge)].as_slice(),
+            b"".as_slice(),
+            b"431! ".as_slice(),
             8_192,
         ),
         (
             b"\r\n".as_slice(),
             8_192,
             2,
-            [Want::Fault(Code::FieldsTooLarge)].as_slice(),
+            b"".as_slice(),
+            b"431! ".as_slice(),
             8_250,
         ),
         (
             b"GET /b HTTP/1.1\r\nHost: h\r\n\r\n".as_slice(),
             8_192,
             1,
-            [Want::Get(b"/b"), Want::Fault(Code::FieldsTooLarge)].as_slice(),
+            b"".as_slice(),
+            b"/b 431! ".as_slice(),
             8_248,
         ),
     ] {
-        let mut front = Vec::from_slice(rt.alloc(), first)?;
-        front.extend_from_slice(&vec![in rt.alloc(); b'x'; fill]?)?;
-        let bytes = text(rt.alloc(), &front, times, b"")?;
+        let bytes = text(rt.alloc(), first, fill, times, last)?;
         let reading = batch(rt.alloc(), &bytes)?;
-        assert!(rt;
-            are_wanted(reading.verdicts.as_slice(), wants),
-            "at {first:?}, {fill}"
+        let told = spelled(rt.alloc(), reading.verdicts.as_slice())?;
+        assert_eq!(rt;
+            told.as_slice(),
+            verdicts,
+            "at {first:?}, {fill}, {times}, {last:?}"
         );
-        assert_eq!(rt; reading.used, used, "at {first:?}, {fill}");
+        assert_eq!(rt;
+            reading.used,
+            used,
+            "at {first:?}, {fill}, {times}, {last:?}"
+        );
     }
     Ok(())
 }
