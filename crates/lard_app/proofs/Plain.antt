@@ -13,7 +13,7 @@ use Rattle.httparse.specs.Grammar.{Field, IsField, IsRequestHead, RequestHead, c
 use Rattle.lard_block.specs.declared.block.Found.TheVariants.{Block}
 use Rattle.lard_block.specs.Blocks.{cut_of, head_end, skipped}
 use Rattle.lard_request.specs.declared.verdict.Verdict.TheVariants.{Serve}
-use Rattle.lard_request.specs.Fields.{has_content, has_good_host, says_close, values}
+use Rattle.lard_request.specs.Fields.{has_content, has_good_host, is_close, says_close, values}
 use Rattle.lard_request.specs.Head.{head_of}
 use Rattle.lard_request.specs.Target.{is_query, path_of}
 use Rattle.lard_request.specs.Verdict.{has_bare_feed, head_verdict, pairs, served, verdict}
@@ -174,8 +174,8 @@ module _ (path : List ℕ) (is : is_path path ≡ true) (plain : list_all is_pla
   head_is = head-complete (request path) head (is_head_of, printed)
 
   judged : head_verdict head ≡ Serve path false false
-  unfolding has_good_host has_content says_close values trim_ows
-  judged = ap (λ o. served head o) (slashed path is plain)
+  unfolding head_verdict has_good_host has_content says_close is_close values trim_ows
+  judged = ap (served false false) (slashed path is plain)
 
   pub verdict-plain : verdict (request path) ≡ Serve path false false
   unfolding verdict
