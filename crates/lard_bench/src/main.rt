@@ -6,9 +6,13 @@
 mod heads;
 
 use heads::judge_heads;
+use lard_base::{StdSource, read_up_to};
 use std::env;
 use std::process::ExitCode;
 use std::rt::Env;
+
+/// The most bytes that are read of a head.
+const MOST_BYTES: usize = 8_192;
 
 fn main(rt: HostRuntime) -> ExitCode {
     match load(&rt) {
@@ -17,9 +21,9 @@ fn main(rt: HostRuntime) -> ExitCode {
     }
 }
 
-/// Does what the words ask for: `heads N`. Nothing where they ask for nothing that there is, or where memory or a
+/// Does what the words ask for: `heads N` judges the head on standard input so many times. Nothing where they ask for nothing that there is, or where memory or a
 /// write fails.
-fn load(rt: &(impl Env + Print + AllocGlobal)) -> Option<()> {
+fn load(rt: &(impl Env + Input + Print + AllocGlobal)) -> Option<()> {
     let mut words = env::args(rt).ok()?;
     let _name = words.next();
     let what = words.next()?;
@@ -31,7 +35,10 @@ fn load(rt: &(impl Env + Print + AllocGlobal)) -> Option<()> {
     }
 }
 
-fn tell_heads(rt: &(impl Print + AllocGlobal), times: u32) -> Option<()> {
-    let served = judge_heads(rt.alloc(), times).ok()?;
+fn tell_heads(rt: &(impl Input + Print + AllocGlobal), times: u32) -> Option<()> {
+    let mut head = Vec::new(rt.alloc());
+    let mut source = StdSource::new(rt.reader());
+    read_up_to(&mut source, &mut head, MOST_BYTES).ok()?;
+    let served = judge_heads(rt.alloc(), head.as_slice(), times).ok()?;
     println!(rt; "{times} heads, {served} served").ok()
 }
