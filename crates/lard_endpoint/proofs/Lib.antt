@@ -1,0 +1,5 @@
+pub mod Adoption
+pub mod Fresh
+pub mod Numbers
+pub mod Small
+pub mod Sound

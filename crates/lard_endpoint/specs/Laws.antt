@@ -1,0 +1,85 @@
+-- The laws of an endpoint.
+use Rattle.std.specs.Prelude.{◌≡◌, ℕ, ◌+◌, ◌-◌, ◌^◌, ◌<◌, ◌≤◌, ◌==◌, not, ◌&&◌, Bool, true, false, List, length, take, drop}
+use Rattle.lard_base.specs.declared.parts.EndpointParts.{EndpointParts}
+use Rattle.lard_base.specs.Parts.{IsValidParts}
+use Rattle.lard_recv.specs.Recv.{Received, IsReceived, begins_after, arrived, gained}
+use Rattle.lard_segment.specs.Segment.{Said}
+use Rattle.lard_seq.specs.Seq.{seq_add, seq_offset}
+use Rattle.lard_endpoint.specs.Arriving.{is_acceptable, is_in_window, on_segment}
+use Rattle.lard_endpoint.specs.Control.{ControlBlock, IsControlBlock, rcv_nxt, listening, queueing, finishing, consuming, discarding_on}
+use Rattle.lard_endpoint.specs.Leaving.{after_emit, after_timer}
+use Rattle.lard_endpoint.specs.Moving.{may_freeze, parts_of, adopted}
+
+-- ---- numbers. Two that are at most half the number space after a first one differ as their offsets do.
+
+abbrev pub LaterIsTheDifference : Type 0
+LaterIsTheDifference = (first a b : ℕ) → first < 2 ^ 32 → b ≤ a → a ≤ 2 ^ 31 → seq_offset (seq_add first a) (seq_add first b) ≡ a - b
+
+abbrev pub EarlierIsTheComplement : Type 0
+EarlierIsTheComplement = (first a b : ℕ) → first < 2 ^ 32 → a < b → b ≤ 2 ^ 31 → seq_offset (seq_add first a) (seq_add first b) ≡ 2 ^ 32 - (b - a)
+
+-- An acceptable segment begins after RCV.NXT exactly where its first number lies in the window and is not RCV.NXT.
+abbrev pub AheadIsInTheWindow : Type 0
+AheadIsInTheWindow = (c : ControlBlock) (s : Said) → IsControlBlock c → s.seq < 2 ^ 32 → length s.payload ≤ 65535 → is_acceptable c s ≡ true
+    → begins_after s.seq (rcv_nxt c) ≡ (is_in_window c s.seq && not (s.seq == rcv_nxt c))
+
+-- ---- what is taken of a true segment
+
+-- These bytes stand at this place of all.
+pub record IsPartAt (place : ℕ) (part all : List ℕ) : Type 0 where
+  pub within : place + length part ≤ length all
+  pub same : take (length part) (drop place all) ≡ part
+
+-- A segment of a peer that sends these bytes, all in all: it has those from place k on, by their number.
+pub record IsTrueData (r : Received) (all : List ℕ) (k seq : ℕ) (data_ : List ℕ) : Type 0 where
+  pub first : r.irs < 2 ^ 32
+  pub most : length all ≤ 2 ^ 30
+  pub number : seq ≡ seq_add r.irs (1 + k)
+  pub part : IsPartAt k data_ all
+
+-- What a receiver gains of it are the bytes that it awaits.
+abbrev pub FreshIsThePart : Type 0
+FreshIsThePart = (r : Received) (all : List ℕ) (k seq : ℕ) (data_ : List ℕ) → r.got ≤ length all → IsTrueData r all k seq data_
+    → IsPartAt r.got (gained r seq data_) all
+
+-- A FIN that stands behind all bytes is taken only once all of them are.
+abbrev pub FinComesLast : Type 0
+FinComesLast = (r : Received) (all : List ℕ) (k seq : ℕ) (data_ : List ℕ) (fin : Bool) → r.got ≤ length all → IsTrueData r all k seq data_
+    → (fin ≡ true → k + length data_ ≡ length all)
+    → r.fin ≡ false → (arrived r seq data_ fin).fin ≡ true → (fin ≡ true) × ((arrived r seq data_ fin).got ≡ length all)
+
+-- ---- both directions stay within 2^30 bytes, and what else holds of every endpoint, over each rule
+
+abbrev pub ListeningIsSound : Type 0
+ListeningIsSound = (syn : Said) (iss : ℕ) → IsControlBlock (listening syn iss)
+
+abbrev pub ArrivingKeeps : Type 0
+ArrivingKeeps = (c : ControlBlock) (s : Said) → IsControlBlock c → IsControlBlock (on_segment c s).1
+
+abbrev pub LeavingKeeps : Type 0
+LeavingKeeps = (c : ControlBlock) → IsControlBlock c → IsControlBlock (after_emit c) × IsControlBlock (after_timer c)
+
+abbrev pub QueueingKeeps : Type 0
+QueueingKeeps = (c : ControlBlock) (bytes : List ℕ) → c.send.finished ≡ false → c.send.total + length bytes ≤ 2 ^ 30 → IsControlBlock c → IsControlBlock (queueing c bytes)
+
+abbrev pub FinishingKeeps : Type 0
+FinishingKeeps = (c : ControlBlock) → IsControlBlock c → IsControlBlock (finishing c)
+
+abbrev pub ReadingKeeps : Type 0
+ReadingKeeps = (c : ControlBlock) (n : ℕ) → IsControlBlock c → IsControlBlock (consuming c n) × IsControlBlock (discarding_on c)
+
+abbrev pub AdoptionIsSound : Type 0
+AdoptionIsSound = (p : EndpointParts) → IsValidParts p → IsControlBlock (adopted p)
+
+-- ---- the way to another place
+
+-- The parts of a frozen endpoint are valid.
+abbrev pub PartsAreValid : Type 0
+PartsAreValid = (c : ControlBlock) (served : ℕ) → IsControlBlock c → may_freeze c ≡ true → served ≤ c.recv.got - length c.recv.unread
+    → IsValidParts (parts_of c served)
+
+-- An endpoint that is adopted from them is the frozen one, but that an ACK is owed and that the window last told counts
+-- as the whole one. The bytes that were used or acknowledged are in neither.
+abbrev pub AdoptionGoesOn : Type 0
+AdoptionGoesOn = (c : ControlBlock) (served : ℕ) → IsControlBlock c → may_freeze c ≡ true
+    → adopted (parts_of c served) ≡ record c { owed = true; last_window = 16384 }

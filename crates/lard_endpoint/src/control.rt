@@ -1,0 +1,164 @@
+//! An endpoint's control block, and the calls of its owner (RFC 9293, 3.3.1 and 3.10).
+
+ghost use Rattle.std.specs.Prelude.{◌≡◌, ◌+◌, ◌≤◌, ◌^◌, true, false, length, IfOk, OnOk, OnErr};
+ghost use Rattle.lard_segment.specs.Segment.{said};
+ghost use Rattle.lard_send.specs.Send.{is_clear};
+ghost use Rattle.lard_endpoint.specs.Control.{IsControlBlock, peer_mss, listening, queueing, finishing, consuming, discarding_on};
+
+pub mod arriving;
+mod leaving;
+pub mod moving;
+
+use lard_base::NoMemory;
+use lard_recv::RecvHalf;
+use lard_segment::Segment;
+use lard_send::SendHalf;
+use lard_seq::Seq;
+use std::alloc::Global;
+use std::marker::Model;
+
+/// The receive window while nothing is unread, in bytes.
+const WHOLE_WINDOW: u16 = 16_384;
+
+/// The peer's maximum segment size where its SYN names none, and the greatest that is used (RFC 9293, 3.7.1).
+const DEFAULT_MSS: u16 = 536;
+
+const GREATEST_MSS: u16 = 1460;
+
+/// The cluster's end of a connection. There is one of each, so it cannot be cloned, and it is not let go: `end`, `kill`
+/// and `freeze` spend it. Only `listen`, `adopt` and `queue` take memory.
+pub struct Endpoint {
+    irs: Seq,
+    iss: Seq,
+    recv: RecvHalf,
+    send: SendHalf,
+    discarding: bool,
+    owed: bool,
+    last_window: u16,
+    reset: bool,
+}
+
+impl Model for Endpoint {
+    ghost use Rattle.std.specs.Prelude.{◌≡◌};
+    ghost use Rattle.lard_recv.specs.Recv.{IsReceived};
+    ghost use Rattle.lard_send.specs.Send.{IsSending};
+    ghost use Rattle.lard_endpoint.specs.Control.{ControlBlock};
+
+    ghost Value = { ControlBlock };
+
+    ghost view = { λ e. record {
+      recv = e.recv;
+      send = e.send;
+      owed = e.owed;
+      last_window = e.last_window;
+      reset = e.reset;
+    } };
+
+    // what the halves keep to themselves
+    ghost invariant = { λ e. (e.irs.0 ≡ e.recv.irs) × (e.irs.0 ≡ e.send.irs) × (e.iss.0 ≡ e.send.iss) × (e.discarding ≡ e.recv.discarding) };
+}
+
+impl Endpoint {
+    /// An endpoint that took this SYN, and whose own SYN with the number `iss` is to be sent. It takes no data of the
+    /// segment. A maximum segment size that the SYN names is brought into the range 1 to 1,460.
+    pub fn listen(alloc: Global, syn: &Segment<'_>, iss: Seq) -> Result<Endpoint, NoMemory>
+        requires syn { syn.now.flags.syn ≡ true }
+        requires no_ack { syn.now.flags.ack ≡ false }
+        requires no_rst { syn.now.flags.rst ≡ false }
+        requires no_fin { syn.now.flags.fin ≡ false }
+        ensures { IfOk result (λ endpoint. endpoint ≡ listening (said syn.now) iss.0) }
+    {
+        let recv = RecvHalf::make(alloc, syn.seq)?;
+        let send = SendHalf::make(alloc, iss, syn.seq, syn.wnd, mss_of(syn.mss));
+        Ok(Endpoint {
+            irs: syn.seq,
+            iss,
+            recv,
+            send,
+            discarding: false,
+            owed: false,
+            last_window: WHOLE_WINDOW,
+            reset: false,
+        })
+    }
+
+    /// Queues bytes to be sent; not after `finish`, and at most 2^30 over one connection. Without memory the endpoint is
+    /// as it was.
+    pub fn queue(&mut self, bytes: &[u8]) -> Result<(), NoMemory>
+        requires unfinished { self.old.send.finished ≡ false }
+        requires fits { self.old.send.total + length bytes.now ≤ 2 ^ 30 }
+        ensures ok { OnOk result (self.new ≡ queueing self.old bytes.now) }
+        ensures err { OnErr result (self.new ≡ self.old) }
+    {
+        self.send.queue(bytes)
+    }
+
+    /// Lets the FIN follow the queued bytes. No more are queued then.
+    pub fn finish(&mut self)
+        ensures { self.new ≡ finishing self.old }
+    {
+        self.send.finish();
+    }
+
+    /// Reads off the first `n` of the unread bytes.
+    pub fn consume(&mut self, n: usize)
+        requires { n ≤ length self.old.recv.unread }
+        ensures { self.new ≡ consuming self.old n }
+    {
+        self.recv.consume(n);
+    }
+
+    /// Drops what is unread, and from now on all that comes, which is acknowledged all the same.
+    pub fn discard_on(&mut self)
+        ensures { self.new ≡ discarding_on self.old }
+    {
+        self.recv.discard_on();
+        self.discarding = true;
+    }
+
+    /// The bytes that came in order and were not consumed, at most 16,384, lent without a copy.
+    pub fn unread(&self) -> &[u8]
+        ensures { result.now ≡ self.now.recv.unread }
+    {
+        self.recv.unread()
+    }
+
+    /// Whether the peer's FIN was taken.
+    pub fn peer_done(&self) -> bool
+        ensures { result ≡ self.now.recv.fin }
+    {
+        self.recv.finished()
+    }
+
+    /// Whether all that was sent or queued is acknowledged, the SYN and the FIN too.
+    pub fn clear(&self) -> bool
+        ensures { result ≡ is_clear self.now.send }
+    {
+        self.send.clear()
+    }
+
+    /// The bytes queued since the connection began, at most 2^30.
+    pub fn total(&self) -> u32
+        ensures value { result ≡ self.now.send.total }
+        ensures law { IsControlBlock self.now }
+    {
+        let _got = self.recv.got();
+        self.send.total()
+    }
+
+    /// Whether the FIN follows the queued bytes: true exactly after `finish`.
+    pub fn finished(&self) -> bool
+        ensures { result ≡ self.now.send.finished }
+    {
+        self.send.finished()
+    }
+}
+
+/// The peer's maximum segment size, 1 to 1,460.
+fn mss_of(named: Option<u16>) -> u16
+    ensures value { result ≡ peer_mss named }
+    ensures some { 1 ≤ result }
+    ensures small { result ≤ 1460 }
+{
+    named.unwrap_or(DEFAULT_MSS).max(1).min(GREATEST_MSS)
+}
