@@ -2,11 +2,16 @@
 
 ghost use Rattle.lard_endpoint.specs.Leaving.{IsReady};
 
-use crate::{Arrival, Endpoint};
-use lard_base::NoMemory;
+use crate::{Arrival, Endpoint, Final};
+use lard_base::{NoMemory, Reason};
 use lard_segment::{Flags, Ready, Segment};
 use lard_seq::Seq;
 use std::alloc::Global;
+
+/// A window, and as many bytes as a whole receive window has.
+pub const W: u16 = 65_535;
+
+pub const X: [u8; 16_384] = [b'x'; 16_384];
 
 /// A segment, by its numbers and its data. Each but `Syn` and `Rst` has ACK.
 #[derive(Clone, Copy, Debug)]
@@ -248,4 +253,30 @@ pub fn established(
     }
     endpoint.kill();
     Ok(count)
+}
+
+/// How many of the steps are done, and what `end` then gives, of a connection whose numbers begin at these.
+pub fn ended(
+    alloc: Global,
+    isn: u32,
+    iss: u32,
+    steps: &[Step<'_>],
+) -> Result<(usize, Option<Final>), NoMemory> {
+    let mut endpoint = listening(alloc, isn, iss, W, None)?;
+    let count = done(&mut endpoint, steps);
+    match endpoint.end() {
+        Ok(last) => Ok((count, Some(last))),
+        Err(endpoint) => {
+            endpoint.kill();
+            Ok((count, None))
+        }
+    }
+}
+
+pub fn closed(reason: Reason, snd: u32, rcv: u32) -> Option<Final> {
+    Some(Final {
+        reason,
+        snd: Seq(snd),
+        rcv: Seq(rcv),
+    })
 }
