@@ -1,4 +1,5 @@
 pub mod Adoption
+pub mod Ends
 pub mod Fresh
 pub mod Numbers
 pub mod Small

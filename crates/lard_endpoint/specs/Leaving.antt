@@ -4,7 +4,7 @@ use Rattle.lard_segment.specs.declared.segment.Flags.{Flags}
 use Rattle.lard_segment.specs.declared.segment.Ready.{Ready}
 use Rattle.lard_segment.specs.Segment.{Said}
 use Rattle.lard_send.specs.declared.piece.Piece.{Piece}
-use Rattle.lard_send.specs.Send.{acknowledged_bytes, next_piece, after_next, resent_piece, after_resend}
+use Rattle.lard_send.specs.Send.{acknowledged_bytes, one_if, symbols, next_piece, after_next, resent_piece, after_resend}
 use Rattle.lard_seq.specs.Seq.{seq_add}
 use Rattle.lard_endpoint.specs.Control.{ControlBlock, rcv_nxt, rcv_wnd, snd_nxt}
 
@@ -78,6 +78,10 @@ emitted c = if c.reset then None else ready_of (advanced c) (next_piece c.send) 
 
 abbrev pub after_emit : ControlBlock → ControlBlock
 after_emit c = if c.reset then c else after_piece (advanced c) (next_piece c.send) (after_owed (advanced c))
+
+-- At most so many segments are left to emit: one for each symbol that is not sent, and one for an ACK that is owed.
+abbrev pub emits_left : ControlBlock → ℕ
+emits_left c = (symbols c.send - c.send.nxt) + one_if (owes c)
 
 -- What the timer sends again: the SYN while it is not acknowledged, else what is sent and not acknowledged, else a probe
 -- of one symbol beyond the window (RFC 9293, 3.8.1 and 3.8.6.1).

@@ -1,10 +1,10 @@
 //! What an endpoint sends: the next segment, and what its timer sends again.
 
-ghost use Rattle.std.specs.Prelude.{◌≡◌, ◌+◌, ◌≤◌, true, length, IfSome};
+ghost use Rattle.std.specs.Prelude.{◌≡◌, ◌+◌, ◌≤◌, true, length, IfSome, OnSome, ◌<◌};
 ghost use Rattle.lard_segment.specs.Segment.{said};
 ghost use Rattle.lard_send.specs.Send.{acknowledged_bytes, IsQueued, next_piece, resent_piece};
 ghost use Rattle.lard_endpoint.specs.Control.{rcv_wnd};
-ghost use Rattle.lard_endpoint.specs.Leaving.{piece_ready, piece_seq, own_mss, ack_ready, told, owes, emitted, after_emit, timed, after_timer, advanced, retried, IsReady, filled};
+ghost use Rattle.lard_endpoint.specs.Leaving.{piece_ready, piece_seq, own_mss, ack_ready, told, owes, emitted, after_emit, timed, after_timer, advanced, retried, emits_left, IsReady, filled};
 
 use crate::control::{Endpoint, GREATEST_MSS};
 use lard_segment::{Flags, Ready, Segment};
@@ -14,12 +14,14 @@ use lard_seq::Seq;
 impl Endpoint {
     /// The next segment that is to be sent, which then counts as sent, or none. First comes the SYN; once that is
     /// acknowledged bytes and the FIN, as far as the peer's window allows; and where there is none of these an ACK that is
-    /// owed. An endpoint that was reset sends nothing.
+    /// owed. An endpoint that was reset sends nothing. Call by call this ends: `emits_left` falls.
     pub fn emit(&mut self) -> Option<Ready>
         ensures ready { result ≡ emitted self.old }
         ensures after { self.new ≡ after_emit self.old }
         ensures fits { IfSome result (λ r. IsReady self.new r) }
+        ensures ends { OnSome result (emits_left self.new < emits_left self.old) }
     {
+        let _total = self.total();
         if self.reset {
             return None;
         }

@@ -5,9 +5,10 @@ use crate::tests::words::Said::{Ack, Fin, Push, Rst, SynAck};
 use crate::tests::words::Step::{
     Again, Clear, Comes, Consumes, Discards, Finishes, Idle, PeerDone, Queues, Rests, Sends, Unread,
 };
-use crate::tests::words::{W, X, closed, done, listening};
+use crate::tests::words::{Step, W, X, done, listening};
 use crate::{Endpoint, Frozen};
 use lard_base::{Bytes, EndpointParts, NoMemory, Reason};
+use lard_seq::Seq;
 use std::alloc::Global;
 use std::test::Fail;
 
@@ -49,7 +50,10 @@ fn endpoints_move(rt: HostRuntime) -> Result<(), Fail> {
     let last = thawed.kill();
     let parts = parts?;
     assert_eq!(rt; rests, 3);
-    assert_eq!(rt; Some(last), closed(Reason::Limit, 5003, 1007));
+    assert_eq!(rt;
+        (last.reason, last.snd, last.rcv),
+        (Reason::Limit, Seq(5003), Seq(1007))
+    );
     assert_eq!(rt;
         (parts.irs, parts.iss, parts.got, parts.fin, parts.una),
         (1000, 5000, 6, false, 3)
@@ -119,63 +123,65 @@ fn parts_come_again(rt: HostRuntime) -> Result<(), Fail> {
     Ok(())
 }
 
+const STANDINGS: &[(&str, &[Step], bool)] = &[
+    (
+        "the SYN is not acknowledged",
+        &[Sends(SynAck(5000, 1001), 16_384)],
+        false,
+    ),
+    (
+        "all is acknowledged, and an ACK is owed",
+        &[
+            Sends(SynAck(5000, 1001), 16_384),
+            Comes(Push(1001, 5001, b"GET"), W, AckOwed),
+        ],
+        true,
+    ),
+    (
+        "queued bytes are not",
+        &[
+            Sends(SynAck(5000, 1001), 16_384),
+            Comes(Push(1001, 5001, b"GET"), W, AckOwed),
+            Queues(b"z"),
+        ],
+        false,
+    ),
+    (
+        "it is finished, and the FIN acknowledged",
+        &[
+            Sends(SynAck(5000, 1001), 16_384),
+            Comes(Ack(1001, 5001), W, Fine),
+            Finishes,
+            Sends(Fin(5001, 1001, b""), 16_384),
+            Comes(Ack(1001, 5002), W, Fine),
+            Clear(true),
+        ],
+        false,
+    ),
+    (
+        "it discards",
+        &[
+            Sends(SynAck(5000, 1001), 16_384),
+            Comes(Ack(1001, 5001), W, Fine),
+            Discards,
+        ],
+        false,
+    ),
+    (
+        "it was reset",
+        &[
+            Sends(SynAck(5000, 1001), 16_384),
+            Comes(Ack(1001, 5001), W, Fine),
+            Comes(Rst(1001), 0, Reset),
+        ],
+        false,
+    ),
+];
+
 /// What keeps an endpoint from being frozen.
 #[test]
 fn some_cannot_move(rt: HostRuntime) -> Result<(), Fail> {
-    for (name, steps, may) in [
-        (
-            "the SYN is not acknowledged",
-            [Sends(SynAck(5000, 1001), 16_384)].as_slice(),
-            false,
-        ),
-        (
-            "all is acknowledged, and an ACK is owed",
-            &[
-                Sends(SynAck(5000, 1001), 16_384),
-                Comes(Push(1001, 5001, b"GET"), W, AckOwed),
-            ],
-            true,
-        ),
-        (
-            "queued bytes are not",
-            &[
-                Sends(SynAck(5000, 1001), 16_384),
-                Comes(Push(1001, 5001, b"GET"), W, AckOwed),
-                Queues(b"z"),
-            ],
-            false,
-        ),
-        (
-            "it is finished, and the FIN acknowledged",
-            &[
-                Sends(SynAck(5000, 1001), 16_384),
-                Comes(Ack(1001, 5001), W, Fine),
-                Finishes,
-                Sends(Fin(5001, 1001, b""), 16_384),
-                Comes(Ack(1001, 5002), W, Fine),
-                Clear(true),
-            ],
-            false,
-        ),
-        (
-            "it discards",
-            &[
-                Sends(SynAck(5000, 1001), 16_384),
-                Comes(Ack(1001, 5001), W, Fine),
-                Discards,
-            ],
-            false,
-        ),
-        (
-            "it was reset",
-            &[
-                Sends(SynAck(5000, 1001), 16_384),
-                Comes(Ack(1001, 5001), W, Fine),
-                Comes(Rst(1001), 0, Reset),
-            ],
-            false,
-        ),
-    ] {
+    for &(name, steps, may) in STANDINGS {
         let mut endpoint = listening(rt.alloc(), 1000, 5000, W, None)?;
         let count = done(&mut endpoint, steps);
         let can = endpoint.can_freeze();

@@ -2,7 +2,7 @@
 
 ghost use Rattle.lard_endpoint.specs.Leaving.{IsReady};
 
-use crate::{Arrival, Endpoint, Final};
+use crate::{Arrival, Endpoint};
 use lard_base::{NoMemory, Reason};
 use lard_segment::{Flags, Ready, Segment};
 use lard_seq::Seq;
@@ -11,42 +11,44 @@ use std::alloc::Global;
 /// A window, and as many bytes as a whole receive window has.
 pub const W: u16 = 65_535;
 
-pub const X: [u8; 16_384] = [b'x'; 16_384];
+pub static X: [u8; 16_384] = [b'x'; 16_384];
 
 /// A segment, by its numbers and its data. Each but `Syn` and `Rst` has ACK.
 #[derive(Clone, Copy, Debug)]
-pub enum Said<'a> {
+pub enum Said {
     Syn(u32),
     SynAck(u32, u32),
     Ack(u32, u32),
-    Data(u32, u32, &'a [u8]),
-    Push(u32, u32, &'a [u8]),
-    Fin(u32, u32, &'a [u8]),
-    PushFin(u32, u32, &'a [u8]),
-    Bare(u32, &'a [u8]),
+    Data(u32, u32, &'static [u8]),
+    Push(u32, u32, &'static [u8]),
+    Fin(u32, u32, &'static [u8]),
+    PushFin(u32, u32, &'static [u8]),
+    /// A whole window of bytes, and perhaps the FIN.
+    Whole(u32, u32, bool),
+    Bare(u32, &'static [u8]),
     Rst(u32),
     RstAck(u32, u32),
 }
 
 /// What happens to an endpoint, and what it makes of it. The window stands behind a segment.
 #[derive(Clone, Copy, Debug)]
-pub enum Step<'a> {
+pub enum Step {
     /// The segment comes, and is answered so.
-    Comes(Said<'a>, u16, Arrival),
+    Comes(Said, u16, Arrival),
     /// `emit` gives the segment.
-    Sends(Said<'a>, u16),
+    Sends(Said, u16),
     /// `emit` gives none.
     Rests,
     /// `timer` gives the segment.
-    Again(Said<'a>, u16),
+    Again(Said, u16),
     /// `timer` gives none.
     Idle,
-    Queues(&'a [u8]),
+    Queues(&'static [u8]),
     Finishes,
     Consumes(usize),
     Discards,
     /// These bytes are unread.
-    Unread(&'a [u8]),
+    Unread(&'static [u8]),
     /// So many are.
     Holds(usize),
     /// All is acknowledged, or not.
@@ -64,7 +66,7 @@ const ACK: Flags = Flags {
 };
 
 /// The segment that is said.
-pub fn segment(said: Said<'_>, wnd: u16) -> Segment<'_> {
+pub fn segment(said: Said, wnd: u16) -> Segment<'static> {
     let (seq, ack, flags, payload) = match said {
         Said::Syn(seq) => (
             seq,
@@ -91,6 +93,7 @@ pub fn segment(said: Said<'_>, wnd: u16) -> Segment<'_> {
             },
             data,
         ),
+        Said::Whole(seq, ack, fin) => (seq, ack, Flags { fin, ..ACK }, X.as_slice()),
         Said::Bare(seq, data) => (seq, 0, Flags { ack: false, ..ACK }, data),
         Said::Rst(seq) => (
             seq,
@@ -115,7 +118,7 @@ pub fn segment(said: Said<'_>, wnd: u16) -> Segment<'_> {
 }
 
 /// The cluster's SYN alone names a size.
-fn named_mss(said: Said<'_>) -> Option<u16> {
+fn named_mss(said: Said) -> Option<u16> {
     match said {
         Said::SynAck(_, _) => Some(1460),
         _ => None,
@@ -123,21 +126,21 @@ fn named_mss(said: Said<'_>) -> Option<u16> {
 }
 
 /// Whether what is to be sent is the segment that is said.
-fn is_said(endpoint: &Endpoint, ready: Ready, said: Said<'_>, wnd: u16) -> bool
+fn is_said(endpoint: &Endpoint, ready: Ready, said: Said, wnd: u16) -> bool
     requires { IsReady endpoint.now ready }
 {
     let mut buf = [0; 1460];
     endpoint.segment(ready, &mut buf) == segment(said, wnd)
 }
 
-fn is_sent(endpoint: &mut Endpoint, said: Said<'_>, wnd: u16) -> bool {
+fn is_sent(endpoint: &mut Endpoint, said: Said, wnd: u16) -> bool {
     match endpoint.emit() {
         Some(ready) => is_said(endpoint, ready, said, wnd),
         None => false,
     }
 }
 
-fn is_sent_again(endpoint: &mut Endpoint, said: Said<'_>, wnd: u16) -> bool {
+fn is_sent_again(endpoint: &mut Endpoint, said: Said, wnd: u16) -> bool {
     match endpoint.timer() {
         Some(ready) => is_said(endpoint, ready, said, wnd),
         None => false,
@@ -161,7 +164,7 @@ fn is_consumed(endpoint: &mut Endpoint, n: usize) -> bool {
 }
 
 /// Whether the endpoint does what the step says.
-fn agrees(endpoint: &mut Endpoint, step: Step<'_>) -> bool {
+fn agrees(endpoint: &mut Endpoint, step: Step) -> bool {
     match step {
         Step::Comes(said, wnd, answer) => return endpoint.arrive(&segment(said, wnd)) == answer,
         Step::Sends(said, wnd) => return is_sent(endpoint, said, wnd),
@@ -186,15 +189,13 @@ fn agrees(endpoint: &mut Endpoint, step: Step<'_>) -> bool {
 }
 
 /// How many of the steps come out as they are written down, up to the first that does not.
-pub fn done(endpoint: &mut Endpoint, steps: &[Step<'_>]) -> usize {
-    let mut count = 0;
-    for step in steps {
+pub fn done(endpoint: &mut Endpoint, steps: &[Step]) -> usize {
+    for (count, step) in steps.iter().enumerate() {
         if !agrees(endpoint, *step) {
             return count;
         }
-        count += 1;
     }
-    count
+    steps.len()
 }
 
 /// An endpoint that took the SYN of a client with these numbers. Its own has the number `iss`.
@@ -227,7 +228,7 @@ pub fn from_syn(
     alloc: Global,
     wnd: u16,
     mss: Option<u16>,
-    steps: &[Step<'_>],
+    steps: &[Step],
 ) -> Result<usize, NoMemory> {
     let mut endpoint = listening(alloc, 1000, 5000, wnd, mss)?;
     let count = done(&mut endpoint, steps);
@@ -240,7 +241,7 @@ pub fn established(
     alloc: Global,
     wnd: u16,
     mss: Option<u16>,
-    steps: &[Step<'_>],
+    steps: &[Step],
 ) -> Result<usize, NoMemory> {
     let mut endpoint = listening(alloc, 1000, 5000, 0, mss)?;
     let opening = [
@@ -260,23 +261,15 @@ pub fn ended(
     alloc: Global,
     isn: u32,
     iss: u32,
-    steps: &[Step<'_>],
-) -> Result<(usize, Option<Final>), NoMemory> {
+    steps: &[Step],
+) -> Result<(usize, Option<(Reason, u32, u32)>), NoMemory> {
     let mut endpoint = listening(alloc, isn, iss, W, None)?;
     let count = done(&mut endpoint, steps);
     match endpoint.end() {
-        Ok(last) => Ok((count, Some(last))),
+        Ok(last) => Ok((count, Some((last.reason, last.snd.0, last.rcv.0)))),
         Err(endpoint) => {
             endpoint.kill();
             Ok((count, None))
         }
     }
-}
-
-pub fn closed(reason: Reason, snd: u32, rcv: u32) -> Option<Final> {
-    Some(Final {
-        reason,
-        snd: Seq(snd),
-        rcv: Seq(rcv),
-    })
 }
