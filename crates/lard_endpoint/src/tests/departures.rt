@@ -3,7 +3,7 @@
 use crate::Arrival::{AckOwed, Fine, Reset};
 use crate::tests::words::Said::{Ack, Data, Fin, Push, PushFin, Rst, SynAck};
 use crate::tests::words::Step::{
-    Again, Clear, Comes, Finishes, Idle, Queues, Rests, Sends, Unread,
+    Again, Clear, Comes, Finishes, Idle, Queues, Rests, Sends, SendsBytes, Unread,
 };
 use crate::tests::words::{Step, W, X, ended, established};
 use lard_base::Reason;
@@ -146,10 +146,7 @@ fn sizes_are_brought_into_range(rt: HostRuntime) -> Result<(), Fail> {
         (Some(1460), 1460),
         (Some(9000), 1460),
     ] {
-        let steps = [
-            Queues(&X[..1600]),
-            Sends(Data(5001, 1001, &X[..len]), 16_384),
-        ];
+        let steps = [Queues(X.as_slice()), SendsBytes(len)];
         assert_eq!(rt; established(rt.alloc(), W, mss, &steps)?, 2, "{mss:?}");
     }
     Ok(())

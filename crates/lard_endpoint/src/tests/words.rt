@@ -37,6 +37,8 @@ pub enum Step {
     Comes(Said, u16, Arrival),
     /// `emit` gives the segment.
     Sends(Said, u16),
+    /// `emit` gives a segment with so many bytes.
+    SendsBytes(u32),
     /// `emit` gives none.
     Rests,
     /// `timer` gives the segment.
@@ -168,6 +170,7 @@ fn agrees(endpoint: &mut Endpoint, step: Step) -> bool {
     match step {
         Step::Comes(said, wnd, answer) => return endpoint.arrive(&segment(said, wnd)) == answer,
         Step::Sends(said, wnd) => return is_sent(endpoint, said, wnd),
+        Step::SendsBytes(len) => return endpoint.emit().map_or(0, |ready| ready.len) == len,
         Step::Rests => return endpoint.emit().is_none(),
         Step::Again(said, wnd) => return is_sent_again(endpoint, said, wnd),
         Step::Idle => return endpoint.timer().is_none(),
