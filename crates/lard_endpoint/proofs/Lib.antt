@@ -2,5 +2,6 @@ pub mod Adoption
 pub mod Ends
 pub mod Fresh
 pub mod Numbers
+pub mod Silence
 pub mod Small
 pub mod Sound

@@ -1,13 +1,14 @@
 -- The laws of an endpoint.
-use Rattle.std.specs.Prelude.{◌≡◌, ℕ, ◌+◌, ◌-◌, ◌^◌, ◌<◌, ◌≤◌, ◌==◌, not, ◌&&◌, Bool, true, false, List, length, take, drop}
+use Rattle.std.specs.Prelude.{◌≡◌, ℕ, ◌+◌, ◌-◌, ◌^◌, ◌<◌, ◌≤◌, ◌==◌, not, ◌&&◌, Bool, true, false, List, length, take, drop, None, is_some}
 use Rattle.lard_base.specs.declared.parts.EndpointParts.{EndpointParts}
 use Rattle.lard_base.specs.Parts.{IsValidParts}
 use Rattle.lard_recv.specs.Recv.{Received, IsReceived, begins_after, arrived, gained}
 use Rattle.lard_segment.specs.Segment.{Said}
+use Rattle.lard_send.specs.Send.{is_clear, next_piece}
 use Rattle.lard_seq.specs.Seq.{seq_add, seq_offset}
 use Rattle.lard_endpoint.specs.Arriving.{is_acceptable, is_in_window, on_segment}
 use Rattle.lard_endpoint.specs.Control.{ControlBlock, IsControlBlock, rcv_nxt, listening, queueing, finishing, consuming, discarding_on}
-use Rattle.lard_endpoint.specs.Leaving.{after_emit, after_timer}
+use Rattle.lard_endpoint.specs.Leaving.{owes, emitted, after_emit, timed, after_timer}
 use Rattle.lard_endpoint.specs.Moving.{may_freeze, parts_of, adopted}
 
 -- ---- numbers. Two that are at most half the number space after a first one differ as their offsets do.
@@ -70,6 +71,16 @@ ReadingKeeps = (c : ControlBlock) (n : ℕ) → IsControlBlock c → IsControlBl
 
 abbrev pub AdoptionIsSound : Type 0
 AdoptionIsSound = (p : EndpointParts) → IsValidParts p → IsControlBlock (adopted p)
+
+-- ---- silence
+
+-- The timer sends exactly where some symbol is not acknowledged.
+abbrev pub TimerIsForTheRest : Type 0
+TimerIsForTheRest = (c : ControlBlock) → IsControlBlock c → c.reset ≡ false → is_some (timed c) ≡ not (is_clear c.send)
+
+-- Where nothing is emitted, nothing is owed, and no symbol may be sent.
+abbrev pub SilenceOwesNothing : Type 0
+SilenceOwesNothing = (c : ControlBlock) → c.reset ≡ false → emitted c ≡ None → (owes c ≡ false) × (next_piece c.send ≡ None)
 
 -- ---- the way to another place
 

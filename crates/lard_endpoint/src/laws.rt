@@ -1,6 +1,6 @@
 //! What holds of endpoints over all their calls, for those who compose them.
 
-ghost use Rattle.lard_endpoint.specs.Laws.{LaterIsTheDifference, EarlierIsTheComplement, AheadIsInTheWindow, FreshIsThePart, FinComesLast, ListeningIsSound, ArrivingKeeps, LeavingKeeps, QueueingKeeps, FinishingKeeps, ReadingKeeps, AdoptionIsSound, PartsAreValid, AdoptionGoesOn};
+ghost use Rattle.lard_endpoint.specs.Laws.{LaterIsTheDifference, EarlierIsTheComplement, AheadIsInTheWindow, FreshIsThePart, FinComesLast, ListeningIsSound, ArrivingKeeps, LeavingKeeps, QueueingKeeps, FinishingKeeps, ReadingKeeps, AdoptionIsSound, TimerIsForTheRest, SilenceOwesNothing, PartsAreValid, AdoptionGoesOn};
 
 /// Numbers of one direction of a connection differ as their offsets do.
 pub fn numbers_differ_as_offsets()
@@ -28,6 +28,12 @@ pub fn both_directions_stay_bounded()
     ensures finishing { FinishingKeeps }
     ensures reading { ReadingKeeps }
     ensures adopting { AdoptionIsSound }
+{}
+
+/// What an endpoint says when it sends nothing.
+pub fn silence_means_something()
+    ensures timer { TimerIsForTheRest }
+    ensures emit { SilenceOwesNothing }
 {}
 
 /// An endpoint that is adopted from the parts of a frozen one goes on where that stood.

@@ -49,7 +49,7 @@ impl Endpoint {
         Arrival::AckOwed
     }
 
-    // second: check the RST bit
+    // RFC 9293, 3.10.7.4, second: check the RST bit
     fn on_rst(&mut self, segment: &Segment<'_>) -> Arrival
         ensures { (result, self.new) ≡ on_rst self.old (said segment.now) }
     {
@@ -64,7 +64,7 @@ impl Endpoint {
         Arrival::AckOwed
     }
 
-    // fourth: check the SYN bit
+    // RFC 9293, 3.10.7.4, fourth: check the SYN bit
     fn on_syn(&mut self, segment: &Segment<'_>) -> Arrival
         ensures { (result, self.new) ≡ on_syn self.old (said segment.now) }
     {
@@ -75,7 +75,7 @@ impl Endpoint {
         self.on_ack(segment)
     }
 
-    // fifth: check the ACK field
+    // RFC 9293, 3.10.7.4, fifth: check the ACK field
     fn on_ack(&mut self, segment: &Segment<'_>) -> Arrival
         ensures { (result, self.new) ≡ on_ack self.old (said segment.now) }
     {
@@ -101,7 +101,7 @@ impl Endpoint {
         self.on_text(segment)
     }
 
-    // seventh: process the segment text, and eighth: check the FIN bit
+    // RFC 9293, 3.10.7.4, seventh: process the segment text, and eighth: check the FIN bit
     fn on_text(&mut self, segment: &Segment<'_>) -> Arrival
         ensures { (result, self.new) ≡ on_text self.old (said segment.now) }
     {

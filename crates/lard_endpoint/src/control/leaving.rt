@@ -1,6 +1,6 @@
 //! What an endpoint sends: the next segment, and what its timer sends again.
 
-ghost use Rattle.std.specs.Prelude.{◌≡◌, ◌+◌, ◌≤◌, true, length, IfSome, OnSome, ◌<◌};
+ghost use Rattle.std.specs.Prelude.{◌≡◌, ◌+◌, ◌≤◌, true, ◌<◌, length, IfSome, OnSome};
 ghost use Rattle.lard_segment.specs.Segment.{said};
 ghost use Rattle.lard_send.specs.Send.{acknowledged_bytes, IsQueued, next_piece, resent_piece};
 ghost use Rattle.lard_endpoint.specs.Control.{rcv_wnd};
@@ -21,6 +21,7 @@ impl Endpoint {
         ensures fits { IfSome result (λ r. IsReady self.new r) }
         ensures ends { OnSome result (emits_left self.new < emits_left self.old) }
     {
+        // with what holds of every endpoint each segment brings the end nearer
         let _total = self.total();
         if self.reset {
             return None;
