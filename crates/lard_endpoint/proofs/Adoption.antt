@@ -1,12 +1,12 @@
 -- The parts of a frozen endpoint, and what is adopted from them.
-use Rattle.std.proofs.Common.{◌≡◌, ℕ, ◌+◌, ◌-◌, ◌≤◌, min, Bool, true, false, not, ◌&&◌, List, [], length, arith, ap, sym, subst}
+use Rattle.std.proofs.Common.{◌≡◌, ℕ, ◌+◌, ◌-◌, ◌≤◌, min, true, false, not, ◌&&◌, [], length, arith, ap, sym, subst}
 use Rattle.std.proofs.lemmas.Bool.{and_parts, not-true, eqb-true}
 use Rattle.std.proofs.lemmas.List.{nil_from_length}
 use Rattle.lard_base.specs.declared.parts.EndpointParts.{EndpointParts}
 use Rattle.lard_base.specs.Parts.{IsValidParts}
 use Rattle.lard_send.specs.Send.{one_if, symbols, is_clear}
 use Rattle.lard_endpoint.specs.Control.{ControlBlock, IsControlBlock}
-use Rattle.lard_endpoint.specs.Moving.{may_freeze, parts_of, adopted}
+use Rattle.lard_endpoint.specs.Moving.{may_freeze, parts_of}
 
 -- what may be frozen: all is acknowledged, and nothing ends it
 pub record Stands (c : ControlBlock) : Type 0 where

@@ -1,12 +1,12 @@
 -- What is emitted call by call comes to an end.
-use Rattle.std.proofs.Common.{◌≡◌, ℕ, ◌+◌, ◌-◌, ◌<◌, ◌≤◌, min, nat_lt, ◌==◌, not, ◌&&◌, ◌||◌, Bool, true, false, arith, ap, sym, subst, refl, ◌∙◌, ⊎_elim}
+use Rattle.std.proofs.Common.{◌≡◌, ℕ, ◌+◌, ◌-◌, ◌<◌, ◌≤◌, nat_lt, ◌==◌, not, ◌&&◌, Bool, true, false, arith, ap, sym, subst, refl, ◌∙◌, ⊎_elim}
 use Rattle.std.specs.Prelude.{if◌then◌else◌, Option, Some, None, OnSome}
 use Rattle.std.proofs.lemmas.Bool.{and_parts, eqb-true, eqb-false, ltb-true, not-true, and_from, lt-ltb, eq-eqb, false≢true, cases_lt}
 use Rattle.std.proofs.lemmas.Bool.Decides.{nat_tests}
 use Rattle.lard_send.specs.declared.piece.Piece.{Piece}
 use Rattle.lard_send.specs.Send.{Sending, IsSending, one_if, symbols, left, unsent_bytes, syn_piece, byte_piece, may_send, next_len, next_fin, next_piece, after_next}
 use Rattle.lard_segment.specs.declared.segment.Ready.{Ready}
-use Rattle.lard_endpoint.specs.Control.{ControlBlock, IsControlBlock, rcv_wnd}
+use Rattle.lard_endpoint.specs.Control.{ControlBlock, IsControlBlock}
 use Rattle.lard_endpoint.specs.Leaving.{told, owes, ack_ready, owed_ready, after_owed, ready_of, after_piece, advanced, emitted, after_emit, emits_left}
 
 set_bit : (b : Bool) → 0 < one_if b → b ≡ true

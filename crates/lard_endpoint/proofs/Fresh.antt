@@ -1,5 +1,5 @@
 -- What a receiver takes of a true segment.
-use Rattle.std.proofs.Common.{◌≡◌, ℕ, ◌+◌, ◌-◌, ◌^◌, ◌<◌, ◌≤◌, min, Bool, true, false, nat_lt, ◌&&◌, List, [], length, take, drop, arith, ap, refl, ◌∙◌, sym, subst, ⊎_elim, length-drop}
+use Rattle.std.proofs.Common.{◌≡◌, ℕ, ◌+◌, ◌-◌, ◌^◌, ◌<◌, ◌≤◌, min, true, false, nat_lt, List, [], length, take, drop, arith, ap, refl, ◌∙◌, sym, subst, ⊎_elim, length-drop}
 use Rattle.std.specs.Prelude.{if◌then◌else◌}
 use Rattle.std.proofs.lemmas.Bool.{cond_both, cases_lt, lt-ltb, and_from, false≢true}
 use Rattle.std.proofs.lemmas.List.{drop-take, drop-drop, drop_all, length-take, take_min, take_all, take-take}

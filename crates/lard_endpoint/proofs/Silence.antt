@@ -1,7 +1,6 @@
 -- What it means that nothing is sent.
-use Rattle.std.proofs.Common.{◌≡◌, ℕ, ◌+◌, ◌-◌, ◌<◌, ◌≤◌, min, nat_lt, ◌==◌, not, ◌&&◌, Bool, true, false, arith, ◌||◌, refl, ◌∙◌, ap, sym}
+use Rattle.std.proofs.Common.{◌≡◌, ℕ, ◌-◌, ◌<◌, ◌≤◌, min, nat_lt, ◌==◌, not, Bool, true, false, arith, ◌||◌, refl, ◌∙◌}
 use Rattle.std.specs.Prelude.{if◌then◌else◌, Option, Some, None, is_some}
-use Rattle.std.proofs.lemmas.Bool.{eqb-true, eqb-false, ltb-true, ltb-false}
 use Rattle.std.proofs.lemmas.Bool.Decides.{nat_tests}
 use Rattle.lard_segment.specs.declared.segment.Ready.{Ready}
 use Rattle.lard_send.specs.declared.piece.Piece.{Piece}

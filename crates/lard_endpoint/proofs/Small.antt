@@ -1,5 +1,5 @@
 -- What is sent fits a segment.
-use Rattle.std.proofs.Common.{◌≡◌, ℕ, ◌+◌, ◌-◌, ◌≤◌, min, nat_lt, ◌==◌, arith, sym, subst}
+use Rattle.std.proofs.Common.{◌≡◌, ◌-◌, ◌≤◌, min, nat_lt, ◌==◌, arith, sym, subst}
 use Rattle.std.specs.Prelude.{if◌then◌else◌, Option, Some, None, IfSome}
 use Rattle.std.proofs.lemmas.Bool.{cond_both}
 use Rattle.lard_send.specs.declared.piece.Piece.{Piece}

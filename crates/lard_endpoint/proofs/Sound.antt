@@ -1,5 +1,5 @@
 -- What holds of every endpoint stays so over each rule.
-use Rattle.std.proofs.Common.{◌≡◌, ℕ, ◌+◌, ◌-◌, ◌^◌, ◌<◌, ◌≤◌, min, max, Bool, true, false, nat_lt, ◌==◌, not, ◌&&◌, ◌||◌, List, [], ◌++◌, length, take, drop, arith, length-append, length-drop, sym, ap, ◌∙◌, refl}
+use Rattle.std.proofs.Common.{◌≡◌, ℕ, ◌+◌, ◌-◌, ◌^◌, ◌<◌, ◌≤◌, max, Bool, true, false, nat_lt, ◌==◌, not, ◌&&◌, ◌||◌, List, ◌++◌, length, drop, arith, length-append, length-drop, sym, ap, ◌∙◌, refl}
 use Rattle.std.proofs.lemmas.Bool.{cond_both, cond-true, ltb-true, ltb-false, eqb-true, eqb-false, and_parts, not-true}
 use Rattle.std.specs.Prelude.{if◌then◌else◌, Option, Some, None}
 use Rattle.std.proofs.lemmas.List.{length-take}

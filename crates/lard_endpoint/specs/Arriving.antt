@@ -1,8 +1,7 @@
 -- What an endpoint makes of a segment, step by step in the order of RFC 9293, 3.10.7.4. Each step answers what the
 -- segment made of the connection, and what is kept after it. Where a step does not drop the segment, the next one goes on.
-use Rattle.std.specs.Prelude.{◌≡◌, ℕ, ◌+◌, ◌-◌, ◌==◌, nat_lt, not, ◌&&◌, ◌||◌, Bool, true, false, if◌then◌else◌, List, [], length}
+use Rattle.std.specs.Prelude.{ℕ, ◌+◌, ◌-◌, ◌==◌, nat_lt, not, ◌&&◌, ◌||◌, Bool, true, false, if◌then◌else◌, [], length}
 use Rattle.lard_recv.specs.Recv.{one_if, arrived}
-use Rattle.lard_segment.specs.declared.segment.Flags.{Flags}
 use Rattle.lard_segment.specs.Segment.{Said}
 use Rattle.lard_send.specs.Send.{after_ack}
 use Rattle.lard_seq.specs.Seq.{seq_add, seq_offset}

@@ -1,9 +1,9 @@
 -- What an endpoint keeps of its connection: its control block (RFC 9293, 3.3.1), by counts. Both halves count in
 -- offsets from their SYN, never in plain sequence numbers.
-use Rattle.std.specs.Prelude.{◌≡◌, ℕ, ◌+◌, ◌≤◌, ◌^◌, ◌<◌, min, max, not, ◌&&◌, Bool, true, false, List, [], Option, unwrap_or}
+use Rattle.std.specs.Prelude.{◌≡◌, ℕ, min, max, Bool, false, List, [], Option, unwrap_or}
 use Rattle.lard_recv.specs.Recv.{Received, IsReceived, restored, room, awaited, consumed, discarded}
 use Rattle.lard_segment.specs.Segment.{Said}
-use Rattle.lard_send.specs.Send.{Sending, IsSending, begun, queued_too, closed, is_clear}
+use Rattle.lard_send.specs.Send.{Sending, IsSending, begun, queued_too, closed}
 use Rattle.lard_seq.specs.Seq.{seq_add}
 
 pub record ControlBlock : Type 0 where

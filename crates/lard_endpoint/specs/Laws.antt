@@ -2,7 +2,7 @@
 use Rattle.std.specs.Prelude.{◌≡◌, ℕ, ◌+◌, ◌-◌, ◌^◌, ◌<◌, ◌≤◌, ◌==◌, not, ◌&&◌, Bool, true, false, List, length, take, drop, None, is_some}
 use Rattle.lard_base.specs.declared.parts.EndpointParts.{EndpointParts}
 use Rattle.lard_base.specs.Parts.{IsValidParts}
-use Rattle.lard_recv.specs.Recv.{Received, IsReceived, begins_after, arrived, gained}
+use Rattle.lard_recv.specs.Recv.{Received, begins_after, arrived, gained}
 use Rattle.lard_segment.specs.Segment.{Said}
 use Rattle.lard_send.specs.Send.{is_clear, next_piece}
 use Rattle.lard_seq.specs.Seq.{seq_add, seq_offset}

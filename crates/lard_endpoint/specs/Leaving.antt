@@ -1,6 +1,5 @@
 -- What an endpoint sends: the next segment, and what its timer sends again (RFC 9293, 3.8 and 3.10.8).
-use Rattle.std.specs.Prelude.{◌≡◌, ℕ, ◌+◌, ◌-◌, ◌≤◌, ◌==◌, nat_lt, ◌&&◌, ◌||◌, Bool, true, false, if◌then◌else◌, List, length, take, drop, Option, Some, None, IfSome}
-use Rattle.lard_segment.specs.declared.segment.Flags.{Flags}
+use Rattle.std.specs.Prelude.{◌≡◌, ℕ, ◌+◌, ◌-◌, ◌≤◌, ◌==◌, nat_lt, ◌&&◌, ◌||◌, Bool, true, false, if◌then◌else◌, take, drop, Option, Some, None, IfSome}
 use Rattle.lard_segment.specs.declared.segment.Ready.{Ready}
 use Rattle.lard_segment.specs.Segment.{Said}
 use Rattle.lard_send.specs.declared.piece.Piece.{Piece}

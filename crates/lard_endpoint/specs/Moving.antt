@@ -1,5 +1,5 @@
 -- How an endpoint is frozen, goes on at another place, and ends.
-use Rattle.std.specs.Prelude.{◌≡◌, ℕ, ◌+◌, not, ◌&&◌, ◌||◌, Bool, true, false, if◌then◌else◌}
+use Rattle.std.specs.Prelude.{ℕ, not, ◌&&◌, ◌||◌, Bool, true, false, if◌then◌else◌}
 use Rattle.lard_base.specs.declared.parts.EndpointParts.{EndpointParts}
 use Rattle.lard_base.specs.declared.place.Reason.{Reason}
 use Rattle.lard_base.specs.declared.place.Reason.TheVariants.{Closed, Peer}
