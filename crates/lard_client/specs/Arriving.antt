@@ -1,0 +1,157 @@
+-- What a client makes of a segment, step by step in the order of RFC 9293, 3.10.7.4. Each step answers what the client
+-- heard, and what is kept after it. Where a step does not drop the segment, the next one goes on.
+use Rattle.std.specs.Prelude.{◌≡◌, ℕ, ◌+◌, ◌-◌, ◌^◌, ◌==◌, nat_lt, min, not, ◌&&◌, ◌||◌, Bool, true, false, if◌then◌else◌, [], length, Option, Some, None}
+use Rattle.lard_client.specs.declared.phase.Phase.{Phase}
+use Rattle.lard_client.specs.declared.phase.Phase.TheVariants.{Open, Aborted, Reset}
+use Rattle.lard_client.specs.declared.heard.Heard.{Heard}
+use Rattle.lard_client.specs.Control.{ClientBlock, rcv_nxt, rcv_wnd, peer_mss}
+use Rattle.lard_client.specs.Leaving.{refusal}
+use Rattle.lard_segment.specs.declared.segment.Flags.{Flags}
+use Rattle.lard_segment.specs.Segment.{Said}
+use Rattle.lard_send.specs.Send.{one_if, introduced, after_ack, closed}
+use Rattle.lard_seq.specs.Seq.{seq_add, seq_offset}
+
+-- Nothing was accepted, and nothing is answered at once.
+abbrev pub nothing : Heard
+nothing = record { from = 0; len = 0; eof = false; reply = None }
+
+-- SEG.LEN counts the data, the SYN and the FIN (RFC 9293, 3.4).
+abbrev pub seg_len : Said → ℕ
+seg_len s = length s.payload + one_if s.flags.syn + one_if s.flags.fin
+
+-- The sequence number of the last symbol of a segment that has one.
+abbrev pub last_number : Said → ℕ
+last_number s = seq_add s.seq (seg_len s - 1)
+
+-- A number lies in the window: RCV.NXT =< number < RCV.NXT + RCV.WND (RFC 9293, 3.4).
+abbrev pub is_in_window : ClientBlock → ℕ → Bool
+is_in_window x number = nat_lt (seq_offset number (rcv_nxt x)) (rcv_wnd x)
+
+-- The four cases of acceptability (RFC 9293, 3.10.7.4, table 6).
+abbrev pub is_acceptable : ClientBlock → Said → Bool
+is_acceptable x s =
+    if seg_len s == 0
+    then (if rcv_wnd x == 0 then s.seq == rcv_nxt x else is_in_window x s.seq)
+    else (if rcv_wnd x == 0 then false else is_in_window x s.seq || is_in_window x (last_number s))
+
+-- A segment at a window of 0 that is not acceptable for its data or FIN alone: its ACK is taken all the same
+-- (RFC 9293, 3.10.7.4, first: "special allowance should be made to accept valid ACKs").
+abbrev pub is_allowed : ClientBlock → Said → Bool
+is_allowed x s = (rcv_wnd x == 0 && s.seq == rcv_nxt x) && (not s.flags.rst && not s.flags.syn)
+
+abbrev pub owing : ClientBlock → ClientBlock
+owing x = record x { owed = true }
+
+abbrev pub reset_by_peer : ClientBlock → ClientBlock
+reset_by_peer x = record x { phase = Reset }
+
+-- The segment without its data and FIN.
+abbrev pub bare : Said → Said
+bare s = record s { payload = []; flags = record s.flags { fin = false } }
+
+-- An acceptable segment begins after RCV.NXT where its first number is another one of the window.
+abbrev pub begins_after : ClientBlock → Said → Bool
+begins_after x s = is_in_window x s.seq && not (s.seq == rcv_nxt x)
+
+-- How many of a segment's symbols come before RCV.NXT.
+abbrev pub known : ClientBlock → Said → ℕ
+known x s = seq_offset (rcv_nxt x) s.seq
+
+-- How many bytes may be accepted: what the window leaves, and no more than one direction carries, 2^30.
+abbrev pub room : ClientBlock → ℕ
+room x = min (rcv_wnd x) (2 ^ 30 - x.accepted)
+
+-- How many bytes from RCV.NXT on there is room for.
+abbrev pub fresh_len : ClientBlock → Said → ℕ
+fresh_len x s = min (length s.payload - known x s) (room x)
+
+-- The FIN is in order where all bytes before it are taken.
+abbrev pub ends : ClientBlock → Said → Bool
+ends x s = s.flags.fin && (known x s + fresh_len x s == length s.payload)
+
+-- So many bytes are accepted, which a client that holds leaves in its window, and perhaps the FIN behind them, which
+-- finishes its own side.
+abbrev pub accepting : ClientBlock → ℕ → Bool → ClientBlock
+accepting x n fin = record x {
+  accepted = x.accepted + n;
+  held = x.held + (if x.holding then n else 0);
+  eof = fin;
+  send = if fin then closed x.send else x.send;
+}
+
+-- The part of a segment that is accepted.
+abbrev pub part_of : ClientBlock → Said → Heard
+part_of x s = record { from = min (known x s) (length s.payload); len = fresh_len x s; eof = ends x s; reply = None }
+
+-- What begins after RCV.NXT is dropped, and after a FIN all is. Of the rest what fits is accepted.
+abbrev pub on_fresh : ClientBlock → Said → Heard × ClientBlock
+on_fresh x s = if begins_after x s || x.eof then (nothing, x) else (part_of x s, accepting x (fresh_len x s) (ends x s))
+
+-- RFC 9293, 3.10.7.4, seventh: process the segment text, and eighth: check the FIN bit. Both are to be acknowledged.
+abbrev pub on_text : ClientBlock → Said → Heard × ClientBlock
+on_text x s = if length s.payload == 0 && not s.flags.fin then (nothing, x) else on_fresh (owing x) s
+
+-- RFC 9293, 3.10.7.4, fifth: check the ACK field. One that acknowledges what was not sent is answered by an ACK.
+abbrev pub on_ack : ClientBlock → Said → Heard × ClientBlock
+on_ack x s =
+    if not s.flags.ack then (nothing, x) else
+    if nat_lt x.send.nxt (seq_offset s.ack x.send.iss) then (nothing, owing x) else
+    on_text (record x { send = after_ack x.send s.ack s.seq s.wnd }) s
+
+-- RFC 9293, 3.10.7.4, fourth: check the SYN bit. It is answered by a challenge ACK.
+abbrev pub on_syn : ClientBlock → Said → Heard × ClientBlock
+on_syn x s = if s.flags.syn then (nothing, owing x) else on_ack x s
+
+-- RFC 9293, 3.10.7.4, second: check the RST bit. It resets at RCV.NXT alone, and is answered by a challenge ACK
+-- elsewhere in the window.
+abbrev pub on_rst : ClientBlock → Said → Heard × ClientBlock
+on_rst x s =
+    if not s.flags.rst then on_syn x s else
+    if s.seq == rcv_nxt x then (nothing, reset_by_peer x) else
+    (nothing, owing x)
+
+-- RFC 9293, 3.10.7.4, first, for a segment that is not acceptable: an ACK is owed unless it has RST.
+abbrev pub on_unacceptable : ClientBlock → Said → Heard × ClientBlock
+on_unacceptable x s =
+    if is_allowed x s then on_ack (owing x) (bare s) else
+    if s.flags.rst then (nothing, x) else
+    (nothing, owing x)
+
+-- RFC 9293, 3.10.7.4, first: check sequence number.
+abbrev pub on_segment : ClientBlock → Said → Heard × ClientBlock
+on_segment x s = if is_acceptable x s then on_rst x s else on_unacceptable x s
+
+-- RFC 9293, 3.10.7.3, first: check the ACK bit. It acknowledges the SYN: its ACK offset is 1, and the SYN was sent.
+abbrev pub answers_syn : ClientBlock → Said → Bool
+answers_syn x s = s.flags.ack && (seq_offset s.ack x.send.iss == 1 && nat_lt 0 x.send.nxt)
+
+-- The cluster's SYN brings its first number, its window and its maximum segment size, and is to be acknowledged.
+abbrev pub established : ClientBlock → Said → ClientBlock
+established x s = record x { send = after_ack (introduced x.send s.seq (peer_mss s.mss)) s.ack s.seq s.wnd; owed = true }
+
+-- RFC 9293, 3.10.7.3, while the SYN is not acknowledged: a RST (second) and a SYN (fourth) count where they acknowledge
+-- it. All else is dropped.
+abbrev pub on_greeting : ClientBlock → Said → Heard × ClientBlock
+on_greeting x s =
+    if not (answers_syn x s) then (nothing, x) else
+    if s.flags.rst then (nothing, reset_by_peer x) else
+    if s.flags.syn then (nothing, established x s) else
+    (nothing, x)
+
+-- A segment comes to an open client.
+abbrev pub heard_open : ClientBlock → Said → Heard × ClientBlock
+heard_open x s = if x.send.una == 0 then on_greeting x s else on_segment x s
+
+-- The answer of a client that was aborted, which knows the connection no more (RFC 9293, 3.10.7.1): a segment with ACK
+-- and no RST is met by a RST.
+abbrev pub reply_to : ClientBlock → Said → Heard
+reply_to x s = record { from = 0; len = 0; eof = false; reply = if s.flags.ack && not s.flags.rst then Some (refusal x s.ack) else None }
+
+abbrev pub heard_in : Phase → ClientBlock → Said → Heard × ClientBlock
+heard_in Open x s = heard_open x s
+heard_in Aborted x s = (reply_to x s, x)
+heard_in Reset x s = (nothing, x)
+
+-- A segment comes. A client that was aborted or reset takes nothing of it.
+unfoldable pub arrived : ClientBlock → Said → Heard × ClientBlock
+arrived x s = heard_in x.phase x s

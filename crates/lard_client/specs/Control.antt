@@ -1,0 +1,108 @@
+-- What a client keeps of its connection: its control block (RFC 9293, 3.3.1), by counts. It holds no bytes of the
+-- cluster's, and counts those that it accepted.
+use Rattle.std.specs.Prelude.{◌≡◌, ℕ, ◌+◌, ◌-◌, ◌≤◌, ◌^◌, ◌==◌, nat_lt, min, max, not, ◌&&◌, ◌||◌, Bool, true, false, if◌then◌else◌, List, length, Option, unwrap_or}
+use Rattle.lard_client.specs.declared.phase.Phase.{Phase}
+use Rattle.lard_client.specs.declared.phase.Phase.TheVariants.{Open, Aborted, Reset}
+use Rattle.lard_send.specs.Send.{Sending, IsSending, one_if, begun, queued_too, closed, is_clear}
+use Rattle.lard_seq.specs.Seq.{seq_add}
+
+pub record ClientBlock : Type 0 where
+  pub c : ℕ  -- the number of its connection
+  pub send : Sending  -- its symbols, and the cluster's window
+  pub accepted : ℕ  -- how many bytes it accepted
+  pub eof : Bool  -- it took the cluster's FIN
+  pub wnd : ℕ  -- the window that it opens while it holds nothing
+  pub held : ℕ  -- how many of the accepted bytes lie in its window
+  pub holding : Bool  -- accepted bytes stay in its window
+  pub mss : ℕ  -- the most bytes of a segment that it takes
+  pub owed : Bool  -- an ACK is owed
+  pub last_window : ℕ  -- the window that the last segment told
+  pub phase : Phase
+
+-- What holds of every client.
+pub record IsClientBlock (x : ClientBlock) : Type 0 where
+  pub bounded : x.accepted ≤ 2 ^ 30
+  pub held_within : x.held ≤ x.wnd
+  pub some_mss : 1 ≤ x.mss
+  pub small_mss : x.mss ≤ 1460
+
+abbrev pub is_open_in : Phase → Bool
+is_open_in Open = true
+is_open_in Aborted = false
+is_open_in Reset = false
+
+-- It was neither aborted nor reset.
+abbrev pub is_open : ClientBlock → Bool
+is_open x = is_open_in x.phase
+
+-- Its SYN is acknowledged, and the cluster's SYN came with that.
+abbrev pub is_established : ClientBlock → Bool
+is_established x = not (x.send.una == 0)
+
+-- RCV.NXT: the SYN, the accepted bytes and the FIN have a number each (RFC 9293, 3.4).
+abbrev pub rcv_nxt : ClientBlock → ℕ
+rcv_nxt x = seq_add x.send.irs (1 + x.accepted + one_if x.eof)
+
+-- RCV.WND: its window less the bytes that it holds (RFC 9293, 3.8.6).
+abbrev pub rcv_wnd : ClientBlock → ℕ
+rcv_wnd x = x.wnd - x.held
+
+-- SND.NXT
+abbrev pub snd_nxt : ClientBlock → ℕ
+snd_nxt x = seq_add x.send.iss x.send.nxt
+
+-- The cluster's maximum segment size: 536 where its SYN names none (RFC 9293, 3.7.1), and 1 to 1,460.
+abbrev pub peer_mss : Option ℕ → ℕ
+peer_mss named = min (max (unwrap_or named 536) 1) 1460
+
+-- A client whose SYN is to be sent with its window (RFC 9293, 3.10.1). Of the cluster nothing is known yet.
+abbrev pub opened : ℕ → ℕ → ℕ → ℕ → ClientBlock
+opened c isn wnd mss = record {
+  c = c;
+  send = begun isn 0 0 536;
+  accepted = 0;
+  eof = false;
+  wnd = wnd;
+  held = 0;
+  holding = false;
+  mss = mss;
+  owed = false;
+  last_window = wnd;
+  phase = Open;
+}
+
+-- It still writes: it was not shut, aborted or reset, and took no FIN, which shuts it.
+abbrev pub is_writing : ClientBlock → Bool
+is_writing x = is_open x && not x.send.finished
+
+-- Bytes are to follow those that it wrote (RFC 9293, 3.10.2).
+abbrev pub written : ClientBlock → List ℕ → ClientBlock
+written x bytes = if is_writing x then record x { send = queued_too x.send bytes } else x
+
+-- Its bytes in all, once it wrote these.
+abbrev pub written_len : ClientBlock → List ℕ → ℕ
+written_len x bytes = x.send.total + (if is_writing x then length bytes else 0)
+
+-- Its FIN is to follow what it wrote (RFC 9293, 3.10.4).
+abbrev pub shut_down : ClientBlock → ClientBlock
+shut_down x = if is_open x then record x { send = closed x.send } else x
+
+-- From now on accepted bytes stay in its window.
+abbrev pub held_on : ClientBlock → ClientBlock
+held_on x = if is_open x then record x { holding = true } else x
+
+-- It reads all that lies in its window, and holds no longer (RFC 9293, 3.10.3). The cluster is told.
+abbrev pub taken : ClientBlock → ClientBlock
+taken x = if is_open x then record x { holding = false; held = 0; owed = x.owed || is_established x } else x
+
+-- It resets its connection (RFC 9293, 3.10.5).
+abbrev pub aborted : ClientBlock → ClientBlock
+aborted x = if is_open x then record x { phase = Aborted } else x
+
+-- A client that was aborted or reset holds no longer.
+abbrev pub is_holding : ClientBlock → Bool
+is_holding x = is_open x && x.holding
+
+-- Its timer runs while some symbol is not acknowledged. A client that was aborted or reset has none.
+abbrev pub is_armed : ClientBlock → Bool
+is_armed x = is_open x && not (is_clear x.send)

@@ -1,0 +1,4 @@
+pub mod Control
+pub mod Arriving
+pub mod Leaving
+pub mod Laws

@@ -1,0 +1,235 @@
+//! A client of the cluster: its own calls.
+
+ghost use Rattle.std.specs.Prelude.{◌≡◌, ◌≤◌, ◌^◌, false, length, IfOk, IfSome, OnOk, OnErr, Ok};
+ghost use Rattle.lard_client.specs.Control.{IsClientBlock, is_open, is_established, is_writing, is_holding, is_armed, opened, written, written_len, shut_down, held_on, taken, aborted, rcv_nxt, rcv_wnd, snd_nxt};
+ghost use Rattle.lard_client.specs.Leaving.{IsHeld, IsWritable, abort_ready};
+
+mod arriving;
+mod leaving;
+
+use crate::phase::Phase;
+use lard_base::{ConnId, NoMemory};
+use lard_segment::Ready;
+use lard_send::SendHalf;
+use lard_seq::Seq;
+use std::alloc::Global;
+use std::marker::Model;
+
+/// A client that opened its connection. Only `write` takes memory.
+#[derive(Drop)]
+pub struct Client {
+    c: ConnId,
+    send: SendHalf,
+    /// The number of its SYN, as `send` has it.
+    isn: Seq,
+    /// The number of the cluster's SYN, once it is established, as `send` has it.
+    irs: Seq,
+    accepted: u32,
+    eof: bool,
+    wnd: u16,
+    held: u16,
+    holding: bool,
+    mss: u16,
+    owed: bool,
+    last_window: u16,
+    phase: Phase,
+}
+
+impl Model for Client {
+    ghost use Rattle.std.specs.Prelude.{◌≡◌};
+    ghost use Rattle.lard_client.specs.Control.{ClientBlock, IsClientBlock};
+
+    ghost Value = { ClientBlock };
+
+    ghost view = { λ x. record {
+      c = x.c;
+      send = x.send;
+      accepted = x.accepted;
+      eof = x.eof;
+      wnd = x.wnd;
+      held = x.held;
+      holding = x.holding;
+      mss = x.mss;
+      owed = x.owed;
+      last_window = x.last_window;
+      phase = x.phase;
+    } };
+
+    ghost invariant = { λ x. (x.isn.0 ≡ x.send.iss) × (x.irs.0 ≡ x.send.irs) × IsClientBlock (record {
+      c = x.c;
+      send = x.send;
+      accepted = x.accepted;
+      eof = x.eof;
+      wnd = x.wnd;
+      held = x.held;
+      holding = x.holding;
+      mss = x.mss;
+      owed = x.owed;
+      last_window = x.last_window;
+      phase = x.phase;
+    }) };
+}
+
+impl Client {
+    /// A client of connection `c` whose SYN, with the number `isn`, `emit` gives first. It opens a window of `wnd` bytes,
+    /// at least 1, and takes segments of at most `mss` bytes, 1 to 1,460. It takes no memory yet.
+    pub fn open(alloc: Global, c: ConnId, isn: Seq, wnd: u16, mss: u16) -> Client
+        requires some_window { 1 ≤ wnd }
+        requires some_mss { 1 ≤ mss }
+        requires small_mss { mss ≤ 1460 }
+        ensures { result ≡ opened c isn.0 wnd mss }
+    {
+        Client {
+            c,
+            send: SendHalf::make(alloc, isn, Seq(0), 0, 536),
+            isn,
+            irs: Seq(0),
+            accepted: 0,
+            eof: false,
+            wnd,
+            held: 0,
+            holding: false,
+            mss,
+            owed: false,
+            last_window: wnd,
+            phase: Phase::Open,
+        }
+    }
+
+    /// The number of its connection.
+    pub fn number(&self) -> ConnId
+        ensures { result ≡ self.now.c }
+    {
+        self.c
+    }
+
+    /// Writes bytes behind those that it wrote, at most 2^30 over its connection. It answers false, and does nothing,
+    /// where the client no longer writes. Without memory it is as it was.
+    pub fn write(&mut self, bytes: &[u8]) -> Result<bool, NoMemory>
+        requires { written_len self.old bytes.now ≤ 2 ^ 30 }
+        ensures answer { IfOk result (λ writes. writes ≡ is_writing self.old) }
+        ensures ok { OnOk result (self.new ≡ written self.old bytes.now) }
+        ensures err { OnErr result (self.new ≡ self.old) }
+        ensures closed { is_writing self.old ≡ false → result ≡ Ok false }
+    {
+        if !self.writes() {
+            return Ok(false);
+        }
+        self.send.queue(bytes)?;
+        Ok(true)
+    }
+
+    /// Whether it still writes: it was not shut, aborted or reset, and took no FIN.
+    pub fn writes(&self) -> bool
+        ensures { result ≡ is_writing self.now }
+    {
+        self.is_open() && !self.send.finished()
+    }
+
+    /// How many bytes it wrote, at most 2^30.
+    pub fn written(&self) -> u32
+        ensures value { result ≡ self.now.send.total }
+        ensures most { result ≤ 2 ^ 30 }
+    {
+        self.send.total()
+    }
+
+    /// Closes its side behind what it wrote.
+    pub fn shut(&mut self)
+        ensures { self.new ≡ shut_down self.old }
+    {
+        if self.is_open() {
+            self.send.finish();
+        }
+    }
+
+    /// Resets its connection. The RST, which `emit` never gives, is to be sent where there is one: the client was open
+    /// and established.
+    pub fn abort(&mut self) -> Option<Ready>
+        ensures reset { result ≡ abort_ready self.old }
+        ensures after { self.new ≡ aborted self.old }
+        ensures held { IfSome result (λ ready. IsHeld self.new ready) }
+        ensures writable { IfSome result (λ ready. IsWritable ready) }
+    {
+        if !self.is_open() {
+            return None;
+        }
+        self.phase = Phase::Aborted;
+        if !self.is_established() {
+            return None;
+        }
+        Some(self.reset())
+    }
+
+    /// Lets accepted bytes stay in its window from now on.
+    pub fn hold(&mut self)
+        ensures { self.new ≡ held_on self.old }
+    {
+        if self.is_open() {
+            self.holding = true;
+        }
+    }
+
+    /// Reads all that lies in its window, and holds no longer. The cluster is told so by an ACK.
+    pub fn take(&mut self)
+        ensures { self.new ≡ taken self.old }
+    {
+        if self.is_open() {
+            self.holding = false;
+            self.held = 0;
+            self.owed = self.owed || self.is_established();
+        }
+    }
+
+    /// Whether accepted bytes stay in its window: it is open, and its last `hold` or `take` was `hold`.
+    pub fn holding(&self) -> bool
+        ensures { result ≡ is_holding self.now }
+    {
+        self.is_open() && self.holding
+    }
+
+    /// Whether its timer runs: it is open, and its SYN, a byte or its FIN is not acknowledged.
+    pub fn armed(&self) -> bool
+        ensures { result ≡ is_armed self.now }
+    {
+        self.is_open() && self.send.armed()
+    }
+
+    /// It was neither aborted nor reset.
+    fn is_open(&self) -> bool
+        ensures { result ≡ is_open self.now }
+    {
+        match self.phase {
+            Phase::Open => true,
+            Phase::Aborted | Phase::Reset => false,
+        }
+    }
+
+    /// Its SYN is acknowledged, and the cluster's SYN came with that.
+    fn is_established(&self) -> bool
+        ensures { result ≡ is_established self.now }
+    {
+        self.send.una() != 0
+    }
+
+    /// The number that it awaits, RCV.NXT.
+    fn rcv_nxt(&self) -> Seq
+        ensures { result.0 ≡ rcv_nxt self.now }
+    {
+        self.irs.add(1 + self.accepted + self.eof as u32)
+    }
+
+    /// The window, RCV.WND: what it opens less what it holds.
+    fn rcv_wnd(&self) -> u16
+        ensures { result ≡ rcv_wnd self.now }
+    {
+        self.wnd - self.held
+    }
+
+    /// The number that it sends next, SND.NXT.
+    fn snd_nxt(&self) -> Seq
+        ensures { result.0 ≡ snd_nxt self.now }
+    {
+        self.isn.add(self.send.nxt())
+    }
+}

@@ -1,0 +1,301 @@
+//! What a client makes of a segment, step by step.
+
+ghost use Rattle.std.specs.Prelude.{◌≡◌, ◌+◌, ◌≤◌, length, IfSome};
+ghost use Rattle.lard_client.specs.Control.{peer_mss};
+ghost use Rattle.lard_client.specs.Arriving.{seg_len, last_number, is_in_window, is_acceptable, is_allowed, bare, begins_after, known, room, fresh_len, ends, accepting, part_of, on_fresh, on_text, on_ack, on_syn, on_rst, on_unacceptable, on_segment, answers_syn, established, on_greeting, heard_open, reply_to, arrived};
+ghost use Rattle.lard_client.specs.Leaving.{IsHeld, IsWritable};
+ghost use Rattle.lard_segment.specs.Segment.{said};
+
+use super::Client;
+use crate::heard::Heard;
+use crate::phase::Phase;
+use lard_segment::{Flags, Segment};
+use lard_send::Ack;
+use lard_seq::Seq;
+
+/// The most bytes that come over one connection.
+const MOST: u32 = 1 << 30;
+
+/// The maximum segment size of a peer that names none (RFC 9293, 3.7.1).
+const DEFAULT_MSS: u16 = 536;
+
+/// The greatest maximum segment size.
+const MAX_MSS: u16 = 1460;
+
+impl Client {
+    /// Takes a segment, and says which part of its data was accepted. The reply, which `emit` never gives, is to be sent
+    /// where there is one: the client was aborted, and the segment has ACK and no RST.
+    #[tactic(auto, unfolding(crate::specs::Arriving::arrived))]
+    pub fn arrive(&mut self, segment: &Segment<'_>) -> Heard
+        ensures rule { (result, self.new) ≡ arrived self.old (said segment.now) }
+        ensures part { result.from + result.len ≤ length segment.now.payload.now }
+        ensures held { IfSome result.reply (λ ready. IsHeld self.new ready) }
+        ensures writable { IfSome result.reply (λ ready. IsWritable ready) }
+    {
+        match self.phase {
+            Phase::Open => return self.hear(segment),
+            Phase::Aborted => return self.refuse(segment),
+            Phase::Reset => return Heard::nothing(),
+        }
+    }
+
+    /// Takes a segment while the client is open.
+    fn hear(&mut self, segment: &Segment<'_>) -> Heard
+        ensures { (result, self.new) ≡ heard_open self.old (said segment.now) }
+    {
+        if self.send.una() == 0 {
+            return self.on_greeting(segment);
+        }
+        self.on_segment(segment)
+    }
+
+    /// Answers a segment after the client aborted.
+    fn refuse(&self, segment: &Segment<'_>) -> Heard
+        ensures { result ≡ reply_to self.now (said segment.now) }
+    {
+        if segment.flags.ack && !segment.flags.rst {
+            return Heard {
+                reply: Some(self.refusal(segment.ack)),
+                ..Heard::nothing()
+            };
+        }
+        Heard::nothing()
+    }
+
+    /// Takes a segment while the client's SYN is not acknowledged.
+    fn on_greeting(&mut self, segment: &Segment<'_>) -> Heard
+        requires { self.old.send.una ≡ 0 }
+        ensures { (result, self.new) ≡ on_greeting self.old (said segment.now) }
+    {
+        if !self.answers_syn(segment) {
+            return Heard::nothing();
+        }
+        if segment.flags.rst {
+            self.phase = Phase::Reset;
+            return Heard::nothing();
+        }
+        if segment.flags.syn {
+            self.establish(segment);
+        }
+        Heard::nothing()
+    }
+
+    /// Whether a segment acknowledges the SYN.
+    fn answers_syn(&self, segment: &Segment<'_>) -> bool
+        ensures { result ≡ answers_syn self.now (said segment.now) }
+    {
+        segment.flags.ack && (segment.ack.offset_from(self.isn) == 1 && 0 < self.send.nxt())
+    }
+
+    /// Takes the cluster's SYN, which acknowledges the client's.
+    fn establish(&mut self, segment: &Segment<'_>)
+        requires { self.old.send.una ≡ 0 }
+        ensures { self.new ≡ established self.old (said segment.now) }
+    {
+        self.irs = segment.seq;
+        self.send.peer(segment.seq, size_of(segment.mss));
+        let _ack = self.send.ack(segment.ack, segment.seq, segment.wnd);
+        self.owed = true;
+    }
+
+    /// First: check sequence number.
+    fn on_segment(&mut self, segment: &Segment<'_>) -> Heard
+        ensures { (result, self.new) ≡ on_segment self.old (said segment.now) }
+    {
+        if self.is_acceptable(segment) {
+            return self.on_rst(segment);
+        }
+        self.on_unacceptable(segment)
+    }
+
+    /// Whether a segment is acceptable, by its length and the window.
+    fn is_acceptable(&self, segment: &Segment<'_>) -> bool
+        ensures { result ≡ is_acceptable self.now (said segment.now) }
+    {
+        let closed = self.rcv_wnd() == 0;
+        let len = length_of(segment);
+        if len == 0 {
+            return if closed {
+                segment.seq == self.rcv_nxt()
+            } else {
+                self.is_in_window(segment.seq)
+            };
+        }
+        !closed && (self.is_in_window(segment.seq) || self.is_in_window(last_of(segment)))
+    }
+
+    /// Whether a number lies in the window.
+    fn is_in_window(&self, number: Seq) -> bool
+        ensures { result ≡ is_in_window self.now number.0 }
+    {
+        number.offset_from(self.rcv_nxt()) < self.rcv_wnd() as u32
+    }
+
+    /// Owes an ACK for a segment that is not acceptable, unless it has RST. At a window of 0 the ACK of one that begins
+    /// at RCV.NXT is taken all the same.
+    fn on_unacceptable(&mut self, segment: &Segment<'_>) -> Heard
+        ensures { (result, self.new) ≡ on_unacceptable self.old (said segment.now) }
+    {
+        if self.is_allowed(segment) {
+            self.owed = true;
+            return self.on_ack(&bare(segment));
+        }
+        if !segment.flags.rst {
+            self.owed = true;
+        }
+        Heard::nothing()
+    }
+
+    /// Whether the window is 0, and a segment begins at RCV.NXT with neither RST nor SYN.
+    fn is_allowed(&self, segment: &Segment<'_>) -> bool
+        ensures { result ≡ is_allowed self.now (said segment.now) }
+    {
+        (self.rcv_wnd() == 0 && segment.seq == self.rcv_nxt())
+            && (!segment.flags.rst && !segment.flags.syn)
+    }
+
+    /// Second: check the RST bit.
+    fn on_rst(&mut self, segment: &Segment<'_>) -> Heard
+        ensures { (result, self.new) ≡ on_rst self.old (said segment.now) }
+    {
+        if !segment.flags.rst {
+            return self.on_syn(segment);
+        }
+        if segment.seq == self.rcv_nxt() {
+            self.phase = Phase::Reset;
+        } else {
+            self.owed = true;
+        }
+        Heard::nothing()
+    }
+
+    /// Fourth: check the SYN bit.
+    fn on_syn(&mut self, segment: &Segment<'_>) -> Heard
+        ensures { (result, self.new) ≡ on_syn self.old (said segment.now) }
+    {
+        if segment.flags.syn {
+            self.owed = true;
+            return Heard::nothing();
+        }
+        self.on_ack(segment)
+    }
+
+    /// Fifth: check the ACK field.
+    fn on_ack(&mut self, segment: &Segment<'_>) -> Heard
+        ensures { (result, self.new) ≡ on_ack self.old (said segment.now) }
+    {
+        if !segment.flags.ack {
+            return Heard::nothing();
+        }
+        match self.send.ack(segment.ack, segment.seq, segment.wnd) {
+            Ack::Beyond => {
+                self.owed = true;
+                return Heard::nothing();
+            }
+            Ack::New(_) | Ack::Same => return self.on_text(segment),
+        }
+    }
+
+    /// Seventh: process the segment text, and eighth: check the FIN bit.
+    fn on_text(&mut self, segment: &Segment<'_>) -> Heard
+        ensures { (result, self.new) ≡ on_text self.old (said segment.now) }
+    {
+        if segment.payload.is_empty() && !segment.flags.fin {
+            return Heard::nothing();
+        }
+        self.owed = true;
+        self.on_fresh(segment)
+    }
+
+    /// Drops what begins after RCV.NXT, and after a FIN all. Accepts what fits of the rest.
+    fn on_fresh(&mut self, segment: &Segment<'_>) -> Heard
+        ensures { (result, self.new) ≡ on_fresh self.old (said segment.now) }
+    {
+        if self.begins_after(segment) || self.eof {
+            return Heard::nothing();
+        }
+        let part = self.part_of(segment);
+        self.accept(part.len, part.eof);
+        part
+    }
+
+    /// Whether an acceptable segment begins after RCV.NXT.
+    fn begins_after(&self, segment: &Segment<'_>) -> bool
+        ensures { result ≡ begins_after self.now (said segment.now) }
+    {
+        self.is_in_window(segment.seq) && segment.seq != self.rcv_nxt()
+    }
+
+    /// The part of a segment from RCV.NXT on that there is room for.
+    fn part_of(&self, segment: &Segment<'_>) -> Heard
+        ensures { result ≡ part_of self.now (said segment.now) }
+    {
+        let known = self.rcv_nxt().offset_from(segment.seq);
+        let size = segment.payload.len();
+        let len = size.saturating_sub(known as usize).min(self.room() as usize);
+        Heard {
+            from: size.min(known as usize) as u32,
+            len: len as u32,
+            eof: segment.flags.fin && known as usize + len == size,
+            reply: None,
+        }
+    }
+
+    /// How many bytes may be accepted: what the window leaves, and no more than are left of 2^30.
+    fn room(&self) -> u32
+        ensures { result ≡ room self.now }
+    {
+        (self.rcv_wnd() as u32).min(MOST - self.accepted)
+    }
+
+    /// Accepts so many bytes, and the FIN behind them where `fin` is true, which finishes the client's own side.
+    fn accept(&mut self, n: u32, fin: bool)
+        requires { n ≤ room self.old }
+        ensures { self.new ≡ accepting self.old n fin }
+    {
+        self.accepted += n;
+        if self.holding {
+            self.held += n as u16;
+        }
+        self.eof = fin;
+        if fin {
+            self.send.finish();
+        }
+    }
+}
+
+/// How many symbols a segment has: its data, its SYN and its FIN.
+fn length_of(segment: &Segment<'_>) -> usize
+    ensures { result ≡ seg_len (said segment.now) }
+{
+    segment.payload.len() + segment.flags.syn as usize + segment.flags.fin as usize
+}
+
+/// The number of its last symbol.
+fn last_of(segment: &Segment<'_>) -> Seq
+    ensures { result.0 ≡ last_number (said segment.now) }
+{
+    let behind = length_of(segment).saturating_sub(1);
+    segment.seq.add((behind & 0xffff_ffff) as u32)
+}
+
+/// The maximum segment size of a peer that names this one, or none.
+fn size_of(named: Option<u16>) -> u16
+    ensures { result ≡ peer_mss named }
+{
+    named.unwrap_or(DEFAULT_MSS).max(1).min(MAX_MSS)
+}
+
+/// A segment without its data and its FIN.
+fn bare<'a>(segment: &Segment<'a>) -> Segment<'a>
+    ensures { said result ≡ bare (said segment.now) }
+{
+    Segment {
+        flags: Flags {
+            fin: false,
+            ..segment.flags
+        },
+        payload: &[],
+        ..*segment
+    }
+}

@@ -1,0 +1,201 @@
+//! What a client sends.
+
+ghost use Rattle.std.specs.Prelude.{◌≡◌, ◌≤◌, length, IfSome};
+ghost use Rattle.lard_client.specs.Control.{is_established};
+ghost use Rattle.lard_client.specs.Leaving.{IsHeld, IsWritable, syn_ready, piece_ready, ack_ready, reset_ready, refusal, told, owes, owed_ready, data_ready, after_owed, emitted, after_emit, timed, after_timer, filled};
+ghost use Rattle.lard_segment.specs.Segment.{said};
+
+use super::Client;
+use lard_segment::{Flags, Ready, Segment};
+use lard_send::Piece;
+use lard_seq::Seq;
+
+/// No control bit is set.
+const BARE: Flags = Flags {
+    syn: false,
+    ack: false,
+    fin: false,
+    rst: false,
+    psh: false,
+};
+
+impl Client {
+    /// The next segment that is to be sent, or none: first the SYN; once that is acknowledged bytes and the FIN, at most
+    /// a segment and as far as the cluster's window allows; else an ACK where one is owed. A client that was aborted or
+    /// reset gives none.
+    pub fn emit(&mut self) -> Option<Ready>
+        ensures ready { result ≡ emitted self.old }
+        ensures after { self.new ≡ after_emit self.old }
+        ensures held { IfSome result (λ ready. IsHeld self.new ready) }
+        ensures writable { IfSome result (λ ready. IsWritable ready) }
+    {
+        if !self.is_open() {
+            return None;
+        }
+        match self.send.next() {
+            Some(piece) => return Some(self.tell(piece)),
+            None => return self.tell_owed(),
+        }
+    }
+
+    /// What the timer sends again, or none: the SYN while it is not acknowledged; else the sent symbols from the first
+    /// that is not acknowledged, at most a segment; where all are, one symbol beyond the window.
+    pub fn timer(&mut self) -> Option<Ready>
+        ensures ready { result ≡ timed self.old }
+        ensures after { self.new ≡ after_timer self.old }
+        ensures held { IfSome result (λ ready. IsHeld self.new ready) }
+        ensures writable { IfSome result (λ ready. IsWritable ready) }
+    {
+        if !self.is_open() {
+            return None;
+        }
+        match self.send.resend() {
+            Some(piece) => return Some(self.tell(piece)),
+            None => return None,
+        }
+    }
+
+    /// The segment that `ready` names, with its data, which is copied to the front of `buf`. `ready` is what the client
+    /// gave last.
+    pub fn segment<'a>(&self, ready: Ready, buf: &'a mut [u8]) -> Segment<'a>
+        requires held { IsHeld self.now ready }
+        requires room { ready.len ≤ length buf.old }
+        ensures { said result ≡ filled self.now ready }
+    {
+        self.send.fill(ready.at, ready.len, buf);
+        Segment {
+            seq: ready.seq,
+            ack: ready.ack,
+            flags: ready.flags,
+            wnd: ready.wnd,
+            mss: ready.mss,
+            payload: &buf[..ready.len as usize],
+        }
+    }
+
+    /// Tells a piece and the window.
+    fn tell(&mut self, piece: Piece) -> Ready
+        ensures ready { result ≡ piece_ready self.old piece }
+        ensures after { self.new ≡ told self.old }
+    {
+        let ready = if piece.syn {
+            self.syn()
+        } else {
+            self.data(piece)
+        };
+        self.end_owed();
+        ready
+    }
+
+    /// Tells an ACK and the window, where an ACK is owed.
+    fn tell_owed(&mut self) -> Option<Ready>
+        ensures ready { result ≡ owed_ready self.old }
+        ensures after { self.new ≡ after_owed self.old }
+    {
+        if !self.owes() {
+            return None;
+        }
+        let ready = self.ack();
+        self.end_owed();
+        Some(ready)
+    }
+
+    /// A segment was told, with the window.
+    fn end_owed(&mut self)
+        ensures { self.new ≡ told self.old }
+    {
+        self.owed = false;
+        self.last_window = self.rcv_wnd();
+    }
+
+    /// Whether it owes an ACK, also because its window opened since it was told as 0.
+    fn owes(&self) -> bool
+        ensures { result ≡ owes self.now }
+    {
+        self.is_established() && (self.owed || (self.last_window == 0 && 0 < self.rcv_wnd()))
+    }
+
+    /// The SYN.
+    fn syn(&self) -> Ready
+        ensures { result ≡ syn_ready self.now }
+    {
+        Ready {
+            seq: self.isn,
+            ack: Seq(0),
+            flags: Flags { syn: true, ..BARE },
+            wnd: self.rcv_wnd(),
+            mss: Some(self.mss),
+            at: 0,
+            len: 0,
+        }
+    }
+
+    /// Bytes, and perhaps the FIN.
+    fn data(&self, piece: Piece) -> Ready
+        ensures { result ≡ data_ready self.now piece }
+    {
+        Ready {
+            seq: self.isn.add(1).add(piece.at),
+            ack: self.rcv_nxt(),
+            flags: Flags {
+                ack: true,
+                fin: piece.fin,
+                psh: piece.push,
+                ..BARE
+            },
+            wnd: self.rcv_wnd(),
+            mss: None,
+            at: piece.at,
+            len: piece.len,
+        }
+    }
+
+    /// A plain ACK.
+    fn ack(&self) -> Ready
+        ensures { result ≡ ack_ready self.now }
+    {
+        Ready {
+            seq: self.snd_nxt(),
+            ack: self.rcv_nxt(),
+            flags: Flags { ack: true, ..BARE },
+            wnd: self.rcv_wnd(),
+            mss: None,
+            at: self.send.total(),
+            len: 0,
+        }
+    }
+
+    /// The RST of a client that aborts.
+    pub(super) fn reset(&self) -> Ready
+        ensures { result ≡ reset_ready self.now }
+    {
+        Ready {
+            seq: self.snd_nxt(),
+            ack: self.rcv_nxt(),
+            flags: Flags {
+                ack: true,
+                rst: true,
+                ..BARE
+            },
+            wnd: 0,
+            mss: None,
+            at: self.send.total(),
+            len: 0,
+        }
+    }
+
+    /// The RST that answers an acknowledgement number.
+    pub(super) fn refusal(&self, ack: Seq) -> Ready
+        ensures { result ≡ refusal self.now ack.0 }
+    {
+        Ready {
+            seq: ack,
+            ack: Seq(0),
+            flags: Flags { rst: true, ..BARE },
+            wnd: 0,
+            mss: None,
+            at: self.send.total(),
+            len: 0,
+        }
+    }
+}
