@@ -1,0 +1,32 @@
+-- What holds of all that a client accepts, segment by segment.
+use Rattle.std.specs.Prelude.{◌≡◌, ℕ, ◌+◌, ◌^◌, ◌<◌, ◌≤◌, true, false, length, take, drop}
+use Rattle.lard_client.specs.declared.heard.Heard.{Heard}
+use Rattle.lard_client.specs.Control.{ClientBlock, is_open, is_established, rcv_nxt, rcv_wnd}
+use Rattle.lard_client.specs.Arriving.{arrived, known, room}
+use Rattle.lard_segment.specs.Segment.{Said}
+use Rattle.lard_send.specs.Send.{one_if}
+use Rattle.lard_seq.specs.Seq.{seq_add}
+
+-- What a client heard of a segment, between what it kept before and after.
+pub record IsInOrder (x : ClientBlock) (s : Said) (h : Heard) (y : ClientBlock) : Type 0 where
+  pub within : h.from + h.len ≤ length s.payload  -- the accepted part lies in the segment's data
+  pub place : 0 < h.len → seq_add s.seq h.from ≡ rcv_nxt x  -- its first byte is the one that is awaited
+  pub fresh : 0 < h.len → take h.len (drop h.from s.payload) ≡ take (room x) (drop (known x s) s.payload)  -- it is all that there is room for
+  pub fits : h.len ≤ rcv_wnd x
+  pub last : h.eof ≡ true → h.from + h.len ≡ length s.payload  -- no byte stands between it and the FIN
+  pub counted : y.accepted ≡ x.accepted + h.len
+  pub next : is_established x ≡ true → rcv_nxt y ≡ seq_add (rcv_nxt x) (h.len + one_if h.eof)  -- RCV.NXT moves by what was taken
+  pub once : x.eof ≡ true → h.len + one_if h.eof ≡ 0  -- nothing is taken after the FIN
+
+-- Each arrival is in order.
+abbrev pub ArrivalsAreInOrder : Type 0
+ArrivalsAreInOrder = (x : ClientBlock) (s : Said) → s.seq < 2 ^ 32 → IsInOrder x s (arrived x s).0 (arrived x s).1
+
+-- No more than 2^30 bytes are accepted.
+abbrev pub AcceptedStaysBounded : Type 0
+AcceptedStaysBounded = (x : ClientBlock) (s : Said) → x.accepted ≤ 2 ^ 30 → (arrived x s).1.accepted ≤ 2 ^ 30
+
+-- A client that was aborted or reset takes nothing, and is as it was.
+abbrev pub EndedTakesNothing : Type 0
+EndedTakesNothing = (x : ClientBlock) (s : Said) → is_open x ≡ false
+    → ((arrived x s).1 ≡ x) × ((arrived x s).0.len ≡ 0) × ((arrived x s).0.eof ≡ false)

@@ -3,6 +3,7 @@
 ghost use Rattle.std.specs.Prelude.{◌≡◌, ◌≤◌, ◌^◌, false, length, IfOk, IfSome, OnOk, OnErr, Ok};
 ghost use Rattle.lard_client.specs.Control.{IsClientBlock, is_open, is_established, is_writing, is_holding, is_armed, opened, written, written_len, shut_down, held_on, taken, aborted, rcv_nxt, rcv_wnd, snd_nxt};
 ghost use Rattle.lard_client.specs.Leaving.{IsHeld, IsWritable, abort_ready};
+ghost use Rattle.lard_send.specs.Send.{IsSending};
 
 mod arriving;
 mod leaving;
@@ -129,7 +130,8 @@ impl Client {
     /// How many bytes it wrote, at most 2^30.
     pub fn written(&self) -> u32
         ensures value { result ≡ self.now.send.total }
-        ensures most { result ≤ 2 ^ 30 }
+        ensures law { IsClientBlock self.now }
+        ensures sending { IsSending self.now.send }
     {
         self.send.total()
     }

@@ -23,6 +23,7 @@ impl Client {
     /// The next segment that is to be sent, or none: first the SYN; once that is acknowledged bytes and the FIN, at most
     /// a segment and as far as the cluster's window allows; else an ACK where one is owed. A client that was aborted or
     /// reset gives none.
+    #[tactic(auto, using(crate::proofs::Writable::writable_piece, crate::proofs::Writable::short_next))]
     pub fn emit(&mut self) -> Option<Ready>
         ensures ready { result ≡ emitted self.old }
         ensures after { self.new ≡ after_emit self.old }
@@ -32,6 +33,7 @@ impl Client {
         if !self.is_open() {
             return None;
         }
+        let _written = self.written();
         match self.send.next() {
             Some(piece) => return Some(self.tell(piece)),
             None => return self.tell_owed(),
@@ -40,6 +42,7 @@ impl Client {
 
     /// What the timer sends again, or none: the SYN while it is not acknowledged; else the sent symbols from the first
     /// that is not acknowledged, at most a segment; where all are, one symbol beyond the window.
+    #[tactic(auto, using(crate::proofs::Writable::writable_piece, crate::proofs::Writable::short_resent))]
     pub fn timer(&mut self) -> Option<Ready>
         ensures ready { result ≡ timed self.old }
         ensures after { self.new ≡ after_timer self.old }
@@ -49,6 +52,7 @@ impl Client {
         if !self.is_open() {
             return None;
         }
+        let _written = self.written();
         match self.send.resend() {
             Some(piece) => return Some(self.tell(piece)),
             None => return None,
