@@ -1,18 +1,18 @@
 -- What is accepted is in order, stays bounded, and is nothing once the client was aborted or reset.
-use Rattle.std.proofs.Common.{◌≡◌, ◌≤◌, ◌<◌, ◌-◌, ◌+◌, ◌^◌, ℕ, Bool, true, false, cond, min, nat_lt, ◌==◌, not, ◌&&◌, ◌||◌, ◌⊎◌, Option, Some, None, IfSome, List, length, take, drop, arith, refl, subst, sym, ap, ◌∙◌, inl, inr, ⊎_elim, length-drop}
+use Rattle.std.proofs.Common.{◌≡◌, ◌≤◌, ◌<◌, ◌+◌, ◌^◌, ℕ, true, false, cond, min, ◌==◌, not, Option, None, IfSome, List, length, take, drop, arith, refl, subst, sym, ap, ◌∙◌, ⊎_elim, length-drop}
 use Rattle.std.proofs.lemmas.Bool.{cond_both, and_parts, eqb-true}
 use Rattle.std.proofs.lemmas.List.{take_min, drop_min}
 use Rattle.lard_client.specs.declared.heard.Heard.{Heard}
 use Rattle.lard_client.specs.declared.phase.Phase.{Phase}
 use Rattle.lard_client.specs.declared.phase.Phase.TheVariants.{Open, Aborted, Reset}
-use Rattle.lard_client.specs.Control.{ClientBlock, is_open, is_open_in, is_established, rcv_nxt, rcv_wnd}
+use Rattle.lard_client.specs.Control.{ClientBlock, is_open, is_open_in, is_established, rcv_nxt}
 use Rattle.lard_client.specs.Arriving.{nothing, known, room, fresh_len, ends, part_of, on_segment, reset_by_peer, answers_syn, established, on_greeting, heard_open, heard_in, arrived}
 use Rattle.lard_client.specs.Laws.{IsInOrder}
-use Rattle.lard_client.proofs.Outcomes.{Quiet, Took, Outcome, segment-outcome}
+use Rattle.lard_client.proofs.Outcomes.{Outcome, segment-outcome}
 use Rattle.lard_segment.specs.declared.segment.Ready.{Ready}
 use Rattle.lard_segment.specs.Segment.{Said}
 use Rattle.lard_send.specs.Send.{one_if}
-use Rattle.lard_seq.specs.Seq.{seq_add, seq_offset}
+use Rattle.lard_seq.specs.Seq.{seq_add}
 use Rattle.lard_seq.proofs.Laws.{add-offset}
 
 -- nothing is in order
@@ -26,6 +26,7 @@ none-order x y s o a n = record {
   last = λ e. cc;
   counted = omega arith;
   next = λ e. n e ∙ omega arith;
+  shuts = λ e. cc;
   once = λ e. refl;
 }
 
@@ -43,8 +44,8 @@ part-fresh x s =
 
 -- a part is in order
 part-order : (x y : ClientBlock) (s : Said) → s.seq < 2 ^ 32 → x.eof ≡ false → y.accepted ≡ x.accepted + fresh_len x s → y.eof ≡ ends x s
-    → y.send.irs ≡ x.send.irs → IsInOrder x s (part_of x s) y
-part-order x y s q f a e i =
+    → y.send.irs ≡ x.send.irs → (ends x s ≡ true → y.send.finished ≡ true) → IsInOrder x s (part_of x s) y
+part-order x y s q f a e i shut =
     let numbered : rcv_nxt x < 2 ^ 32 = omega arith in
     record {
       within = omega arith;
@@ -58,6 +59,7 @@ part-order x y s q f a e i =
           omega arith;
       counted = a;
       next = λ t. moved x.send.irs y.send.irs x.accepted y.accepted (fresh_len x s) (one_if y.eof) (one_if x.eof) (one_if (ends x s)) i a (ap one_if e) (ap one_if f);
+      shuts = shut;
       once = λ t. absurd (cc);
     }
 
@@ -68,7 +70,7 @@ outcome-order : (x : ClientBlock) (s : Said) (r : Heard × ClientBlock) → s.se
 outcome-order x s r q =
     let P : Heard → Type 0 = λ h. IsInOrder x s h r.1 in
     ⊎_elim (λ u. subst P (sym u.0) (none-order x r.1 s None u.1 (λ e. same-next x r.1 u.1 u.2 u.3)))
-    (λ t. subst P (sym t.1) (part-order x r.1 s q t.0 t.2 t.3 t.4))
+    (λ t. subst P (sym t.1) (part-order x r.1 s q t.0 t.2 t.3 t.4 t.5))
 
 -- while its SYN is not acknowledged it accepts nothing
 greeting-quiet : (x : ClientBlock) (s : Said) (P : Heard × ClientBlock → Type 0) → ((y : ClientBlock) → y.accepted ≡ x.accepted → P (nothing, y)) → P (on_greeting x s)
@@ -128,8 +130,8 @@ open-part x s =
     cond_both (x.send.una == 0) (on_greeting x s) (on_segment x s) P
     (λ t. greeting-quiet x s P (λ y a. (omega arith, refl)))
     (λ f.
-        let Q : Heard → Type 0 = λ h. (h.from + h.len ≤ length s.payload) × (h.reply ≡ None) in
-        ⊎_elim (λ u. subst Q (sym u.0) (omega arith, refl)) (λ t. subst Q (sym t.1) (omega arith, refl)) (segment-outcome x s))
+    let Q : Heard → Type 0 = λ h. (h.from + h.len ≤ length s.payload) × (h.reply ≡ None) in
+    ⊎_elim (λ u. subst Q (sym u.0) (omega arith, refl)) (λ t. subst Q (sym t.1) (omega arith, refl)) (segment-outcome x s))
 
 pub part_within : (x : ClientBlock) (s : Said) (h : Heard) (y : ClientBlock) → (h, y) ≡ heard_open x s → h.from + h.len ≤ length s.payload
 part_within x s h y e =

@@ -1,3 +1,4 @@
 pub mod Accepted
+pub mod Emitting
 pub mod Outcomes
 pub mod Writable

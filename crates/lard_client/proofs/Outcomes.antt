@@ -1,9 +1,9 @@
 -- What a segment may make of an open client: nothing that counts, or a part of it is accepted.
-use Rattle.std.proofs.Common.{◌≡◌, ◌≤◌, ◌<◌, ◌-◌, ◌+◌, ◌^◌, ℕ, Bool, true, false, cond, min, nat_lt, ◌==◌, not, ◌&&◌, ◌||◌, ◌⊎◌, length, arith, refl, subst, sym, ap, ◌∙◌, inl, inr, ⊎_elim}
+use Rattle.std.proofs.Common.{◌≡◌, ◌-◌, ◌+◌, ℕ, Bool, true, false, cond, nat_lt, ◌==◌, not, ◌&&◌, ◌||◌, ◌⊎◌, length, refl, ap, ◌∙◌, inl, inr, ⊎_elim}
 use Rattle.std.proofs.lemmas.Bool.{cond_both, or_parts}
 use Rattle.lard_client.specs.declared.heard.Heard.{Heard}
-use Rattle.lard_client.specs.Control.{ClientBlock, rcv_nxt, rcv_wnd, peer_mss}
-use Rattle.lard_client.specs.Arriving.{nothing, bare, owing, begins_after, known, room, fresh_len, ends, accepting, part_of, on_fresh, on_text, on_ack, on_syn, on_rst, on_unacceptable, on_segment, is_acceptable, is_allowed, reset_by_peer, answers_syn, established, on_greeting, heard_open}
+use Rattle.lard_client.specs.Control.{ClientBlock, rcv_nxt}
+use Rattle.lard_client.specs.Arriving.{nothing, bare, owing, begins_after, fresh_len, ends, accepting, part_of, on_fresh, on_text, on_ack, on_syn, on_rst, on_unacceptable, on_segment, is_acceptable, is_allowed, reset_by_peer}
 use Rattle.lard_segment.specs.Segment.{Said}
 use Rattle.lard_send.specs.Send.{Sending, after_ack, moved_up, windowed, is_newer, closed}
 use Rattle.lard_seq.specs.Seq.{seq_offset}
@@ -16,6 +16,7 @@ Quiet x r = (r.0 ≡ nothing) × (r.1.accepted ≡ x.accepted) × (r.1.eof ≡ x
 abbrev pub Took : ClientBlock → Said → Heard × ClientBlock → Type 0
 Took x s r =
     (x.eof ≡ false) × (r.0 ≡ part_of x s) × (r.1.accepted ≡ x.accepted + fresh_len x s) × (r.1.eof ≡ ends x s) × (r.1.send.irs ≡ x.send.irs)
+    × (ends x s ≡ true → r.1.send.finished ≡ true)
 
 abbrev pub Outcome : ClientBlock → Said → Heard × ClientBlock → Type 0
 Outcome x s r = Quiet x r ⊎ Took x s r
@@ -38,6 +39,10 @@ irs-after_ack s ack seq wnd =
     (either ((s.una == 0) && (offset == 0)) s (windowed moved (s.una == 0) seq ack wnd) s.irs refl
     (either ((s.una == 0) || is_newer moved seq ack) (record moved { wnd = wnd; wl1 = seq; wl2 = ack }) moved s.irs same same))
 
+finished-closed : (b : Bool) (s : Sending) → b ≡ true → (cond b (closed s) s).finished ≡ true
+finished-closed true s e = refl
+finished-closed false s e = cc
+
 irs-closed : (b : Bool) (s : Sending) → (cond b (closed s) s).irs ≡ s.irs
 irs-closed b s = either b (closed s) s s.irs refl refl
 
@@ -46,7 +51,7 @@ fresh-outcome : (x : ClientBlock) (s : Said) → Outcome x s (on_fresh x s)
 fresh-outcome x s =
     cond_both (begins_after x s || x.eof) (nothing, x) (part_of x s, accepting x (fresh_len x s) (ends x s)) (Outcome x s)
     (λ t. quiet x s)
-    (λ f. inr ((or_parts (begins_after x s) x.eof f).1, refl, refl, refl, irs-closed (ends x s) x.send))
+    (λ f. inr ((or_parts (begins_after x s) x.eof f).1, refl, refl, refl, irs-closed (ends x s) x.send, finished-closed (ends x s) x.send))
 
 text-outcome : (x : ClientBlock) (s : Said) → Outcome x s (on_text x s)
 text-outcome x s =
@@ -63,7 +68,8 @@ renumbered x s send r e =
       t.1 ∙ ap (λ i. part_of (record x { send = record x.send { irs = i } }) s) e,
       t.2 ∙ ap (λ i. x.accepted + fresh_len (record x { send = record x.send { irs = i } }) s) e,
       t.3 ∙ ap (λ i. ends (record x { send = record x.send { irs = i } }) s) e,
-      t.4 ∙ e
+      t.4 ∙ e,
+      (λ h. t.5 (ap (λ i. ends (record x { send = record x.send { irs = i } }) s) e ∙ h)),
     ))
 
 ack-outcome : (x : ClientBlock) (s : Said) → Outcome x s (on_ack x s)

@@ -1,5 +1,5 @@
 -- What a client sends may be written.
-use Rattle.std.proofs.Common.{◌≡◌, ◌≤◌, ◌-◌, ◌+◌, ℕ, Bool, true, false, cond, min, nat_lt, nat_le, ◌==◌, ◌&&◌, Option, Some, None, arith, refl, subst}
+use Rattle.std.proofs.Common.{◌≡◌, ◌≤◌, ◌-◌, Bool, true, false, cond, min, nat_lt, ◌==◌, Some, None, arith, refl, subst}
 use Rattle.lard_client.specs.Control.{ClientBlock}
 use Rattle.lard_client.specs.Leaving.{IsWritable, syn_ready, data_ready, piece_ready}
 use Rattle.lard_send.specs.declared.piece.Piece.{Piece}

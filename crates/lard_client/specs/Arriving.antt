@@ -1,12 +1,11 @@
 -- What a client makes of a segment, step by step in the order of RFC 9293, 3.10.7.4. Each step answers what the client
 -- heard, and what is kept after it. Where a step does not drop the segment, the next one goes on.
-use Rattle.std.specs.Prelude.{◌≡◌, ℕ, ◌+◌, ◌-◌, ◌^◌, ◌==◌, nat_lt, min, not, ◌&&◌, ◌||◌, Bool, true, false, if◌then◌else◌, [], length, Option, Some, None}
+use Rattle.std.specs.Prelude.{ℕ, ◌+◌, ◌-◌, ◌^◌, ◌==◌, nat_lt, min, not, ◌&&◌, ◌||◌, Bool, true, false, if◌then◌else◌, [], length, Some, None}
 use Rattle.lard_client.specs.declared.phase.Phase.{Phase}
 use Rattle.lard_client.specs.declared.phase.Phase.TheVariants.{Open, Aborted, Reset}
 use Rattle.lard_client.specs.declared.heard.Heard.{Heard}
 use Rattle.lard_client.specs.Control.{ClientBlock, rcv_nxt, rcv_wnd, peer_mss}
 use Rattle.lard_client.specs.Leaving.{refusal}
-use Rattle.lard_segment.specs.declared.segment.Flags.{Flags}
 use Rattle.lard_segment.specs.Segment.{Said}
 use Rattle.lard_send.specs.Send.{one_if, introduced, after_ack, closed}
 use Rattle.lard_seq.specs.Seq.{seq_add, seq_offset}

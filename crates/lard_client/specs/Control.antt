@@ -1,9 +1,9 @@
 -- What a client keeps of its connection: its control block (RFC 9293, 3.3.1), by counts. It holds no bytes of the
 -- cluster's, and counts those that it accepted.
-use Rattle.std.specs.Prelude.{◌≡◌, ℕ, ◌+◌, ◌-◌, ◌≤◌, ◌^◌, ◌==◌, nat_lt, min, max, not, ◌&&◌, ◌||◌, Bool, true, false, if◌then◌else◌, List, length, Option, unwrap_or}
+use Rattle.std.specs.Prelude.{ℕ, ◌+◌, ◌-◌, ◌≤◌, ◌^◌, ◌==◌, min, max, not, ◌&&◌, ◌||◌, Bool, true, false, if◌then◌else◌, List, length, Option, unwrap_or}
 use Rattle.lard_client.specs.declared.phase.Phase.{Phase}
 use Rattle.lard_client.specs.declared.phase.Phase.TheVariants.{Open, Aborted, Reset}
-use Rattle.lard_send.specs.Send.{Sending, IsSending, one_if, begun, queued_too, closed, is_clear}
+use Rattle.lard_send.specs.Send.{Sending, one_if, begun, queued_too, closed, is_clear}
 use Rattle.lard_seq.specs.Seq.{seq_add}
 
 pub record ClientBlock : Type 0 where

@@ -1,5 +1,5 @@
 -- What holds of all that a client accepts, segment by segment.
-use Rattle.std.specs.Prelude.{◌≡◌, ℕ, ◌+◌, ◌^◌, ◌<◌, ◌≤◌, true, false, length, take, drop}
+use Rattle.std.specs.Prelude.{◌≡◌, ◌+◌, ◌^◌, ◌<◌, ◌≤◌, true, false, length, take, drop}
 use Rattle.lard_client.specs.declared.heard.Heard.{Heard}
 use Rattle.lard_client.specs.Control.{ClientBlock, is_open, is_established, rcv_nxt, rcv_wnd}
 use Rattle.lard_client.specs.Arriving.{arrived, known, room}
@@ -16,6 +16,7 @@ pub record IsInOrder (x : ClientBlock) (s : Said) (h : Heard) (y : ClientBlock) 
   pub last : h.eof ≡ true → h.from + h.len ≡ length s.payload  -- no byte stands between it and the FIN
   pub counted : y.accepted ≡ x.accepted + h.len
   pub next : is_established x ≡ true → rcv_nxt y ≡ seq_add (rcv_nxt x) (h.len + one_if h.eof)  -- RCV.NXT moves by what was taken
+  pub shuts : h.eof ≡ true → y.send.finished ≡ true  -- a FIN shuts the client
   pub once : x.eof ≡ true → h.len + one_if h.eof ≡ 0  -- nothing is taken after the FIN
 
 -- Each arrival is in order.

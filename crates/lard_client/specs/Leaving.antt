@@ -1,11 +1,10 @@
 -- What a client sends: the next segment, what its timer sends again, and its resets (RFC 9293, 3.8 and 3.10).
 use Rattle.std.specs.Prelude.{◌≡◌, ℕ, ◌+◌, ◌-◌, ◌≤◌, ◌==◌, nat_lt, not, ◌&&◌, ◌||◌, Bool, true, false, if◌then◌else◌, take, drop, Option, Some, None, IfSome}
 use Rattle.lard_client.specs.Control.{ClientBlock, is_open, is_established, rcv_nxt, rcv_wnd, snd_nxt}
-use Rattle.lard_segment.specs.declared.segment.Flags.{Flags}
 use Rattle.lard_segment.specs.declared.segment.Ready.{Ready}
 use Rattle.lard_segment.specs.Segment.{Said}
 use Rattle.lard_send.specs.declared.piece.Piece.{Piece}
-use Rattle.lard_send.specs.Send.{acknowledged_bytes, next_piece, after_next, resent_piece, after_resend}
+use Rattle.lard_send.specs.Send.{one_if, symbols, acknowledged_bytes, next_piece, after_next, resent_piece, after_resend}
 use Rattle.lard_seq.specs.Seq.{seq_add}
 
 -- The SYN: <SEQ=ISS><CTL=SYN>, with the client's window and maximum segment size (RFC 9293, 3.10.1 and 3.7.1).
@@ -105,6 +104,10 @@ abbrev pub after_emit : ClientBlock → ClientBlock
 after_emit x =
     if not (is_open x) then x else
     after_piece (record x { send = after_next x.send }) (next_piece x.send) (after_owed x)
+
+-- How much an open client may send of itself before something comes: each symbol that was not sent, and an ACK.
+abbrev pub unsaid : ClientBlock → ℕ
+unsaid x = (symbols x.send - x.send.nxt) + one_if (owes x)
 
 -- What the timer sends again: the SYN while it is not acknowledged, else what is sent and not acknowledged, else a probe
 -- of one symbol beyond the window (RFC 9293, 3.8.1 and 3.8.6.1).

@@ -232,7 +232,9 @@ impl Client {
     {
         let known = self.rcv_nxt().offset_from(segment.seq);
         let size = segment.payload.len();
-        let len = size.saturating_sub(known as usize).min(self.room() as usize);
+        let len = size
+            .saturating_sub(known as usize)
+            .min(self.room() as usize);
         Heard {
             from: size.min(known as usize) as u32,
             len: len as u32,

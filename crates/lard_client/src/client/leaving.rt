@@ -1,8 +1,8 @@
 //! What a client sends.
 
-ghost use Rattle.std.specs.Prelude.{◌≡◌, ◌≤◌, length, IfSome};
-ghost use Rattle.lard_client.specs.Control.{is_established};
-ghost use Rattle.lard_client.specs.Leaving.{IsHeld, IsWritable, syn_ready, piece_ready, ack_ready, reset_ready, refusal, told, owes, owed_ready, data_ready, after_owed, emitted, after_emit, timed, after_timer, filled};
+ghost use Rattle.std.specs.Prelude.{◌≡◌, ◌≤◌, ◌<◌, length, IfSome, IfNone, is_some};
+ghost use Rattle.lard_client.specs.Control.{is_armed, is_established};
+ghost use Rattle.lard_client.specs.Leaving.{IsHeld, IsWritable, syn_ready, piece_ready, ack_ready, reset_ready, refusal, told, owes, owed_ready, data_ready, after_owed, emitted, after_emit, unsaid, timed, after_timer, filled};
 ghost use Rattle.lard_segment.specs.Segment.{said};
 
 use super::Client;
@@ -23,10 +23,12 @@ impl Client {
     /// The next segment that is to be sent, or none: first the SYN; once that is acknowledged bytes and the FIN, at most
     /// a segment and as far as the cluster's window allows; else an ACK where one is owed. A client that was aborted or
     /// reset gives none.
-    #[tactic(auto, using(crate::proofs::Writable::writable_piece, crate::proofs::Writable::short_next))]
+    #[tactic(auto, using(crate::proofs::Writable::writable_piece, crate::proofs::Writable::short_next, crate::proofs::Emitting::told_falls))]
     pub fn emit(&mut self) -> Option<Ready>
         ensures ready { result ≡ emitted self.old }
         ensures after { self.new ≡ after_emit self.old }
+        ensures none { IfNone result (self.new ≡ self.old) }
+        ensures falls { IfSome result (λ _. unsaid self.new < unsaid self.old) }
         ensures held { IfSome result (λ ready. IsHeld self.new ready) }
         ensures writable { IfSome result (λ ready. IsWritable ready) }
     {
@@ -42,10 +44,12 @@ impl Client {
 
     /// What the timer sends again, or none: the SYN while it is not acknowledged; else the sent symbols from the first
     /// that is not acknowledged, at most a segment; where all are, one symbol beyond the window.
-    #[tactic(auto, using(crate::proofs::Writable::writable_piece, crate::proofs::Writable::short_resent))]
+    #[tactic(auto, using(crate::proofs::Writable::writable_piece, crate::proofs::Writable::short_resent, crate::proofs::Emitting::resent_some))]
     pub fn timer(&mut self) -> Option<Ready>
         ensures ready { result ≡ timed self.old }
         ensures after { self.new ≡ after_timer self.old }
+        ensures none { IfNone result (self.new ≡ self.old) }
+        ensures armed { is_some result ≡ is_armed self.old }
         ensures held { IfSome result (λ ready. IsHeld self.new ready) }
         ensures writable { IfSome result (λ ready. IsWritable ready) }
     {
@@ -92,9 +96,12 @@ impl Client {
     }
 
     /// Tells an ACK and the window, where an ACK is owed.
+    #[tactic(auto, using(crate::proofs::Emitting::owed_falls))]
     fn tell_owed(&mut self) -> Option<Ready>
         ensures ready { result ≡ owed_ready self.old }
         ensures after { self.new ≡ after_owed self.old }
+        ensures none { IfNone result (self.new ≡ self.old) }
+        ensures falls { IfSome result (λ _. unsaid self.new < unsaid self.old) }
     {
         if !self.owes() {
             return None;

@@ -1,6 +1,5 @@
-//! Segments in words. Numbers are offsets: those of the client count from its SYN, those of the cluster from its own.
-
-ghost use Rattle.std.specs.Prelude.{◌≤◌, length};
+//! A client's runs in words: what is called, what comes, and what has to be sent. Numbers are offsets: those of the
+//! client count from its SYN, those of the cluster from its own.
 
 use crate::{Client, Heard};
 use lard_base::{ConnId, NoMemory};
@@ -9,7 +8,7 @@ use lard_seq::Seq;
 use std::alloc::Global;
 use std::process::Abort;
 
-const BARE: Flags = Flags {
+pub const BARE: Flags = Flags {
     syn: false,
     ack: false,
     fin: false,
@@ -17,122 +16,242 @@ const BARE: Flags = Flags {
     psh: false,
 };
 
-pub const SYN: Flags = Flags { syn: true, ..BARE };
-pub const ACK: Flags = Flags { ack: true, ..BARE };
-pub const PSH: Flags = Flags { psh: true, ..ACK };
-pub const FIN: Flags = Flags { fin: true, ..ACK };
-pub const PSH_FIN: Flags = Flags { psh: true, ..FIN };
-pub const RST: Flags = Flags { rst: true, ..BARE };
-pub const RST_ACK: Flags = Flags { rst: true, ..ACK };
-pub const SYN_ACK: Flags = Flags { syn: true, ..ACK };
-pub const NO_ACK: Flags = BARE;
+pub const SYN: Flags = Flags {
+    syn: true,
+    ack: false,
+    fin: false,
+    rst: false,
+    psh: false,
+};
 
-/// The first numbers of a client and of the cluster.
+pub const ACK: Flags = Flags {
+    syn: false,
+    ack: true,
+    fin: false,
+    rst: false,
+    psh: false,
+};
+
+pub const SYN_ACK: Flags = Flags {
+    syn: true,
+    ack: true,
+    fin: false,
+    rst: false,
+    psh: false,
+};
+
+pub const PSH: Flags = Flags {
+    syn: false,
+    ack: true,
+    fin: false,
+    rst: false,
+    psh: true,
+};
+
+pub const FIN: Flags = Flags {
+    syn: false,
+    ack: true,
+    fin: true,
+    rst: false,
+    psh: false,
+};
+
+pub const PSH_FIN: Flags = Flags {
+    syn: false,
+    ack: true,
+    fin: true,
+    rst: false,
+    psh: true,
+};
+
+pub const RST: Flags = Flags {
+    syn: false,
+    ack: false,
+    fin: false,
+    rst: true,
+    psh: false,
+};
+
+pub const RST_ACK: Flags = Flags {
+    syn: false,
+    ack: true,
+    fin: false,
+    rst: true,
+    psh: false,
+};
+
+/// A segment of the cluster: its flags, numbers, window and data.
+pub type Got = (Flags, u32, u32, u16, &'static [u8]);
+
+/// A segment of the client: its flags, numbers and window, and where its data stands among what it wrote, and how much.
+pub type Sent = (Flags, u32, u32, u16, u32, u32);
+
+/// One call, and what has to come of it.
+#[derive(Clone, Copy)]
+pub enum Call {
+    /// It writes, where it still does.
+    Write(&'static [u8], bool),
+    Shut,
+    Hold,
+    Take,
+    Abort(Option<Sent>),
+    Timer(Option<Sent>),
+    Emit(Option<Sent>),
+    /// A segment comes: the part that is accepted, whether the FIN is taken, and the one segment that is then sent.
+    Hears(Got, (u32, u32, bool), Option<Sent>),
+    /// A segment comes after the abort: the reply, and nothing is sent.
+    Refuses(Got, Option<Sent>),
+    /// Whether its timer runs, and whether it holds.
+    Is(bool, bool),
+}
+
+/// What nothing is accepted of.
+pub const NOTHING: (u32, u32, bool) = (0, 0, false);
+
+/// The first numbers of a client and of the cluster, the client's window, and what both give as their maximum segment
+/// size.
 #[derive(Clone, Copy)]
 pub struct Numbers {
     pub isn: u32,
     pub iss: u32,
+    pub wnd: u16,
+    pub mss: u16,
 }
 
-/// Plain ones, and ones that begin again soon.
-pub const NUMBERS: [Numbers; 2] = [
-    Numbers {
-        isn: 1000,
-        iss: 5000,
-    },
-    Numbers {
-        isn: 0xffff_fffe,
-        iss: 0xffff_fffc,
-    },
-];
-
-/// A segment of the cluster, and what the client makes of it: the part that it accepts, whether it takes the FIN, and
-/// the one segment that it sends then.
-pub type Row<'a> = (Segment<'a>, (u32, u32, bool), Option<Ready>);
+/// Plain first numbers, and ones that begin again soon.
+pub fn numbers_of(wnd: u16, mss: u16) -> [Numbers; 2] {
+    [
+        Numbers {
+            isn: 1000,
+            iss: 5000,
+            wnd,
+            mss,
+        },
+        Numbers {
+            isn: 0xffff_fffe,
+            iss: 0xffff_fffc,
+            wnd,
+            mss,
+        },
+    ]
+}
 
 impl Numbers {
-    /// A client of these numbers, with this window, that sent its SYN.
-    pub fn open(self, rt: &impl Abort, alloc: Global, wnd: u16) -> Client
-        requires { 1 ≤ wnd }
-    {
-        let c = ConnId::new(1).expect(rt, "a connection's number");
-        let mut client = Client::open(alloc, c, Seq(self.isn), wnd, 4);
-        let syn = Ready {
-            mss: Some(4),
-            ack: Seq(0),
-            ..self.sent(SYN, 0, 0, wnd, 0, 0)
-        };
-        assert_eq!(rt; client.emit(), Some(syn));
-        assert_eq!(rt; client.emit(), None);
-        client
-    }
-
-    /// The same after the cluster's SYN came, with a window and a maximum segment size.
-    pub fn establish(self, rt: &impl Abort, alloc: Global, wnd: u16, peer: (u16, u16)) -> Client
-        requires { 1 ≤ wnd }
-    {
-        let mut client = self.open(rt, alloc, wnd);
-        let greeting = self.greeting(peer);
-        assert_eq!(rt; client.arrive(&greeting), Heard::nothing());
-        assert_eq!(rt; client.emit(), Some(self.sent(ACK, 1, 1, wnd, 0, 0)));
-        assert_eq!(rt; client.emit(), None);
-        client
-    }
-
-    /// The cluster's SYN.
-    pub fn greeting(self, peer: (u16, u16)) -> Segment<'static> {
-        Segment {
-            wnd: peer.0,
-            mss: Some(peer.1),
-            ..self.got(SYN_ACK, 0, 1, b"")
-        }
-    }
-
-    /// A segment of the cluster with a window of 100.
-    pub fn got<'a>(self, flags: Flags, seq: u32, ack: u32, payload: &'a [u8]) -> Segment<'a> {
+    /// A segment of the cluster.
+    fn got(self, words: Got) -> Segment<'static> {
+        let (flags, seq, ack, wnd, payload) = words;
         Segment {
             seq: Seq(self.iss).add(seq),
             ack: Seq(self.isn).add(ack),
             flags,
-            wnd: 100,
-            mss: None,
+            wnd,
+            mss: self.size(flags),
             payload,
         }
     }
 
-    /// A segment of the client, with `len` of its bytes, before which it wrote `at`.
-    pub fn sent(self, flags: Flags, seq: u32, ack: u32, wnd: u16, at: u32, len: u32) -> Ready {
-        Ready {
+    /// A segment of the client.
+    fn sent(self, words: Option<Sent>) -> Option<Ready> {
+        let (flags, seq, ack, wnd, at, len) = words?;
+        Some(Ready {
             seq: Seq(self.isn).add(seq),
-            ack: Seq(self.iss).add(ack),
+            ack: if flags.ack {
+                Seq(self.iss).add(ack)
+            } else {
+                Seq(0)
+            },
             flags,
             wnd,
-            mss: None,
+            mss: self.size(flags),
             at,
             len,
-        }
+        })
     }
-}
 
-/// Lets segments arrive, one after the other, and looks at what is accepted and sent.
-pub fn run(rt: &impl Abort, client: &mut Client, rows: &[Row<'_>]) {
-    for (segment, (from, len, eof), answer) in rows {
+    /// The maximum segment size, which a SYN names.
+    fn size(self, flags: Flags) -> Option<u16> {
+        if flags.syn { Some(self.mss) } else { None }
+    }
+
+    /// A client of these numbers.
+    pub fn open(self, rt: &impl Abort, alloc: Global) -> Client {
+        let c = ConnId::new(1).expect(rt, "a connection's number");
+        assert!(rt; 1 <= self.wnd && 1 <= self.mss && self.mss <= 1460);
+        Client::open(alloc, c, Seq(self.isn), self.wnd, self.mss)
+    }
+
+    /// Goes over the calls, and looks at what comes of each.
+    pub fn play(
+        self,
+        rt: &impl Abort,
+        client: &mut Client,
+        calls: &[Call],
+    ) -> Result<(), NoMemory> {
+        for call in calls {
+            self.call(rt, client, *call)?;
+        }
+        Ok(())
+    }
+
+    fn call(self, rt: &impl Abort, client: &mut Client, call: Call) -> Result<(), NoMemory> {
+        match call {
+            Call::Write(bytes, writes) => return write(rt, client, bytes, writes),
+            Call::Shut => client.shut(),
+            Call::Hold => client.hold(),
+            Call::Take => client.take(),
+            Call::Abort(want) => assert_eq!(rt; client.abort(), self.sent(want)),
+            Call::Timer(want) => assert_eq!(rt; client.timer(), self.sent(want)),
+            Call::Emit(want) => assert_eq!(rt; client.emit(), self.sent(want)),
+            Call::Hears(got, part, want) => self.hears(rt, client, got, part, want),
+            Call::Refuses(got, want) => self.refuses(rt, client, got, want),
+            Call::Is(armed, holding) => {
+                assert_eq!(rt; (client.armed(), client.holding()), (armed, holding));
+            }
+        }
+        Ok(())
+    }
+
+    fn hears(
+        self,
+        rt: &impl Abort,
+        client: &mut Client,
+        got: Got,
+        part: (u32, u32, bool),
+        want: Option<Sent>,
+    ) {
+        let (from, len, eof) = part;
         let heard = Heard {
-            from: *from,
-            len: *len,
-            eof: *eof,
+            from,
+            len,
+            eof,
             reply: None,
         };
-        assert_eq!(rt; client.arrive(segment), heard);
-        assert_eq!(rt; client.emit(), *answer);
+        assert_eq!(rt; client.arrive(&self.got(got)), heard);
+        assert_eq!(rt; client.emit(), self.sent(want));
+        if want.is_some() {
+            assert_eq!(rt; client.emit(), None);
+        }
+    }
+
+    fn refuses(self, rt: &impl Abort, client: &mut Client, got: Got, want: Option<Sent>) {
+        let heard = Heard {
+            reply: self.sent(want),
+            ..Heard::nothing()
+        };
+        assert_eq!(rt; client.arrive(&self.got(got)), heard);
         assert_eq!(rt; client.emit(), None);
     }
 }
 
-/// Writes bytes.
-pub fn write(rt: &impl Abort, client: &mut Client, bytes: &[u8]) -> Result<bool, NoMemory>
-    requires { length bytes.now ≤ 1000 }
-{
-    assert!(rt; client.written() < 1000);
-    client.write(bytes)
+/// Writes bytes, and looks at whether it still writes.
+pub fn write(
+    rt: &impl Abort,
+    client: &mut Client,
+    bytes: &[u8],
+    writes: bool,
+) -> Result<(), NoMemory> {
+    assert!(rt; client.written() < 1000 && bytes.len() < 1000);
+    assert_eq!(rt; client.writes(), writes);
+    assert_eq!(rt; client.write(bytes)?, writes);
+    Ok(())
 }
