@@ -1,11 +1,12 @@
 -- What is accepted is in order, stays bounded, and is nothing once the client was aborted or reset.
-use Rattle.std.proofs.Common.{◌≡◌, ◌≤◌, ◌<◌, ◌+◌, ◌^◌, ℕ, true, false, cond, min, ◌==◌, not, Option, None, IfSome, List, length, take, drop, arith, refl, subst, sym, ap, ◌∙◌, ⊎_elim, length-drop}
+use Rattle.std.proofs.Common.{is_some, Bool, Some, ◌&&◌, ◌≡◌, ◌≤◌, ◌<◌, ◌+◌, ◌^◌, ℕ, true, false, cond, min, ◌==◌, not, Option, None, IfSome, List, length, take, drop, arith, refl, subst, sym, ap, ◌∙◌, ⊎_elim, length-drop}
 use Rattle.std.proofs.lemmas.Bool.{cond_both, and_parts, eqb-true}
 use Rattle.std.proofs.lemmas.List.{take_min, drop_min}
 use Rattle.lard_client.specs.declared.heard.Heard.{Heard}
 use Rattle.lard_client.specs.declared.phase.Phase.{Phase}
 use Rattle.lard_client.specs.declared.phase.Phase.TheVariants.{Open, Aborted, Reset}
-use Rattle.lard_client.specs.Control.{ClientBlock, is_open, is_open_in, is_established, rcv_nxt}
+use Rattle.lard_client.specs.Leaving.{refusal}
+use Rattle.lard_client.specs.Control.{ClientBlock, is_open, is_open_in, is_aborted, is_aborted_in, is_established, rcv_nxt}
 use Rattle.lard_client.specs.Arriving.{nothing, known, room, fresh_len, ends, part_of, on_segment, reset_by_peer, answers_syn, established, on_greeting, heard_open, heard_in, arrived}
 use Rattle.lard_client.specs.Laws.{IsInOrder}
 use Rattle.lard_client.proofs.Outcomes.{Outcome, segment-outcome}
@@ -143,3 +144,17 @@ no_reply x s h y P e =
     let Q : Option Ready → Type 0 = λ o. IfSome o P in
     let none : h.reply ≡ None = ap (λ (r : Heard × ClientBlock). r.0.reply) e ∙ (open-part x s).1 in
     subst Q (sym none) tt
+
+-- ---- replies
+some_if : (b : Bool) (r : Ready) → is_some (cond b (Some r) None) ≡ b
+some_if true r = refl
+some_if false r = refl
+
+phase-reply : (p : Phase) (x : ClientBlock) (s : Said) → is_some (heard_in p x s).0.reply ≡ (is_aborted_in p && (s.flags.ack && not s.flags.rst))
+phase-reply Open x s = ap (λ (o : Option Ready). is_some o) (open-part x s).1
+phase-reply Aborted x s = some_if (s.flags.ack && not s.flags.rst) (refusal x s.ack)
+phase-reply Reset x s = refl
+
+pub arrived-reply : (x : ClientBlock) (s : Said) → is_some (arrived x s).0.reply ≡ (is_aborted x && (s.flags.ack && not s.flags.rst))
+unfolding arrived
+arrived-reply x s = phase-reply x.phase x s

@@ -35,6 +35,15 @@ is_open_in Reset = false
 abbrev pub is_open : ClientBlock → Bool
 is_open x = is_open_in x.phase
 
+abbrev pub is_aborted_in : Phase → Bool
+is_aborted_in Open = false
+is_aborted_in Aborted = true
+is_aborted_in Reset = false
+
+-- It was aborted, and not reset before.
+abbrev pub is_aborted : ClientBlock → Bool
+is_aborted x = is_aborted_in x.phase
+
 -- Its SYN is acknowledged, and the cluster's SYN came with that.
 abbrev pub is_established : ClientBlock → Bool
 is_established x = not (x.send.una == 0)

@@ -1,7 +1,7 @@
 -- What holds of all that a client accepts, segment by segment.
-use Rattle.std.specs.Prelude.{◌≡◌, ◌+◌, ◌^◌, ◌<◌, ◌≤◌, true, false, length, take, drop}
+use Rattle.std.specs.Prelude.{◌≡◌, ◌+◌, ◌^◌, ◌<◌, ◌≤◌, ◌&&◌, not, true, false, length, take, drop, is_some}
 use Rattle.lard_client.specs.declared.heard.Heard.{Heard}
-use Rattle.lard_client.specs.Control.{ClientBlock, is_open, is_established, rcv_nxt, rcv_wnd}
+use Rattle.lard_client.specs.Control.{ClientBlock, is_open, is_aborted, is_established, rcv_nxt, rcv_wnd}
 use Rattle.lard_client.specs.Arriving.{arrived, known, room}
 use Rattle.lard_segment.specs.Segment.{Said}
 use Rattle.lard_send.specs.Send.{one_if}
@@ -31,3 +31,7 @@ AcceptedStaysBounded = (x : ClientBlock) (s : Said) → x.accepted ≤ 2 ^ 30 �
 abbrev pub EndedTakesNothing : Type 0
 EndedTakesNothing = (x : ClientBlock) (s : Said) → is_open x ≡ false
     → ((arrived x s).1 ≡ x) × ((arrived x s).0.len ≡ 0) × ((arrived x s).0.eof ≡ false)
+
+-- A reply is given where the client was aborted and the segment has ACK and no RST, and nowhere else.
+abbrev pub RepliesByTheirCause : Type 0
+RepliesByTheirCause = (x : ClientBlock) (s : Said) → is_some (arrived x s).0.reply ≡ (is_aborted x && (s.flags.ack && not s.flags.rst))

@@ -1,12 +1,13 @@
 //! What holds of all that a client accepts.
 
-ghost use Rattle.lard_client.specs.Laws.{ArrivalsAreInOrder, AcceptedStaysBounded, EndedTakesNothing};
+ghost use Rattle.lard_client.specs.Laws.{ArrivalsAreInOrder, AcceptedStaysBounded, EndedTakesNothing, RepliesByTheirCause};
 
 /// What a client accepts is the part of each segment that begins at the awaited number and for which there is room, and
 /// it counts: nothing is left out and nothing is taken twice. No more than 2^30 bytes are accepted, and a client that
-/// was aborted or reset accepts nothing.
+/// was aborted or reset accepts nothing. Only one that was aborted replies.
 pub fn accepted_bytes_are_in_order()
     ensures order { ArrivalsAreInOrder }
     ensures bounded { AcceptedStaysBounded }
     ensures ended { EndedTakesNothing }
+    ensures replies { RepliesByTheirCause }
 {}

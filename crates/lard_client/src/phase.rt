@@ -1,7 +1,5 @@
 //! Whether a client goes on.
 
-ghost use Rattle.std.specs.Prelude.{◌≡◌};
-
 /// Whether a client goes on, or how it ended before its time.
 #[derive(Clone, Copy, Debug, PartialEq, Eq)]
 pub enum Phase {

@@ -35,6 +35,7 @@ impl Client {
         if !self.is_open() {
             return None;
         }
+        // What holds of the sending half bounds the piece.
         let _written = self.written();
         match self.send.next() {
             Some(piece) => return Some(self.tell(piece)),
@@ -56,6 +57,7 @@ impl Client {
         if !self.is_open() {
             return None;
         }
+        // What holds of the sending half bounds the piece.
         let _written = self.written();
         match self.send.resend() {
             Some(piece) => return Some(self.tell(piece)),
