@@ -285,7 +285,7 @@ fn last_of(segment: &Segment<'_>) -> Seq
 fn size_of(named: Option<u16>) -> u16
     ensures { result ≡ peer_mss named }
 {
-    named.unwrap_or(DEFAULT_MSS).max(1).min(MAX_MSS)
+    named.unwrap_or(DEFAULT_MSS).clamp(1, MAX_MSS)
 }
 
 /// A segment without its data and its FIN.

@@ -16,68 +16,41 @@ pub const BARE: Flags = Flags {
     psh: false,
 };
 
-pub const SYN: Flags = Flags {
-    syn: true,
-    ack: false,
-    fin: false,
-    rst: false,
-    psh: false,
-};
+pub const SYN: Flags = Flags { syn: true, ..BARE };
 
-pub const ACK: Flags = Flags {
-    syn: false,
-    ack: true,
-    fin: false,
-    rst: false,
-    psh: false,
-};
+pub const ACK: Flags = Flags { ack: true, ..BARE };
 
 pub const SYN_ACK: Flags = Flags {
     syn: true,
     ack: true,
-    fin: false,
-    rst: false,
-    psh: false,
+    ..BARE
 };
 
 pub const PSH: Flags = Flags {
-    syn: false,
     ack: true,
-    fin: false,
-    rst: false,
     psh: true,
+    ..BARE
 };
 
 pub const FIN: Flags = Flags {
-    syn: false,
     ack: true,
     fin: true,
-    rst: false,
-    psh: false,
+    ..BARE
 };
 
 pub const PSH_FIN: Flags = Flags {
-    syn: false,
     ack: true,
     fin: true,
-    rst: false,
     psh: true,
+    ..BARE
 };
 
-pub const RST: Flags = Flags {
-    syn: false,
-    ack: false,
-    fin: false,
-    rst: true,
-    psh: false,
-};
+pub const RST: Flags = Flags { rst: true, ..BARE };
 
 pub const RST_ACK: Flags = Flags {
-    syn: false,
     ack: true,
-    fin: false,
     rst: true,
-    psh: false,
+    ..BARE
 };
 
 /// A segment of the cluster: its flags, numbers, window and data.
@@ -119,7 +92,7 @@ pub struct Numbers {
 }
 
 /// Plain first numbers, and ones that begin again soon.
-pub fn numbers_of(wnd: u16, mss: u16) -> [Numbers; 2] {
+pub(super) fn numbers_of(wnd: u16, mss: u16) -> [Numbers; 2] {
     [
         Numbers {
             isn: 1000,
@@ -174,14 +147,14 @@ impl Numbers {
     }
 
     /// A client of these numbers.
-    pub fn open(self, rt: &impl Abort, alloc: Global) -> Client {
+    pub(super) fn open(self, rt: &impl Abort, alloc: Global) -> Client {
         let c = ConnId::new(1).expect(rt, "a connection's number");
         assert!(rt; 1 <= self.wnd && 1 <= self.mss && self.mss <= 1460);
         Client::open(alloc, c, Seq(self.isn), self.wnd, self.mss)
     }
 
     /// Goes over the calls, and looks at what comes of each.
-    pub fn play(
+    pub(super) fn play(
         self,
         rt: &impl Abort,
         client: &mut Client,
@@ -244,7 +217,7 @@ impl Numbers {
 }
 
 /// Writes bytes, and looks at whether it still writes.
-pub fn write(
+pub(super) fn write(
     rt: &impl Abort,
     client: &mut Client,
     bytes: &[u8],
