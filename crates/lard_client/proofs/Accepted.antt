@@ -24,6 +24,7 @@ none-order x y s o a n = record {
   place = λ h. absurd (omega arith);
   fresh = λ h. absurd (omega arith);
   fits = omega arith;
+  ended = λ e. cc;
   last = λ e. cc;
   counted = omega arith;
   next = λ e. n e ∙ omega arith;
@@ -43,6 +44,15 @@ part-fresh x s =
     let size : fresh_len x s ≡ min (room x) (length rest) = omega (arith, length-drop (known x s) s.payload) in
     ap (λ (l : List ℕ). take (fresh_len x s) l) (drop_min (known x s) s.payload) ∙ ap (λ n. take n rest) size ∙ take_min (room x) rest
 
+-- the FIN is taken where its bytes are
+reaches : (x : ClientBlock) (s : Said) → ends x s ≡ true → known x s + fresh_len x s ≡ length s.payload
+reaches x s t = eqb-true _ _ (and_parts s.flags.fin (known x s + fresh_len x s == length s.payload) t).1
+
+-- where something is taken, all that comes before RCV.NXT lies in the segment
+all_known : (x : ClientBlock) (s : Said) (b : Bool) → ends x s ≡ b → 0 < fresh_len x s + one_if b → min (known x s) (length s.payload) ≡ known x s
+all_known x s true e h = let all = reaches x s e in omega arith
+all_known x s false e h = omega arith
+
 -- a part is in order
 part-order : (x y : ClientBlock) (s : Said) → s.seq < 2 ^ 32 → x.eof ≡ false → y.accepted ≡ x.accepted + fresh_len x s → y.eof ≡ ends x s
     → y.send.irs ≡ x.send.irs → (ends x s ≡ true → y.send.finished ≡ true) → IsInOrder x s (part_of x s) y
@@ -50,14 +60,11 @@ part-order x y s q f a e i shut =
     let numbered : rcv_nxt x < 2 ^ 32 = omega arith in
     record {
       within = omega arith;
-      place = λ h.
-          let from : min (known x s) (length s.payload) ≡ known x s = omega arith in
-          ap (seq_add s.seq) from ∙ add-offset (rcv_nxt x) s.seq numbered q;
+      place = λ h. ap (seq_add s.seq) (all_known x s (ends x s) refl h) ∙ add-offset (rcv_nxt x) s.seq numbered q;
       fresh = λ h. part-fresh x s;
       fits = omega arith;
-      last = λ t.
-          let all : known x s + fresh_len x s ≡ length s.payload = eqb-true _ _ (and_parts s.flags.fin (known x s + fresh_len x s == length s.payload) t).1 in
-          omega arith;
+      ended = λ t. (and_parts s.flags.fin (known x s + fresh_len x s == length s.payload) t).0;
+      last = λ t. let all = reaches x s t in omega arith;
       counted = a;
       next = λ t. moved x.send.irs y.send.irs x.accepted y.accepted (fresh_len x s) (one_if y.eof) (one_if x.eof) (one_if (ends x s)) i a (ap one_if e) (ap one_if f);
       shuts = shut;

@@ -1,4 +1,5 @@
 pub mod Accepted
 pub mod Emitting
 pub mod Outcomes
+pub mod TrueSegments
 pub mod Writable

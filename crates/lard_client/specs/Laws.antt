@@ -1,5 +1,5 @@
 -- What holds of all that a client accepts, segment by segment.
-use Rattle.std.specs.Prelude.{◌≡◌, ◌+◌, ◌^◌, ◌<◌, ◌≤◌, ◌&&◌, not, true, false, length, take, drop, is_some}
+use Rattle.std.specs.Prelude.{ℕ, ◌≡◌, ◌+◌, ◌^◌, ◌<◌, ◌≤◌, ◌&&◌, not, true, false, List, length, take, drop, is_some}
 use Rattle.lard_client.specs.declared.heard.Heard.{Heard}
 use Rattle.lard_client.specs.Control.{ClientBlock, is_open, is_aborted, is_established, rcv_nxt, rcv_wnd}
 use Rattle.lard_client.specs.Arriving.{arrived, known, room}
@@ -10,9 +10,10 @@ use Rattle.lard_seq.specs.Seq.{seq_add}
 -- What a client heard of a segment, between what it kept before and after.
 pub record IsInOrder (x : ClientBlock) (s : Said) (h : Heard) (y : ClientBlock) : Type 0 where
   pub within : h.from + h.len ≤ length s.payload  -- the accepted part lies in the segment's data
-  pub place : 0 < h.len → seq_add s.seq h.from ≡ rcv_nxt x  -- its first byte is the one that is awaited
+  pub place : 0 < h.len + one_if h.eof → seq_add s.seq h.from ≡ rcv_nxt x  -- its first symbol is the one that is awaited
   pub fresh : 0 < h.len → take h.len (drop h.from s.payload) ≡ take (room x) (drop (known x s) s.payload)  -- it is all that there is room for
   pub fits : h.len ≤ rcv_wnd x
+  pub ended : h.eof ≡ true → s.flags.fin ≡ true  -- a FIN that is taken was there
   pub last : h.eof ≡ true → h.from + h.len ≡ length s.payload  -- no byte stands between it and the FIN
   pub counted : y.accepted ≡ x.accepted + h.len
   pub next : is_established x ≡ true → rcv_nxt y ≡ seq_add (rcv_nxt x) (h.len + one_if h.eof)  -- RCV.NXT moves by what was taken
@@ -22,6 +23,29 @@ pub record IsInOrder (x : ClientBlock) (s : Said) (h : Heard) (y : ClientBlock) 
 -- Each arrival is in order.
 abbrev pub ArrivalsAreInOrder : Type 0
 ArrivalsAreInOrder = (x : ClientBlock) (s : Said) → s.seq < 2 ^ 32 → IsInOrder x s (arrived x s).0 (arrived x s).1
+
+-- These bytes stand at this place of all.
+pub record IsPartAt (place : ℕ) (part all : List ℕ) : Type 0 where
+  pub within : place + length part ≤ length all
+  pub same : take (length part) (drop place all) ≡ part
+
+-- A segment of a cluster that sends these bytes, all in all: by its number it has those from place k on, and a FIN stands
+-- behind all of them.
+pub record IsTrueSegment (x : ClientBlock) (all : List ℕ) (k : ℕ) (s : Said) : Type 0 where
+  pub first : x.send.irs < 2 ^ 32
+  pub most : length all ≤ 2 ^ 30
+  pub number : s.seq ≡ seq_add x.send.irs (1 + k)
+  pub part : IsPartAt k s.payload all
+  pub final : s.flags.fin ≡ true → k + length s.payload ≡ length all
+
+-- What a client accepts of it are the bytes behind those that it accepted, and it takes the FIN behind all of them.
+pub record IsNextOf (x : ClientBlock) (s : Said) (h : Heard) (all : List ℕ) : Type 0 where
+  pub part : IsPartAt x.accepted (take h.len (drop h.from s.payload)) all
+  pub final : h.eof ≡ true → x.accepted + h.len ≡ length all
+
+abbrev pub TrueSegmentsAreAccepted : Type 0
+TrueSegmentsAreAccepted = (x : ClientBlock) (s : Said) (all : List ℕ) (k : ℕ) → x.accepted ≤ length all → IsTrueSegment x all k s
+    → IsNextOf x s (arrived x s).0 all
 
 -- No more than 2^30 bytes are accepted.
 abbrev pub AcceptedStaysBounded : Type 0

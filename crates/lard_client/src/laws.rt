@@ -1,6 +1,6 @@
 //! What holds of all that a client accepts.
 
-ghost use Rattle.lard_client.specs.Laws.{ArrivalsAreInOrder, AcceptedStaysBounded, EndedTakesNothing, RepliesByTheirCause};
+ghost use Rattle.lard_client.specs.Laws.{ArrivalsAreInOrder, AcceptedStaysBounded, EndedTakesNothing, RepliesByTheirCause, TrueSegmentsAreAccepted};
 
 /// What a client accepts is the part of each segment that begins at the awaited number and for which there is room, and
 /// it counts: nothing is left out and nothing is taken twice. No more than 2^30 bytes are accepted, and a client that
@@ -10,4 +10,10 @@ pub fn accepted_bytes_are_in_order()
     ensures bounded { AcceptedStaysBounded }
     ensures ended { EndedTakesNothing }
     ensures replies { RepliesByTheirCause }
+{}
+
+/// Of a segment that tells the truth about the bytes of the cluster, a client accepts those behind the ones that it
+/// accepted before, and it takes the FIN behind all of them.
+pub fn true_segments_are_accepted()
+    ensures { TrueSegmentsAreAccepted }
 {}
