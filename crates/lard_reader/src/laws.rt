@@ -1,6 +1,6 @@
 //! What holds of each batch.
 
-ghost use Rattle.std.specs.Prelude.{◌≡◌, ◌+◌, ◌<◌, ℕ, false, true, List, ◌++◌, map, length, take, drop};
+ghost use Rattle.std.specs.Prelude.{◌≡◌, ◌<◌, ℕ, false, true, List, ◌++◌, map, length, take, drop};
 ghost use Rattle.lard_block.specs.Blocks.{cut_of, Cuts};
 ghost use Rattle.lard_answers.specs.Answers.{FilesAt, answer, answers, verdicts_on, verdicts, closes_any};
 ghost use Rattle.lard_reader.specs.Batches.{batch_of, bytes_used, batch_pieces, has_long};
