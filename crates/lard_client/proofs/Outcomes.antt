@@ -2,8 +2,9 @@
 use Rattle.std.proofs.Common.{◌≡◌, ◌-◌, ◌+◌, ℕ, Bool, true, false, cond, nat_lt, ◌==◌, not, ◌&&◌, ◌||◌, ◌⊎◌, length, refl, ap, ◌∙◌, inl, inr, ⊎_elim}
 use Rattle.std.proofs.lemmas.Bool.{cond_both, or_parts}
 use Rattle.lard_client.specs.declared.heard.Heard.{Heard}
-use Rattle.lard_client.specs.Control.{ClientBlock, rcv_nxt}
-use Rattle.lard_client.specs.Arriving.{nothing, bare, owing, begins_after, fresh_len, ends, accepting, part_of, on_fresh, on_text, on_ack, on_syn, on_rst, on_unacceptable, on_segment, is_acceptable, is_allowed, reset_by_peer}
+use Rattle.lard_client.specs.Control.{ClientBlock, rcv_nxt, rcv_wnd}
+use Rattle.lard_arrival.specs.Arrival.{bare, is_acceptable, is_allowed}
+use Rattle.lard_client.specs.Arriving.{nothing, owing, begins_after, fresh_len, ends, accepting, part_of, on_fresh, on_text, on_ack, on_syn, on_rst, on_unacceptable, on_segment, reset_by_peer}
 use Rattle.lard_segment.specs.Segment.{Said}
 use Rattle.lard_send.specs.Send.{Sending, after_ack, moved_up, windowed, is_newer, closed}
 use Rattle.lard_seq.specs.Seq.{seq_offset}
@@ -95,10 +96,10 @@ bare-outcome x s =
 
 pub segment-outcome : (x : ClientBlock) (s : Said) → Outcome x s (on_segment x s)
 segment-outcome x s =
-    cond_both (is_acceptable x s) (on_rst x s) (on_unacceptable x s) (Outcome x s)
+    cond_both (is_acceptable (rcv_nxt x) (rcv_wnd x) s) (on_rst x s) (on_unacceptable x s) (Outcome x s)
     (λ t. cond_both (not s.flags.rst) (on_syn x s) (cond (s.seq == rcv_nxt x) (nothing, reset_by_peer x) (nothing, owing x)) (Outcome x s)
     (λ u. cond_both s.flags.syn (nothing, owing x) (on_ack x s) (Outcome x s) (λ v. quiet x s) (λ v. ack-outcome x s))
     (λ u. cond_both (s.seq == rcv_nxt x) (nothing, reset_by_peer x) (nothing, owing x) (Outcome x s) (λ v. quiet x s) (λ v. quiet x s)))
-    (λ t. cond_both (is_allowed x s) (on_ack (owing x) (bare s)) (cond s.flags.rst (nothing, x) (nothing, owing x)) (Outcome x s)
+    (λ t. cond_both (is_allowed (rcv_nxt x) (rcv_wnd x) s) (on_ack (owing x) (bare s)) (cond s.flags.rst (nothing, x) (nothing, owing x)) (Outcome x s)
     (λ u. inl (bare-outcome (owing x) s))
     (λ u. cond_both s.flags.rst (nothing, x) (nothing, owing x) (Outcome x s) (λ v. quiet x s) (λ v. quiet x s)))

@@ -5,7 +5,8 @@ use Rattle.std.proofs.lemmas.List.{drop-take, drop-drop, length-take, take-take}
 use Rattle.lard_client.specs.declared.heard.Heard.{Heard}
 use Rattle.lard_client.specs.Control.{ClientBlock}
 use Rattle.lard_client.specs.Arriving.{arrived}
-use Rattle.lard_client.specs.Laws.{IsInOrder, IsPartAt, IsTrueSegment, IsNextOf}
+use Rattle.lard_arrival.specs.Arrival.{IsPartAt}
+use Rattle.lard_client.specs.Laws.{IsInOrder, IsTrueSegment, IsNextOf}
 use Rattle.lard_client.proofs.Accepted.{arrived-order}
 use Rattle.lard_segment.specs.Segment.{Said}
 use Rattle.lard_send.specs.Send.{one_if}

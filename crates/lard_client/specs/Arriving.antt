@@ -1,42 +1,19 @@
 -- What a client makes of a segment, step by step in the order of RFC 9293, 3.10.7.4. Each step answers what the client
 -- heard, and what is kept after it. Where a step does not drop the segment, the next one goes on.
-use Rattle.std.specs.Prelude.{ℕ, ◌+◌, ◌-◌, ◌^◌, ◌==◌, nat_lt, min, not, ◌&&◌, ◌||◌, Bool, true, false, if◌then◌else◌, [], length, Some, None}
+use Rattle.std.specs.Prelude.{ℕ, ◌+◌, ◌-◌, ◌^◌, ◌==◌, nat_lt, min, not, ◌&&◌, ◌||◌, Bool, true, false, if◌then◌else◌, length, Some, None}
+use Rattle.lard_arrival.specs.Arrival.{is_in_window, is_acceptable, is_allowed, bare, peer_mss}
 use Rattle.lard_client.specs.declared.phase.Phase.{Phase}
 use Rattle.lard_client.specs.declared.phase.Phase.TheVariants.{Open, Aborted, Reset}
 use Rattle.lard_client.specs.declared.heard.Heard.{Heard}
-use Rattle.lard_client.specs.Control.{ClientBlock, rcv_nxt, rcv_wnd, peer_mss}
+use Rattle.lard_client.specs.Control.{ClientBlock, rcv_nxt, rcv_wnd}
 use Rattle.lard_client.specs.Leaving.{refusal}
 use Rattle.lard_segment.specs.Segment.{Said}
-use Rattle.lard_send.specs.Send.{one_if, introduced, after_ack, closed}
-use Rattle.lard_seq.specs.Seq.{seq_add, seq_offset}
+use Rattle.lard_send.specs.Send.{introduced, after_ack, closed}
+use Rattle.lard_seq.specs.Seq.{seq_offset}
 
 -- Nothing was accepted, and nothing is answered at once.
 abbrev pub nothing : Heard
 nothing = record { from = 0; len = 0; eof = false; reply = None }
-
--- SEG.LEN counts the data, the SYN and the FIN (RFC 9293, 3.4).
-abbrev pub seg_len : Said → ℕ
-seg_len s = length s.payload + one_if s.flags.syn + one_if s.flags.fin
-
--- The sequence number of the last symbol of a segment that has one.
-abbrev pub last_number : Said → ℕ
-last_number s = seq_add s.seq (seg_len s - 1)
-
--- A number lies in the window: RCV.NXT =< number < RCV.NXT + RCV.WND (RFC 9293, 3.4).
-abbrev pub is_in_window : ClientBlock → ℕ → Bool
-is_in_window x number = nat_lt (seq_offset number (rcv_nxt x)) (rcv_wnd x)
-
--- The four cases of acceptability (RFC 9293, 3.10.7.4, table 6).
-abbrev pub is_acceptable : ClientBlock → Said → Bool
-is_acceptable x s =
-    if seg_len s == 0
-    then (if rcv_wnd x == 0 then s.seq == rcv_nxt x else is_in_window x s.seq)
-    else (if rcv_wnd x == 0 then false else is_in_window x s.seq || is_in_window x (last_number s))
-
--- A segment at a window of 0 that is not acceptable for its data or FIN alone: its ACK is taken all the same
--- (RFC 9293, 3.10.7.4, first: "special allowance should be made to accept valid ACKs").
-abbrev pub is_allowed : ClientBlock → Said → Bool
-is_allowed x s = (rcv_wnd x == 0 && s.seq == rcv_nxt x) && (not s.flags.rst && not s.flags.syn)
 
 abbrev pub owing : ClientBlock → ClientBlock
 owing x = record x { owed = true }
@@ -44,13 +21,9 @@ owing x = record x { owed = true }
 abbrev pub reset_by_peer : ClientBlock → ClientBlock
 reset_by_peer x = record x { phase = Reset }
 
--- The segment without its data and FIN.
-abbrev pub bare : Said → Said
-bare s = record s { payload = []; flags = record s.flags { fin = false } }
-
 -- An acceptable segment begins after RCV.NXT where its first number is another one of the window.
 abbrev pub begins_after : ClientBlock → Said → Bool
-begins_after x s = is_in_window x s.seq && not (s.seq == rcv_nxt x)
+begins_after x s = is_in_window (rcv_nxt x) (rcv_wnd x) s.seq && not (s.seq == rcv_nxt x)
 
 -- How many of a segment's symbols come before RCV.NXT.
 abbrev pub known : ClientBlock → Said → ℕ
@@ -112,13 +85,13 @@ on_rst x s =
 -- RFC 9293, 3.10.7.4, first, for a segment that is not acceptable: an ACK is owed unless it has RST.
 abbrev pub on_unacceptable : ClientBlock → Said → Heard × ClientBlock
 on_unacceptable x s =
-    if is_allowed x s then on_ack (owing x) (bare s) else
+    if is_allowed (rcv_nxt x) (rcv_wnd x) s then on_ack (owing x) (bare s) else
     if s.flags.rst then (nothing, x) else
     (nothing, owing x)
 
 -- RFC 9293, 3.10.7.4, first: check sequence number.
 abbrev pub on_segment : ClientBlock → Said → Heard × ClientBlock
-on_segment x s = if is_acceptable x s then on_rst x s else on_unacceptable x s
+on_segment x s = if is_acceptable (rcv_nxt x) (rcv_wnd x) s then on_rst x s else on_unacceptable x s
 
 -- RFC 9293, 3.10.7.3, first: check the ACK bit. It acknowledges the SYN: its ACK offset is 1, and the SYN was sent.
 abbrev pub answers_syn : ClientBlock → Said → Bool

@@ -1,9 +1,8 @@
 -- What a client keeps of its connection: its control block (RFC 9293, 3.3.1), by counts. It holds no bytes of the
 -- cluster's, and counts those that it accepted.
-use Rattle.std.specs.Prelude.{ℕ, ◌+◌, ◌-◌, ◌≤◌, ◌^◌, ◌==◌, not, ◌&&◌, ◌||◌, Bool, true, false, if◌then◌else◌, List, length, Option, unwrap_or}
+use Rattle.std.specs.Prelude.{ℕ, ◌+◌, ◌-◌, ◌≤◌, ◌^◌, ◌==◌, not, ◌&&◌, ◌||◌, Bool, true, false, if◌then◌else◌, List, length}
 use Rattle.lard_client.specs.declared.phase.Phase.{Phase}
 use Rattle.lard_client.specs.declared.phase.Phase.TheVariants.{Open, Aborted, Reset}
-use Rattle.lard_segment.specs.Options.{clamped}
 use Rattle.lard_send.specs.Send.{Sending, one_if, begun, queued_too, closed, is_clear}
 use Rattle.lard_seq.specs.Seq.{seq_add}
 
@@ -60,10 +59,6 @@ rcv_wnd x = x.wnd - x.held
 -- SND.NXT
 abbrev pub snd_nxt : ClientBlock → ℕ
 snd_nxt x = seq_add x.send.iss x.send.nxt
-
--- The cluster's maximum segment size: 536 where its SYN names none (RFC 9293, 3.7.1), and 1 to 1,460.
-abbrev pub peer_mss : Option ℕ → ℕ
-peer_mss named = clamped (unwrap_or named 536)
 
 -- A client whose SYN is to be sent with its window (RFC 9293, 3.10.1). Of the cluster nothing is known yet.
 abbrev pub opened : ℕ → ℕ → ℕ → ℕ → ClientBlock

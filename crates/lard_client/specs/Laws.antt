@@ -1,5 +1,6 @@
 -- What holds of all that a client accepts, segment by segment.
 use Rattle.std.specs.Prelude.{ℕ, ◌≡◌, ◌+◌, ◌^◌, ◌<◌, ◌≤◌, ◌&&◌, not, true, false, List, length, take, drop, is_some}
+use Rattle.lard_arrival.specs.Arrival.{IsPartAt}
 use Rattle.lard_client.specs.declared.heard.Heard.{Heard}
 use Rattle.lard_client.specs.Control.{ClientBlock, is_open, is_aborted, is_established, rcv_nxt, rcv_wnd}
 use Rattle.lard_client.specs.Arriving.{arrived, known, room}
@@ -23,11 +24,6 @@ pub record IsInOrder (x : ClientBlock) (s : Said) (h : Heard) (y : ClientBlock) 
 -- Each arrival is in order.
 abbrev pub ArrivalsAreInOrder : Type 0
 ArrivalsAreInOrder = (x : ClientBlock) (s : Said) → s.seq < 2 ^ 32 → IsInOrder x s (arrived x s).0 (arrived x s).1
-
--- These bytes stand at this place of all.
-pub record IsPartAt (place : ℕ) (part all : List ℕ) : Type 0 where
-  pub within : place + length part ≤ length all
-  pub same : take (length part) (drop place all) ≡ part
 
 -- A segment of a cluster that sends these bytes, all in all: by its number it has those from place k on, and a FIN stands
 -- behind all of them.

@@ -10,7 +10,8 @@ use Rattle.lard_endpoint.specs.declared.control.arriving.Arrival.{Arrival}
 use Rattle.lard_endpoint.specs.declared.control.arriving.Arrival.TheVariants.{Fine, AckOwed, Reset}
 use Rattle.lard_seq.specs.Seq.{seq_offset}
 use Rattle.lard_segment.specs.Segment.{Said}
-use Rattle.lard_endpoint.specs.Arriving.{owing, bare, is_acceptable, is_allowed, on_text, on_acked, on_ack, on_syn, on_rst, on_unacceptable, on_segment}
+use Rattle.lard_arrival.specs.Arrival.{bare, is_acceptable, is_allowed}
+use Rattle.lard_endpoint.specs.Arriving.{owing, on_text, on_acked, on_ack, on_syn, on_rst, on_unacceptable, on_segment}
 use Rattle.lard_endpoint.specs.Control.{ControlBlock, IsControlBlock, rcv_nxt, rcv_wnd, queueing}
 use Rattle.lard_endpoint.specs.Leaving.{told, owes, after_owed, after_piece, advanced, retried, after_emit, after_timer}
 
@@ -174,11 +175,11 @@ on_rst-sound c s h =
 on_unacceptable-sound : (c : ControlBlock) (s : Said) → IsControlBlock c → Kept (on_unacceptable c s)
 on_unacceptable-sound c s h =
     let dropped : Arrival × ControlBlock = if s.flags.rst then (Fine, c) else (AckOwed, owing c) in
-    either (is_allowed c s) (AckOwed, (on_ack (owing c) (bare s)).1) dropped (on_ack-sound (owing c) (bare s) (owing-sound c h))
+    either (is_allowed (rcv_nxt c) (rcv_wnd c) s) (AckOwed, (on_ack (owing c) (bare s)).1) dropped (on_ack-sound (owing c) (bare s) (owing-sound c h))
     (either s.flags.rst (Fine, c) (AckOwed, owing c) h (owing-sound c h))
 
 pub on_segment-sound : (c : ControlBlock) (s : Said) → IsControlBlock c → IsControlBlock (on_segment c s).1
-on_segment-sound c s h = either (is_acceptable c s) (on_rst c s) (on_unacceptable c s) (on_rst-sound c s h) (on_unacceptable-sound c s h)
+on_segment-sound c s h = either (is_acceptable (rcv_nxt c) (rcv_wnd c) s) (on_rst c s) (on_unacceptable c s) (on_rst-sound c s h) (on_unacceptable-sound c s h)
 
 -- ---- a segment leaves
 told-sound : (c : ControlBlock) → IsControlBlock c → IsControlBlock (told c)

@@ -1,6 +1,7 @@
 -- What an endpoint keeps of its connection: its control block (RFC 9293, 3.3.1), by counts. Both halves count in
 -- offsets from their SYN, never in plain sequence numbers.
-use Rattle.std.specs.Prelude.{◌≡◌, ℕ, min, max, Bool, false, List, [], Option, unwrap_or}
+use Rattle.std.specs.Prelude.{◌≡◌, ℕ, Bool, false, List, []}
+use Rattle.lard_arrival.specs.Arrival.{peer_mss}
 use Rattle.lard_recv.specs.Recv.{Received, IsReceived, restored, room, awaited, consumed, discarded}
 use Rattle.lard_segment.specs.Segment.{Said}
 use Rattle.lard_send.specs.Send.{Sending, IsSending, begun, queued_too, closed}
@@ -29,10 +30,6 @@ rcv_wnd c = room c.recv
 -- SND.NXT
 abbrev pub snd_nxt : ControlBlock → ℕ
 snd_nxt c = seq_add c.send.iss c.send.nxt
-
--- The peer's maximum segment size: 536 where its SYN names none (RFC 9293, 3.7.1), and 1 to 1,460.
-abbrev pub peer_mss : Option ℕ → ℕ
-peer_mss named = min (max (unwrap_or named 536) 1) 1460
 
 -- An endpoint that took a SYN, of which it takes the window and no data (RFC 9293, 3.10.7.2, third: check for a SYN).
 -- Nothing was sent, and the window last told counts as the whole one.

@@ -1,13 +1,14 @@
 -- The laws of an endpoint.
-use Rattle.std.specs.Prelude.{◌≡◌, ℕ, ◌+◌, ◌-◌, ◌^◌, ◌<◌, ◌≤◌, ◌==◌, not, ◌&&◌, Bool, true, false, List, length, take, drop, None, is_some}
+use Rattle.std.specs.Prelude.{◌≡◌, ℕ, ◌+◌, ◌-◌, ◌^◌, ◌<◌, ◌≤◌, ◌==◌, not, ◌&&◌, Bool, true, false, List, length, None, is_some}
+use Rattle.lard_arrival.specs.Arrival.{is_acceptable, is_in_window, IsPartAt}
 use Rattle.lard_base.specs.declared.parts.EndpointParts.{EndpointParts}
 use Rattle.lard_base.specs.Parts.{IsValidParts}
 use Rattle.lard_recv.specs.Recv.{Received, begins_after, arrived, gained}
 use Rattle.lard_segment.specs.Segment.{Said}
 use Rattle.lard_send.specs.Send.{is_clear, next_piece}
 use Rattle.lard_seq.specs.Seq.{seq_add, seq_offset}
-use Rattle.lard_endpoint.specs.Arriving.{is_acceptable, is_in_window, on_segment}
-use Rattle.lard_endpoint.specs.Control.{ControlBlock, IsControlBlock, rcv_nxt, listening, queueing, finishing, consuming, discarding_on}
+use Rattle.lard_endpoint.specs.Arriving.{on_segment}
+use Rattle.lard_endpoint.specs.Control.{ControlBlock, IsControlBlock, rcv_nxt, rcv_wnd, listening, queueing, finishing, consuming, discarding_on}
 use Rattle.lard_endpoint.specs.Leaving.{owes, emitted, after_emit, timed, after_timer}
 use Rattle.lard_endpoint.specs.Moving.{may_freeze, parts_of, adopted}
 
@@ -21,15 +22,10 @@ EarlierIsTheComplement = (first a b : ℕ) → first < 2 ^ 32 → a < b → b �
 
 -- An acceptable segment begins after RCV.NXT exactly where its first number lies in the window and is not RCV.NXT.
 abbrev pub AheadIsInTheWindow : Type 0
-AheadIsInTheWindow = (c : ControlBlock) (s : Said) → IsControlBlock c → s.seq < 2 ^ 32 → length s.payload ≤ 65535 → is_acceptable c s ≡ true
-    → begins_after s.seq (rcv_nxt c) ≡ (is_in_window c s.seq && not (s.seq == rcv_nxt c))
+AheadIsInTheWindow = (c : ControlBlock) (s : Said) → IsControlBlock c → s.seq < 2 ^ 32 → length s.payload ≤ 65535 → is_acceptable (rcv_nxt c) (rcv_wnd c) s ≡ true
+    → begins_after s.seq (rcv_nxt c) ≡ (is_in_window (rcv_nxt c) (rcv_wnd c) s.seq && not (s.seq == rcv_nxt c))
 
 -- ---- what is taken of a true segment
-
--- These bytes stand at this place of all.
-pub record IsPartAt (place : ℕ) (part all : List ℕ) : Type 0 where
-  pub within : place + length part ≤ length all
-  pub same : take (length part) (drop place all) ≡ part
 
 -- A segment of a peer that sends these bytes, all in all: it has those from place k on, by their number.
 pub record IsTrueData (r : Received) (all : List ℕ) (k seq : ℕ) (data_ : List ℕ) : Type 0 where

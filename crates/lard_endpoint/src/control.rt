@@ -3,12 +3,13 @@
 ghost use Rattle.std.specs.Prelude.{◌≡◌, ◌+◌, ◌≤◌, ◌^◌, true, false, length, IfOk, OnOk, OnErr};
 ghost use Rattle.lard_segment.specs.Segment.{said};
 ghost use Rattle.lard_send.specs.Send.{is_clear};
-ghost use Rattle.lard_endpoint.specs.Control.{IsControlBlock, peer_mss, listening, queueing, finishing, consuming, discarding_on};
+ghost use Rattle.lard_endpoint.specs.Control.{IsControlBlock, listening, queueing, finishing, consuming, discarding_on};
 
 pub mod arriving;
 mod leaving;
 pub mod moving;
 
+use lard_arrival::peer_mss;
 use lard_base::NoMemory;
 use lard_recv::RecvHalf;
 use lard_segment::Segment;
@@ -19,11 +20,6 @@ use std::marker::Model;
 
 /// The receive window while nothing is unread, in bytes.
 const WHOLE_WINDOW: u16 = 16_384;
-
-/// The peer's maximum segment size where its SYN names none, and the greatest that is used (RFC 9293, 3.7.1).
-const DEFAULT_MSS: u16 = 536;
-
-const GREATEST_MSS: u16 = 1460;
 
 /// The cluster's end of a connection. There is one of each, so it cannot be cloned, and it is not let go: `end`, `kill`
 /// and `freeze` spend it. Only `listen`, `adopt` and `queue` take memory.
@@ -69,7 +65,7 @@ impl Endpoint {
         ensures { IfOk result (λ endpoint. endpoint ≡ listening (said syn.now) iss.0) }
     {
         let recv = RecvHalf::make(alloc, syn.seq)?;
-        let send = SendHalf::make(alloc, iss, syn.seq, syn.wnd, mss_of(syn.mss));
+        let send = SendHalf::make(alloc, iss, syn.seq, syn.wnd, peer_mss(syn.mss));
         Ok(Endpoint {
             irs: syn.seq,
             iss,
@@ -152,13 +148,4 @@ impl Endpoint {
     {
         self.send.finished()
     }
-}
-
-/// The peer's maximum segment size, 1 to 1,460.
-fn mss_of(named: Option<u16>) -> u16
-    ensures value { result ≡ peer_mss named }
-    ensures some { 1 ≤ result }
-    ensures small { result ≤ 1460 }
-{
-    named.unwrap_or(DEFAULT_MSS).max(1).min(GREATEST_MSS)
 }

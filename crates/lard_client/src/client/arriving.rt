@@ -1,26 +1,19 @@
 //! What a client makes of a segment, step by step.
 
 ghost use Rattle.std.specs.Prelude.{◌≡◌, ◌+◌, ◌≤◌, length, IfSome};
-ghost use Rattle.lard_client.specs.Control.{peer_mss};
-ghost use Rattle.lard_client.specs.Arriving.{seg_len, last_number, is_in_window, is_acceptable, is_allowed, bare, begins_after, known, room, fresh_len, ends, accepting, part_of, on_fresh, on_text, on_ack, on_syn, on_rst, on_unacceptable, on_segment, answers_syn, established, on_greeting, heard_open, reply_to, arrived};
+ghost use Rattle.lard_client.specs.Arriving.{begins_after, known, room, fresh_len, ends, accepting, part_of, on_fresh, on_text, on_ack, on_syn, on_rst, on_unacceptable, on_segment, answers_syn, established, on_greeting, heard_open, reply_to, arrived};
 ghost use Rattle.lard_client.specs.Leaving.{IsHeld, IsWritable};
 ghost use Rattle.lard_segment.specs.Segment.{said};
 
 use super::Client;
 use crate::heard::Heard;
 use crate::phase::Phase;
-use lard_segment::{Flags, Segment};
+use lard_arrival::{bare, is_acceptable, is_allowed, peer_mss};
+use lard_segment::Segment;
 use lard_send::Ack;
-use lard_seq::Seq;
 
 /// The most bytes that come over one connection.
 const MOST: u32 = 1 << 30;
-
-/// The maximum segment size of a peer that names none (RFC 9293, 3.7.1).
-const DEFAULT_MSS: u16 = 536;
-
-/// The greatest maximum segment size.
-const MAX_MSS: u16 = 1460;
 
 impl Client {
     /// Takes a segment, and says which part of its data was accepted. The reply, which `emit` never gives, is to be sent
@@ -93,7 +86,7 @@ impl Client {
         ensures { self.new ≡ established self.old (said segment.now) }
     {
         self.irs = segment.seq;
-        self.send.peer(segment.seq, size_of(segment.mss));
+        self.send.peer(segment.seq, peer_mss(segment.mss));
         let _ack = self.send.ack(segment.ack, segment.seq, segment.wnd);
         self.owed = true;
     }
@@ -102,33 +95,10 @@ impl Client {
     fn on_segment(&mut self, segment: &Segment<'_>) -> Heard
         ensures { (result, self.new) ≡ on_segment self.old (said segment.now) }
     {
-        if self.is_acceptable(segment) {
+        if is_acceptable(segment, self.rcv_nxt(), self.rcv_wnd() as u32) {
             return self.on_rst(segment);
         }
         self.on_unacceptable(segment)
-    }
-
-    /// Whether a segment is acceptable, by its length and the window.
-    fn is_acceptable(&self, segment: &Segment<'_>) -> bool
-        ensures { result ≡ is_acceptable self.now (said segment.now) }
-    {
-        let closed = self.rcv_wnd() == 0;
-        let len = length_of(segment);
-        if len == 0 {
-            return if closed {
-                segment.seq == self.rcv_nxt()
-            } else {
-                self.is_in_window(segment.seq)
-            };
-        }
-        !closed && (self.is_in_window(segment.seq) || self.is_in_window(last_of(segment)))
-    }
-
-    /// Whether a number lies in the window.
-    fn is_in_window(&self, number: Seq) -> bool
-        ensures { result ≡ is_in_window self.now number.0 }
-    {
-        number.offset_from(self.rcv_nxt()) < self.rcv_wnd() as u32
     }
 
     /// Owes an ACK for a segment that is not acceptable, unless it has RST. At a window of 0 the ACK of one that begins
@@ -136,7 +106,7 @@ impl Client {
     fn on_unacceptable(&mut self, segment: &Segment<'_>) -> Heard
         ensures { (result, self.new) ≡ on_unacceptable self.old (said segment.now) }
     {
-        if self.is_allowed(segment) {
+        if is_allowed(segment, self.rcv_nxt(), self.rcv_wnd() as u32) {
             self.owed = true;
             return self.on_ack(&bare(segment));
         }
@@ -144,14 +114,6 @@ impl Client {
             self.owed = true;
         }
         Heard::nothing()
-    }
-
-    /// Whether the window is 0, and a segment begins at RCV.NXT with neither RST nor SYN.
-    fn is_allowed(&self, segment: &Segment<'_>) -> bool
-        ensures { result ≡ is_allowed self.now (said segment.now) }
-    {
-        (self.rcv_wnd() == 0 && segment.seq == self.rcv_nxt())
-            && (!segment.flags.rst && !segment.flags.syn)
     }
 
     /// Second: check the RST bit.
@@ -223,7 +185,8 @@ impl Client {
     fn begins_after(&self, segment: &Segment<'_>) -> bool
         ensures { result ≡ begins_after self.now (said segment.now) }
     {
-        self.is_in_window(segment.seq) && segment.seq != self.rcv_nxt()
+        segment.seq.in_window(self.rcv_nxt(), self.rcv_wnd() as u32)
+            && segment.seq != self.rcv_nxt()
     }
 
     /// The part of a segment from RCV.NXT on that there is room for.
@@ -263,41 +226,5 @@ impl Client {
         if fin {
             self.send.finish();
         }
-    }
-}
-
-/// How many symbols a segment has: its data, its SYN and its FIN.
-fn length_of(segment: &Segment<'_>) -> usize
-    ensures { result ≡ seg_len (said segment.now) }
-{
-    segment.payload.len() + segment.flags.syn as usize + segment.flags.fin as usize
-}
-
-/// The number of its last symbol.
-fn last_of(segment: &Segment<'_>) -> Seq
-    ensures { result.0 ≡ last_number (said segment.now) }
-{
-    let behind = length_of(segment).saturating_sub(1);
-    segment.seq.add((behind & 0xffff_ffff) as u32)
-}
-
-/// The maximum segment size of a peer that names this one, or none.
-fn size_of(named: Option<u16>) -> u16
-    ensures { result ≡ peer_mss named }
-{
-    named.unwrap_or(DEFAULT_MSS).clamp(1, MAX_MSS)
-}
-
-/// A segment without its data and its FIN.
-fn bare<'a>(segment: &Segment<'a>) -> Segment<'a>
-    ensures { said result ≡ bare (said segment.now) }
-{
-    Segment {
-        flags: Flags {
-            fin: false,
-            ..segment.flags
-        },
-        payload: &[],
-        ..*segment
     }
 }

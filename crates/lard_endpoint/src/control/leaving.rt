@@ -6,10 +6,13 @@ ghost use Rattle.lard_send.specs.Send.{acknowledged_bytes, IsQueued, next_piece,
 ghost use Rattle.lard_endpoint.specs.Control.{rcv_wnd};
 ghost use Rattle.lard_endpoint.specs.Leaving.{piece_ready, piece_seq, own_mss, ack_ready, told, owes, emitted, after_emit, timed, after_timer, advanced, retried, emits_left, IsReady, filled};
 
-use crate::control::{Endpoint, GREATEST_MSS};
+use crate::control::Endpoint;
 use lard_segment::{Flags, Ready, Segment};
 use lard_send::Piece;
 use lard_seq::Seq;
+
+/// The maximum segment size that the cluster's SYN names.
+const OWN_MSS: u16 = 1460;
 
 impl Endpoint {
     /// The next segment that is to be sent, which then counts as sent, or none. First comes the SYN; once that is
@@ -188,5 +191,5 @@ impl Endpoint {
 fn own_mss(syn: bool) -> Option<u16>
     ensures { result ≡ own_mss syn }
 {
-    if syn { Some(GREATEST_MSS) } else { None }
+    if syn { Some(OWN_MSS) } else { None }
 }
