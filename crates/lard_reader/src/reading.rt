@@ -1,7 +1,6 @@
 //! One batch of verdicts.
 
 ghost use Rattle.std.specs.Prelude.{◌≡◌, ◌≤◌, length, IfOk};
-ghost use Rattle.lard_request.specs.Verdict.{closes};
 ghost use Rattle.lard_reader.specs.Batches.{batch_of, bytes_used};
 
 use lard_base::NoMemory;
@@ -36,7 +35,7 @@ pub fn batch(alloc: Global, unread: &[u8]) -> Result<Reading, NoMemory>
         match cut(rest) {
             Found::Block { skip, len } => {
                 let verdict = judge(alloc, &rest[skip..skip + len])?;
-                let last = closes_behind(&verdict);
+                let last = verdict.closes();
                 verdicts.push(verdict)?;
                 used += skip + len;
                 if last {
@@ -55,18 +54,4 @@ pub fn batch(alloc: Global, unread: &[u8]) -> Result<Reading, NoMemory>
         }
     }
     Ok(Reading { verdicts, used })
-}
-
-/// Whether the connection closes behind the answer to this verdict (RFC 9112, 9.6).
-fn closes_behind(verdict: &Verdict) -> bool
-    ensures { result ≡ closes verdict.now }
-{
-    match verdict {
-        Verdict::Serve {
-            path: _,
-            head: _,
-            close,
-        } => *close,
-        Verdict::Fault(_) => true,
-    }
 }

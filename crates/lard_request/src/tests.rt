@@ -10,17 +10,17 @@ fn serves(verdict: &Verdict, path: &[u8], head: bool, close: bool) -> bool {
         Verdict::Serve {
             path: found,
             head: by_head,
-            close: closes,
-        } => found.as_slice() == path && *by_head == head && *closes == close,
+            close: _,
+        } => found.as_slice() == path && *by_head == head && verdict.closes() == close,
         Verdict::Fault(_) => false,
     }
 }
 
-/// Whether a verdict is this fault.
+/// Whether a verdict is this fault, behind whose answer the connection closes.
 fn refuses(verdict: &Verdict, code: Code) -> bool {
     match verdict {
         Verdict::Serve { .. } => false,
-        Verdict::Fault(found) => *found == code,
+        Verdict::Fault(found) => *found == code && verdict.closes(),
     }
 }
 

@@ -1,6 +1,6 @@
 //! The bytes of one response, written to one buffer.
 
-ghost use Rattle.std.specs.Prelude.{◌≡◌, ◌↔◌, ◌++◌, length, IsTrue, IfOk, OnOk};
+ghost use Rattle.std.specs.Prelude.{◌≡◌, ◌↔◌, ◌++◌, IsTrue, IfOk, OnOk};
 ghost use Rattle.lard_response.specs.Response.{status_line, length_line, close_line, content, response, IsClosing, HasItsBody};
 
 use itoa::Buffer;

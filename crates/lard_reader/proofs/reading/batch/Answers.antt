@@ -7,7 +7,7 @@ pub returns-then-last : goal.returns-then-last
 returns-then-last c =
     let e : Ended c.args.unread.now c.push.new.self (c.loop-turn.used + (c.in-Block.skip + c.in-Block.len)) =
     read_closed c.args.unread.now c.loop-turn.verdicts c.push.new.self c.loop-turn.used c.loop-turn._turn c.in-Block.skip c.in-Block.len c.in_ok-verdict-in-Block.verdict c.loop-turn-test.true
-    c.loop-turn.invariant c.in-Block.ensures.value c.in-Block.ensures.within c.in_ok-verdict-in-Block.ensures (sym c.closes_behind-last.ensures ∙ c.if-last.true) c.in_ok-push-in-Block.ensures.ok in
+    c.loop-turn.invariant c.in-Block.ensures.value c.in-Block.ensures.within c.in_ok-verdict-in-Block.ensures (sym c.closes-last.ensures ∙ c.if-last.true) c.in_ok-push-in-Block.ensures.ok in
     record { verdicts = e.all; used = e.bytes; within = e.inside }
 
 pub returns-in-More : goal.returns-in-More
@@ -26,7 +26,7 @@ returns-in-TooLong c =
 pub loop-turn-preserved : goal.loop-turn-preserved
 loop-turn-preserved c =
     read_on c.args.unread.now c.loop-turn.verdicts c.push.new.self c.loop-turn.used c.loop-turn._turn c.in-Block.skip c.in-Block.len c.in_ok-verdict-in-Block.verdict c.loop-turn-test.true
-    c.loop-turn.invariant c.in-Block.ensures.value c.in-Block.ensures.within c.in_ok-verdict-in-Block.ensures (sym c.closes_behind-last.ensures ∙ c.if-last.false) c.in_ok-push-in-Block.ensures.ok
+    c.loop-turn.invariant c.in-Block.ensures.value c.in-Block.ensures.within c.in_ok-verdict-in-Block.ensures (sym c.closes-last.ensures ∙ c.if-last.false) c.in_ok-push-in-Block.ensures.ok
 
 pub returns : goal.returns
 returns c =
