@@ -12,7 +12,9 @@ use std::alloc::Global;
 /// What went from the one endpoint to the other.
 #[derive(Drop)]
 pub struct Pushed {
+    /// The segments of the sender.
     pub segments: u64,
+    /// The bytes that the other read.
     pub bytes: u64,
 }
 
@@ -88,7 +90,7 @@ impl Pair {
                 break;
             }
             self.fill(&chunk)?;
-            cross(
+            let crossed = cross(
                 &mut self.from,
                 &mut self.to,
                 &mut payload,
@@ -96,14 +98,14 @@ impl Pair {
                 Dir::ToCluster,
             );
             let read = read_all(&mut self.to);
-            cross(
+            let _acknowledged = cross(
                 &mut self.to,
                 &mut self.from,
                 &mut payload,
                 &mut wire,
                 Dir::ToClient,
             );
-            pushed.segments = pushed.segments.saturating_add(1);
+            pushed.segments = pushed.segments.saturating_add(u64::from(crossed));
             pushed.bytes = pushed.bytes.saturating_add(read as u64);
         }
         Ok(pushed)
@@ -120,13 +122,23 @@ impl Pair {
     }
 }
 
-/// The next segment goes over, if there is one.
-fn cross(from: &mut Endpoint, to: &mut Endpoint, payload: &mut [u8], wire: &mut [u8], dir: Dir)
+/// The next segment goes over: whether there was one.
+fn cross(
+    from: &mut Endpoint,
+    to: &mut Endpoint,
+    payload: &mut [u8],
+    wire: &mut [u8],
+    dir: Dir,
+) -> bool
     requires room { length payload.old ≡ 1460 }
     requires wire { length wire.old ≡ 1520 }
 {
-    if let Some(ready) = from.emit() {
-        carry(from, to, ready, payload, wire, dir);
+    match from.emit() {
+        Some(ready) => {
+            carry(from, to, ready, payload, wire, dir);
+            true
+        }
+        None => false,
     }
 }
 
