@@ -1,0 +1,219 @@
+-- What a journal says: folds over its records, the oldest first.
+use Rattle.std.specs.Prelude.{ℕ, ◌+◌, Bool, true, false, ◌||◌, ◌&&◌, List, [], ◌++◌, length, take, codes, Option, Some, None, Result, Ok, Err, nat_eq, if◌then◌else◌}
+use Rattle.std.specs.List.{concat, fold}
+use Rattle.lard_answers.specs.Answers.{FilesAt, answers}
+use Rattle.lard_base.specs.declared.event.Event.{Event}
+use Rattle.lard_base.specs.declared.event.Event.TheVariants as event
+use Rattle.lard_base.specs.declared.place.Place.{Place}
+use Rattle.lard_base.specs.declared.place.Place.TheVariants.{Front, Node, Client}
+use Rattle.lard_journal.specs.declared.rec.Rec.{Rec}
+use Rattle.lard_journal.specs.declared.rec.Rec.TheVariants as rec
+use Rattle.lard_segment.specs.declared.fault.SegFault.{SegFault}
+use Rattle.lard_segment.specs.declared.segment.Dir.TheVariants.{ToClient}
+use Rattle.lard_segment.specs.Segment.{Said, decoded}
+
+-- what the line `get` has a client write: a plain request for a path (RFC 9112, 3)
+abbrev pub request : List ℕ → List ℕ
+request path = codes "GET " ++ path ++ codes " HTTP/1.1\r\nHost: lard\r\n\r\n"
+
+-- ---- packets
+
+abbrev pub sent_step : ℕ → Rec → ℕ
+sent_step n (rec.Sent k from to bytes) = n + 1
+sent_step n _ = n
+
+-- how many packets were sent
+abbrev pub sent_count : List Rec → ℕ
+sent_count J = fold sent_step 0 J
+
+abbrev pub goal_step : ℕ → Option Place → Rec → Option Place
+goal_step k goal (rec.Sent j from to bytes) = if nat_eq j k then Some to else goal
+goal_step k goal _ = goal
+
+-- where packet k was sent to, if it was sent
+abbrev pub goal_of : List Rec → ℕ → Option Place
+goal_of J k = fold (goal_step k) None J
+
+abbrev pub lost_step : ℕ → Bool → Rec → Bool
+lost_step k lost (rec.Lost j) = if nat_eq j k then true else lost
+lost_step k lost _ = lost
+
+-- packet k was lost
+abbrev pub is_lost : List Rec → ℕ → Bool
+is_lost J k = fold (lost_step k) false J
+
+abbrev pub bytes_step : ℕ → Rec → ℕ
+bytes_step n (rec.Sent k from to bytes) = n + length bytes
+bytes_step n _ = n
+
+-- the bytes of all packets that were sent
+abbrev pub packet_bytes : List Rec → ℕ
+packet_bytes J = fold bytes_step 0 J
+
+-- ---- steps
+
+abbrev pub event_step : Option Event → Rec → Option Event
+event_step last (rec.Event i e) = Some e
+event_step last (rec.Inner e) = Some e
+event_step last _ = last
+
+-- the event of the last step
+abbrev pub last_event : List Rec → Option Event
+last_event J = fold event_step None J
+
+-- the place that acts in a step of this event: that to which the packet was sent, or that which the event names
+abbrev pub acting_in : List Rec → Event → Option Place
+acting_in J (event.Open c isn iss wnd mss) = Some (Client c)
+acting_in J (event.Get c path) = Some (Client c)
+acting_in J (event.Write c bytes) = Some (Client c)
+acting_in J (event.Shut c) = Some (Client c)
+acting_in J (event.Abort c) = Some (Client c)
+acting_in J (event.Hold c) = Some (Client c)
+acting_in J (event.Take c) = Some (Client c)
+acting_in J (event.Deliver k) = goal_of J k
+acting_in J (event.Timer place c) = Some place
+acting_in J (event.Inject c bytes) = Some (Client c)
+acting_in J (event.Lose k) = None
+acting_in J (event.Disk n j) = None
+acting_in J (event.Clock ms) = None
+acting_in J (event.Settle rounds) = None
+
+abbrev pub acting_at : List Rec → Option Event → Option Place
+acting_at J None = None
+acting_at J (Some e) = acting_in J e
+
+-- the place that acts in the last step, where one does
+abbrev pub acting : List Rec → Option Place
+acting J = acting_at J (last_event J)
+
+-- ---- owners
+
+abbrev pub owner_step : ℕ → Option Place → Rec → Option Place
+owner_step c owner (rec.Took place d epoch) = if nat_eq d c then Some place else owner
+owner_step c owner (rec.Gave place d epoch) = if nat_eq d c then None else owner
+owner_step c owner _ = owner
+
+-- the place that owns the send side of connection c, if one does
+abbrev pub owner : List Rec → ℕ → Option Place
+owner J c = fold (owner_step c) None J
+
+abbrev pub epoch_step : ℕ → ℕ → Rec → ℕ
+epoch_step c last (rec.Took place d epoch) = if nat_eq d c then epoch.0 else last
+epoch_step c last _ = last
+
+-- the epoch in which c was taken last, or 0
+abbrev pub last_epoch : List Rec → ℕ → ℕ
+last_epoch J c = fold (epoch_step c) 0 J
+
+-- ---- what clients write and accept
+
+abbrev pub wrote_step : ℕ → List ℕ → Rec → List ℕ
+wrote_step c bytes (rec.Wrote d more) = if nat_eq d c then bytes ++ more else bytes
+wrote_step c bytes _ = bytes
+
+-- all that client c wrote
+abbrev pub wrote : List Rec → ℕ → List ℕ
+wrote J c = fold (wrote_step c) [] J
+
+abbrev pub accepted_step : ℕ → List ℕ → Rec → List ℕ
+accepted_step c bytes (rec.Accepted d more) = if nat_eq d c then bytes ++ more else bytes
+accepted_step c bytes _ = bytes
+
+-- all that client c accepted
+abbrev pub accepted : List Rec → ℕ → List ℕ
+accepted J c = fold (accepted_step c) [] J
+
+-- ---- who opened
+
+-- the first numbers of a connection: the client's and the cluster's
+pub record Numbers : Type 0 where
+  pub isn : ℕ
+  pub iss : ℕ
+
+abbrev pub numbers_step : ℕ → Option Numbers → Rec → Option Numbers
+numbers_step c known (rec.Opened d isn iss wnd mss) = if nat_eq d c then Some (record { isn = isn; iss = iss }) else known
+numbers_step c known _ = known
+
+-- those of connection c, once its client opened
+abbrev pub numbers_of : List Rec → ℕ → Option Numbers
+numbers_of J c = fold (numbers_step c) None J
+
+-- ---- what is answered
+
+abbrev pub served_step : ℕ → ℕ → Rec → ℕ
+served_step c n (rec.Served place d r code size via) = if nat_eq d c then n + 1 else n
+served_step c n _ = n
+
+-- how many responses were queued on connection c
+abbrev pub served : List Rec → ℕ → ℕ
+served J c = fold (served_step c) 0 J
+
+abbrev pub served_bytes_step : ℕ → ℕ → Rec → ℕ
+served_bytes_step c n (rec.Served place d r code size via) = if nat_eq d c then n + size else n
+served_bytes_step c n _ = n
+
+-- the bytes of these responses
+abbrev pub served_bytes : List Rec → ℕ → ℕ
+served_bytes J c = fold (served_bytes_step c) 0 J
+
+abbrev pub answered_step : ℕ → Rec → ℕ
+answered_step n (rec.Served place c r code size via) = n + size
+answered_step n _ = n
+
+-- the bytes of all responses that were queued
+abbrev pub answered_bytes : List Rec → ℕ
+answered_bytes J = fold answered_step 0 J
+
+-- the responses that were queued on connection c, joined: as many of its answers as were served
+abbrev pub said_to : FilesAt → List Rec → ℕ → List ℕ
+said_to files J c = concat (take (served J c) (answers files (wrote J c)))
+
+-- ---- resets, and the end of a stream
+
+abbrev pub reset_step : ℕ → Bool → Rec → Bool
+reset_step c was (rec.Reset place d total) = if nat_eq d c then true else was
+reset_step c was _ = was
+
+-- the stream limit reset connection c
+abbrev pub was_reset : List Rec → ℕ → Bool
+was_reset J c = fold (reset_step c) false J
+
+-- a place of the cluster
+abbrev pub is_cluster : Place → Bool
+is_cluster Front = true
+is_cluster (Node n) = true
+is_cluster (Client c) = false
+
+abbrev pub said_fin : Result Said SegFault → Bool
+said_fin (Ok s) = s.flags.fin
+said_fin (Err fault) = false
+
+abbrev pub fin_to : ℕ → Place → List ℕ → Bool
+fin_to c (Client d) bytes = nat_eq d c && said_fin (decoded bytes c ToClient)
+fin_to c Front bytes = false
+fin_to c (Node n) bytes = false
+
+abbrev pub fin_step : ℕ → Bool → Rec → Bool
+fin_step c was (rec.Sent k from to bytes) = was || (is_cluster from && fin_to c to bytes)
+fin_step c was _ = was
+
+-- the cluster's FIN was sent to client c
+abbrev pub fin_sent : List Rec → ℕ → Bool
+fin_sent J c = fold (fin_step c) false J
+
+-- ---- clients that close their side
+
+abbrev pub event_shuts : ℕ → Event → Bool
+event_shuts c (event.Shut d) = nat_eq d c
+event_shuts c _ = false
+
+abbrev pub closed_step : ℕ → Bool → Rec → Bool
+closed_step c was (rec.Event i e) = was || event_shuts c e
+closed_step c was (rec.Inner e) = was || event_shuts c e
+closed_step c was (rec.Aborted d) = was || nat_eq d c
+closed_step c was (rec.Eof d) = was || nat_eq d c
+closed_step c was _ = was
+
+-- client c was shut or aborted, or took the end of its stream
+abbrev pub has_closed : List Rec → ℕ → Bool
+has_closed J c = fold (closed_step c) false J

@@ -1,0 +1,4 @@
+pub mod Client
+pub mod Front
+pub mod Machine
+pub mod Speaking
