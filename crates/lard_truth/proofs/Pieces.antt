@@ -1,7 +1,7 @@
 -- The pieces of a sending half are true parts of the bytes that it was given, and end where it says. Both ends of a
 -- connection share this half.
 use Rattle.std.proofs.Common.{◌≡◌, ◌≤◌, ◌<◌, ◌+◌, ◌-◌, ◌^◌, ℕ, Bool, true, false, cond, min, nat_lt, ◌==◌, not, ◌&&◌, List, [], length, take, drop, Option, Some, None, IfSome, arith, ap, ◌∙◌, sym, subst, refl, inl, inr, ⊎_elim, length-take, length-drop}
-use Rattle.std.proofs.lemmas.Bool.{cond_both, and_parts, eqb-true, ltb-true}
+use Rattle.std.proofs.lemmas.Bool.{cond_both, and_parts, eqb-true, eqb-false, ltb-true}
 use Rattle.lard_arrival.specs.Arrival.{IsPartAt}
 use Rattle.lard_segment.specs.declared.segment.Flags.{Flags}
 use Rattle.lard_segment.specs.Segment.{Said, IsSendable}
@@ -83,6 +83,7 @@ resent-carried s h =
     bytes-carry s s.nxt (min (unsent_bytes s) 1) (unsent_bytes s == 0) h sent (omega arith) (omega arith)
     (λ f.
     let none : unsent_bytes s ≡ 0 = eqb-true (unsent_bytes s) 0 f in
+    let begun : s.una ≡ 0 → ⊥ = eqb-false s.una 0 t in
     (omega arith, set_bit s.finished (omega arith))))
     (λ v. tt)))
 
