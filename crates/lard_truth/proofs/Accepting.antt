@@ -1,5 +1,5 @@
 -- A client accepts the next bytes of a true segment.
-use Rattle.std.proofs.Common.{◌≡◌, ◌≤◌, ◌<◌, ◌+◌, ◌-◌, ◌^◌, ℕ, Bool, true, false, cond, ◌==◌, not, List, length, take, drop, arith, ap, ◌∙◌, sym, subst, refl, ⊎_elim, length-take, length-drop}
+use Rattle.std.proofs.Common.{◌≡◌, ◌≤◌, ◌<◌, ◌+◌, ◌^◌, ℕ, true, false, cond, ◌==◌, not, List, length, take, drop, arith, ap, ◌∙◌, sym, subst, refl, ⊎_elim, length-take, length-drop}
 use Rattle.std.proofs.lemmas.Bool.{cond_both, cond-false}
 use Rattle.lard_arrival.specs.Arrival.{IsPartAt, peer_mss}
 use Rattle.lard_client.specs.declared.heard.Heard.{Heard}
@@ -34,7 +34,7 @@ greeting-takes : (x : Stream) (b : ClientBlock) (s : Said) → (b.send.una == 0)
 greeting-takes x b s z a greets =
     let P : Heard × ClientBlock → Type 0 = Takes x b s in
     let none : (y : ClientBlock) → y.accepted ≡ b.accepted → y.eof ≡ b.eof → (is_established y ≡ true → y.send.irs ≡ x.first) → P (nothing, y) = λ y n f e.
-        (accepts-none x b y n f e a, none-part x b s.payload 0 refl a.within, n ∙ omega arith) in
+    (accepts-none x b y n f e a, none-part x b s.payload 0 refl a.within, n ∙ omega arith) in
     let unknown : is_established b ≡ true → ⊥ = λ e. let no : not true ≡ true = subst (λ t. not t ≡ true) z e in cc in
     let synced = cond s.flags.syn (nothing, established b s) (nothing, b) in
     cond_both (not (answers_syn b s)) (nothing, b) (cond s.flags.rst (nothing, reset_by_peer b) synced) P (λ t. none b refl refl (λ e. absurd (unknown e)))

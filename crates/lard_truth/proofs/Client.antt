@@ -1,5 +1,5 @@
 -- A client sends the truth of its own stream, which goes on as it writes and as segments come.
-use Rattle.std.proofs.Common.{◌≡◌, ◌≤◌, ◌<◌, ◌+◌, ◌-◌, ◌^◌, ℕ, Bool, true, false, cond, nat_lt, ◌==◌, not, ◌&&◌, ◌||◌, List, [], ◌++◌, length, take, drop, Option, Some, None, IfSome, arith, ap, ◌∙◌, sym, subst, refl}
+use Rattle.std.proofs.Common.{◌≡◌, ◌≤◌, ◌<◌, ◌+◌, ◌^◌, ℕ, Bool, true, false, cond, nat_lt, ◌==◌, not, ◌&&◌, ◌||◌, List, [], ◌++◌, length, Option, Some, None, IfSome, arith, sym, subst, refl}
 use Rattle.std.proofs.lemmas.Bool.{cond_both, and_parts, not-true}
 use Rattle.lard_arrival.specs.Arrival.{is_acceptable, is_allowed, bare, peer_mss}
 use Rattle.lard_client.specs.declared.heard.Heard.{Heard}
@@ -7,15 +7,15 @@ use Rattle.lard_client.specs.declared.phase.Phase.{Phase}
 use Rattle.lard_client.specs.declared.phase.Phase.TheVariants.{Open, Aborted, Reset}
 use Rattle.lard_client.specs.Control.{ClientBlock, IsClientBlock, is_open, is_established, is_writing, rcv_nxt, rcv_wnd, opened, written, shut_down, held_on, taken, aborted}
 use Rattle.lard_client.specs.Leaving.{syn_ready, data_ready, piece_ready, ack_ready, reset_ready, refusal, told, owes, owed_ready, after_owed, ready_of, after_piece, emitted, after_emit, timed, after_timer, abort_ready, filled}
-use Rattle.lard_client.specs.Arriving.{nothing, owing, reset_by_peer, begins_after, fresh_len, ends, accepting, part_of, on_fresh, on_text, on_ack, on_syn, on_rst, on_unacceptable, on_segment, answers_syn, established, on_greeting, heard_open, reply_to, heard_in, arrived}
+use Rattle.lard_client.specs.Arriving.{nothing, owing, reset_by_peer, begins_after, fresh_len, ends, accepting, part_of, on_fresh, on_text, on_ack, on_syn, on_rst, on_unacceptable, on_segment, answers_syn, established, on_greeting, heard_open, heard_in, arrived}
 use Rattle.lard_client.proofs.Accepted.{no_reply}
 use Rattle.lard_segment.specs.declared.segment.Ready.{Ready}
-use Rattle.lard_segment.specs.Segment.{Said, IsSendable}
+use Rattle.lard_segment.specs.Segment.{Said}
 use Rattle.lard_send.specs.declared.piece.Piece.{Piece}
 use Rattle.lard_send.specs.Send.{Sending, queued_too, closed, introduced, next_piece, after_next, resent_piece, after_resend, after_ack}
-use Rattle.lard_seq.specs.Seq.{seq_add, seq_offset}
-use Rattle.lard_truth.specs.Truth.{Stream, GoesOn, IsTrueOf, Speaks, Accepts, stream_of}
-use Rattle.lard_truth.proofs.Pieces.{Carries, Fair, piece_bytes, bare-true, piece_size, piece-true, syn-empty, next-carries, resent-carries}
+use Rattle.lard_seq.specs.Seq.{seq_offset}
+use Rattle.lard_truth.specs.Truth.{Stream, GoesOn, Speaks, Accepts, stream_of}
+use Rattle.lard_truth.proofs.Pieces.{Carries, Fair, bare-true, piece_size, piece-true, next-carries, resent-carries}
 use Rattle.lard_truth.proofs.Speaking.{SpeaksAs, Continues, next-moves, resend-moves, speaks-begun, speaks-next, speaks-resend, speaks-ack, speaks-introduced, speaks-queued, speaks-closed, continues-as, continues-behind}
 
 -- ---- what it sends

@@ -1,5 +1,5 @@
 -- An endpoint sends the truth of its own stream, and hears that of its peer.
-use Rattle.std.proofs.Common.{◌≡◌, ◌≤◌, ◌<◌, ◌+◌, ◌-◌, ◌^◌, ℕ, Bool, true, false, cond, nat_lt, ◌==◌, not, ◌&&◌, List, [], length, take, drop, Option, Some, None, IfSome, arith, ap, ◌∙◌, sym, subst, refl, ⊎_elim}
+use Rattle.std.proofs.Common.{◌≡◌, ◌≤◌, ◌<◌, ◌+◌, ◌^◌, ℕ, Bool, true, false, cond, nat_lt, ◌==◌, not, ◌&&◌, List, [], length, Option, Some, None, IfSome, arith, ap, ◌∙◌, sym, subst, refl, ⊎_elim}
 use Rattle.std.proofs.lemmas.Bool.{cond_both}
 use Rattle.lard_arrival.specs.Arrival.{is_acceptable, is_allowed, bare, peer_mss}
 use Rattle.lard_endpoint.specs.declared.control.arriving.Arrival.{Arrival}
@@ -9,7 +9,7 @@ use Rattle.lard_endpoint.specs.Control.{ControlBlock, rcv_nxt, rcv_wnd, listenin
 use Rattle.lard_endpoint.specs.Leaving.{told, own_mss, piece_ready, ack_ready, owes, owed_ready, after_owed, ready_of, after_piece, advanced, retried, emitted, after_emit, timed, after_timer, filled}
 use Rattle.lard_recv.specs.Recv.{Received, arrived}
 use Rattle.lard_segment.specs.declared.segment.Ready.{Ready}
-use Rattle.lard_segment.specs.Segment.{Said, IsSendable}
+use Rattle.lard_segment.specs.Segment.{Said}
 use Rattle.lard_send.specs.declared.piece.Piece.{Piece}
 use Rattle.lard_send.specs.Send.{Sending, next_piece, after_next, resent_piece, after_resend, after_ack}
 use Rattle.lard_seq.specs.Seq.{seq_add, seq_offset}

@@ -1,5 +1,5 @@
 -- What was true, heard and accepted stays so as a stream goes on.
-use Rattle.std.proofs.Common.{◌≡◌, ◌≤◌, ◌+◌, ℕ, true, List, [], ◌++◌, length, take, drop, arith, ap, ◌∙◌, sym, subst, refl, inl, inr, ⊎_elim, length-append, length-drop, append-nil, append_assoc}
+use Rattle.std.proofs.Common.{◌≡◌, ◌≤◌, ◌+◌, ℕ, List, [], ◌++◌, length, take, drop, arith, ap, ◌∙◌, sym, subst, refl, inl, inr, ⊎_elim, length-append, length-drop, append-nil}
 use Rattle.std.proofs.lemmas.List.{drop-append-le, take-append-le}
 use Rattle.lard_answers.specs.Answers.{IsFront}
 use Rattle.lard_arrival.specs.Arrival.{IsPartAt}

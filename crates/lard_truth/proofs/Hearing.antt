@@ -1,5 +1,5 @@
 -- A receiving half takes the next bytes of a true segment, and keeps what is unread of all that it took.
-use Rattle.std.proofs.Common.{◌≡◌, ◌≤◌, ◌<◌, ◌+◌, ◌-◌, ◌^◌, ℕ, Bool, true, false, cond, nat_lt, ◌==◌, ◌&&◌, List, [], ◌++◌, length, take, drop, arith, ap, ◌∙◌, sym, subst, refl, ⊎_elim, length-append, length-drop}
+use Rattle.std.proofs.Common.{◌≡◌, ◌≤◌, ◌<◌, ◌+◌, ◌-◌, ◌^◌, ℕ, Bool, true, false, cond, nat_lt, ◌==◌, List, [], ◌++◌, length, take, arith, ap, ◌∙◌, sym, subst, refl, ⊎_elim, length-append, length-drop}
 use Rattle.std.proofs.lemmas.Bool.{cond_both, and_parts, and_from, eqb-true, lt-ltb, cases_lt, false≢true}
 use Rattle.std.proofs.Math.Seq.{take-add}
 use Rattle.std.proofs.lemmas.List.{length-take-le}
@@ -8,7 +8,7 @@ use Rattle.lard_endpoint.specs.Laws.{IsTrueData}
 use Rattle.lard_endpoint.proofs.Fresh.{gained-part}
 use Rattle.lard_endpoint.proofs.Numbers.{offset_later}
 use Rattle.lard_endpoint.proofs.Sound.{arrived-sound}
-use Rattle.lard_recv.specs.Recv.{Received, IsReceived, IsUnusedPart, restored, one_if, awaited, room, begins_after, fresh, ends, taken, arrived, gained, consumed, discarded}
+use Rattle.lard_recv.specs.Recv.{Received, IsUnusedPart, restored, one_if, awaited, begins_after, fresh, ends, taken, arrived, gained, consumed, discarded}
 use Rattle.lard_recv.proofs.Unused.{unused-arrived, unused-consumed}
 use Rattle.lard_segment.specs.Segment.{Said}
 use Rattle.lard_seq.specs.Seq.{seq_add, seq_offset}

@@ -1,6 +1,6 @@
 -- The pieces of a sending half are true parts of the bytes that it was given, and end where it says. Both ends of a
 -- connection share this half.
-use Rattle.std.proofs.Common.{◌≡◌, ◌≤◌, ◌<◌, ◌+◌, ◌-◌, ◌^◌, ℕ, Bool, true, false, cond, min, nat_lt, ◌==◌, not, ◌&&◌, List, [], length, take, drop, Option, Some, None, IfSome, arith, ap, ◌∙◌, sym, subst, refl, inl, inr, ⊎_elim, length-take, length-drop}
+use Rattle.std.proofs.Common.{◌≡◌, ◌≤◌, ◌<◌, ◌+◌, ◌-◌, ℕ, Bool, true, false, cond, min, nat_lt, ◌==◌, not, ◌&&◌, List, [], length, take, drop, Option, Some, None, IfSome, arith, ap, ◌∙◌, sym, subst, refl, inl, inr, length-take, length-drop}
 use Rattle.std.proofs.lemmas.Bool.{cond_both, and_parts, eqb-true, eqb-false, ltb-true}
 use Rattle.lard_arrival.specs.Arrival.{IsPartAt}
 use Rattle.lard_segment.specs.declared.segment.Flags.{Flags}
@@ -9,7 +9,7 @@ use Rattle.lard_send.specs.declared.piece.Piece.{Piece}
 use Rattle.lard_send.specs.Send.{Sending, IsSending, one_if, symbols, acknowledged_bytes, syn_piece, byte_piece, left, unsent_bytes, may_send, next_len, next_fin, next_piece, again_len, again_fin, resent_piece}
 use Rattle.lard_send.proofs.Unacknowledged.{pieces}
 use Rattle.lard_seq.specs.Seq.{seq_add}
-use Rattle.lard_truth.specs.Truth.{Stream, Stands, IsTrueOf, Speaks, stream_of}
+use Rattle.lard_truth.specs.Truth.{Stream, IsTrueOf, Speaks, stream_of}
 
 -- Its bytes are queued and not acknowledged, a FIN stands behind all bytes, and a SYN goes alone.
 pub record Carries (s : Sending) (p : Piece) : Type 0 where
