@@ -1,17 +1,17 @@
 -- A receiving half takes the next bytes of a true segment, and keeps what is unread of all that it took.
-use Rattle.std.proofs.Common.{◌≡◌, ◌≤◌, ◌<◌, ◌+◌, ◌-◌, ◌^◌, ℕ, Bool, true, false, cond, nat_lt, ◌==◌, List, [], ◌++◌, length, take, arith, ap, ◌∙◌, sym, subst, refl, ⊎_elim, length-append, length-drop}
-use Rattle.std.proofs.lemmas.Bool.{cond_both, and_parts, and_from, eqb-true, lt-ltb, cases_lt, false≢true}
+use Rattle.std.proofs.Common.{◌≡◌, ◌≤◌, ◌<◌, ◌+◌, ◌^◌, ℕ, Bool, true, false, cond, List, [], ◌++◌, length, take, arith, ap, ◌∙◌, sym, subst, refl, length-append, length-drop}
+use Rattle.std.proofs.lemmas.Bool.{cond_both}
 use Rattle.std.proofs.Math.Seq.{take-add}
 use Rattle.std.proofs.lemmas.List.{length-take-le}
+use Rattle.std.proofs.lemmas.Grind.{common_steps}
 use Rattle.lard_arrival.specs.Arrival.{IsPartAt}
 use Rattle.lard_endpoint.specs.Laws.{IsTrueData}
 use Rattle.lard_endpoint.proofs.Fresh.{gained-part}
-use Rattle.lard_endpoint.proofs.Numbers.{offset_later}
 use Rattle.lard_endpoint.proofs.Sound.{arrived-sound}
-use Rattle.lard_recv.specs.Recv.{Received, IsUnusedPart, restored, one_if, awaited, begins_after, fresh, ends, taken, arrived, gained, consumed, discarded}
+use Rattle.lard_recv.specs.Recv.{Received, IsUnusedPart, restored, awaited, begins_after, fresh, ends, taken, arrived, gained, consumed, discarded}
 use Rattle.lard_recv.proofs.Unused.{unused-arrived, unused-consumed}
 use Rattle.lard_segment.specs.Segment.{Said}
-use Rattle.lard_seq.specs.Seq.{seq_add, seq_offset}
+use Rattle.lard_seq.specs.Seq.{seq_add}
 use Rattle.lard_truth.specs.Truth.{Stream, IsStream, Stands, Hears}
 
 -- ---- a segment arrives
@@ -25,57 +25,14 @@ stands-data x r s t is e = record {
   part = t.part;
 }
 
--- the bytes so far and a part behind them are the bytes so far
+-- the first n bytes with the part behind them are the first bytes, so many more
 front-more : (n : ℕ) (part all : List ℕ) → IsPartAt n part all → take n all ++ part ≡ take (n + length part) all
 front-more n part all p = ap (λ more. take n all ++ more) (sym p.same) ∙ sym (take-add n (length part) all)
-
-module _ (r : Received) (all : List ℕ) (k seq : ℕ) (data_ : List ℕ) (got : r.got ≤ length all) (t : IsTrueData r all k seq data_) (open_ : r.fin ≡ false) where
-  next : awaited r ≡ seq_add r.irs (1 + r.got)
-  next = let none : one_if r.fin ≡ 0 = ap one_if open_ in ap (seq_add r.irs) (omega arith)
-
-  -- a segment that begins after the awaited byte is seen
-  ahead : r.got < k → begins_after seq (awaited r) ≡ true
-  ahead lt =
-      let first = t.first in
-      let most = t.most in
-      let within = t.part.within in
-      let offset : seq_offset seq (awaited r) ≡ k - r.got =
-      ap (seq_offset seq) next ∙ ap (λ n. seq_offset n (seq_add r.irs (1 + r.got))) t.number ∙ offset_later r.irs (1 + k) (1 + r.got) first (omega arith) (omega arith) ∙ omega arith in
-      and_from (nat_lt 0 (seq_offset seq (awaited r))) (nat_lt (seq_offset seq (awaited r)) (2 ^ 31))
-      (lt-ltb 0 (seq_offset seq (awaited r)) (omega arith)) (lt-ltb (seq_offset seq (awaited r)) (2 ^ 31) (omega arith))
-
-  -- how much of any other one came before
-  old : begins_after seq (awaited r) ≡ false → (k ≤ r.got) × (seq_offset (awaited r) seq ≡ r.got - k)
-  old e = ⊎_elim
-      (λ (lt : r.got < k). absurd (false≢true (sym e ∙ ahead lt)))
-      (λ (le : k ≤ r.got).
-      let first = t.first in
-      let most = t.most in (
-        le,
-        ap (seq_offset (awaited r)) t.number ∙ ap (λ n. seq_offset n (seq_add r.irs (1 + k))) next ∙ offset_later r.irs (1 + r.got) (1 + k) first (omega arith) (omega arith) ∙ omega arith,
-      ))
-      (cases_lt r.got k)
-
-  -- a FIN behind all bytes is taken behind all of them
-  taken-last : (fin : Bool) → (fin ≡ true → k + length data_ ≡ length all) → begins_after seq (awaited r) ≡ false → ends r seq data_ fin ≡ true
-      → (fin ≡ true) × (r.got + length (fresh r seq data_) ≡ length all)
-  taken-last fin last b e =
-      let parts = and_parts fin (seq_offset (awaited r) seq + length (fresh r seq data_) == length data_) e in
-      let reached : seq_offset (awaited r) seq + length (fresh r seq data_) ≡ length data_ = eqb-true _ _ parts.1 in
-      let final = last parts.0 in
-      let offset = old b in
-      let le = offset.0 in
-      let is = offset.1 in
-      (parts.0, omega arith)
 
 -- the FIN is taken only once all bytes are
 fin-last : (r : Received) (all : List ℕ) (k seq : ℕ) (data_ : List ℕ) (fin : Bool) → r.got ≤ length all → IsTrueData r all k seq data_
     → (fin ≡ true → k + length data_ ≡ length all) → r.fin ≡ false → (arrived r seq data_ fin).fin ≡ true → (fin ≡ true) × ((arrived r seq data_ fin).got ≡ length all)
-fin-last r all k seq data_ fin got t last open_ =
-    let P : Received → Type 0 = λ z. z.fin ≡ true → (fin ≡ true) × (z.got ≡ length all) in
-    let more : Received = taken r (fresh r seq data_) (ends r seq data_ fin) in
-    cond_both (begins_after seq (awaited r)) r (cond r.fin r more) P (λ b e. absurd (cc))
-    (λ b. cond_both r.fin r more P (λ f e. absurd (cc)) (λ f e. taken-last r all k seq data_ got t open_ fin last b e))
+fin-last r all k seq data_ fin got t last open_ = grind (arith, common_steps)
 
 -- neither the first number nor, once the FIN came, anything else moves
 arrived-first : (r : Received) (seq : ℕ) (data_ : List ℕ) (fin : Bool) → (arrived r seq data_ fin).irs ≡ r.irs

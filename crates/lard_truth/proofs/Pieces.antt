@@ -10,6 +10,7 @@ use Rattle.lard_send.specs.Send.{Sending, IsSending, one_if, symbols, acknowledg
 use Rattle.lard_send.proofs.Unacknowledged.{pieces}
 use Rattle.lard_seq.specs.Seq.{seq_add}
 use Rattle.lard_truth.specs.Truth.{Stream, IsTrueOf, Speaks, stream_of}
+use Rattle.lard_truth.proofs.Speaking.{one_small}
 
 -- Its bytes are queued and not acknowledged, a FIN stands behind all bytes, and a SYN goes alone.
 pub record Carries (s : Sending) (p : Piece) : Type 0 where
@@ -20,10 +21,6 @@ pub record Carries (s : Sending) (p : Piece) : Type 0 where
   pub alone : p.syn ≡ true → (p.len ≡ 0) × (p.fin ≡ false)
 
 -- ---- which pieces there are
-one_small : (b : Bool) → one_if b ≤ 1
-one_small true = omega arith
-one_small false = omega arith
-
 set_bit : (b : Bool) → 0 < one_if b → b ≡ true
 set_bit true h = refl
 set_bit false h = absurd (omega arith)

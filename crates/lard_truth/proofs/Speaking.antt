@@ -5,7 +5,7 @@ use Rattle.lard_endpoint.proofs.Sound.{after_ack-sound, after_next-sound, after_
 use Rattle.lard_send.specs.Send.{Sending, IsSending, IsUnacknowledgedPart, begun, introduced, queued_too, closed, one_if, symbols, moved_up, is_newer, windowed, after_ack, may_send, next_len, next_fin, after_next, after_resend}
 use Rattle.lard_send.proofs.Unacknowledged.{kept-queued, kept-ack, kept-next, kept-resend}
 use Rattle.lard_seq.specs.Seq.{seq_offset}
-use Rattle.lard_truth.specs.Truth.{Stream, GoesOn, Speaks, stream_of}
+use Rattle.lard_truth.specs.Truth.{Stream, IsStream, GoesOn, Speaks, stream_of}
 use Rattle.lard_truth.proofs.Growth.{goes_on-equal}
 
 -- ---- NXT is all that sending moves
@@ -37,6 +37,10 @@ SpeaksAs s bytes t = Speaks t bytes × (stream_of t bytes ≡ stream_of s bytes)
 speaks-as : (s t : Sending) (bytes : List ℕ) → Speaks s bytes → IsSending t → t.iss ≡ s.iss → t.finished ≡ s.finished → IsUnacknowledgedPart t bytes → SpeaksAs s bytes t
 speaks-as s t bytes h sound e f part =
     (record { sound = sound; number = subst (λ n. n < 2 ^ 32) (sym e) h.number; part = part }, stream-same s t bytes e f)
+
+-- what it may send is a stream
+pub speaks-stream : (s : Sending) (bytes : List ℕ) → Speaks s bytes → IsStream (stream_of s bytes)
+speaks-stream s bytes h = record { number = h.number; most = let count = h.part.count in let most = h.sound.most in omega arith }
 
 -- ---- what befalls it
 pub speaks-begun : (iss irs wnd mss : ℕ) → iss < 2 ^ 32 → 1 ≤ mss → mss ≤ 1460 → Speaks (begun iss irs wnd mss) []
@@ -87,23 +91,22 @@ speaks-queued s bytes more f le h =
       record { first = refl; bytes = (more, refl); ended = λ e. absurd (cc) },
     )
 
+pub one_small : (b : Bool) → one_if b ≤ 1
+one_small true = omega arith
+one_small false = omega arith
+
 pub speaks-closed : (s : Sending) (bytes : List ℕ) → Speaks s bytes → Speaks (closed s) bytes × GoesOn (stream_of s bytes) (stream_of (closed s) bytes)
 speaks-closed s bytes h =
     let sound = h.sound in
-    let queued = sound.queued in (
+    let queued : s.nxt ≤ symbols s = sound.queued in
+    let one = one_small s.finished in (
       record {
-        sound = record { sent = sound.sent; queued = closed-queued s queued; kept = sound.kept; most = sound.most; some_mss = sound.some_mss; small_mss = sound.small_mss };
+        sound = record { sent = sound.sent; queued = omega arith; kept = sound.kept; most = sound.most; some_mss = sound.some_mss; small_mss = sound.small_mss };
         number = h.number;
         part = record { count = h.part.count; part = h.part.part };
       },
       record { first = refl; bytes = ([], sym (append-nil bytes)); ended = λ e. λ i. record { first = s.iss; bytes = bytes; ended = sym e i } },
     )
-  where
-    closed-queued : (s : Sending) → s.nxt ≤ symbols s → s.nxt ≤ 1 + s.total + 1
-    closed-queued s q = omega (arith, small s.finished) where
-      small : (b : Bool) → one_if b ≤ 1
-      small true = omega arith
-      small false = omega arith
 
 -- ---- its stream goes on
 abbrev pub Continues : Sending → List ℕ → Sending → Type 0
