@@ -1,5 +1,5 @@
 -- What the segments of one side of a connection say of the bytes that it sends, and what the other side may rely on.
-use Rattle.std.specs.Prelude.{◌≡◌, ◌⊎◌, ℕ, ◌+◌, ◌^◌, ◌<◌, ◌≤◌, Bool, true, false, List, [], ◌++◌, length, take}
+use Rattle.std.specs.Prelude.{◌≡◌, ◌⊎◌, ℕ, ◌+◌, ◌^◌, ◌<◌, ◌≤◌, Bool, true, false, List, [], length, take}
 use Rattle.lard_answers.specs.Answers.{IsFront}
 use Rattle.lard_arrival.specs.Arrival.{IsPartAt}
 use Rattle.lard_client.specs.Control.{ClientBlock, is_established}
