@@ -217,3 +217,53 @@ closed_step c was _ = was
 -- client c was shut or aborted, or took the end of its stream
 abbrev pub has_closed : List Rec → ℕ → Bool
 has_closed J c = fold (closed_step c) false J
+
+-- ---- one connection
+
+-- What a journal says of one connection.
+pub record Tale : Type 0 where
+  pub numbers : Option Numbers
+  pub wrote : List ℕ
+  pub accepted : List ℕ
+  pub owner : Option Place
+  pub epoch : ℕ
+  pub served : ℕ
+  pub served_bytes : ℕ
+  pub was_reset : Bool
+  pub fin_sent : Bool
+  pub has_closed : Bool
+
+abbrev pub untold : Tale
+untold = record {
+  numbers = None;
+  wrote = [];
+  accepted = [];
+  owner = None;
+  epoch = 0;
+  served = 0;
+  served_bytes = 0;
+  was_reset = false;
+  fin_sent = false;
+  has_closed = false;
+}
+
+abbrev pub tale_step : ℕ → Tale → Rec → Tale
+tale_step c t r = record {
+  numbers = numbers_step c t.numbers r;
+  wrote = wrote_step c t.wrote r;
+  accepted = accepted_step c t.accepted r;
+  owner = owner_step c t.owner r;
+  epoch = epoch_step c t.epoch r;
+  served = served_step c t.served r;
+  served_bytes = served_bytes_step c t.served_bytes r;
+  was_reset = reset_step c t.was_reset r;
+  fin_sent = fin_step c t.fin_sent r;
+  has_closed = closed_step c t.has_closed r;
+}
+
+-- a tale goes on by records
+abbrev pub told_on : ℕ → Tale → List Rec → Tale
+told_on c t rs = fold (tale_step c) t rs
+
+unfoldable pub tale : List Rec → ℕ → Tale
+tale J c = told_on c untold J

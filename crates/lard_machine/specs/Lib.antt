@@ -1,3 +1,4 @@
+pub mod Bounds
 pub mod Client
 pub mod Front
 pub mod Machine

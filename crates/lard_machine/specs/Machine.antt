@@ -25,6 +25,7 @@ use Rattle.lard_machine.specs.declared.places.FrontConn.{FrontConn}
 use Rattle.lard_machine.specs.declared.places.FrontConn.TheVariants.{Held, Lent, Closed}
 use Rattle.lard_machine.specs.declared.places.Station.{Station}
 use Rattle.lard_machine.specs.declared.places.Turn.{Turn}
+use Rattle.lard_machine.specs.Bounds.{HasRule}
 use Rattle.lard_machine.specs.Client.{client_opens, client_writes, client_shuts, client_holds, client_takes, client_aborts, client_timer, client_gets}
 use Rattle.lard_machine.specs.Front.{FrontEnv, front_gets, front_timer}
 use Rattle.lard_machine.specs.Speaking.{listed}
@@ -242,11 +243,24 @@ machine_step m e = unless_limit (limit_reached m) (happens m e)
 
 -- ---- runs
 
--- events pass one after another, from a state to a state
+-- events that have rules pass one after another, from a state to a state
 abbrev pub Passes : Machine → List Event → Machine → Type 0
 Passes m [] n = n ≡ m
-Passes m (e ∷ es) n = (k : Machine) × (machine_step m e ≡ Ok k) × Passes k es n
+Passes m (e ∷ es) n = (k : Machine) × HasRule e × (machine_step m e ≡ Ok k) × Passes k es n
 
 -- a state that some events lead to
 abbrev pub IsReached : Config → List (List ℕ × List ℕ) → Machine → Type 0
 IsReached config files m = (es : List Event) × Passes (start config files) es m
+
+-- ---- what a call does
+
+-- A step does what the rules give. After a fault but want of memory everything is as before; after want of memory the
+-- journal is.
+abbrev pub Steps : Result Machine StepFault → Machine → Machine → Result (Unit {0}) StepFault → Type 0
+Steps given old new (Ok _) = given ≡ Ok new
+Steps given old new (Err NoMemory) = new.journal ≡ old.journal
+Steps given old new (Err (NotSent k sent)) = (new ≡ old) × (given ≡ Err (NotSent k sent))
+Steps given old new (Err (WasLost k)) = (new ≡ old) × (given ≡ Err (WasLost k))
+Steps given old new (Err (NoClient c)) = (new ≡ old) × (given ≡ Err (NoClient c))
+Steps given old new (Err (Used c)) = (new ≡ old) × (given ≡ Err (Used c))
+Steps given old new (Err (Limit what)) = (new ≡ old) × (given ≡ Err (Limit what))
