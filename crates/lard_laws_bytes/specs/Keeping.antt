@@ -1,0 +1,118 @@
+-- What a turn of a place keeps of the agreement of its connection.
+use Rattle.std.specs.Prelude.{◌≡◌, ◌⊎◌, ℕ, ◌+◌, ◌^◌, ◌≤◌, ◌<◌, ◌||◌, Bool, true, false, List, [], ◌∷◌, ◌++◌, length, take, Option, Some, Ok}
+use Rattle.std.specs.List.{concat, list_any}
+use Rattle.lard_answers.specs.Answers.{FilesAt}
+use Rattle.lard_client.specs.Control.{ClientBlock, written_len}
+use Rattle.lard_history.specs.Journal.{Tale}
+use Rattle.lard_journal.specs.declared.rec.Rec.{Rec}
+use Rattle.lard_journal.specs.declared.rec.Rec.TheVariants as rec
+use Rattle.lard_machine.specs.declared.places.FrontConn.{FrontConn}
+use Rattle.lard_machine.specs.declared.places.Turn.{Turn}
+use Rattle.lard_machine.specs.Client.{client_aborts, client_gets, client_holds, client_shuts, client_takes, client_timer, client_writes}
+use Rattle.lard_machine.specs.Front.{FrontEnv, front_gets, front_timer}
+use Rattle.lard_request.specs.declared.verdict.Verdict.{Verdict}
+use Rattle.lard_segment.specs.Segment.{Said}
+use Rattle.lard_truth.specs.Truth.{Stream, GoesOn, IsTrueOf}
+use Rattle.lard_laws_bytes.specs.Agreement.{AreReplies, AreWords, ClientAgrees, FrontAgrees, SaysAnswers}
+
+-- ---- the front end's turn
+
+-- its notes: it took the connection, served, or reset it
+abbrev pub is_served : Rec → Bool
+is_served (rec.Served place c r code size via) = true
+is_served _ = false
+
+abbrev pub resets : Rec → Bool
+resets (rec.Reset place c total) = true
+resets _ = false
+
+abbrev pub is_front_note : ℕ → Rec → Type 0
+is_front_note c (rec.Took place d epoch) = d ≡ c
+is_front_note c (rec.Served place d r code size via) = d ≡ c
+is_front_note c (rec.Reset place d total) = d ≡ c
+is_front_note c _ = ⊥
+
+abbrev pub AreFrontNotes : ℕ → List Rec → Type 0
+AreFrontNotes c [] = Unit {0}
+AreFrontNotes c (r ∷ rs) = is_front_note c r × AreFrontNotes c rs
+
+-- how many responses these records queue
+abbrev pub served_in : List Rec → ℕ
+served_in [] = 0
+served_in (rec.Served place c r code size via ∷ rs) = 1 + served_in rs
+served_in (_ ∷ rs) = served_in rs
+
+-- Between the front end's states before and after a turn: the cluster's stream goes on by the answers to more verdicts,
+-- and all that was sent is true of it. A response is queued only while the stream goes on.
+pub record FrontTurned (files : FilesAt) (c : ℕ) (w out : Stream) (vs : List Verdict) (was_reset : Bool) (given : Option FrontConn × Turn) : Type 0 where
+  pub out_after : Stream
+  pub vs_after : List Verdict
+  pub longer : GoesOn out out_after
+  pub says : SaysAnswers files w out_after vs_after
+  pub agrees : FrontAgrees w out_after vs_after (was_reset || list_any resets given.1.notes) given.0
+  pub notes : AreFrontNotes c given.1.notes
+  pub served : length vs_after ≡ length vs + served_in given.1.notes
+  pub unless_ended : (out.ended ≡ false) ⊎ (served_in given.1.notes ≡ 0)
+  pub sent : AreReplies c w out_after (was_reset || list_any resets given.1.notes) given.1.segments
+
+-- the connection's own numbers and limits in the rules' surroundings
+pub record IsEnv (files : FilesAt) (c : ℕ) (out : Stream) (env : FrontEnv) : Type 0 where
+  pub number : env.c ≡ c
+  pub begins : env.iss ≡ out.first
+  pub files_are : env.files ≡ files
+  pub most : env.stream ≤ 2 ^ 30
+
+abbrev pub FrontHearsTruth : Type 0
+FrontHearsTruth = (files : FilesAt) (c : ℕ) (w out : Stream) (vs : List Verdict) (was_reset : Bool) (env : FrontEnv) (f : Option FrontConn) (s : Said)
+    → IsEnv files c out env → length w.bytes ≤ 2 ^ 30 → SaysAnswers files w out vs → FrontAgrees w out vs was_reset f → IsTrueOf w s
+    → FrontTurned files c w out vs was_reset (front_gets env f (Ok s))
+
+abbrev pub FrontTimerIsTrue : Type 0
+FrontTimerIsTrue = (files : FilesAt) (c : ℕ) (w out : Stream) (vs : List Verdict) (was_reset : Bool) (env : FrontEnv) (f : Option FrontConn)
+    → IsEnv files c out env → length w.bytes ≤ 2 ^ 30 → SaysAnswers files w out vs → FrontAgrees w out vs was_reset f
+    → FrontTurned files c w out vs was_reset (front_timer env f)
+
+-- ---- a client's turn
+
+abbrev pub written_in : List Rec → List ℕ
+written_in [] = []
+written_in (rec.Wrote c bytes ∷ rs) = bytes ++ written_in rs
+written_in (_ ∷ rs) = written_in rs
+
+abbrev pub accepted_in : List Rec → List ℕ
+accepted_in [] = []
+accepted_in (rec.Accepted c bytes ∷ rs) = bytes ++ accepted_in rs
+accepted_in (_ ∷ rs) = accepted_in rs
+
+abbrev pub is_client_note : ℕ → Rec → Type 0
+is_client_note c (rec.Wrote d bytes) = d ≡ c
+is_client_note c (rec.Accepted d bytes) = d ≡ c
+is_client_note c (rec.Eof d) = d ≡ c
+is_client_note c (rec.Aborted d) = d ≡ c
+is_client_note c _ = ⊥
+
+abbrev pub AreClientNotes : ℕ → List Rec → Type 0
+AreClientNotes c [] = Unit {0}
+AreClientNotes c (r ∷ rs) = is_client_note c r × AreClientNotes c rs
+
+-- Between a client before and after a turn: its stream goes on by what it noted as written, what it noted as accepted
+-- are the next bytes of the cluster's stream, and all that was sent is true.
+pub record ClientTurned (c : ℕ) (w out : Stream) (x : ClientBlock) (given : ClientBlock × Turn) : Type 0 where
+  pub w_after : Stream
+  pub longer : GoesOn w w_after
+  pub wrote : w_after.bytes ≡ w.bytes ++ written_in given.1.notes
+  pub agrees : ClientAgrees c w_after out given.0
+  pub notes : AreClientNotes c given.1.notes
+  pub accepted : take given.0.accepted out.bytes ≡ take x.accepted out.bytes ++ accepted_in given.1.notes
+  pub sent : AreWords c w_after given.1.segments
+
+abbrev pub ClientKeeps : (ClientBlock → ClientBlock × Turn) → Type 0
+ClientKeeps rule = (c : ℕ) (w out : Stream) (x : ClientBlock) → length out.bytes ≤ 2 ^ 30 → ClientAgrees c w out x → ClientTurned c w out x (rule x)
+
+abbrev pub ClientHearsTruth : Type 0
+ClientHearsTruth = (c : ℕ) (w out : Stream) (x : ClientBlock) (s : Said) → length out.bytes ≤ 2 ^ 30 → out.first < 2 ^ 32 → s.seq < 2 ^ 32 → s.ack < 2 ^ 32 → ClientAgrees c w out x → IsTrueOf out s
+    → ClientTurned c w out x (client_gets x (Ok s))
+
+abbrev pub ClientWritesTruth : Type 0
+ClientWritesTruth = (c : ℕ) (w out : Stream) (x : ClientBlock) (bytes : List ℕ) → length out.bytes ≤ 2 ^ 30 → written_len x bytes ≤ 2 ^ 30 → ClientAgrees c w out x
+    → ClientTurned c w out x (client_writes x bytes)

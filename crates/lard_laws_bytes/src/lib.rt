@@ -1,0 +1,25 @@
+//! What clients accept, and what is said to them, is right: the laws of the machine that speak of bytes.
+//!
+//! It stands above the machine, the truth of segments and the words of the history; the world and `run` carry its laws as
+//! clauses. It has no code.
+#![tactic(auto)]
+
+ghost use Rattle.lard_laws_bytes.specs.Keeping.{ClientHearsTruth, ClientKeeps, ClientWritesTruth, FrontHearsTruth, FrontTimerIsTrue};
+ghost use Rattle.lard_machine.specs.Client.{client_aborts, client_holds, client_shuts, client_takes, client_timer};
+
+/// The front end answers what its client wrote, and says nothing else.
+pub fn the_front_end_keeps_the_agreement()
+    ensures segment { FrontHearsTruth }
+    ensures timer { FrontTimerIsTrue }
+{}
+
+/// A client writes its stream, and accepts the cluster's.
+pub fn a_client_keeps_the_agreement()
+    ensures segment { ClientHearsTruth }
+    ensures write { ClientWritesTruth }
+    ensures shut { ClientKeeps client_shuts }
+    ensures abort { ClientKeeps client_aborts }
+    ensures hold { ClientKeeps client_holds }
+    ensures take { ClientKeeps client_takes }
+    ensures timer { ClientKeeps client_timer }
+{}
