@@ -3,7 +3,8 @@ use Rattle.std.proofs.Common.{◌≡◌, ℕ, ◌-◌, ◌≤◌, ◌<◌, ◌^�
 use Rattle.std.specs.Prelude.{nat_le, decimal, codes, bytes_eq}
 use Rattle.std.specs.List.{find}
 use Rattle.std.proofs.lemmas.Bool.Decides.{nat_tests}
-use Rattle.hex.specs.Hex.{decode_of}
+use Rattle.hex.specs.Hex.{decode_of, encode_lower}
+use Rattle.hex.proofs.HexLemmas.{decode_of-encode_lower}
 use Rattle.lard_base.specs.Spelling.{event_words, place_word}
 use Rattle.lard_base.specs.declared.place.Place.{Place}
 use Rattle.lard_base.specs.declared.event.Event.{Event}
@@ -12,7 +13,7 @@ use Rattle.lard_schedule.specs.declared.verbs.Verb.{Verb}
 use Rattle.lard_schedule.specs.declared.verbs.Verb.TheVariants as verb
 use Rattle.lard_schedule.specs.Words.{◌>>=◌, word_then, number_then, count_then, client_then, ended}
 use Rattle.lard_schedule.specs.Events.{IsInRange, IsPlace, IsUpTo, client_alone, number_alone, client_and_word, disk_of, event_after, event_of, get_of, inject_of, is_path, may_keep, open_of, place_of, settle_of, some_bytes_of, timer_of, verb_of, verb_word, verbs, write_of}
-use Rattle.lard_schedule.specs.Laws.{Spells}
+use Rattle.lard_schedule.specs.Laws.{HasBytes, Spells}
 use Rattle.lard_schedule.proofs.Found.{bind_some, some_same, cond_some, ended_some, word_spelled, number_then_spelled, count_then_spelled, number_then_read, count_then_read, client_alone_spelled, number_alone_spelled, client_and_word_spelled, client_alone_read, number_alone_read, client_and_word_read}
 use Rattle.lard_schedule.proofs.Places.{text_is, place_spelled, place_read, some_bytes_spelled, some_bytes_read}
 
@@ -220,3 +221,13 @@ event_read words (Disk n j) e range = ap event_of e ∙ disk_read n j range
 event_read words (Clock ms) e range = ap event_of e ∙ ap (λ o. o >>= λ n. Some (Clock n)) (number_alone_read ms range)
 event_read words (Settle rounds) e range = ap event_of e ∙ settle_read rounds range
 event_read words (Inject c bytes) e range = ap event_of e.1 ∙ inject_read c bytes e.0 e.2 range
+
+-- ---- the spelling of records is one of them
+
+spells_itself : (event : Event) → HasBytes event → Spells (event_words event) event
+spells_itself (Write c bytes) h = (encode_lower bytes, refl, decode_of-encode_lower bytes h)
+spells_itself (Inject c bytes) h = (encode_lower bytes, refl, decode_of-encode_lower bytes h)
+spells_itself event h = refl
+
+pub event_again : (event : Event) → IsInRange event → HasBytes event → event_of (event_words event) ≡ Some event
+event_again event range bytes = event_read (event_words event) event (spells_itself event bytes) range

@@ -1,6 +1,6 @@
 -- What spells an event or a line, and where a line may stand.
 use Rattle.std.specs.Prelude.{◌≡◌, ◌⊎◌, ℕ, ◌≤◌, ◌<◌, ◌^◌, true, false, List, [], ◌∷◌, length, Ok, codes, decimal, replicate}
-use Rattle.hex.specs.Hex.{decode_of}
+use Rattle.hex.specs.Hex.{IsBytes, decode_of}
 use Rattle.lard_base.specs.declared.event.Event.{Event}
 use Rattle.lard_base.specs.declared.event.Event.TheVariants.{Write, Inject}
 use Rattle.lard_base.specs.Spelling.{event_words, key_word, sentence}
@@ -12,6 +12,7 @@ use Rattle.lard_schedule.specs.declared.reader.Stage.TheVariants.{Start, Setting
 use Rattle.lard_schedule.specs.Events.{IsInRange}
 use Rattle.lard_schedule.specs.Files.{is_file_path}
 use Rattle.lard_schedule.specs.Reader.{has}
+use Rattle.lard_schedule.specs.Words.{is_space}
 
 -- the words are a verb, a client, and bytes in hexadecimal digits of both cases
 abbrev pub SpellsBytes : List ℕ → List (List ℕ) → ℕ → List ℕ → Type 0
@@ -66,3 +67,26 @@ MayStand reader (item.Event event) = reader.stage ≡ Running
 -- the line is a sentence of words that spell the item
 abbrev pub IsLineOf : List ℕ → Item → Type 0
 IsLineOf line what = (words : List (List ℕ)) × (line ≡ sentence words) × SpellsItem words what
+
+-- ---- words and their line
+
+abbrev pub HasNoSpace : List ℕ → Type 0
+HasNoSpace [] = Unit {0}
+HasNoSpace (b ∷ bs) = (is_space b ≡ false) × HasNoSpace bs
+
+abbrev pub HaveNoSpace : List (List ℕ) → Type 0
+HaveNoSpace [] = Unit {0}
+HaveNoSpace (word ∷ words) = HasNoSpace word × HaveNoSpace words
+
+-- the words of a line: at least one, and no space in them
+abbrev pub AreWords : List (List ℕ) → Type 0
+AreWords [] = ⊥
+AreWords (word ∷ words) = HasNoSpace word × HaveNoSpace words
+
+-- ---- what a line of a report spells is read again
+
+-- what stands for bytes is bytes
+abbrev pub HasBytes : Event → Type 0
+HasBytes (Write c bytes) = IsBytes bytes
+HasBytes (Inject c bytes) = IsBytes bytes
+HasBytes _ = Unit {0}

@@ -8,6 +8,7 @@ mod events;
 mod files;
 mod item;
 mod keys;
+pub mod laws;
 mod numbers;
 mod reader;
 mod verbs;
