@@ -1,9 +1,9 @@
 -- Words are read as a file exactly where they spell it.
-use Rattle.std.proofs.Common.{◌≡◌, ◌≢◌, ◌⊎◌, inl, inr, ℕ, ◌+◌, ◌*◌, ◌%◌, ◌/◌, ◌≤◌, ◌<◌, ◌^◌, List, [], ◌∷◌, length, Bool, true, false, cond, Option, Some, None, Result, Ok, Err, refl, sym, ap, ◌∙◌, subst, arith}
+use Rattle.std.proofs.Common.{◌≡◌, ◌≢◌, ◌⊎◌, inl, inr, ℕ, ◌≤◌, ◌^◌, List, [], ◌∷◌, length, Bool, true, false, cond, Some, None, Result, Ok, Err, refl, sym, ap, ◌∙◌, subst, arith}
 use Rattle.std.specs.Prelude.{decimal, codes, bytes_eq, replicate}
 use Rattle.std.proofs.lemmas.Bool.{cases_eq}
 use Rattle.hex.proofs.HexLemmas.{decode_of-ok}
-use Rattle.hex.specs.Hex.{decode_of, decode_sized}
+use Rattle.hex.specs.Hex.{decode_of}
 use Rattle.hex.specs.declared.error.FromHexError.TheVariants.{OddLength}
 use Rattle.hex.specs.declared.error.FromHexError.{FromHexError}
 use Rattle.lard_schedule.specs.declared.item.Item.{Item}
@@ -11,7 +11,7 @@ use Rattle.lard_schedule.specs.declared.item.Item.TheVariants.{File, Go}
 use Rattle.lard_schedule.specs.Words.{◌>>=◌, word_then, number_then, ended}
 use Rattle.lard_schedule.specs.Events.{some_bytes_of}
 use Rattle.lard_schedule.specs.Files.{byte_of, content_of, file_item, file_of, fill_of, first_byte, is_file_path, path_and_word, path_then, run_of}
-use Rattle.lard_schedule.specs.Laws.{SpellsContent, SpellsEmpty, SpellsRun, SpellsFile, SpellsItem, IsBefore, MayStand}
+use Rattle.lard_schedule.specs.Laws.{SpellsFile, SpellsItem, IsBefore, MayStand}
 use Rattle.lard_schedule.specs.declared.reader.Reader.{Reader}
 use Rattle.lard_schedule.specs.Reader.{HasRange}
 use Rattle.lard_schedule.proofs.Found.{bind_some, some_same, cond_some, ended_some, word_spelled, number_then_spelled, number_then_read}

@@ -1,21 +1,20 @@
 -- A line stands for an item exactly where it is the sentence of words that spell it, and it may stand here.
-use Rattle.std.proofs.Common.{◌≡◌, ◌↔◌, ◌⊎◌, inl, inr, ℕ, ◌-◌, ◌≤◌, ◌<◌, ◌^◌, List, [], ◌∷◌, Bool, true, false, cond, Option, Some, None, refl, sym, ap, ◌∙◌, subst, arith}
+use Rattle.std.proofs.Common.{◌≡◌, ◌↔◌, inl, inr, ℕ, ◌-◌, ◌<◌, ◌^◌, List, [], ◌∷◌, Bool, true, false, cond, Option, Some, None, refl, sym, ap, ◌∙◌, subst, arith}
 use Rattle.std.specs.Prelude.{decimal, codes, bytes_eq}
 use Rattle.lard_base.specs.Config.{all_keys}
 use Rattle.lard_base.specs.Spelling.{key_word, sentence}
 use Rattle.lard_base.specs.declared.config.Key.{Key}
 use Rattle.lard_base.specs.declared.config.Key.TheVariants.{Nodes, Low, High, Age, Idle, Over, Miss, Cache, Stream}
-use Rattle.lard_base.specs.declared.event.Event.{Event}
 use Rattle.lard_schedule.specs.declared.keys.Keys.{Keys}
 use Rattle.lard_schedule.specs.declared.item.Item.{Item}
 use Rattle.lard_schedule.specs.declared.item.Item.TheVariants as item
 use Rattle.lard_schedule.specs.declared.reader.Reader.{Reader}
 use Rattle.lard_schedule.specs.declared.reader.Stage.{Stage}
 use Rattle.lard_schedule.specs.declared.reader.Stage.TheVariants.{Start, Settings, Files, Running}
-use Rattle.lard_schedule.specs.Words.{◌>>=◌, words_of, number_then, ended}
+use Rattle.lard_schedule.specs.Words.{◌>>=◌, words_of, number_then}
 use Rattle.lard_schedule.specs.Events.{event_of}
 use Rattle.lard_schedule.specs.Files.{file_item}
-use Rattle.lard_schedule.specs.Laws.{IsBefore, IsLineOf, MayStand, Spells, SpellsFile, SpellsItem}
+use Rattle.lard_schedule.specs.Laws.{IsBefore, IsLineOf, MayStand, SpellsFile}
 use Rattle.lard_schedule.specs.Reader.{HasRange, has, header_of, item_at, item_of, key_of, set_of, setting_of, setting_or, value_of}
 use Rattle.lard_schedule.proofs.Found.{bind_some, some_same, cond_some, ended_some, number_then_spelled, number_then_read}
 use Rattle.lard_schedule.proofs.Places.{text_is}

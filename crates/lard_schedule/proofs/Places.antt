@@ -1,6 +1,6 @@
 -- Words by themselves: places, and bytes in hexadecimal.
-use Rattle.std.proofs.Common.{◌≡◌, ℕ, ◌≤◌, ◌<◌, ◌^◌, List, [], ◌∷◌, length, Bool, true, false, cond, Option, Some, None, Result, Ok, Err, refl, sym, ap, ◌∙◌, subst, arith}
-use Rattle.std.specs.Prelude.{nat_eq, nat_le, decimal, codes, bytes_eq}
+use Rattle.std.proofs.Common.{◌≡◌, ℕ, ◌≤◌, List, [], ◌∷◌, length, Bool, true, false, cond, Some, None, Result, Ok, Err, refl, ap, ◌∙◌, subst, arith}
+use Rattle.std.specs.Prelude.{nat_eq, nat_le, codes, bytes_eq}
 use Rattle.std.specs.Result.{result_ok}
 use Rattle.std.proofs.lemmas.Bool.{eqb-true}
 use Rattle.std.proofs.lemmas.Bool.Decides.{nat_tests}
@@ -11,7 +11,7 @@ use Rattle.lard_base.specs.Spelling.{place_word}
 use Rattle.lard_base.specs.declared.place.Place.{Place}
 use Rattle.lard_base.specs.declared.place.Place.TheVariants.{Front, Node, Client}
 use Rattle.lard_schedule.specs.Words.{◌>>=◌, count_of}
-use Rattle.lard_schedule.specs.Events.{IsPlace, IsUpTo, bytes_of, some_bytes_of, numbered_place, place_of}
+use Rattle.lard_schedule.specs.Events.{IsPlace, bytes_of, some_bytes_of, numbered_place, place_of}
 use Rattle.lard_schedule.proofs.Found.{bind_some, some_same, cond_some, count_spelled, count_read}
 
 -- a word that passes the test of a text is the text

@@ -1,5 +1,5 @@
 -- Words are read as an event exactly where they spell it.
-use Rattle.std.proofs.Common.{◌≡◌, ℕ, ◌-◌, ◌≤◌, ◌<◌, ◌^◌, List, [], ◌∷◌, length, Bool, true, false, cond, ◌&&◌, Option, Some, None, Ok, refl, sym, ap, ◌∙◌, subst, arith}
+use Rattle.std.proofs.Common.{◌≡◌, ℕ, ◌-◌, ◌≤◌, ◌<◌, ◌^◌, List, [], ◌∷◌, length, Bool, true, false, cond, Some, None, Ok, refl, sym, ap, ◌∙◌, subst, arith}
 use Rattle.std.specs.Prelude.{nat_le, decimal, codes, bytes_eq}
 use Rattle.std.specs.List.{find}
 use Rattle.std.proofs.lemmas.Bool.Decides.{nat_tests}
@@ -11,8 +11,8 @@ use Rattle.lard_base.specs.declared.event.Event.{Event}
 use Rattle.lard_base.specs.declared.event.Event.TheVariants.{Open, Get, Write, Shut, Abort, Hold, Take, Deliver, Lose, Timer, Disk, Clock, Settle, Inject}
 use Rattle.lard_schedule.specs.declared.verbs.Verb.{Verb}
 use Rattle.lard_schedule.specs.declared.verbs.Verb.TheVariants as verb
-use Rattle.lard_schedule.specs.Words.{◌>>=◌, word_then, number_then, count_then, client_then, ended}
-use Rattle.lard_schedule.specs.Events.{IsInRange, IsPlace, IsUpTo, client_alone, number_alone, client_and_word, disk_of, event_after, event_of, get_of, inject_of, is_path, may_keep, open_of, place_of, settle_of, some_bytes_of, timer_of, verb_of, verb_word, verbs, write_of}
+use Rattle.lard_schedule.specs.Words.{◌>>=◌, word_then, number_then, count_then, client_then}
+use Rattle.lard_schedule.specs.Events.{IsInRange, IsUpTo, client_alone, number_alone, client_and_word, disk_of, event_after, event_of, get_of, inject_of, is_path, may_keep, open_of, place_of, settle_of, some_bytes_of, timer_of, verb_of, verb_word, verbs, write_of}
 use Rattle.lard_schedule.specs.Laws.{HasBytes, Spells}
 use Rattle.lard_schedule.proofs.Found.{bind_some, some_same, cond_some, ended_some, word_spelled, number_then_spelled, count_then_spelled, number_then_read, count_then_read, client_alone_spelled, number_alone_spelled, client_and_word_spelled, client_alone_read, number_alone_read, client_and_word_read}
 use Rattle.lard_schedule.proofs.Places.{text_is, place_spelled, place_read, some_bytes_spelled, some_bytes_read}

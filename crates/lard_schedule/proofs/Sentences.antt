@@ -1,5 +1,5 @@
 -- Words with single spaces between them, and their line.
-use Rattle.std.proofs.Common.{◌≡◌, ◌⊎◌, inl, inr, ℕ, ◌≤◌, ◌<◌, ◌^◌, List, [], ◌∷◌, ◌++◌, length, Bool, true, false, cond, ◌&&◌, Ok, refl, sym, ap, ◌∙◌, append_assoc, subst, arith}
+use Rattle.std.proofs.Common.{◌≡◌, inl, inr, ℕ, ◌≤◌, ◌<◌, ◌^◌, List, [], ◌∷◌, ◌++◌, length, Bool, true, false, cond, ◌&&◌, Ok, refl, sym, ap, ◌∙◌, append_assoc, subst, arith}
 use Rattle.std.specs.Prelude.{nat_eq, nat_le, decimal, codes}
 use Rattle.std.specs.List.{fold, list_all, onto_first, AllPass}
 use Rattle.std.specs.Str.Parse.{AllDigits}
@@ -9,7 +9,7 @@ use Rattle.std.proofs.lemmas.List.Elements.{All-head, All-tail}
 use Rattle.std.proofs.lemmas.Str.Parse.{digit_from_value}
 use Rattle.hex.proofs.HexLemmas.{decode_of-ok}
 use Rattle.hex.specs.Hex.{decode_of, is_hex_digit}
-use Rattle.lard_base.specs.Spelling.{event_words, key_word, place_word, sentence, spaced}
+use Rattle.lard_base.specs.Spelling.{key_word, place_word, sentence, spaced}
 use Rattle.lard_base.specs.declared.config.Key.{Key}
 use Rattle.lard_base.specs.declared.config.Key.TheVariants.{Nodes, Low, High, Age, Idle, Over, Miss, Cache, Stream}
 use Rattle.lard_base.specs.declared.place.Place.{Place}
@@ -102,8 +102,7 @@ verb_bytes verb c digits bytes visible small e = (no_space_visible verb visible,
 
 event_words_apart : (words : List (List ℕ)) (event : Event) → Spells words event → IsInRange event → AreWords words
 event_words_apart words (Open c isn iss wnd mss) e range =
-    let numbers : HaveNoSpace (decimal c ∷ decimal isn ∷ decimal iss ∷ decimal wnd ∷ decimal mss ∷ []) =
-    (
+    let numbers : HaveNoSpace (decimal c ∷ decimal isn ∷ decimal iss ∷ decimal wnd ∷ decimal mss ∷ []) = (
       no_space_number c (omega (arith, range.0.1)),
       (no_space_number isn (omega (arith, range.1)), (no_space_number iss (omega (arith, range.2)), (no_space_number wnd (omega (arith, range.3.1)), (no_space_number mss (omega (arith, range.4.1)), tt)))),
     ) in

@@ -1,5 +1,5 @@
 -- What spells an event or a line, and where a line may stand.
-use Rattle.std.specs.Prelude.{◌≡◌, ◌⊎◌, ℕ, ◌≤◌, ◌<◌, ◌^◌, true, false, List, [], ◌∷◌, length, Ok, codes, decimal, replicate}
+use Rattle.std.specs.Prelude.{◌≡◌, ◌⊎◌, ℕ, ◌≤◌, ◌^◌, false, List, [], ◌∷◌, length, Ok, codes, decimal, replicate}
 use Rattle.hex.specs.Hex.{IsBytes, decode_of}
 use Rattle.lard_base.specs.declared.event.Event.{Event}
 use Rattle.lard_base.specs.declared.event.Event.TheVariants.{Write, Inject}
@@ -9,8 +9,6 @@ use Rattle.lard_schedule.specs.declared.item.Item.TheVariants as item
 use Rattle.lard_schedule.specs.declared.reader.Reader.{Reader}
 use Rattle.lard_schedule.specs.declared.reader.Stage.{Stage}
 use Rattle.lard_schedule.specs.declared.reader.Stage.TheVariants.{Start, Settings, Files, Running}
-use Rattle.lard_schedule.specs.Events.{IsInRange}
-use Rattle.lard_schedule.specs.Files.{is_file_path}
 use Rattle.lard_schedule.specs.Reader.{has}
 use Rattle.lard_schedule.specs.Words.{is_space}
 

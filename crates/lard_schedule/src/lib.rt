@@ -11,6 +11,8 @@ mod keys;
 pub mod laws;
 mod numbers;
 mod reader;
+#[cfg(test)]
+mod tests;
 mod verbs;
 mod words;
 
