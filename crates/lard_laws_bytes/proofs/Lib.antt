@@ -1,0 +1,2 @@
+pub mod ClientAlike
+pub mod ClientSpeaking
