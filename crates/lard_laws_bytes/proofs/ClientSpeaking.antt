@@ -54,10 +54,10 @@ words-append c w (p ∷ ps) qs a b = (a.0, a.1, words-append c w ps qs a.2 b)
 -- ---- call by call
 
 -- what it sent are words, and it agrees after that, with so many bytes accepted
-record Spoke (c : ℕ) (w out : Stream) (count : ℕ) (given : List (Place × List ℕ) × ClientBlock) : Type 0 where
-  agrees : ClientAgrees c w out given.1
-  accepted : given.1.accepted ≡ count
-  sent : AreWords c w given.0
+pub record Spoke (c : ℕ) (w out : Stream) (count : ℕ) (given : List (Place × List ℕ) × ClientBlock) : Type 0 where
+  pub agrees : ClientAgrees c w out given.1
+  pub accepted : given.1.accepted ≡ count
+  pub sent : AreWords c w given.0
 
 module _ (c : ℕ) (w out : Stream) where
   emit-agrees : (x : ClientBlock) → ClientAgrees c w out x → ClientAgrees c w out (client.after_emit x)
@@ -72,7 +72,7 @@ module _ (c : ℕ) (w out : Stream) where
   emit-fair x r h e =
       subst (λ (v : Stream). Fair v (client.filled (client.after_emit x) r)) (sym h.w_is) (emitted-fair x w.bytes h.sound h.wide h.speaks r e)
 
-  emits-spoke : (n : ℕ) (x : ClientBlock) → ClientAgrees c w out x → Spoke c w out x.accepted (client_emits n x)
+  pub emits-spoke : (n : ℕ) (x : ClientBlock) → ClientAgrees c w out x → Spoke c w out x.accepted (client_emits n x)
   unfolding client_emits
   emits-spoke zero x h = record { agrees = h; accepted = refl; sent = tt }
   emits-spoke (suc n) x h = go (emits-spoke n (client.after_emit x) (emit-agrees x h)) (client.emitted x) refl where
