@@ -2,16 +2,16 @@
 -- holds lies in its window.
 use Rattle.std.proofs.Common.{◌≡◌, ◌≤◌, ◌+◌, ◌-◌, ℕ, Bool, true, false, cond, nat_lt, ◌==◌, not, ◌&&◌, ◌||◌, length, Option, Some, None, arith, refl}
 use Rattle.std.proofs.lemmas.Bool.{cond_both}
-use Rattle.lard_arrival.specs.Arrival.{is_acceptable, is_allowed, bare, peer_mss}
+use Rattle.lard_arrival.specs.Arrival.{is_acceptable, is_allowed, bare}
 use Rattle.lard_client.specs.declared.heard.Heard.{Heard}
 use Rattle.lard_client.specs.declared.phase.Phase.{Phase}
 use Rattle.lard_client.specs.declared.phase.Phase.TheVariants.{Open, Aborted, Reset}
 use Rattle.lard_client.specs.Control.{ClientBlock, is_open, rcv_nxt, rcv_wnd}
 use Rattle.lard_client.specs.Leaving.{told, owes, after_owed, after_piece, after_emit, after_timer}
-use Rattle.lard_client.specs.Arriving.{nothing, owing, reset_by_peer, begins_after, fresh_len, ends, accepting, part_of, on_fresh, on_text, on_ack, on_syn, on_rst, on_unacceptable, on_segment, answers_syn, established, on_greeting, heard_open, heard_in, arrived}
+use Rattle.lard_client.specs.Arriving.{nothing, owing, reset_by_peer, begins_after, fresh_len, ends, accepting, part_of, on_fresh, on_text, on_ack, on_syn, on_rst, on_unacceptable, on_segment, answers_syn, established, on_greeting, heard_in, arrived}
 use Rattle.lard_segment.specs.Segment.{Said}
 use Rattle.lard_send.specs.declared.piece.Piece.{Piece}
-use Rattle.lard_send.specs.Send.{introduced, next_piece, after_next, resent_piece, after_resend, after_ack}
+use Rattle.lard_send.specs.Send.{next_piece, after_next, resent_piece, after_resend, after_ack}
 use Rattle.lard_seq.specs.Seq.{seq_offset}
 
 abbrev pub IsLike : ClientBlock → ClientBlock → Type 0

@@ -1,7 +1,6 @@
 -- A client that hears a true segment accepts the next bytes of the cluster's stream, and notes just these.
-use Rattle.std.proofs.Common.{◌≡◌, ◌≤◌, ◌<◌, ◌+◌, ◌^◌, ℕ, true, false, cond, nat_lt, List, [], ◌∷◌, ◌++◌, length, take, drop, Option, Some, None, Ok, arith, refl, sym, ap, ◌∙◌, subst, append-nil, length-take, length-drop, take-add}
+use Rattle.std.proofs.Common.{◌≡◌, ◌≤◌, ◌<◌, ◌^◌, ℕ, nat_lt, List, [], ◌∷◌, ◌++◌, length, take, drop, Ok, arith, refl, sym, ap, ◌∙◌, subst, append-nil, length-take, length-drop, take-add}
 use Rattle.std.proofs.lemmas.Bool.{cond_both, ltb-false}
-use Rattle.lard_arrival.specs.Arrival.{IsPartAt}
 use Rattle.lard_client.specs.declared.heard.Heard.{Heard}
 use Rattle.lard_client.specs.Control.{ClientBlock}
 use Rattle.lard_client.specs.Arriving.{arrived}
@@ -13,7 +12,7 @@ use Rattle.lard_segment.specs.Segment.{Said}
 use Rattle.lard_truth.specs.Truth.{Stream, IsTrueOf, stream_of}
 use Rattle.lard_truth.proofs.Accepting.{arrived-takes}
 use Rattle.lard_truth.proofs.Client.{arriving-continues, reply-fair}
-use Rattle.lard_laws_bytes.specs.Agreement.{AreWords, ClientAgrees}
+use Rattle.lard_laws_bytes.specs.Agreement.{ClientAgrees}
 use Rattle.lard_laws_bytes.specs.Keeping.{AreClientNotes, ClientTurned, accepted_in, written_in}
 use Rattle.lard_laws_bytes.proofs.ClientAlike.{arrived-alike}
 use Rattle.lard_laws_bytes.proofs.ClientSpeaking.{ready-words, turned-speaking}

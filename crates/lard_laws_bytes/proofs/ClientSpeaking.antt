@@ -1,5 +1,5 @@
 -- What a client sends once its rule is done is true of its stream, and it agrees on as much after that as before.
-use Rattle.std.proofs.Common.{◌≡◌, ◌≤◌, ◌^◌, ℕ, zero, suc, List, [], ◌∷◌, ◌++◌, length, take, Option, Some, None, arith, refl, sym, ap, ◌∙◌, subst}
+use Rattle.std.proofs.Common.{◌≡◌, ◌≤◌, ◌^◌, ℕ, zero, suc, List, [], ◌∷◌, ◌++◌, take, Option, Some, None, arith, refl, sym, ap, ◌∙◌, subst}
 use Rattle.lard_base.specs.declared.place.Place.{Place}
 use Rattle.lard_client.specs.Control.{ClientBlock}
 use Rattle.lard_client.specs.Leaving as client
@@ -9,10 +9,10 @@ use Rattle.lard_machine.specs.Speaking.{to_front, client_emits}
 use Rattle.lard_segment.specs.declared.segment.Dir.TheVariants.{ToCluster}
 use Rattle.lard_segment.specs.declared.segment.Ready.{Ready}
 use Rattle.lard_segment.specs.Segment.{spelled}
-use Rattle.lard_truth.specs.Truth.{Stream, IsTrueOf, Speaks, Accepts, stream_of}
+use Rattle.lard_truth.specs.Truth.{Stream, Speaks, Accepts, stream_of}
 use Rattle.lard_truth.proofs.Client.{emitted-fair, emit-left}
 use Rattle.lard_truth.proofs.Pieces.{Fair}
-use Rattle.lard_laws_bytes.specs.Agreement.{IsWord, AreWords, ClientAgrees}
+use Rattle.lard_laws_bytes.specs.Agreement.{AreWords, ClientAgrees}
 use Rattle.lard_laws_bytes.specs.Keeping.{ClientTurned}
 use Rattle.lard_laws_bytes.proofs.ClientAlike.{IsLike, emit-alike}
 

@@ -1,26 +1,23 @@
 -- The turns of a client's own calls and of its timer keep the agreement.
-use Rattle.std.proofs.Common.{◌≡◌, ◌≤◌, ◌<◌, ◌+◌, ◌^◌, ℕ, true, false, cond, not, ◌&&◌, ◌||◌, List, [], ◌∷◌, ◌++◌, length, take, Option, Some, None, arith, refl, sym, ap, ◌∙◌, subst, append-nil}
+use Rattle.std.proofs.Common.{◌≡◌, ◌≤◌, ◌<◌, ◌+◌, ◌^◌, ℕ, true, false, cond, ◌||◌, List, [], ◌∷◌, ◌++◌, length, take, Some, arith, refl, sym, ap, ◌∙◌, subst, append-nil}
 use Rattle.std.proofs.lemmas.Bool.{cond_both}
-use Rattle.lard_answers.specs.Answers.{IsFront}
 use Rattle.lard_base.specs.declared.place.Place.{Place}
 use Rattle.lard_client.specs.declared.phase.Phase.TheVariants as phase
 use Rattle.lard_client.specs.Control.{ClientBlock, is_open, is_established, is_writing, opened, written, written_len, shut_down, held_on, taken, aborted}
 use Rattle.lard_client.specs.Leaving.{abort_ready, timed, after_timer, filled}
 use Rattle.lard_journal.specs.declared.rec.Rec.{Rec}
 use Rattle.lard_journal.specs.declared.rec.Rec.TheVariants as rec
-use Rattle.lard_machine.specs.declared.places.Turn.{Turn}
 use Rattle.lard_machine.specs.Client.{silent, ready_of, speaking, client_opens, client_writes, client_shuts, client_holds, client_takes, client_aborts, client_timer}
 use Rattle.lard_segment.specs.declared.segment.Ready.{Ready}
-use Rattle.lard_send.specs.Send.{Sending, queued_too, closed}
+use Rattle.lard_send.specs.Send.{queued_too, closed}
 use Rattle.lard_truth.specs.Truth.{Stream, GoesOn, Speaks, Accepts, stream_of}
-use Rattle.lard_truth.proofs.Client.{opening-begins, timed-fair, timer-left, abort-fair, written-speaks, others-change_nothing}
-use Rattle.lard_truth.proofs.Growth.{goes_on-same}
+use Rattle.lard_truth.proofs.Client.{opening-begins, timed-fair, timer-left, abort-fair, written-speaks}
 use Rattle.lard_truth.proofs.Pieces.{Fair}
 use Rattle.lard_truth.proofs.Speaking.{Continues, continues-as, speaks-closed}
 use Rattle.lard_laws_bytes.specs.Agreement.{AreWords, ClientAgrees}
 use Rattle.lard_laws_bytes.specs.Keeping.{AreClientNotes, ClientOpened, ClientTurned, accepted_in, unwritten, written_in}
 use Rattle.lard_laws_bytes.proofs.ClientAlike.{IsLike, IsLeft, alike, timer-alike}
-use Rattle.lard_laws_bytes.proofs.ClientSpeaking.{Spoke, agrees-after, emits-spoke, ready-words, turned-speaking}
+use Rattle.lard_laws_bytes.proofs.ClientSpeaking.{agrees-after, emits-spoke, ready-words, turned-speaking}
 
 module _ (c : ℕ) (w out : Stream) (x : ClientBlock) (most : length out.bytes ≤ 2 ^ 30) (h : ClientAgrees c w out x) where
   -- ---- any turn
@@ -59,6 +56,10 @@ module _ (c : ℕ) (w out : Stream) (x : ClientBlock) (most : length out.bytes �
       (sym (append-nil w.bytes) ∙ ap (λ (l : List ℕ). w.bytes ++ l) (sym wrote))
       (ap (λ n. take n out.bytes) k.0.1 ∙ sym (append-nil (take x.accepted out.bytes)) ∙ ap (λ (l : List ℕ). take x.accepted out.bytes ++ l) (sym took))
       are sent
+
+  -- nothing is done
+  pub silent-turned : ClientTurned c w out x (x, silent)
+  silent-turned = stayed x [] [] stays refl refl tt tt
 
   -- it speaks after that
   stayed-speaking : (y : ClientBlock) (segments : List (Place × List ℕ)) → Stays y → AreWords c (stream_of y.send w.bytes) segments → ClientTurned c w out x (speaking [] segments y)
@@ -128,7 +129,7 @@ module _ (c : ℕ) (w out : Stream) (x : ClientBlock) (most : length out.bytes �
   pub writes-turned : (bytes : List ℕ) → written_len x bytes ≤ 2 ^ 30 → ClientTurned c w out x (client_writes x bytes)
   writes-turned bytes fits =
       cond_both (is_writing x) (speaking (rec.Wrote x.c bytes ∷ []) [] (written x bytes)) (x, silent) (ClientTurned c w out x)
-      (λ t. wrote-turned bytes t fits) (λ t. stayed x [] [] stays refl refl tt tt)
+      (λ t. wrote-turned bytes t fits) (λ t. silent-turned)
 
 -- ---- the beginning
 pub opens-agreeing : (c isn wnd mss : ℕ) (out : Stream) → isn < 2 ^ 32 → wnd < 2 ^ 16 → 1 ≤ mss → mss ≤ 1460 → ClientOpened c (unwritten isn) out (client_opens c isn wnd mss)

@@ -1,7 +1,7 @@
 -- What was said to a client are the first answers to what it wrote, and what it accepted is the front of them all.
-use Rattle.std.proofs.Common.{◌≡◌, ℕ, List, [], ◌++◌, map, length, take, drop, sym, ap, ◌∙◌, subst, append-nil, take_at}
+use Rattle.std.proofs.Common.{◌≡◌, ℕ, List, [], map, length, take, drop, sym, ap, ◌∙◌, subst, append-nil, take_at}
 use Rattle.std.specs.List.{concat}
-use Rattle.std.proofs.lemmas.List.{length-map, map-append, take-append-drop}
+use Rattle.std.proofs.lemmas.List.{length-map, take-append-drop}
 use Rattle.lard_answers.specs.Answers.{FilesAt, IsFront, answer, answer_bytes, answers, verdicts}
 use Rattle.lard_answers.proofs.Growing.{IsFront-trans, answers-are, concat-IsFront, map-IsFront}
 use Rattle.lard_request.specs.declared.verdict.Verdict.{Verdict}

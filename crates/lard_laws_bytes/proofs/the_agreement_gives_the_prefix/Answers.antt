@@ -1,5 +1,5 @@
 -- By the lemmas on what was said and accepted.
-use Rattle.std.proofs.Common.{◌≡◌, List, ℕ, length, take, sym, ap, ◌∙◌, subst}
+use Rattle.std.proofs.Common.{List, ℕ, length, take, sym, ap, ◌∙◌, subst}
 use Rattle.std.specs.List.{concat}
 use Rattle.lard_answers.specs.Answers.{IsFront, answer_bytes, answers}
 use Rattle.lard_laws_bytes.proofs.Prefix.{accepted-front, said-bytes}
