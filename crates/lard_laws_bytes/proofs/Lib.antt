@@ -1,5 +1,9 @@
+pub mod ClientAlike
+pub mod ClientSpeaking
+pub mod ClientTurns
+pub mod ClientHearing
+pub mod Prefix
 pub mod Notes
-pub mod Said
 pub mod Segments
 pub mod Steps
 pub mod Later

@@ -23,7 +23,7 @@ use Rattle.lard_truth.specs.Truth.{IsBare, IsTrueOf, Stands, Stream}
 use Rattle.lard_laws_bytes.specs.Agreement.{AreReplies, AreWords, IsReply, IsWord, SaysAnswers}
 use Rattle.lard_laws_bytes.specs.Truthful.{AreFair, IsFair, Talk}
 use Rattle.lard_laws_bytes.proofs.Notes.{other-number}
-use Rattle.lard_laws_bytes.proofs.Said.{said-is}
+use Rattle.lard_laws_bytes.proofs.Prefix.{said-bytes}
 
 -- ---- words of a client
 
@@ -101,7 +101,7 @@ told-one : (files : FilesAt) (c : ℕ) (w out : Stream) (vs : List Verdict) (res
 told-one files c w out vs reset past s bytes says m is r =
     let wr : wrote past c ≡ w.bytes = wrote-tale past c ∙ m.wrote in
     let said : out.bytes ≡ said_to files past c =
-      sym (ap (λ n. concat (take n (answers files (wrote past c)))) (served-tale past c ∙ m.served) ∙ ap (λ l. concat (take (length vs) (answers files l))) wr ∙ said-is files w out vs says) in
+      sym (ap (λ n. concat (take n (answers files (wrote past c)))) (served-tale past c ∙ m.served) ∙ ap (λ l. concat (take (length vs) (answers files l))) wr ∙ said-bytes files w out vs says) in
     record {
       said = s;
       decodes = ap (λ l. decoded l c ToClient) is ∙ again c ToClient s r.sendable;
