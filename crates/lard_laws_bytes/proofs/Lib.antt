@@ -8,3 +8,5 @@ pub mod Segments
 pub mod Steps
 pub mod Later
 pub mod Turns
+pub mod Moves
+pub mod Acting
