@@ -10,3 +10,4 @@ pub mod Later
 pub mod Turns
 pub mod Moves
 pub mod Acting
+pub mod Events
