@@ -1,0 +1,2 @@
+pub mod FrontEndpoint
+pub mod ReadingBytes
