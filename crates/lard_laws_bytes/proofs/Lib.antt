@@ -1,2 +1,3 @@
 pub mod FrontEndpoint
+pub mod FrontSpeaking
 pub mod ReadingBytes
