@@ -1,3 +1,4 @@
+pub mod FrontEnd
 pub mod FrontEndpoint
 pub mod FrontSpeaking
 pub mod Reading
