@@ -3,3 +3,15 @@ pub mod FrontEndpoint
 pub mod FrontSpeaking
 pub mod Reading
 pub mod ReadingBytes
+pub mod ClientAlike
+pub mod ClientSpeaking
+pub mod ClientTurns
+pub mod ClientHearing
+pub mod Prefix
+pub mod Notes
+pub mod Segments
+pub mod Steps
+pub mod Later
+pub mod Turns
+pub mod Moves
+pub mod Acting

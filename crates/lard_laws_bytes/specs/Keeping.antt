@@ -8,7 +8,7 @@ use Rattle.lard_journal.specs.declared.rec.Rec.{Rec}
 use Rattle.lard_journal.specs.declared.rec.Rec.TheVariants as rec
 use Rattle.lard_machine.specs.declared.places.FrontConn.{FrontConn}
 use Rattle.lard_machine.specs.declared.places.Turn.{Turn}
-use Rattle.lard_machine.specs.Client.{client_aborts, client_gets, client_holds, client_shuts, client_takes, client_timer, client_writes}
+use Rattle.lard_machine.specs.Client.{client_aborts, client_gets, client_holds, client_opens, client_shuts, client_takes, client_timer, client_writes}
 use Rattle.lard_machine.specs.Front.{FrontEnv, front_gets, front_timer}
 use Rattle.lard_request.specs.declared.verdict.Verdict.{Verdict}
 use Rattle.lard_segment.specs.Segment.{Said}
@@ -116,3 +116,18 @@ ClientHearsTruth = (c : ℕ) (w out : Stream) (x : ClientBlock) (s : Said) → l
 abbrev pub ClientWritesTruth : Type 0
 ClientWritesTruth = (c : ℕ) (w out : Stream) (x : ClientBlock) (bytes : List ℕ) → length out.bytes ≤ 2 ^ 30 → written_len x bytes ≤ 2 ^ 30 → ClientAgrees c w out x
     → ClientTurned c w out x (client_writes x bytes)
+
+-- the stream of a client that wrote nothing yet
+abbrev pub unwritten : ℕ → Stream
+unwritten isn = record { first = isn; bytes = []; ended = false }
+
+-- A client that opened: it wrote and accepted nothing, whatever it is to be sent, and its SYN is true.
+pub record ClientOpened (c : ℕ) (w out : Stream) (given : ClientBlock × Turn) : Type 0 where
+  pub agrees : ClientAgrees c w out given.0
+  pub accepted : given.0.accepted ≡ 0
+  pub notes : given.1.notes ≡ []
+  pub sent : AreWords c w given.1.segments
+
+abbrev pub ClientOpens : Type 0
+ClientOpens = (c isn wnd mss : ℕ) (out : Stream) → isn < 2 ^ 32 → wnd < 2 ^ 16 → 1 ≤ mss → mss ≤ 1460
+    → ClientOpened c (unwritten isn) out (client_opens c isn wnd mss)

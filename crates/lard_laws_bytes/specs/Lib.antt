@@ -1,2 +1,4 @@
 pub mod Agreement
 pub mod Keeping
+pub mod Prefix
+pub mod Truthful

@@ -4,7 +4,8 @@
 //! clauses. It has no code.
 #![tactic(auto)]
 
-ghost use Rattle.lard_laws_bytes.specs.Keeping.{ClientHearsTruth, ClientKeeps, ClientWritesTruth, FrontHearsTruth, FrontTimerIsTrue};
+ghost use Rattle.lard_laws_bytes.specs.Keeping.{ClientHearsTruth, ClientKeeps, ClientOpens, ClientWritesTruth, FrontHearsTruth, FrontTimerIsTrue};
+ghost use Rattle.lard_laws_bytes.specs.Prefix.{AcceptedAreAnswers, SaidAreAnswers};
 ghost use Rattle.lard_machine.specs.Client.{client_aborts, client_holds, client_shuts, client_takes, client_timer};
 
 use lard_block::laws::what_is_taken_is_cut;
@@ -19,6 +20,7 @@ pub fn the_front_end_keeps_the_agreement()
 
 /// A client writes its stream, and accepts the cluster's.
 pub fn a_client_keeps_the_agreement()
+    ensures opening { ClientOpens }
     ensures segment { ClientHearsTruth }
     ensures write { ClientWritesTruth }
     ensures shut { ClientKeeps client_shuts }
@@ -26,4 +28,10 @@ pub fn a_client_keeps_the_agreement()
     ensures hold { ClientKeeps client_holds }
     ensures take { ClientKeeps client_takes }
     ensures timer { ClientKeeps client_timer }
+{}
+
+/// What a client accepted begins the answers to what it wrote.
+pub fn the_agreement_gives_the_prefix()
+    ensures accepted { AcceptedAreAnswers }
+    ensures said { SaidAreAnswers }
 {}

@@ -1,0 +1,9 @@
+pub mod Contents
+pub mod Cuts
+pub mod Decimals
+pub mod Found
+pub mod Lines
+pub mod Places
+pub mod Readings
+pub mod Sentences
+pub mod Settled

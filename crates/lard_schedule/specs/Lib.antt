@@ -1,0 +1,5 @@
+pub mod Events
+pub mod Files
+pub mod Laws
+pub mod Reader
+pub mod Words
