@@ -39,7 +39,8 @@ use Rattle.lard_segment.proofs.Again.{again}
 use Rattle.lard_segment.specs.declared.segment.Dir.TheVariants.{ToClient, ToCluster}
 use Rattle.lard_segment.specs.Segment.{Said, decoded}
 use Rattle.lard_table.proofs.Map.{get_inserted, get_other}
-use Rattle.lard_truth.specs.Truth.{Stream}
+use Rattle.lard_truth.specs.Truth.{IsStream, Stream}
+use Rattle.lard_truth.proofs.Speaking.{speaks-stream}
 use Rattle.lard_laws_bytes.specs.Agreement.{Agrees, IsReply, IsWord}
 use Rattle.lard_laws_bytes.specs.Keeping.{ClientKeeps, ClientOpened, ClientTurned, FrontHearsTruth, FrontTimerIsTrue, FrontTurned, IsEnv, unwritten}
 use Rattle.lard_laws_bytes.specs.Truthful.{AreFair, ConnAgrees, IsFair, IsTruthful, Talk}
@@ -225,20 +226,20 @@ module _ (hears : FrontHearsTruth) (fires : FrontTimerIsTrue) (m : Machine) (T :
     env : IsEnv files c (T.talks c).out (env_of m c x.iss)
     env = record { number = refl; begins = sym agrees_there.begins; files_are = refl; most = small }
 
-    bounded : length (T.talks c).w.bytes ≤ 2 ^ 30
-    bounded = let sp = agrees_there.client.speaks in let most = sp.sound.most in let count = sp.part.count in omega (arith, most, count)
+    bounded : IsStream (T.talks c).w
+    bounded = subst IsStream (sym agrees_there.client.w_is) (speaks-stream x.client.send (T.talks c).w.bytes agrees_there.client.speaks)
 
     pub front-got : (k : ℕ) (s : Said) → IsWord (T.talks c).w s
         → IsTruthful files (front_acted m (event.Deliver k) (rec.Got k ∷ []) c (front_gets (env_of m c x.iss) (table.get m.conns c) (Ok s)))
     front-got k s r = front-moves files m T (event.Deliver k) (rec.Got k ∷ []) c x there (got-aside files (event.Deliver k) c k (λ q n. refl))
         (front_gets (env_of m c x.iss) (table.get m.conns c) (Ok s))
-        (hears files c (T.talks c).w (T.talks c).out (T.talks c).vs (tale m.journal c).was_reset (env_of m c x.iss) (table.get m.conns c) s env bounded agrees_there.says agrees_there.front r.true_of)
+        (hears files c (T.talks c).w (T.talks c).out (T.talks c).vs (tale m.journal c).was_reset (env_of m c x.iss) (table.get m.conns c) s env bounded agrees_there.says agrees_there.front r.sendable.ack_fits r.true_of)
         (hears-some (env_of m c x.iss) (table.get m.conns c) s)
 
     pub front-fires : IsTruthful files (front_acted m (event.Timer place.Front c) [] c (front_timer (env_of m c x.iss) (table.get m.conns c)))
     front-fires = front-moves files m T (event.Timer place.Front c) [] c x there (aside (event.Timer place.Front c) (λ q n. refl))
         (front_timer (env_of m c x.iss) (table.get m.conns c))
-        (fires files c (T.talks c).w (T.talks c).out (T.talks c).vs (tale m.journal c).was_reset (env_of m c x.iss) (table.get m.conns c) env bounded agrees_there.says agrees_there.front)
+        (fires files c (T.talks c).w (T.talks c).out (T.talks c).vs (tale m.journal c).was_reset (env_of m c x.iss) (table.get m.conns c) env agrees_there.says agrees_there.front)
         (timer-some (env_of m c x.iss) (table.get m.conns c))
 
   -- ---- packets
@@ -349,12 +350,13 @@ module _ (hears : FrontHearsTruth) (fires : FrontTimerIsTrue) (m : Machine) (T :
         (keeps c x e (event.Timer (place.Client d) c) (λ q d. refl) client_timer (λ c w out x most h. timer-turned c w out x most h))
     timer-on (place.Node j) has (Some x) e n g = absurd has
 
+    used : (isn iss wnd mss : ℕ) (x : Station) (n : Machine) → Gives (opened m c isn iss wnd mss (Some x)) n → ⊥
+    unfolding opened
+    used isn iss wnd mss x n g = no-err _ n g
+
     open-on : (isn iss wnd mss : ℕ) → HasRule (event.Open c isn iss wnd mss) → Kept (opened m c isn iss wnd mss)
     open-on isn iss wnd mss rule None e n g = opened-on files m T c isn iss wnd mss e rule n g
-    open-on isn iss wnd mss rule (Some x) e n g = absurd (used n g) where
-      used : (n : Machine) → Gives (opened m c isn iss wnd mss (Some x)) n → ⊥
-      unfolding opened
-      used n g = no-err _ n g
+    open-on isn iss wnd mss rule (Some x) e n g = absurd (used isn iss wnd mss x n g)
 
   -- ---- each event
 

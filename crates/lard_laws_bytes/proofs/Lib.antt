@@ -1,3 +1,8 @@
+pub mod FrontEnd
+pub mod FrontEndpoint
+pub mod FrontSpeaking
+pub mod Reading
+pub mod ReadingBytes
 pub mod ClientAlike
 pub mod ClientSpeaking
 pub mod ClientTurns

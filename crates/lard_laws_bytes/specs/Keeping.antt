@@ -12,7 +12,7 @@ use Rattle.lard_machine.specs.Client.{client_aborts, client_gets, client_holds, 
 use Rattle.lard_machine.specs.Front.{FrontEnv, front_gets, front_timer}
 use Rattle.lard_request.specs.declared.verdict.Verdict.{Verdict}
 use Rattle.lard_segment.specs.Segment.{Said}
-use Rattle.lard_truth.specs.Truth.{Stream, GoesOn, IsTrueOf}
+use Rattle.lard_truth.specs.Truth.{Stream, IsStream, GoesOn, IsTrueOf}
 use Rattle.lard_laws_bytes.specs.Agreement.{AreReplies, AreWords, ClientAgrees, FrontAgrees, SaysAnswers}
 
 -- ---- the front end's turn
@@ -64,12 +64,12 @@ pub record IsEnv (files : FilesAt) (c : ℕ) (out : Stream) (env : FrontEnv) : T
 
 abbrev pub FrontHearsTruth : Type 0
 FrontHearsTruth = (files : FilesAt) (c : ℕ) (w out : Stream) (vs : List Verdict) (was_reset : Bool) (env : FrontEnv) (f : Option FrontConn) (s : Said)
-    → IsEnv files c out env → length w.bytes ≤ 2 ^ 30 → SaysAnswers files w out vs → FrontAgrees w out vs was_reset f → IsTrueOf w s
+    → IsEnv files c out env → IsStream w → SaysAnswers files w out vs → FrontAgrees w out vs was_reset f → s.ack < 2 ^ 32 → IsTrueOf w s
     → FrontTurned files c w out vs was_reset (front_gets env f (Ok s))
 
 abbrev pub FrontTimerIsTrue : Type 0
 FrontTimerIsTrue = (files : FilesAt) (c : ℕ) (w out : Stream) (vs : List Verdict) (was_reset : Bool) (env : FrontEnv) (f : Option FrontConn)
-    → IsEnv files c out env → length w.bytes ≤ 2 ^ 30 → SaysAnswers files w out vs → FrontAgrees w out vs was_reset f
+    → IsEnv files c out env → SaysAnswers files w out vs → FrontAgrees w out vs was_reset f
     → FrontTurned files c w out vs was_reset (front_timer env f)
 
 -- ---- a client's turn
