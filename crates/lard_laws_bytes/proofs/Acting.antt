@@ -1,8 +1,9 @@
 -- A client's turn, and the front end's, as steps of the whole machine.
-use Rattle.std.proofs.Common.{◌≡◌, ◌≢◌, ℕ, ◌+◌, List, [], ◌∷◌, ◌++◌, length, Bool, true, false, cond, ◌||◌, Option, Some, None, refl, sym, ap, ◌∙◌, subst, append-nil, is_some, arith}
+use Rattle.std.proofs.Common.{◌≡◌, ◌≢◌, ℕ, ◌+◌, List, [], ◌∷◌, ◌++◌, length, take, drop, Bool, true, false, cond, ◌||◌, Option, Some, None, refl, sym, ap, ◌∙◌, subst, append-nil, is_some, arith}
 use Rattle.std.specs.FinMap as table
+use Rattle.std.proofs.lemmas.List.{take-append-drop}
 use Rattle.std.specs.List.{list_any}
-use Rattle.lard_answers.specs.Answers.{FilesAt}
+use Rattle.lard_answers.specs.Answers.{FilesAt, IsFront}
 use Rattle.lard_base.specs.declared.event.Event.{Event}
 use Rattle.lard_base.specs.declared.place.Place.{Place}
 use Rattle.lard_base.specs.declared.place.Place.TheVariants as place
@@ -22,9 +23,11 @@ use Rattle.lard_table.proofs.Map.{get_inserted, get_other}
 use Rattle.lard_truth.proofs.Growth.{goes_on-same}
 use Rattle.lard_laws_bytes.specs.Agreement.{Agrees}
 use Rattle.lard_laws_bytes.specs.Keeping.{ClientTurned, FrontTurned, accepted_in, resets, served_in, written_in}
-use Rattle.lard_laws_bytes.specs.Truthful.{ConnAgrees, IsTruthful, Talk}
+use Rattle.lard_laws_bytes.specs.Truthful.{ConnAgrees, IsTruthful, MayAccept, Talk}
 use Rattle.lard_laws_bytes.proofs.Later.{put, put-same}
+use Rattle.lard_laws_bytes.proofs.Moments.{client-accepts, front-none, is_accepted, none-accepted, sents-none, timers-none}
 use Rattle.lard_laws_bytes.proofs.Moves.{Moves, moved}
+use Rattle.lard_laws_bytes.proofs.Prefix.{said-front}
 use Rattle.lard_laws_bytes.proofs.Notes.{Adds, adds-both, adds-none, client-notes, client-others, front-notes, front-others}
 use Rattle.lard_laws_bytes.proofs.Segments.{Moment, replies-fair, replies-may, replies-moment, replies-others, words-fair, words-may, words-others}
 use Rattle.lard_laws_bytes.proofs.Steps.{IsQuiet, notes-tale, own-tale, step-may, step-others, step-tale, step_records, timers-may, timers-quiet}
@@ -35,12 +38,13 @@ pub record IsAside (files : FilesAt) (e : Event) (c : ℕ) (own : List Rec) : Ty
   pub quiet : IsQuiet own
   pub may : (past : List Rec) → EachMay (MayTell files) past own
   pub others : (q : ℕ) → q ≢ c → event_shuts q e ≡ false
+  pub none : Each (λ r. is_accepted files r ≡ false) own
 
 pub nothing-aside : (files : FilesAt) (e : Event) (c : ℕ) → ((q : ℕ) → q ≢ c → event_shuts q e ≡ false) → IsAside files e c []
-nothing-aside files e c n = record { quiet = λ q. tt; may = λ past. tt; others = n }
+nothing-aside files e c n = record { quiet = λ q. tt; may = λ past. tt; others = n; none = tt }
 
 pub got-aside : (files : FilesAt) (e : Event) (c k : ℕ) → ((q : ℕ) → q ≢ c → event_shuts q e ≡ false) → IsAside files e c (rec.Got k ∷ [])
-got-aside files e c k n = record { quiet = λ q. (refl, tt); may = λ past. (tt, tt); others = n }
+got-aside files e c k n = record { quiet = λ q. (refl, tt); may = λ past. (tt, tt); others = n; none = (refl, tt) }
 
 or-false : (b : Bool) → (b || false) ≡ b
 or-false true = refl
@@ -96,6 +100,20 @@ module _ (files : FilesAt) (m : Machine) (T : IsTruthful files m) (e : Event) (o
         subst (λ (u : Tale). Adds t (written_in given.1.notes) (accepted_in given.1.notes) 0 false u) (sym is)
           (adds-both t t1 t2 [] [] (written_in given.1.notes) (accepted_in given.1.notes) 0 0 0 false false refl (aside-adds (m.events + 1) c e t) (client-notes c t1 notes k.notes))
 
+    -- before its notes
+    before_is : tale (m.journal ++ (rec.Event (m.events + 1) e ∷ own)) c ≡ tale_step c (tale m.journal c) (rec.Event (m.events + 1) e)
+    before_is = own-tale (m.events + 1) e own notes sents timers c m.journal aside.quiet
+
+    wrote_so : IsFront (T.talks c).w.bytes (tale (m.journal ++ (rec.Event (m.events + 1) e ∷ own)) c).wrote
+    wrote_so = ([], ap (λ (u : Tale). u.wrote) before_is ∙ agreed.tale.wrote ∙ sym (append-nil (T.talks c).w.bytes))
+
+    accepted_so : IsFront ((tale (m.journal ++ (rec.Event (m.events + 1) e ∷ own)) c).accepted ++ accepted_in notes) (T.talks c).out.bytes
+    accepted_so =
+        let same : take given.0.accepted (T.talks c).out.bytes ≡ (tale (m.journal ++ (rec.Event (m.events + 1) e ∷ own)) c).accepted ++ accepted_in notes =
+          k.accepted ∙ ap (λ (l : List ℕ). l ++ accepted_in notes) (sym (ap (λ (u : Tale). u.accepted) before_is ∙ agreed.tale.accepted)) in
+        subst (λ (l : List ℕ). IsFront l (T.talks c).out.bytes) same
+          (drop given.0.accepted (T.talks c).out.bytes, sym (take-append-drop given.0.accepted (T.talks c).out.bytes))
+
     moves : Moves files m T c l (table.insert m.clients c after) m.conns (packets_of (place.Client c) given.1.segments) rs after (table.get m.conns c)
     moves = record {
       client_is = get_inserted m.clients c after;
@@ -113,6 +131,12 @@ module _ (files : FilesAt) (m : Machine) (T : IsTruthful files m) (e : Event) (o
         (timers-may files (m.journal ++ (rec.Event (m.events + 1) e ∷ own ++ notes ++ sents)) (place.Client c) c (is_armed x.client) (is_armed given.0));
       fair = words-fair (put T.talks c l) (λ d. table.get (table.insert m.clients c after) d) c k.w_after given.1.segments
         (ap (λ (o : Option Station). is_some o) (get_inserted m.clients c after)) (ap (λ (y : Talk). y.w) (put-same T.talks c l)) k.sent;
+      accepts = step-may (m.events + 1) e own notes sents timers (MayAccept files) m.journal
+        (tt, none-accepted files (m.journal ++ rec.Event (m.events + 1) e ∷ []) own aside.none)
+        (client-accepts files c (T.talks c).out.bytes (T.talks c).w.bytes (said-front files (T.talks c).w (T.talks c).out (T.talks c).vs agreed.says)
+          (m.journal ++ (rec.Event (m.events + 1) e ∷ own)) notes k.notes wrote_so accepted_so)
+        (none-accepted files (m.journal ++ (rec.Event (m.events + 1) e ∷ own ++ notes)) sents (sents-none files (length m.net + 1) (place.Client c) given.1.segments))
+        (none-accepted files (m.journal ++ (rec.Event (m.events + 1) e ∷ own ++ notes ++ sents)) timers (timers-none files (place.Client c) c (is_armed x.client) (is_armed given.0)));
     }
 
     pub client-moves : IsTruthful files (client_goes_on m e own c x given)
@@ -193,6 +217,12 @@ module _ (files : FilesAt) (m : Machine) (T : IsTruthful files m) (e : Event) (o
         (timers-may files (m.journal ++ (rec.Event (m.events + 1) e ∷ own ++ given.1.notes ++ replies)) place.Front c (front_armed (table.get m.conns c)) (front_armed given.0));
       fair = replies-fair (put T.talks c talk) (λ d. table.get m.clients d) c (T.talks c).w k.out_after reset given.1.segments
         (ap (λ (o : Option Station). is_some o) there) (ap (λ (y : Talk). y.w) (put-same T.talks c talk)) (ap (λ (y : Talk). y.out) (put-same T.talks c talk)) (ap (λ (y : Talk). y.was_reset) (put-same T.talks c talk)) k.sent;
+      accepts = step-may (m.events + 1) e own given.1.notes replies changes (MayAccept files) m.journal
+        (tt, none-accepted files (m.journal ++ rec.Event (m.events + 1) e ∷ []) own aside.none)
+        (none-accepted files (m.journal ++ (rec.Event (m.events + 1) e ∷ own)) given.1.notes (front-none files c given.1.notes k.notes))
+        (none-accepted files (m.journal ++ (rec.Event (m.events + 1) e ∷ own ++ given.1.notes)) replies (sents-none files (length m.net + 1) place.Front given.1.segments))
+        (none-accepted files (m.journal ++ (rec.Event (m.events + 1) e ∷ own ++ given.1.notes ++ replies)) changes
+          (timers-none files place.Front c (front_armed (table.get m.conns c)) (front_armed given.0)));
     }
 
     pub front-moves : IsTruthful files (front_acted m e own c given)

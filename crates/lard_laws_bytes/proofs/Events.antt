@@ -43,11 +43,12 @@ use Rattle.lard_truth.specs.Truth.{IsStream, Stream}
 use Rattle.lard_truth.proofs.Speaking.{speaks-stream}
 use Rattle.lard_laws_bytes.specs.Agreement.{Agrees, IsReply, IsWord}
 use Rattle.lard_laws_bytes.specs.Keeping.{ClientKeeps, ClientOpened, ClientTurned, FrontHearsTruth, FrontTimerIsTrue, FrontTurned, IsEnv, unwritten}
-use Rattle.lard_laws_bytes.specs.Truthful.{AreFair, ConnAgrees, IsFair, IsTruthful, Talk}
+use Rattle.lard_laws_bytes.specs.Truthful.{AreFair, ConnAgrees, IsFair, IsTruthful, MayAccept, Talk}
 use Rattle.lard_laws_bytes.proofs.Acting.{IsAside, agreed, client-moves, front-moves, got-aside, nothing-aside}
 use Rattle.lard_laws_bytes.proofs.ClientHearing.{hears-turned}
 use Rattle.lard_laws_bytes.proofs.ClientTurns.{aborts-turned, holds-turned, opens-agreeing, shuts-turned, takes-turned, timer-turned, writes-turned}
 use Rattle.lard_laws_bytes.proofs.Later.{fair-append, fair-lost, put, put-same}
+use Rattle.lard_laws_bytes.proofs.Moments.{is_accepted, none-accepted, sents-none, timers-none}
 use Rattle.lard_laws_bytes.proofs.Moves.{Moves, moved}
 use Rattle.lard_laws_bytes.proofs.Notes.{other-number, same-number}
 use Rattle.lard_laws_bytes.proofs.Segments.{words-fair, words-may, words-others}
@@ -93,13 +94,14 @@ timer-some env (Some (Closed last)) e = absurd cc
 module _ (files : FilesAt) (m : Machine) (T : IsTruthful files m) where
   -- a step in which no place acted, and at most a packet was lost
   pub passed-on : (ps : List Packet) (e : Event) (own : List Rec) → AreFair T.talks (λ c. table.get m.clients c) ps → ((q : ℕ) → event_shuts q e ≡ false) → IsQuiet own
-      → EachMay (MayTell files) (m.journal ++ rec.Event (m.events + 1) e ∷ []) own → IsTruthful files (passed (record m { net = ps }) e own)
-  passed-on ps e own fair shuts quiet may = record {
+      → EachMay (MayTell files) (m.journal ++ rec.Event (m.events + 1) e ∷ []) own → Each (λ r. is_accepted files r ≡ false) own → IsTruthful files (passed (record m { net = ps }) e own)
+  passed-on ps e own fair shuts quiet may none = record {
     talks = T.talks;
     connections = λ c. subst (λ (t : Tale). ConnAgrees files c (T.talks c) (table.get m.clients c) (table.get m.conns c) t)
       (sym (tale-others m.journal (rec.Event (m.events + 1) e ∷ own) c (shuts c, quiet c))) (T.connections c);
     packets = fair;
     tells = each_append (MayTell files) [] m.journal (rec.Event (m.events + 1) e ∷ own) T.tells (tt, may);
+    accepts = each_append (MayAccept files) [] m.journal (rec.Event (m.events + 1) e ∷ own) T.accepts (tt, none-accepted files (m.journal ++ rec.Event (m.events + 1) e ∷ []) own none);
   }
 
 -- ---- one client opens
@@ -183,6 +185,11 @@ module _ (files : FilesAt) (m : Machine) (T : IsTruthful files m) (c isn iss wnd
       (timers-may files (m.journal ++ (rec.Event (m.events + 1) e ∷ [] ++ notes ++ sents)) (place.Client c) c false (is_armed given.0));
     fair = words-fair (put T.talks c begins) (λ d. table.get (table.insert m.clients c after) d) c (unwritten isn) given.1.segments
       (ap (λ (o : Option Station). is_some o) (get_inserted m.clients c after)) (ap (λ (y : Talk). y.w) (put-same T.talks c begins)) it.sent;
+    accepts = step-may (m.events + 1) e [] notes sents timers (MayAccept files) m.journal (tt, tt)
+      (none-accepted files (m.journal ++ (rec.Event (m.events + 1) e ∷ [])) notes
+        (refl, subst (λ (ns : List Rec). Each (λ r. is_accepted files r ≡ false) ns) (sym it.notes) tt))
+      (none-accepted files (m.journal ++ (rec.Event (m.events + 1) e ∷ [] ++ notes)) sents (sents-none files (length m.net + 1) (place.Client c) given.1.segments))
+      (none-accepted files (m.journal ++ (rec.Event (m.events + 1) e ∷ [] ++ notes ++ sents)) timers (timers-none files (place.Client c) c false (is_armed given.0)));
   }
 
   pub opened-on : (n : Machine) → opened m c isn iss wnd mss None ≡ Ok n → IsTruthful files n
@@ -301,7 +308,7 @@ module _ (hears : FrontHearsTruth) (fires : FrontTimerIsTrue) (m : Machine) (T :
     go : (b : Bool) → Gives (cond b (Err (WasLost k)) (Ok (passed (record m { net = lose_at (k - 1) m.net }) (event.Lose k) (rec.Lost k ∷ [])))) n → IsTruthful files n
     go true g = absurd (no-err _ n g)
     go false g = from-ok (IsTruthful files) _ n g
-        (passed-on files m T (lose_at (k - 1) m.net) (event.Lose k) (rec.Lost k ∷ []) (fair-lost T.talks (λ c. table.get m.clients c) (k - 1) m.net T.packets) (λ q. refl) (λ q. (refl, tt)) (tt, tt))
+        (passed-on files m T (lose_at (k - 1) m.net) (event.Lose k) (rec.Lost k ∷ []) (fair-lost T.talks (λ c. table.get m.clients c) (k - 1) m.net T.packets) (λ q. refl) (λ q. (refl, tt)) (tt, tt) (refl, tt))
 
   -- ---- a client's events
 

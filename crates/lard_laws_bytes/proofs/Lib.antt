@@ -13,6 +13,7 @@ pub mod Segments
 pub mod Steps
 pub mod Later
 pub mod Turns
+pub mod Moments
 pub mod Moves
 pub mod Acting
 pub mod Events

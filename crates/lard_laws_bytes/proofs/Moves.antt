@@ -27,7 +27,7 @@ use Rattle.lard_truth.specs.Truth.{GoesOn, Stream}
 use Rattle.lard_truth.proofs.Growth.{goes_on-same}
 use Rattle.lard_laws_bytes.specs.Agreement.{Agrees}
 use Rattle.lard_laws_bytes.specs.Keeping.{ClientTurned, FrontTurned, accepted_in, resets, served_in, written_in}
-use Rattle.lard_laws_bytes.specs.Truthful.{AreFair, ConnAgrees, IsTruthful, Talk}
+use Rattle.lard_laws_bytes.specs.Truthful.{AreFair, ConnAgrees, IsTruthful, MayAccept, Talk}
 use Rattle.lard_laws_bytes.proofs.Later.{AllStay, AllTalkOn, TalksOn, all-later, fair-append, put, put-other, put-same, talks-same}
 use Rattle.lard_laws_bytes.proofs.Notes.{Adds, adds-both, adds-none, client-notes, client-others, front-notes, front-others}
 use Rattle.lard_laws_bytes.proofs.Segments.{Moment, replies-fair, replies-may, replies-moment, replies-others, words-fair, words-may, words-others}
@@ -53,6 +53,7 @@ pub record Moves (files : FilesAt) (m : Machine) (T : IsTruthful files m) (c : �
   pub others : (q : ℕ) → q ≢ c → Each (λ r. about q r ≡ false) rs
   pub may : EachMay (MayTell files) m.journal rs
   pub fair : AreFair (put T.talks c l) (λ d. table.get clients d) ps
+  pub accepts : EachMay (MayAccept files) m.journal rs
 
 module _ (files : FilesAt) (m : Machine) (T : IsTruthful files m) (c : ℕ) (l : Talk) (clients : FinMap nat_cmp Station) (conns : FinMap nat_cmp FrontConn)
     (ps : List Packet) (rs : List Rec) (x : Station) (f : Option FrontConn) (v : Moves files m T c l clients conns ps rs x f) where
@@ -90,4 +91,5 @@ module _ (files : FilesAt) (m : Machine) (T : IsTruthful files m) (c : ℕ) (l :
     packets = fair-append (put T.talks c l) (λ d. table.get clients d) m.net ps
       (all-later (λ d. table.get m.clients d) (λ d. table.get clients d) T.talks (put T.talks c l) all_on all_stay m.net T.packets) v.fair;
     tells = each_append (MayTell files) [] m.journal rs T.tells v.may;
+    accepts = each_append (MayAccept files) [] m.journal rs T.accepts v.accepts;
   }

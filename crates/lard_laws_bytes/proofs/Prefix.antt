@@ -23,7 +23,7 @@ module _ (files : FilesAt) (w out : Stream) (vs : List Verdict) (h : SaysAnswers
       ap concat (ap (take (length vs)) first.1 ∙ take_at (map (answer files) vs) first.0 (length vs) (length-map vs (answer files))) ∙ sym h.spoken
 
   -- all that was said is the front of all that is to be said
-  said-front : IsFront out.bytes (answer_bytes files w.bytes)
+  pub said-front : IsFront out.bytes (answer_bytes files w.bytes)
   said-front = subst (λ (l : List ℕ). IsFront l (answer_bytes files w.bytes)) (sym h.spoken) (concat-IsFront (map (answer files) vs) (answers files w.bytes) first-answers)
 
   pub accepted-front : (n : ℕ) → IsFront (take n out.bytes) (answer_bytes files w.bytes)

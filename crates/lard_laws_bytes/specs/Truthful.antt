@@ -1,11 +1,13 @@
 -- What holds of the whole machine between any two steps, as far as bytes go.
-use Rattle.std.specs.Prelude.{◌≡◌, ℕ, Bool, true, List, [], ◌∷◌, Option, Some, None, is_some}
+use Rattle.std.specs.Prelude.{◌≡◌, ℕ, Bool, true, List, [], ◌∷◌, ◌++◌, Option, Some, None, is_some}
 use Rattle.std.specs.FinMap as table
-use Rattle.lard_answers.specs.Answers.{FilesAt}
+use Rattle.lard_answers.specs.Answers.{FilesAt, IsFront, answer_bytes}
 use Rattle.lard_base.specs.declared.place.Place.{Place}
 use Rattle.lard_base.specs.declared.place.Place.TheVariants.{Front, Node, Client}
-use Rattle.lard_history.specs.Journal.{Tale, tale, untold}
-use Rattle.lard_history.specs.Laws.{TellsTheTruth}
+use Rattle.lard_history.specs.Journal.{Tale, accepted, tale, untold, wrote}
+use Rattle.lard_history.specs.Laws.{EachMay, TellsTheTruth}
+use Rattle.lard_journal.specs.declared.rec.Rec.{Rec}
+use Rattle.lard_journal.specs.declared.rec.Rec.TheVariants as rec
 use Rattle.lard_machine.specs.declared.machine.Machine.{Machine}
 use Rattle.lard_machine.specs.declared.places.FrontConn.{FrontConn}
 use Rattle.lard_machine.specs.declared.places.Station.{Station}
@@ -38,8 +40,14 @@ abbrev pub AreFair : (ℕ → Talk) → (ℕ → Option Station) → List Packet
 AreFair k xs [] = Unit {0}
 AreFair k xs (p ∷ ps) = IsFair k xs p.from p.to p.bytes × AreFair k xs ps
 
+-- What a client accepts goes on as the answers to what it wrote do.
+abbrev pub MayAccept : FilesAt → List Rec → Rec → Type 0
+MayAccept files past (rec.Accepted c bytes) = IsFront (accepted past c ++ bytes) (answer_bytes files (wrote past c))
+MayAccept files past _ = Unit {0}
+
 pub record IsTruthful (files : FilesAt) (m : Machine) : Type 0 where
   pub talks : ℕ → Talk
   pub connections : (c : ℕ) → ConnAgrees files c (talks c) (table.get m.clients c) (table.get m.conns c) (tale m.journal c)
   pub packets : AreFair talks (λ c. table.get m.clients c) m.net
   pub tells : TellsTheTruth files m.journal
+  pub accepts : EachMay (MayAccept files) [] m.journal
