@@ -82,19 +82,19 @@ abbrev Serves : ℕ → Option ℕ → ℕ → ℕ → FrontTale → Type 0
 Serves stream None count total t = IsServing stream count total t
 Serves stream (Some over) count total t = IsFronts t × (t.was_reset ≡ true)
 
--- nothing goes out of a connection that nobody took
-abbrev pub SaysNothing : Option FrontConn → List (Place × List ℕ) → Type 0
-SaysNothing None segments = segments ≡ []
-SaysNothing (Some conn) segments = Unit {0}
+-- a connection that nobody took was none before, and nothing goes out of it
+abbrev pub SaysNothing : Option FrontConn → Option FrontConn → List (Place × List ℕ) → Type 0
+SaysNothing x None segments = (x ≡ None) × (segments ≡ [])
+SaysNothing x (Some conn) segments = Unit {0}
 
 module _ (env : FrontEnv) (u : Tale) where
   -- the connection after its rule, and the front end's turn, where so much was told of it before
-  pub record FrontSays (given : Option FrontConn × Turn) : Type 0 where
+  pub record FrontSays (x : Option FrontConn) (given : Option FrontConn × Turn) : Type 0 where
     pub told : Tells env.stream env.c u given.1.notes
     pub notes : Each IsOfFront given.1.notes
     pub stands : FrontStands env.stream given.0 (front_tale (told_on env.c u given.1.notes))
     pub to : AllTo (place.Client env.c) given.1.segments
-    pub none : SaysNothing given.0 given.1.segments
+    pub none : SaysNothing x given.0 given.1.segments
     pub answered : (n : ℕ) → fold answered_step n given.1.notes ≡ n + given.1.answered
 
   -- a service between two of its turns
@@ -206,8 +206,8 @@ module _ (env : FrontEnv) (u : Tale) where
       (λ e. (s.taken, never_limit b t))
       (λ e. s)
 
-  spoken-says : (w : Service) (before : List (Place × List ℕ)) → w.over ≡ None → AllTo (place.Client env.c) before → IsAnswering w → FrontSays (spoken env w before)
-  spoken-says w before none to h =
+  spoken-says : (x : Option FrontConn) (w : Service) (before : List (Place × List ℕ)) → w.over ≡ None → AllTo (place.Client env.c) before → IsAnswering w → FrontSays x (spoken env w before)
+  spoken-says x w before none to h =
       let t = front_tale (told_on env.c u w.notes) in
       let said = speaks-to env.c w.block in
       let s : IsServing env.stream w.count w.block.send.total t = subst (λ o. Serves env.stream o w.count w.block.send.total t) none h.serves in
@@ -220,8 +220,8 @@ module _ (env : FrontEnv) (u : Tale) where
         answered = h.answered;
       }
 
-  cut_off-says : (w : Service) (total : ℕ) → w.over ≡ Some total → IsAnswering w → FrontSays (cut_off env w)
-  cut_off-says w total over h =
+  cut_off-says : (x : Option FrontConn) (w : Service) (total : ℕ) → w.over ≡ Some total → IsAnswering w → FrontSays x (cut_off env w)
+  cut_off-says x w total over h =
       let t = front_tale (told_on env.c u w.notes) in
       let said = speaks_symbols-to env.c w.block in
       let s : IsFronts t × (t.was_reset ≡ true) = subst (λ o. Serves env.stream o w.count w.block.send.total t) over h.serves in
@@ -234,25 +234,25 @@ module _ (env : FrontEnv) (u : Tale) where
         answered = h.answered;
       }
 
-  settled-says : (w : Service) → IsAnswering w → FrontSays (settled env w)
-  settled-says w h = go w.over refl where
-    go : (o : Option ℕ) → w.over ≡ o → FrontSays (elim o [ None ↦ spoken env w [] | Some total ↦ cut_off env w ])
-    go None e = spoken-says w [] e tt h
-    go (Some total) e = cut_off-says w total e h
+  settled-says : (x : Option FrontConn) (w : Service) → IsAnswering w → FrontSays x (settled env w)
+  settled-says x w h = go w.over refl where
+    go : (o : Option ℕ) → w.over ≡ o → FrontSays x (elim o [ None ↦ spoken env w [] | Some total ↦ cut_off env w ])
+    go None e = spoken-says x w [] e tt h
+    go (Some total) e = cut_off-says x w total e h
 
   -- ---- rule by rule
 
-  silent-says : (x : Option FrontConn) → FrontStands env.stream x (front_tale u) → FrontSays (x, silent)
+  silent-says : (x : Option FrontConn) → FrontStands env.stream x (front_tale u) → FrontSays x (x, silent)
   silent-says x h = record { told = tt; notes = tt; stands = h; to = tt; none = go x; answered = λ n. omega arith } where
-    go : (o : Option FrontConn) → SaysNothing o []
-    go None = refl
+    go : (o : Option FrontConn) → SaysNothing o o []
+    go None = (refl, refl)
     go (Some conn) = tt
 
-  met-says : (s : Said) → IsUntaken (front_tale u) → FrontSays (met env s)
+  met-says : (s : Said) → IsUntaken (front_tale u) → FrontSays None (met env s)
   met-says s h =
       let mine : nat_eq env.c env.c ≡ true = own env.c in
-      cond_both {A = Option FrontConn × Turn} (is_plain_syn s) (begun env s) (None, silent) FrontSays
-      (λ t. spoken-says (record { block = listening s env.iss; count = 0; notes = rec.Took place.Front env.c (record { 0 = 1 }) ∷ []; answered = 0; over = None }) [] refl tt
+      cond_both {A = Option FrontConn × Turn} (is_plain_syn s) (begun env s) (None, silent) (FrontSays None)
+      (λ t. spoken-says None (record { block = listening s env.iss; count = 0; notes = rec.Took place.Front env.c (record { 0 = 1 }) ∷ []; answered = 0; over = None }) [] refl tt
       (record {
         told = ((refl, (let first = h.epoch in omega arith), h.owner), tt);
         notes = (tt, tt);
@@ -273,24 +273,24 @@ module _ (env : FrontEnv) (u : Tale) where
       → IsAnswering (record { block = d; count = count; notes = []; answered = 0; over = None })
   held-answers b d count e s = record { told = tt; notes = tt; serves = many-serves None count b.send.total d.send.total (front_tale u) e s; answered = λ n. omega arith }
 
-  tombstone-says : (last : Final) (o : Option Said) → FrontStands env.stream (Some (Closed last)) (front_tale u) → FrontSays (Some (Closed last), tombstone env o)
+  tombstone-says : (last : Final) (o : Option Said) → FrontStands env.stream (Some (Closed last)) (front_tale u) → FrontSays (Some (Closed last)) (Some (Closed last), tombstone env o)
   tombstone-says last None h = silent-says (Some (Closed last)) h
   tombstone-says last (Some s) h = record { told = tt; notes = tt; stands = h; to = (refl, tt); none = tt; answered = λ n. omega arith }
 
-  hears-says : (x : Option FrontConn) (s : Said) → FrontStands env.stream x (front_tale u) → FrontSays (front_hears env x s)
+  hears-says : (x : Option FrontConn) (s : Said) → FrontStands env.stream x (front_tale u) → FrontSays x (front_hears env x s)
   hears-says None s h = met-says s h
-  hears-says (Some (Held b count)) s h = settled-says _ (reads_on-answers _ _ (held-answers b (on_segment b s).1 count (segment-many b s) h))
+  hears-says (Some (Held b count)) s h = settled-says (Some (Held b count)) _ (reads_on-answers _ _ (held-answers b (on_segment b s).1 count (segment-many b s) h))
   hears-says (Some Lent) s h = absurd h
   hears-says (Some (Closed last)) s h = tombstone-says last (last_words last.reason last s) h
 
-  pub gets-says : (x : Option FrontConn) (r : Result Said SegFault) → FrontStands env.stream x (front_tale u) → FrontSays (front_gets env x r)
+  pub gets-says : (x : Option FrontConn) (r : Result Said SegFault) → FrontStands env.stream x (front_tale u) → FrontSays x (front_gets env x r)
   gets-says x (Err fault) h = silent-says x h
   gets-says x (Ok s) h = hears-says x s h
 
-  pub timer-says : (x : Option FrontConn) → FrontStands env.stream x (front_tale u) → FrontSays (front_timer env x)
+  pub timer-says : (x : Option FrontConn) → FrontStands env.stream x (front_tale u) → FrontSays x (front_timer env x)
   timer-says None h = silent-says None h
   timer-says (Some (Held b count)) h =
-      spoken-says (record { block = after_timer b; count = count; notes = []; answered = 0; over = None }) (ready_of env (after_timer b) (timed b)) refl (ready-to env (after_timer b) (timed b))
+      spoken-says (Some (Held b count)) (record { block = after_timer b; count = count; notes = []; answered = 0; over = None }) (ready_of env (after_timer b) (timed b)) refl (ready-to env (after_timer b) (timed b))
       (held-answers b (after_timer b) count (timer-many b) h)
   timer-says (Some Lent) h = absurd h
   timer-says (Some (Closed last)) h = silent-says (Some (Closed last)) h

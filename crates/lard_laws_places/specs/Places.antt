@@ -1,13 +1,21 @@
 -- What holds of each connection in every state: what its client and the front end keep fits what is told of it.
-use Rattle.std.specs.Prelude.{◌≡◌, ℕ, ◌+◌, ◌≤◌, Bool, true, false, List, [], Option, Some, None, IsSome}
+use Rattle.std.specs.Prelude.{◌≡◌, ◌⊎◌, ℕ, ◌+◌, ◌-◌, ◌≤◌, Bool, true, false, List, [], ◌∷◌, ◌++◌, length, Option, Some, None, IsSome}
+use Rattle.std.specs.FinMap as table
+use Rattle.std.specs.FinMap.{FinMap}
+use Rattle.std.specs.List.{fold}
+use Rattle.std.specs.Ordering.{nat_cmp}
 use Rattle.lard_base.specs.declared.place.Place.{Place}
-use Rattle.lard_base.specs.declared.place.Place.TheVariants.{Front}
+use Rattle.lard_base.specs.declared.place.Place.TheVariants.{Client, Front}
 use Rattle.lard_base.specs.declared.place.Reason.TheVariants.{Limit}
 use Rattle.lard_client.specs.Control.{is_writing}
-use Rattle.lard_history.specs.Journal.{Numbers, Tale}
+use Rattle.lard_history.specs.Journal.{Numbers, Tale, goal_of, is_lost, packet_bytes, sent_count}
+use Rattle.lard_journal.specs.declared.rec.Rec.{Rec}
+use Rattle.lard_journal.specs.declared.rec.Rec.TheVariants as rec
 use Rattle.lard_machine.specs.declared.places.FrontConn.{FrontConn}
 use Rattle.lard_machine.specs.declared.places.FrontConn.TheVariants.{Held, Lent, Closed}
 use Rattle.lard_machine.specs.declared.places.Station.{Station}
+use Rattle.lard_net.specs.declared.net.Packet.{Packet}
+use Rattle.lard_net.specs.Net.{bytes_in, lose_at, packet_at}
 
 -- ---- clients
 
@@ -90,3 +98,35 @@ pub record Stands (stream c : ℕ) (x : Option Station) (conn : Option FrontConn
   pub client : ClientStands c x (client_tale t)
   pub front : FrontStands stream conn (front_tale t)
   pub opened : TakesOpened conn x
+
+-- ---- packets
+
+-- the packets that a journal tells of, each lost or not
+abbrev pub net_step : List Packet → Rec → List Packet
+net_step net (rec.Sent k from to bytes) = net ++ record { from = from; to = to; bytes = bytes; lost = false } ∷ []
+net_step net (rec.Lost k) = lose_at (k - 1) net
+net_step net _ = net
+
+abbrev pub net_of : List Rec → List Packet
+net_of J = fold net_step [] J
+
+-- where a packet goes, and whether it was lost
+abbrev pub goal_in : Option Packet → Option Place
+goal_in None = None
+goal_in (Some p) = Some p.to
+
+abbrev pub lost_in : Option Packet → Bool
+lost_in None = false
+lost_in (Some p) = p.lost
+
+-- What a journal says of all packets is so of these.
+pub record IsNetOf (J : List Rec) (net : List Packet) : Type 0 where
+  pub packets : net_of J ≡ net
+  pub sent : sent_count J ≡ length net
+  pub bytes : packet_bytes J ≡ bytes_in net
+  pub goals : (k : ℕ) → goal_of J k ≡ goal_in (packet_at net k)
+  pub lost : (k : ℕ) → is_lost J k ≡ lost_in (packet_at net k)
+
+-- a packet goes between a client that opened and the front end
+abbrev pub IsBetween : FinMap nat_cmp Station → Packet → Type 0
+IsBetween clients p = (c : ℕ) × IsSome (table.get clients c) × (((p.from ≡ Client c) × (p.to ≡ Front)) ⊎ ((p.from ≡ Front) × (p.to ≡ Client c)))
