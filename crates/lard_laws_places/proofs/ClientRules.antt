@@ -1,9 +1,8 @@
 -- What each rule of a client says: its notes may stand, and it stands as they tell.
-use Rattle.std.proofs.Common.{◌≡◌, ℕ, Bool, true, false, cond, nat_lt, ◌&&◌, ◌||◌, List, [], ◌∷◌, ◌++◌, take, drop, Option, Some, None, Result, Ok, Err, refl, sym, ap, ◌∙◌, subst, nat_eq}
+use Rattle.std.proofs.Common.{◌≡◌, ℕ, Bool, true, false, cond, nat_lt, List, [], ◌∷◌, ◌++◌, take, drop, Some, Result, Ok, Err, refl, sym, ap, ◌∙◌}
 use Rattle.std.proofs.lemmas.Bool.{cond_both}
 use Rattle.lard_base.specs.declared.place.Place.{Place}
 use Rattle.lard_base.specs.declared.place.Place.TheVariants.{Front}
-use Rattle.lard_client.specs.declared.heard.Heard.{Heard}
 use Rattle.lard_client.specs.Arriving.{arrived}
 use Rattle.lard_client.specs.Control.{ClientBlock, aborted, held_on, is_writing, opened, shut_down, taken, written}
 use Rattle.lard_client.specs.Leaving.{abort_ready, after_timer, timed}
@@ -11,12 +10,12 @@ use Rattle.lard_history.specs.Journal.{Tale, tale_step, told_on}
 use Rattle.lard_history.proofs.Each.{Each, Each-append}
 use Rattle.lard_journal.specs.declared.rec.Rec.{Rec}
 use Rattle.lard_journal.specs.declared.rec.Rec.TheVariants as rec
-use Rattle.lard_laws_places.specs.Places.{ClientTale, FrontTale, IsOpened, client_tale, front_tale}
-use Rattle.lard_laws_places.proofs.ClientTurns.{GoesOn, Hears, aborted-on, arrived-hears, as_before, held-on, ready-to, shut-on, speaks-on, taken-on, timer-on, written-on}
+use Rattle.lard_laws_places.specs.Places.{ClientTale, IsOpened, client_tale, front_tale}
+use Rattle.lard_laws_places.proofs.ClientTurns.{GoesOn, aborted-on, arrived-hears, held-on, ready-to, shut-on, speaks-on, taken-on, timer-on, written-on}
 use Rattle.lard_laws_places.proofs.Endpoints.{AllTo}
-use Rattle.lard_laws_places.proofs.Telling.{MayStand, Tells}
+use Rattle.lard_laws_places.proofs.Telling.{Tells}
 use Rattle.lard_machine.specs.declared.places.Turn.{Turn}
-use Rattle.lard_machine.specs.Client.{accepted_note, client_aborts, client_gets, client_heard, client_holds, client_opens, client_shuts, client_takes, client_timer, client_writes, eof_note, ready_of, silent, speaking}
+use Rattle.lard_machine.specs.Client.{client_aborts, client_gets, client_holds, client_opens, client_shuts, client_takes, client_timer, client_writes, ready_of, silent, speaking}
 use Rattle.lard_machine.specs.Speaking.{client_speaks}
 use Rattle.lard_segment.specs.declared.fault.SegFault.{SegFault}
 use Rattle.lard_segment.specs.Segment.{Said}

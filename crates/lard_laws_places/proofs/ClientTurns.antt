@@ -1,21 +1,17 @@
 -- What a client says in its turn, and that it stays the client of its connection.
-use Rattle.std.proofs.Common.{◌≡◌, ℕ, zero, suc, ◌+◌, ◌-◌, Bool, true, false, cond, nat_lt, ◌==◌, not, ◌&&◌, ◌||◌, List, [], ◌∷◌, ◌++◌, length, take, drop, Option, Some, None, Result, Ok, Err, refl, sym, ap, ◌∙◌, subst, nat_eq}
-use Rattle.std.proofs.lemmas.Bool.{cond_both, and_parts, and_left, and_right}
+use Rattle.std.proofs.Common.{◌≡◌, ℕ, zero, suc, Bool, true, false, cond, nat_lt, ◌==◌, not, ◌&&◌, ◌||◌, List, [], ◌∷◌, length, Option, Some, None, refl, sym, ap, ◌∙◌}
+use Rattle.std.proofs.lemmas.Bool.{cond_both, and_left, and_right}
 use Rattle.lard_arrival.specs.Arrival.{bare, is_acceptable, is_allowed, peer_mss}
 use Rattle.lard_base.specs.declared.place.Place.{Place}
 use Rattle.lard_base.specs.declared.place.Place.TheVariants.{Front}
 use Rattle.lard_client.specs.declared.heard.Heard.{Heard}
 use Rattle.lard_client.specs.declared.phase.Phase.{Phase}
 use Rattle.lard_client.specs.declared.phase.Phase.TheVariants.{Open, Aborted, Reset}
-use Rattle.lard_client.specs.Arriving.{accepting, answers_syn, arrived, begins_after, ends, established, fresh_len, heard_in, heard_open, nothing, on_ack, on_fresh, on_greeting, on_rst, on_segment, on_syn, on_text, on_unacceptable, owing, part_of, reply_to, reset_by_peer}
-use Rattle.lard_client.specs.Control.{ClientBlock, aborted, held_on, is_established, is_open, is_open_in, is_writing, opened, rcv_nxt, rcv_wnd, shut_down, taken, written}
-use Rattle.lard_client.specs.Leaving.{abort_ready, after_emit, after_owed, after_piece, after_timer, emitted, owes, timed, told, unsaid}
-use Rattle.lard_history.proofs.Each.{Each, Each-append}
-use Rattle.lard_journal.specs.declared.rec.Rec.{Rec}
-use Rattle.lard_journal.specs.declared.rec.Rec.TheVariants as rec
+use Rattle.lard_client.specs.Arriving.{accepting, answers_syn, arrived, begins_after, ends, established, fresh_len, heard_in, nothing, on_ack, on_fresh, on_greeting, on_rst, on_segment, on_syn, on_text, on_unacceptable, owing, part_of, reply_to, reset_by_peer}
+use Rattle.lard_client.specs.Control.{ClientBlock, aborted, held_on, is_established, is_open, is_open_in, is_writing, rcv_nxt, rcv_wnd, shut_down, taken, written}
+use Rattle.lard_client.specs.Leaving.{after_emit, after_owed, after_piece, after_timer, emitted, owes, told, unsaid}
 use Rattle.lard_laws_places.proofs.Endpoints.{AllTo}
 use Rattle.lard_laws_places.proofs.Sides.{IsSameSide, ack-side, next-side, resend-side, same_side}
-use Rattle.lard_machine.specs.declared.places.Turn.{Turn}
 use Rattle.lard_machine.specs.Client.{ready_of}
 use Rattle.lard_machine.specs.Speaking.{client_emits, client_speaks, to_front}
 use Rattle.lard_segment.specs.declared.segment.Ready.{Ready}

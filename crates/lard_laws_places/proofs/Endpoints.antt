@@ -1,5 +1,5 @@
 -- An endpoint's bytes stay as many as they were while segments come and go, and what it sends goes to its client.
-use Rattle.std.proofs.Common.{◌≡◌, ℕ, zero, suc, Bool, true, false, cond, nat_lt, ◌==◌, not, ◌&&◌, List, [], ◌∷◌, length, Option, Some, None, refl, ◌∙◌}
+use Rattle.std.proofs.Common.{◌≡◌, ℕ, zero, suc, true, cond, nat_lt, ◌==◌, not, ◌&&◌, List, [], ◌∷◌, length, Option, Some, None, refl, ◌∙◌}
 use Rattle.std.proofs.lemmas.Bool.{cond_both}
 use Rattle.lard_arrival.specs.Arrival.{bare, is_acceptable, is_allowed}
 use Rattle.lard_base.specs.declared.place.Place.{Place}

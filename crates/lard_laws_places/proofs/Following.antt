@@ -1,5 +1,5 @@
 -- The journal follows the events: each step is the event, its own records, and records that are no one's own.
-use Rattle.std.proofs.Common.{◌≡◌, ◌⊎◌, ℕ, ◌+◌, ◌-◌, List, [], ◌∷◌, ◌++◌, length, take, drop, Bool, true, false, cond, nat_lt, not, ◌&&◌, Option, Some, None, Ok, Err, Result, refl, sym, ap, ◌∙◌, subst, append_assoc, append-nil, inl, inr}
+use Rattle.std.proofs.Common.{◌≡◌, ◌⊎◌, ℕ, ◌+◌, ◌-◌, List, [], ◌∷◌, ◌++◌, length, take, drop, Bool, true, false, cond, nat_lt, not, ◌&&◌, Option, Some, None, Ok, Err, Result, refl, sym, ap, ◌∙◌, append_assoc, append-nil, inl, inr}
 use Rattle.std.proofs.lemmas.Bool.{cond_both}
 use Rattle.std.specs.FinMap as table
 use Rattle.std.specs.List.{list_all}
@@ -10,11 +10,10 @@ use Rattle.lard_base.specs.declared.place.Place.TheVariants as place
 use Rattle.lard_client.specs.Arriving.{arrived}
 use Rattle.lard_client.specs.Control.{ClientBlock, is_armed, is_writing, written}
 use Rattle.lard_history.specs.Journal.{request, tale}
-use Rattle.lard_history.specs.Laws.{AreOwn, Follows, IsStep, is_own}
+use Rattle.lard_history.specs.Laws.{AreOwn, IsStep, is_own}
 use Rattle.lard_history.proofs.Each.{Each}
 use Rattle.lard_journal.specs.declared.rec.Rec.{Rec}
 use Rattle.lard_journal.specs.declared.rec.Rec.TheVariants as rec
-use Rattle.lard_laws_places.specs.Places.{ClientStands, IsOpened, client_tale}
 use Rattle.lard_laws_places.proofs.Forms.{Forms}
 use Rattle.lard_laws_places.proofs.FrontRules as front
 use Rattle.lard_laws_places.proofs.FrontRules.{IsOfFront}
@@ -22,11 +21,10 @@ use Rattle.lard_laws_places.proofs.Keeping.{station}
 use Rattle.lard_laws_places.proofs.Steps.{Holds}
 use Rattle.lard_machine.specs.declared.machine.Machine.{Machine}
 use Rattle.lard_machine.specs.declared.places.FrontConn.{FrontConn}
-use Rattle.lard_machine.specs.declared.places.Station.{Station}
 use Rattle.lard_machine.specs.declared.places.Turn.{Turn}
-use Rattle.lard_machine.specs.Client.{accepted_note, client_aborts, client_gets, client_holds, client_opens, client_shuts, client_takes, client_timer, client_writes, eof_note, silent, speaking}
+use Rattle.lard_machine.specs.Client.{client_aborts, client_gets, client_holds, client_opens, client_shuts, client_takes, client_timer, client_writes, silent, speaking}
 use Rattle.lard_machine.specs.Front.{front_gets, front_timer}
-use Rattle.lard_machine.specs.Machine.{Act, acted, client_acted, client_goes_on, env_of, front_acted, front_armed, front_put, passed, records, sent_records, timer_change}
+use Rattle.lard_machine.specs.Machine.{Act, acted, client_acted, env_of, front_acted, front_armed, front_put, passed, records, sent_records, timer_change}
 use Rattle.lard_net.specs.Net.{lose_at}
 use Rattle.lard_segment.specs.declared.fault.SegFault.{SegFault}
 use Rattle.lard_segment.specs.declared.segment.Dir.TheVariants.{ToClient, ToCluster}

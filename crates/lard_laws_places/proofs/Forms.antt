@@ -1,13 +1,12 @@
 -- A step that is done has one of a few forms, each with what was looked up.
-use Rattle.std.proofs.Common.{◌≡◌, ℕ, ◌+◌, ◌-◌, List, [], ◌∷◌, ◌++◌, length, Bool, true, false, cond, nat_lt, Option, Some, None, Result, Ok, Err, refl, sym, subst}
+use Rattle.std.proofs.Common.{◌≡◌, ℕ, ◌-◌, List, [], ◌∷◌, Bool, true, false, cond, nat_lt, Option, Some, None, Result, Ok, Err, refl, subst}
 use Rattle.std.specs.FinMap as table
 use Rattle.lard_base.specs.declared.event.Event.{Event}
 use Rattle.lard_base.specs.declared.event.Event.TheVariants as event
 use Rattle.lard_base.specs.declared.place.Place.{Place}
 use Rattle.lard_base.specs.declared.place.Place.TheVariants as place
-use Rattle.lard_client.specs.Control.{ClientBlock, is_armed, written_len}
+use Rattle.lard_client.specs.Control.{written_len}
 use Rattle.lard_history.specs.Journal.{request}
-use Rattle.lard_journal.specs.declared.rec.Rec.{Rec}
 use Rattle.lard_journal.specs.declared.rec.Rec.TheVariants as rec
 use Rattle.lard_machine.specs.declared.fault.StepFault.{StepFault}
 use Rattle.lard_machine.specs.declared.fault.StepFault.TheVariants.{Limit, WasLost}
@@ -18,7 +17,7 @@ use Rattle.lard_machine.specs.declared.places.Station.{Station}
 use Rattle.lard_machine.specs.Bounds.{HasRule}
 use Rattle.lard_machine.specs.Client.{client_opens, client_writes, client_shuts, client_holds, client_takes, client_aborts, client_timer, client_gets}
 use Rattle.lard_machine.specs.Front.{front_gets, front_timer}
-use Rattle.lard_machine.specs.Machine.{aborts, client_acted, client_goes_on, delivered, env_of, from_place, front_acted, happens, holds, limit_reached, lost, machine_step, opened, passed, shut, takes, timer, timer_at, to_client, to_front, to_place, unless_limit, wrote}
+use Rattle.lard_machine.specs.Machine.{aborts, client_acted, client_goes_on, delivered, env_of, from_place, front_acted, happens, holds, limit_reached, lost, machine_step, opened, passed, shut, takes, timer, to_client, to_front, to_place, unless_limit, wrote}
 use Rattle.lard_net.specs.declared.net.Packet.{Packet}
 use Rattle.lard_net.specs.Net.{lose_at, packet_at}
 use Rattle.lard_segment.specs.declared.segment.Dir.TheVariants.{ToClient, ToCluster}

@@ -1,5 +1,5 @@
 -- What each rule of the front end says: its notes may stand, and the connection stands as they tell.
-use Rattle.std.proofs.Common.{◌≡◌, ℕ, zero, suc, ◌+◌, ◌≤◌, ◌<◌, Bool, true, false, cond, nat_lt, not, ◌&&◌, List, [], ◌∷◌, ◌++◌, length, take, drop, Option, Some, None, Result, Ok, Err, refl, sym, ap, ◌∙◌, subst, nat_eq, arith}
+use Rattle.std.proofs.Common.{◌≡◌, ℕ, zero, suc, ◌+◌, ◌≤◌, Bool, true, false, cond, nat_lt, List, [], ◌∷◌, ◌++◌, length, take, drop, Option, Some, None, Result, Ok, Err, refl, sym, ap, ◌∙◌, subst, nat_eq, arith}
 use Rattle.std.proofs.lemmas.Bool.{cond_both, and_parts, ltb-true, ltb-false}
 use Rattle.std.proofs.lemmas.Bool.Decides.{nat_tests}
 use Rattle.std.proofs.lemmas.List.Sums.{fold-append}
@@ -7,7 +7,6 @@ use Rattle.std.specs.List.{fold}
 use Rattle.lard_answers.specs.Answers.{FilesAt, answer, found}
 use Rattle.lard_base.specs.declared.place.Place.{Place}
 use Rattle.lard_base.specs.declared.place.Place.TheVariants as place
-use Rattle.lard_base.specs.declared.place.Reason.{Reason}
 use Rattle.lard_base.specs.declared.place.Reason.TheVariants as reason
 use Rattle.lard_base.specs.declared.place.Via.TheVariants.{Own}
 use Rattle.lard_block.specs.declared.block.Found.{Found}
@@ -23,14 +22,14 @@ use Rattle.lard_history.proofs.Each.{Each, Each-append}
 use Rattle.lard_history.proofs.Tales.{told_on-append}
 use Rattle.lard_journal.specs.declared.rec.Rec.{Rec}
 use Rattle.lard_journal.specs.declared.rec.Rec.TheVariants as rec
-use Rattle.lard_laws_places.specs.Places.{ClientTale, FrontStands, FrontTale, IsFronts, IsServing, IsUntaken, client_tale, front_tale}
+use Rattle.lard_laws_places.specs.Places.{FrontStands, FrontTale, IsFronts, IsServing, IsUntaken, client_tale, front_tale}
 use Rattle.lard_laws_places.proofs.Endpoints.{AllTo, ready-to, segment-many, speaks-to, speaks_symbols-to, timer-many}
 use Rattle.lard_laws_places.proofs.Telling.{MayStand, Tells, Tells-append}
 use Rattle.lard_machine.specs.declared.places.FrontConn.{FrontConn}
 use Rattle.lard_machine.specs.declared.places.FrontConn.TheVariants.{Held, Lent, Closed}
 use Rattle.lard_machine.specs.declared.places.Turn.{Turn}
 use Rattle.lard_machine.specs.Client.{silent}
-use Rattle.lard_machine.specs.Front.{FrontEnv, Service, answered, begun, closed_behind, code_of, consumed, cut_off, ended_at_fin, front_gets, front_hears, front_timer, heard, is_plain_syn, last_words, limit_said, may_read, met, passed_over, queued, read_found, reads, reads_on, ready_of, replied, rested, settled, spoken, told, tombstone, turn_of}
+use Rattle.lard_machine.specs.Front.{FrontEnv, Service, answered, begun, closed_behind, code_of, consumed, cut_off, front_gets, front_hears, front_timer, is_plain_syn, last_words, limit_said, may_read, met, passed_over, queued, read_found, reads_on, ready_of, replied, rested, settled, spoken, told, tombstone}
 use Rattle.lard_machine.specs.Speaking.{speaks, speaks_symbols}
 use Rattle.lard_request.specs.declared.verdict.Code.{Code}
 use Rattle.lard_request.specs.declared.verdict.Code.TheVariants as code

@@ -1,5 +1,5 @@
 -- The steps of the machine, one by one: each keeps what holds of it.
-use Rattle.std.proofs.Common.{◌≡◌, ℕ, zero, suc, ◌+◌, ◌-◌, ◌≤◌, List, [], ◌∷◌, ◌++◌, length, Bool, true, false, cond, ◌||◌, Option, Some, None, IsSome, Ok, refl, sym, ap, ◌∙◌, subst, arith, nat_eq}
+use Rattle.std.proofs.Common.{◌≡◌, ℕ, zero, suc, ◌+◌, ◌-◌, List, [], ◌∷◌, ◌++◌, Bool, true, false, cond, ◌||◌, Option, Some, None, IsSome, Ok, refl, sym, ap, subst, arith, nat_eq}
 use Rattle.std.proofs.lemmas.Bool.Decides.{nat_tests}
 use Rattle.std.specs.FinMap as table
 use Rattle.std.specs.FinMap.{FinMap, get-empty}
@@ -8,10 +8,9 @@ use Rattle.std.specs.Prelude.{slice_get}
 use Rattle.lard_base.specs.declared.config.Config.{Config}
 use Rattle.lard_base.specs.declared.event.Event.{Event}
 use Rattle.lard_base.specs.declared.event.Event.TheVariants as event
-use Rattle.lard_base.specs.declared.place.Place.{Place}
 use Rattle.lard_base.specs.declared.place.Place.TheVariants as place
 use Rattle.lard_client.specs.Control.{ClientBlock, is_armed}
-use Rattle.lard_history.specs.Journal.{Tale, about, event_shuts, request, tale, tale_step, told_on, untold}
+use Rattle.lard_history.specs.Journal.{about, event_shuts, request, tale, told_on, untold}
 use Rattle.lard_history.proofs.Each.{Each, each_append}
 use Rattle.lard_history.proofs.Tales.{other, tale-nil, tale-others}
 use Rattle.lard_journal.specs.declared.rec.Rec.{Rec}
@@ -22,7 +21,7 @@ use Rattle.lard_laws_places.proofs.Forms.{Forms, step_has}
 use Rattle.lard_laws_places.proofs.FrontRules as front
 use Rattle.lard_laws_places.proofs.Kept.{Begins, before, begun, client-holds, front-holds, more_events}
 use Rattle.lard_laws_places.proofs.Linked.{Linked, delivers, loses, quiet, quiets}
-use Rattle.lard_laws_places.proofs.Steps.{AllStand, Holds}
+use Rattle.lard_laws_places.proofs.Steps.{Holds}
 use Rattle.lard_laws_places.proofs.Telling.{IsLawful, ShutsOnly, Tells, told-lawful}
 use Rattle.lard_machine.specs.declared.machine.Machine.{Machine}
 use Rattle.lard_machine.specs.declared.places.FrontConn.{FrontConn}
@@ -31,7 +30,7 @@ use Rattle.lard_machine.specs.declared.places.Turn.{Turn}
 use Rattle.lard_machine.specs.Bounds.{HasRule}
 use Rattle.lard_machine.specs.Client.{client_aborts, client_gets, client_holds, client_opens, client_shuts, client_takes, client_timer, client_writes}
 use Rattle.lard_machine.specs.Front.{front_gets, front_timer}
-use Rattle.lard_machine.specs.Machine.{client_acted, client_goes_on, env_of, front_acted, machine_step, passed, start}
+use Rattle.lard_machine.specs.Machine.{client_acted, client_goes_on, env_of, machine_step, passed, start}
 use Rattle.lard_net.specs.declared.net.Packet.{Packet}
 use Rattle.lard_net.specs.Net.{lose_at, packet_at}
 use Rattle.lard_segment.specs.declared.segment.Dir.TheVariants.{ToClient, ToCluster}
@@ -165,8 +164,8 @@ start-holds config files = record {
       let clients : FinMap nat_cmp Station = table.empty in
       let conns : FinMap nat_cmp FrontConn = table.empty in
       subst (λ t. Stands config.stream q (table.get clients q) (table.get conns q) t) (sym (tale-nil q))
-          (subst (λ (o : Option Station). Stands config.stream q o (table.get conns q) untold) (sym (get-empty nat_cmp q))
-          (subst (λ (o : Option FrontConn). Stands config.stream q None o untold) (sym (get-empty nat_cmp q)) s));
+      (subst (λ (o : Option Station). Stands config.stream q o (table.get conns q) untold) (sym (get-empty nat_cmp q))
+      (subst (λ (o : Option FrontConn). Stands config.stream q None o untold) (sym (get-empty nat_cmp q)) s));
   linked = record {
     each = tt;
     is = record { packets = refl; sent = refl; bytes = refl; goals = λ k. ap goal_in (sym (none_at k)); lost = λ k. ap lost_in (sym (none_at k)) };

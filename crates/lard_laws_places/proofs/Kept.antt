@@ -1,5 +1,5 @@
 -- A step in which a place acts keeps what holds of the machine, once its rule says what may be said.
-use Rattle.std.proofs.Common.{◌≡◌, ◌⊎◌, ℕ, ◌+◌, ◌≤◌, List, [], ◌∷◌, ◌++◌, length, Bool, true, false, cond, Option, Some, None, IsSome, refl, sym, ap, ◌∙◌, subst, inl, inr, ⊎_elim, length-append, arith, nat_eq}
+use Rattle.std.proofs.Common.{◌≡◌, ◌⊎◌, ℕ, ◌+◌, ◌≤◌, List, [], ◌∷◌, ◌++◌, length, Bool, true, false, Option, Some, None, IsSome, refl, sym, ap, ◌∙◌, subst, inl, inr, length-append, arith, nat_eq}
 use Rattle.std.proofs.lemmas.Bool.{eqb-true, eqb-false}
 use Rattle.std.specs.FinMap as table
 use Rattle.std.specs.FinMap.{FinMap}
@@ -14,7 +14,7 @@ use Rattle.lard_history.proofs.Each.{Each, Each-append, Each-weaker, each_append
 use Rattle.lard_history.proofs.Tales.{told_on-append}
 use Rattle.lard_journal.specs.declared.rec.Rec.{Rec}
 use Rattle.lard_journal.specs.declared.rec.Rec.TheVariants as rec
-use Rattle.lard_laws_places.specs.Places.{ClientStands, FrontStands, FrontTale, IsBetween, IsFronts, IsServing, Stands, TakesOpened, client_tale, front_tale}
+use Rattle.lard_laws_places.specs.Places.{ClientStands, FrontStands, FrontTale, IsBetween, Stands, TakesOpened, client_tale, front_tale}
 use Rattle.lard_laws_places.proofs.ClientRules.{ClientSays, IsOfClient, clients-front}
 use Rattle.lard_laws_places.proofs.FrontRules.{FrontSays, IsOfFront, SaysNothing, fronts-client}
 use Rattle.lard_laws_places.proofs.Linked.{IsQuiet, Linked, acted-linked}
@@ -25,9 +25,7 @@ use Rattle.lard_machine.specs.declared.places.FrontConn.{FrontConn}
 use Rattle.lard_machine.specs.declared.places.FrontConn.TheVariants.{Held, Lent, Closed}
 use Rattle.lard_machine.specs.declared.places.Station.{Station}
 use Rattle.lard_machine.specs.declared.places.Turn.{Turn}
-use Rattle.lard_machine.specs.Front.{FrontEnv}
 use Rattle.lard_machine.specs.Machine.{Act, acted, client_acted, client_put, env_of, front_acted, front_armed, packets_of, records}
-use Rattle.lard_net.specs.declared.net.Packet.{Packet}
 use Rattle.lard_table.proofs.Map.{get_inserted, get_other}
 
 -- ---- notes
@@ -99,10 +97,10 @@ module _ (m : Machine) (h : Holds m) (e : Event) (own : List Rec) (c : ℕ) wher
       let tells : Tells stream c before rows = end-tells stream c (length m.net + 1) (begun ++ turn.notes) (place.Client c) turn.segments was (is_armed given.0) before noted tt in
       let u : Tale = told_on c (told_on c before begun) turn.notes in
       let same : IsSameTale (told_on c before rows) u =
-          subst (IsSameTale (told_on c before rows)) (told_on-append c before begun turn.notes) (end-tale c (length m.net + 1) (begun ++ turn.notes) (place.Client c) turn.segments was (is_armed given.0) before) in
+      subst (IsSameTale (told_on c before rows)) (told_on-append c before begun turn.notes) (end-tale c (length m.net + 1) (begun ++ turn.notes) (place.Client c) turn.segments was (is_armed given.0) before) in
       let still : front_tale u ≡ front_tale before = clients-front c (told_on c before begun) turn.notes says.notes ∙ b.front in
       let one : Stands stream c (Some x) (table.get m.conns c) u =
-          record { client = says.stands; front = subst (FrontStands stream (table.get m.conns c)) (sym still) (h.stands c).front; opened = takes-opened (table.get m.conns c) x } in
+      record { client = says.stands; front = subst (FrontStands stream (table.get m.conns c)) (sym still) (h.stands c).front; opened = takes-opened (table.get m.conns c) x } in
       let sum : (n : ℕ) → fold answered_step n turn.notes ≡ n + turn.answered = λ n. clients-answer turn.notes says.notes n ∙ omega (arith, says.answered) in
       let opened : IsSome (table.get more c) = subst (λ (o : Option Station). IsSome o) (sym (get_inserted m.clients c x)) refl in
       record {
@@ -159,15 +157,15 @@ module _ (m : Machine) (h : Holds m) (e : Event) (own : List Rec) (c : ℕ) wher
       let u : Tale = told_on c before turn.notes in
       let whole : told_on c before (begun ++ turn.notes) ≡ u = told_on-append c before begun turn.notes ∙ ap (λ t. told_on c t turn.notes) idle in
       let noted : Tells stream c before (begun ++ turn.notes) =
-          Tells-append stream c before begun turn.notes b.tells (subst (λ t. Tells stream c t turn.notes) (sym idle) says.told) in
+      Tells-append stream c before begun turn.notes b.tells (subst (λ t. Tells stream c t turn.notes) (sym idle) says.told) in
       let say : MaySay c (told_on c before (begun ++ turn.notes)) place.Front turn.segments =
-          subst (λ t. MaySay c t place.Front turn.segments) (sym whole) (says.to, may_say (table.get m.conns c) conn u turn.segments says.stands says.none) in
+      subst (λ t. MaySay c t place.Front turn.segments) (sym whole) (says.to, may_say (table.get m.conns c) conn u turn.segments says.stands says.none) in
       let tells : Tells stream c before rows = end-tells stream c (length m.net + 1) (begun ++ turn.notes) place.Front turn.segments was is before noted say in
       let same : IsSameTale (told_on c before rows) u =
-          subst (IsSameTale (told_on c before rows)) whole (end-tale c (length m.net + 1) (begun ++ turn.notes) place.Front turn.segments was is before) in
+      subst (IsSameTale (told_on c before rows)) whole (end-tale c (length m.net + 1) (begun ++ turn.notes) place.Front turn.segments was is before) in
       let still : client_tale u ≡ client_tale before = fronts-client c before turn.notes says.notes in
       let one : Stands stream c (table.get m.clients c) conn u =
-          record { client = subst (ClientStands c (table.get m.clients c)) (sym still) (h.stands c).client; front = says.stands; opened = opened-conn conn (table.get m.clients c) opened } in
+      record { client = subst (ClientStands c (table.get m.clients c)) (sym still) (h.stands c).client; front = says.stands; opened = opened-conn conn (table.get m.clients c) opened } in
       record {
         lawful = each_append (IsLawful stream) [] m.journal rows h.lawful (told-lawful stream c m.journal rows tells);
         stands = all-stand stream c m.clients m.clients m.conns other m.journal rows (λ q n. refl) (other-conns conn) tells h.stands

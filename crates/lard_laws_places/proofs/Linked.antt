@@ -1,5 +1,5 @@
 -- What a journal says of packets and of the bytes of responses, and what each record adds to it.
-use Rattle.std.proofs.Common.{◌≡◌, ℕ, ◌+◌, ◌-◌, List, [], ◌∷◌, ◌++◌, length, Bool, true, false, cond, Option, Some, None, IsSome, refl, sym, ap, ◌∙◌, subst, append_assoc, append-nil, length-append, arith, nat_eq}
+use Rattle.std.proofs.Common.{◌≡◌, ℕ, ◌+◌, ◌-◌, List, [], ◌∷◌, ◌++◌, length, Bool, true, false, cond, Option, Some, IsSome, refl, sym, ap, ◌∙◌, subst, append_assoc, append-nil, length-append, nat_eq}
 use Rattle.std.proofs.lemmas.List.Sums.{fold-append}
 use Rattle.std.specs.List.{fold}
 use Rattle.lard_base.specs.declared.event.Event.{Event}
@@ -15,9 +15,8 @@ use Rattle.lard_laws_places.specs.Places.{IsNetOf, goal_in, lost_in, net_of, net
 use Rattle.lard_laws_places.proofs.Lookups.{goal_lost, goal_push, lost_lost, lost_push}
 use Rattle.lard_machine.specs.Machine.{Act, packet_of, packets_of, records, sent_records, timer_change}
 use Rattle.lard_machine.specs.declared.machine.Machine.{Machine}
-use Rattle.lard_machine.specs.declared.places.Turn.{Turn}
 use Rattle.lard_net.specs.declared.net.Packet.{Packet}
-use Rattle.lard_net.specs.Net.{bytes_in, lose_at, packet_at}
+use Rattle.lard_net.specs.Net.{lose_at, packet_at}
 use Rattle.lard_net.proofs.Packets.{bytes_pushed, lost_bytes, lost_length}
 
 -- a journal of these packets, and of so many bytes of responses
@@ -170,7 +169,7 @@ acted-linked m e own a q sum l =
     let T : List Rec = timer_change a.place a.c a.was_armed a.is_armed in
     let net : List Packet = m.net ++ packets_of a.place a.turn.segments in
     let noted : Linked ((m.journal ++ A) ++ a.turn.notes) m.net (m.answered + a.turn.answered) =
-        subst (λ n. Linked ((m.journal ++ A) ++ a.turn.notes) m.net n) (sum m.answered) (quiets (m.journal ++ A) a.turn.notes m.net m.answered q l) in
+    subst (λ n. Linked ((m.journal ++ A) ++ a.turn.notes) m.net n) (sum m.answered) (quiets (m.journal ++ A) a.turn.notes m.net m.answered q l) in
     let said = sents ((m.journal ++ A) ++ a.turn.notes) m.net (m.answered + a.turn.answered) a.place a.turn.segments noted in
     let timed = quiets (((m.journal ++ A) ++ a.turn.notes) ++ S) T net (m.answered + a.turn.answered) (timer-quiet a.place a.c a.was_armed a.is_armed) said in
     subst (λ (J : List Rec). Linked J net (m.answered + a.turn.answered)) (parts m.journal A a.turn.notes S T)

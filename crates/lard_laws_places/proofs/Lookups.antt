@@ -2,7 +2,6 @@
 use Rattle.std.proofs.Common.{◌≡◌, ℕ, zero, suc, ◌+◌, ◌-◌, List, [], ◌∷◌, ◌++◌, length, Bool, true, false, cond, Option, Some, None, refl, sym, ap, ◌∙◌, nat_eq, arith}
 use Rattle.std.proofs.lemmas.Bool.Decides.{nat_tests}
 use Rattle.std.specs.Prelude.{slice_get}
-use Rattle.lard_base.specs.declared.place.Place.{Place}
 use Rattle.lard_laws_places.specs.Places.{goal_in, lost_in}
 use Rattle.lard_net.specs.declared.net.Packet.{Packet}
 use Rattle.lard_net.specs.Net.{lose_at, packet_at}

@@ -1,17 +1,15 @@
 -- From one step to every state that events lead to.
-use Rattle.std.proofs.Common.{◌≡◌, ℕ, zero, suc, ◌+◌, ◌-◌, ◌≤◌, List, [], ◌∷◌, ◌++◌, Bool, true, false, cond, Option, Some, None, Ok, refl, sym, ap, ◌∙◌, subst, append_assoc, append-nil, nat_eq}
-use Rattle.std.specs.FinMap as table
+use Rattle.std.proofs.Common.{◌≡◌, ℕ, zero, suc, ◌+◌, ◌-◌, List, [], ◌∷◌, ◌++◌, Bool, true, false, cond, Option, Some, None, Ok, refl, sym, ap, ◌∙◌, subst, append_assoc, append-nil, nat_eq}
 use Rattle.std.specs.Prelude.{slice_get}
 use Rattle.lard_base.specs.declared.config.Config.{Config}
 use Rattle.lard_base.specs.declared.event.Event.{Event}
-use Rattle.lard_base.specs.declared.event.Event.TheVariants as event
 use Rattle.lard_client.specs.Control.{ClientBlock}
-use Rattle.lard_history.specs.Journal.{answered_bytes, tale}
-use Rattle.lard_history.specs.Laws.{EachMay, Follows, IsStep, MayOwn, MayReset, MaySend, MayWrite}
+use Rattle.lard_history.specs.Journal.{tale}
+use Rattle.lard_history.specs.Laws.{EachMay, Follows}
 use Rattle.lard_history.proofs.Each.{Each, each_weaker}
 use Rattle.lard_journal.specs.declared.rec.Rec.{Rec}
 use Rattle.lard_laws_places.specs.Laws.{Always}
-use Rattle.lard_laws_places.specs.Places.{FrontStands, IsBetween, IsNetOf, Stands, front_tale}
+use Rattle.lard_laws_places.specs.Places.{FrontStands, IsBetween, front_tale}
 use Rattle.lard_laws_places.proofs.Following.{Adds, forms-add}
 use Rattle.lard_laws_places.proofs.Forms.{Forms, step_has}
 use Rattle.lard_laws_places.proofs.Keeping.{start-holds, step-holds}
@@ -19,7 +17,6 @@ use Rattle.lard_laws_places.proofs.Steps.{Holds}
 use Rattle.lard_laws_places.proofs.Telling.{IsLawful}
 use Rattle.lard_machine.specs.declared.machine.Machine.{Machine}
 use Rattle.lard_machine.specs.declared.places.FrontConn.{FrontConn}
-use Rattle.lard_machine.specs.declared.places.FrontConn.TheVariants.{Held}
 use Rattle.lard_machine.specs.declared.places.Turn.{Turn}
 use Rattle.lard_machine.specs.Bounds.{HasRule, IsBounded}
 use Rattle.lard_machine.specs.Machine.{IsReached, Passes, acted, client_acted, front_acted, machine_step, start}

@@ -1,5 +1,5 @@
 -- What a sending half keeps as segments come and go: its first number, its bytes and its end.
-use Rattle.std.proofs.Common.{◌≡◌, ℕ, ◌+◌, ◌-◌, Bool, cond, max, nat_lt, ◌==◌, ◌&&◌, ◌||◌, List, drop, refl, ◌∙◌}
+use Rattle.std.proofs.Common.{◌≡◌, ℕ, ◌+◌, ◌-◌, cond, max, nat_lt, ◌==◌, ◌&&◌, ◌||◌, drop, refl, ◌∙◌}
 use Rattle.std.proofs.lemmas.Bool.{cond_both}
 use Rattle.lard_send.specs.Send.{Sending, symbols, one_if, moved_up, is_newer, windowed, after_ack, may_send, next_len, next_fin, after_next, after_resend}
 use Rattle.lard_seq.specs.Seq.{seq_offset}
@@ -36,7 +36,7 @@ ack-side s ack seq wnd =
     let moved = moved_up s offset in
     let last = windowed moved (s.una == 0) seq ack wnd in
     let same : IsSameSide s moved = cond_both (nat_lt s.una offset) (record s { una = offset; rest = drop ((offset - 1) - (s.una - 1)) s.rest }) s (IsSameSide s)
-        (λ t. record { first = refl; total = refl; finished = refl }) (λ t. same_side s) in
+    (λ t. record { first = refl; total = refl; finished = refl }) (λ t. same_side s) in
     cond_both (nat_lt s.nxt offset) s (cond ((s.una == 0) && (offset == 0)) s last) (IsSameSide s) (λ t. same_side s)
     (λ t. cond_both ((s.una == 0) && (offset == 0)) s last (IsSameSide s) (λ u. same_side s)
     (λ u. cond_both ((s.una == 0) || is_newer moved seq ack) (record moved { wnd = wnd; wl1 = seq; wl2 = ack }) moved (IsSameSide s)

@@ -1,28 +1,26 @@
 -- What holds of a machine, and that a step's records keep it once the rule's notes do.
-use Rattle.std.proofs.Common.{◌≡◌, ◌⊎◌, ℕ, ◌+◌, ◌≤◌, List, [], ◌∷◌, ◌++◌, length, Bool, true, false, cond, Option, Some, None, IsSome, refl, sym, ap, ◌∙◌, subst, inl, inr, ⊎_elim, length-append, arith, nat_eq}
+use Rattle.std.proofs.Common.{◌≡◌, ◌⊎◌, ℕ, ◌+◌, ◌≤◌, List, [], ◌∷◌, ◌++◌, length, Bool, true, false, Option, Some, IsSome, refl, sym, ◌∙◌, subst, inl, inr, ⊎_elim, nat_eq}
 use Rattle.std.proofs.lemmas.Bool.{eqb-true, eqb-false}
 use Rattle.std.specs.FinMap as table
 use Rattle.std.specs.FinMap.{FinMap}
 use Rattle.std.specs.Ordering.{nat_cmp}
-use Rattle.lard_base.specs.declared.event.Event.{Event}
 use Rattle.lard_base.specs.declared.place.Place.{Place}
 use Rattle.lard_base.specs.declared.place.Place.TheVariants as place
-use Rattle.lard_history.specs.Journal.{Tale, about, tale, tale_step, told_on}
+use Rattle.lard_history.specs.Journal.{Tale, tale, tale_step, told_on}
 use Rattle.lard_history.specs.Laws.{EachMay}
-use Rattle.lard_history.proofs.Each.{Each, Each-append, Each-weaker, each_append}
-use Rattle.lard_history.proofs.Tales.{others, tale-append, tale-others, told_on-append}
+use Rattle.lard_history.proofs.Each.{Each}
+use Rattle.lard_history.proofs.Tales.{tale-append, tale-others, told_on-append}
 use Rattle.lard_journal.specs.declared.rec.Rec.{Rec}
 use Rattle.lard_journal.specs.declared.rec.Rec.TheVariants as rec
-use Rattle.lard_laws_places.specs.Places.{ClientStands, ClientTale, FrontStands, FrontTale, IsBetween, Stands, client_tale, front_tale}
+use Rattle.lard_laws_places.specs.Places.{ClientStands, FrontStands, IsBetween, Stands, client_tale, front_tale}
 use Rattle.lard_laws_places.proofs.Endpoints.{AllTo}
 use Rattle.lard_laws_places.proofs.Linked.{Linked}
-use Rattle.lard_laws_places.proofs.Telling.{IsLawful, Tells, Tells-append, told-lawful, told-others}
+use Rattle.lard_laws_places.proofs.Telling.{IsLawful, Tells, Tells-append, told-others}
 use Rattle.lard_machine.specs.declared.machine.Machine.{Machine}
 use Rattle.lard_machine.specs.declared.places.FrontConn.{FrontConn}
 use Rattle.lard_machine.specs.declared.places.Station.{Station}
-use Rattle.lard_machine.specs.Machine.{packet_of, packets_of, sent_records, timer_change}
+use Rattle.lard_machine.specs.Machine.{packets_of, sent_records, timer_change}
 use Rattle.lard_net.specs.declared.net.Packet.{Packet}
-use Rattle.lard_table.proofs.Map.{get_inserted, get_other}
 
 -- each connection stands as its tale tells
 abbrev pub AllStand : ℕ → FinMap nat_cmp Station → FinMap nat_cmp FrontConn → List Rec → Type 0
@@ -61,7 +59,7 @@ end-tale c k A from ss was is t =
     let S : List Rec = sent_records k from ss in
     let T : List Rec = timer_change from c was is in
     let whole : told_on c t ((A ++ S) ++ T) ≡ told_on c (told_on c t A) S =
-        told_on-append c t (A ++ S) T ∙ timer-tale c from c was is (told_on c t (A ++ S)) ∙ told_on-append c t A S in
+    told_on-append c t (A ++ S) T ∙ timer-tale c from c was is (told_on c t (A ++ S)) ∙ told_on-append c t A S in
     subst (λ u. IsSameTale u (told_on c t A)) (sym whole) (sents-tale c k from ss (told_on c t A))
 
 -- who may send this

@@ -5,8 +5,8 @@
 
 ghost use Rattle.lard_laws_places.specs.Laws.{SettingsStay, NumbersAreBounded, AllConnectionsStand, PacketsAreTold, PacketsGoBetween, ResponsesAreCounted, NetworksAreLawful, OwnersAreLawful, SendersAreLawful, WritersAreLawful, ResetsAreLawful, JournalsFollow};
 
-/// What is kept fits what is told: each connection at its client and at the front end, the packets, and the bytes of
-/// responses. Every number that is kept stays within those that are bounded.
+/// In every state what is kept fits what is told: each connection at its client and at the front end, the packets, and
+/// the bytes of responses. There are no more responses than bytes of them, and no more events than records.
 pub fn states_are_told()
     ensures settings { SettingsStay }
     ensures bounded { NumbersAreBounded }
