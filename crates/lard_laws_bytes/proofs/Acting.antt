@@ -1,5 +1,5 @@
 -- A client's turn, and the front end's, as steps of the whole machine.
-use Rattle.std.proofs.Common.{◌≡◌, ◌≢◌, ℕ, ◌+◌, List, [], ◌∷◌, ◌++◌, length, take, drop, Bool, true, false, cond, ◌||◌, Option, Some, None, refl, sym, ap, ◌∙◌, subst, append-nil, is_some, arith}
+use Rattle.std.proofs.Common.{◌≡◌, ◌≢◌, ℕ, ◌+◌, List, [], ◌∷◌, ◌++◌, length, take, drop, Bool, true, false, ◌||◌, Option, Some, None, refl, sym, ap, ◌∙◌, subst, append-nil, is_some, arith}
 use Rattle.std.specs.FinMap as table
 use Rattle.std.proofs.lemmas.List.{take-append-drop}
 use Rattle.std.specs.List.{list_any}
@@ -8,7 +8,7 @@ use Rattle.lard_base.specs.declared.event.Event.{Event}
 use Rattle.lard_base.specs.declared.place.Place.{Place}
 use Rattle.lard_base.specs.declared.place.Place.TheVariants as place
 use Rattle.lard_client.specs.Control.{ClientBlock, is_armed}
-use Rattle.lard_history.specs.Journal.{Tale, about, event_shuts, tale, tale_step, told_on}
+use Rattle.lard_history.specs.Journal.{Tale, event_shuts, tale, tale_step, told_on}
 use Rattle.lard_history.specs.Laws.{EachMay, MayTell}
 use Rattle.lard_history.proofs.Each.{Each}
 use Rattle.lard_history.proofs.Tales.{others, tale-append}
@@ -95,10 +95,10 @@ module _ (files : FilesAt) (m : Machine) (T : IsTruthful files m) (e : Event) (o
         let t1 : Tale = tale_step c t (rec.Event (m.events + 1) e) in
         let t2 : Tale = told_on c t1 notes in
         let is : tale (m.journal ++ rs) c ≡ t2 =
-          tale-append m.journal rs c ∙ step-tale (m.events + 1) e own notes sents timers c t aside.quiet (timers-quiet (place.Client c) c (is_armed x.client) (is_armed given.0))
-          ∙ others c t2 sents (words-others c (length m.net + 1) c given.1.segments) in
+        tale-append m.journal rs c ∙ step-tale (m.events + 1) e own notes sents timers c t aside.quiet (timers-quiet (place.Client c) c (is_armed x.client) (is_armed given.0))
+        ∙ others c t2 sents (words-others c (length m.net + 1) c given.1.segments) in
         subst (λ (u : Tale). Adds t (written_in given.1.notes) (accepted_in given.1.notes) 0 false u) (sym is)
-          (adds-both t t1 t2 [] [] (written_in given.1.notes) (accepted_in given.1.notes) 0 0 0 false false refl (aside-adds (m.events + 1) c e t) (client-notes c t1 notes k.notes))
+        (adds-both t t1 t2 [] [] (written_in given.1.notes) (accepted_in given.1.notes) 0 0 0 false false refl (aside-adds (m.events + 1) c e t) (client-notes c t1 notes k.notes))
 
     -- before its notes
     before_is : tale (m.journal ++ (rec.Event (m.events + 1) e ∷ own)) c ≡ tale_step c (tale m.journal c) (rec.Event (m.events + 1) e)
@@ -110,9 +110,9 @@ module _ (files : FilesAt) (m : Machine) (T : IsTruthful files m) (e : Event) (o
     accepted_so : IsFront ((tale (m.journal ++ (rec.Event (m.events + 1) e ∷ own)) c).accepted ++ accepted_in notes) (T.talks c).out.bytes
     accepted_so =
         let same : take given.0.accepted (T.talks c).out.bytes ≡ (tale (m.journal ++ (rec.Event (m.events + 1) e ∷ own)) c).accepted ++ accepted_in notes =
-          k.accepted ∙ ap (λ (l : List ℕ). l ++ accepted_in notes) (sym (ap (λ (u : Tale). u.accepted) before_is ∙ agreed.tale.accepted)) in
+        k.accepted ∙ ap (λ (l : List ℕ). l ++ accepted_in notes) (sym (ap (λ (u : Tale). u.accepted) before_is ∙ agreed.tale.accepted)) in
         subst (λ (l : List ℕ). IsFront l (T.talks c).out.bytes) same
-          (drop given.0.accepted (T.talks c).out.bytes, sym (take-append-drop given.0.accepted (T.talks c).out.bytes))
+        (drop given.0.accepted (T.talks c).out.bytes, sym (take-append-drop given.0.accepted (T.talks c).out.bytes))
 
     moves : Moves files m T c l (table.insert m.clients c after) m.conns (packets_of (place.Client c) given.1.segments) rs after (table.get m.conns c)
     moves = record {
@@ -121,22 +121,24 @@ module _ (files : FilesAt) (m : Machine) (T : IsTruthful files m) (e : Event) (o
       conn_is = refl;
       conn_others = λ d n. refl;
       on = λ _. record { w = k.longer; out = goes_on-same (T.talks c).out; reset = λ b. b };
-      agrees = (client-agrees files c (T.talks c).w (T.talks c).out (T.talks c).vs x (table.get m.conns c) (tale m.journal c) agreed given (tale (m.journal ++ rs) c) k adds
-        , adds.was_reset ∙ or-false (tale m.journal c).was_reset ∙ reset_is);
+      agrees = (
+        client-agrees files c (T.talks c).w (T.talks c).out (T.talks c).vs x (table.get m.conns c) (tale m.journal c) agreed given (tale (m.journal ++ rs) c) k adds,
+        adds.was_reset ∙ or-false (tale m.journal c).was_reset ∙ reset_is,
+      );
       others = λ q n. step-others (m.events + 1) e own notes sents timers q (aside.others q n) (aside.quiet q) (client-others c q notes n k.notes)
-        (words-others q (length m.net + 1) c given.1.segments) (timers-quiet (place.Client c) c (is_armed x.client) (is_armed given.0) q);
+          (words-others q (length m.net + 1) c given.1.segments) (timers-quiet (place.Client c) c (is_armed x.client) (is_armed given.0) q);
       may = step-may (m.events + 1) e own notes sents timers (MayTell files) m.journal (tt, aside.may (m.journal ++ rec.Event (m.events + 1) e ∷ []))
-        (client-may files c (m.journal ++ (rec.Event (m.events + 1) e ∷ own)) notes k.notes)
-        (words-may files (m.journal ++ (rec.Event (m.events + 1) e ∷ own ++ notes)) (length m.net + 1) c given.1.segments)
-        (timers-may files (m.journal ++ (rec.Event (m.events + 1) e ∷ own ++ notes ++ sents)) (place.Client c) c (is_armed x.client) (is_armed given.0));
+          (client-may files c (m.journal ++ (rec.Event (m.events + 1) e ∷ own)) notes k.notes)
+          (words-may files (m.journal ++ (rec.Event (m.events + 1) e ∷ own ++ notes)) (length m.net + 1) c given.1.segments)
+          (timers-may files (m.journal ++ (rec.Event (m.events + 1) e ∷ own ++ notes ++ sents)) (place.Client c) c (is_armed x.client) (is_armed given.0));
       fair = words-fair (put T.talks c l) (λ d. table.get (table.insert m.clients c after) d) c k.w_after given.1.segments
-        (ap (λ (o : Option Station). is_some o) (get_inserted m.clients c after)) (ap (λ (y : Talk). y.w) (put-same T.talks c l)) k.sent;
+          (ap (λ (o : Option Station). is_some o) (get_inserted m.clients c after)) (ap (λ (y : Talk). y.w) (put-same T.talks c l)) k.sent;
       accepts = step-may (m.events + 1) e own notes sents timers (MayAccept files) m.journal
-        (tt, none-accepted files (m.journal ++ rec.Event (m.events + 1) e ∷ []) own aside.none)
-        (client-accepts files c (T.talks c).out.bytes (T.talks c).w.bytes (said-front files (T.talks c).w (T.talks c).out (T.talks c).vs agreed.says)
+          (tt, none-accepted files (m.journal ++ rec.Event (m.events + 1) e ∷ []) own aside.none)
+          (client-accepts files c (T.talks c).out.bytes (T.talks c).w.bytes (said-front files (T.talks c).w (T.talks c).out (T.talks c).vs agreed.says)
           (m.journal ++ (rec.Event (m.events + 1) e ∷ own)) notes k.notes wrote_so accepted_so)
-        (none-accepted files (m.journal ++ (rec.Event (m.events + 1) e ∷ own ++ notes)) sents (sents-none files (length m.net + 1) (place.Client c) given.1.segments))
-        (none-accepted files (m.journal ++ (rec.Event (m.events + 1) e ∷ own ++ notes ++ sents)) timers (timers-none files (place.Client c) c (is_armed x.client) (is_armed given.0)));
+          (none-accepted files (m.journal ++ (rec.Event (m.events + 1) e ∷ own ++ notes)) sents (sents-none files (length m.net + 1) (place.Client c) given.1.segments))
+          (none-accepted files (m.journal ++ (rec.Event (m.events + 1) e ∷ own ++ notes ++ sents)) timers (timers-none files (place.Client c) c (is_armed x.client) (is_armed given.0)));
     }
 
     pub client-moves : IsTruthful files (client_goes_on m e own c x given)
@@ -205,23 +207,25 @@ module _ (files : FilesAt) (m : Machine) (T : IsTruthful files m) (e : Event) (o
       conn_is = back given.0 stays;
       conn_others = back_other given.0;
       on = λ _. record { w = goes_on-same (T.talks c).w; out = k.longer; reset = λ b. ap (λ (y : Bool). y || list_any resets given.1.notes) (reset_is ∙ b) };
-      agrees = (front-agrees files c (T.talks c).w (T.talks c).out (T.talks c).vs x (table.get m.conns c) (tale m.journal c) agreed given (tale (m.journal ++ all_rs) c) k end_moment end_accepted
-        , end_moment.was_reset);
+      agrees = (
+        front-agrees files c (T.talks c).w (T.talks c).out (T.talks c).vs x (table.get m.conns c) (tale m.journal c) agreed given (tale (m.journal ++ all_rs) c) k end_moment end_accepted,
+        end_moment.was_reset,
+      );
       others = λ q n. step-others (m.events + 1) e own given.1.notes replies changes q (aside.others q n) (aside.quiet q) (front-others c q given.1.notes n k.notes)
-        (replies-others q (length m.net + 1) c (T.talks c).w k.out_after reset given.1.segments n k.sent) (timers-quiet place.Front c (front_armed (table.get m.conns c)) (front_armed given.0) q);
+          (replies-others q (length m.net + 1) c (T.talks c).w k.out_after reset given.1.segments n k.sent) (timers-quiet place.Front c (front_armed (table.get m.conns c)) (front_armed given.0) q);
       may = step-may (m.events + 1) e own given.1.notes replies changes (MayTell files) m.journal (tt, aside.may (m.journal ++ rec.Event (m.events + 1) e ∷ []))
-        (front-may files c (T.talks c).out (m.journal ++ (rec.Event (m.events + 1) e ∷ own)) given.1.notes k.notes k.unless_ended
+          (front-may files c (T.talks c).out (m.journal ++ (rec.Event (m.events + 1) e ∷ own)) given.1.notes k.notes k.unless_ended
           (λ f. agreed.tale.fin (sym (ap (λ (u : Tale). u.fin_sent) (own-tale (m.events + 1) e own given.1.notes replies changes c m.journal aside.quiet)) ∙ f)))
-        (replies-may files c (length m.net + 1) (T.talks c).w k.out_after k.vs_after reset (m.journal ++ (rec.Event (m.events + 1) e ∷ own ++ given.1.notes)) given.1.segments k.says k.sent
+          (replies-may files c (length m.net + 1) (T.talks c).w k.out_after k.vs_after reset (m.journal ++ (rec.Event (m.events + 1) e ∷ own ++ given.1.notes)) given.1.segments k.says k.sent
           (subst (Moment (T.talks c).w k.out_after k.vs_after reset) (sym (notes-tale (m.events + 1) e own given.1.notes replies changes c m.journal aside.quiet)) told_moment))
-        (timers-may files (m.journal ++ (rec.Event (m.events + 1) e ∷ own ++ given.1.notes ++ replies)) place.Front c (front_armed (table.get m.conns c)) (front_armed given.0));
+          (timers-may files (m.journal ++ (rec.Event (m.events + 1) e ∷ own ++ given.1.notes ++ replies)) place.Front c (front_armed (table.get m.conns c)) (front_armed given.0));
       fair = replies-fair (put T.talks c talk) (λ d. table.get m.clients d) c (T.talks c).w k.out_after reset given.1.segments
-        (ap (λ (o : Option Station). is_some o) there) (ap (λ (y : Talk). y.w) (put-same T.talks c talk)) (ap (λ (y : Talk). y.out) (put-same T.talks c talk)) (ap (λ (y : Talk). y.was_reset) (put-same T.talks c talk)) k.sent;
+          (ap (λ (o : Option Station). is_some o) there) (ap (λ (y : Talk). y.w) (put-same T.talks c talk)) (ap (λ (y : Talk). y.out) (put-same T.talks c talk)) (ap (λ (y : Talk). y.was_reset) (put-same T.talks c talk)) k.sent;
       accepts = step-may (m.events + 1) e own given.1.notes replies changes (MayAccept files) m.journal
-        (tt, none-accepted files (m.journal ++ rec.Event (m.events + 1) e ∷ []) own aside.none)
-        (none-accepted files (m.journal ++ (rec.Event (m.events + 1) e ∷ own)) given.1.notes (front-none files c given.1.notes k.notes))
-        (none-accepted files (m.journal ++ (rec.Event (m.events + 1) e ∷ own ++ given.1.notes)) replies (sents-none files (length m.net + 1) place.Front given.1.segments))
-        (none-accepted files (m.journal ++ (rec.Event (m.events + 1) e ∷ own ++ given.1.notes ++ replies)) changes
+          (tt, none-accepted files (m.journal ++ rec.Event (m.events + 1) e ∷ []) own aside.none)
+          (none-accepted files (m.journal ++ (rec.Event (m.events + 1) e ∷ own)) given.1.notes (front-none files c given.1.notes k.notes))
+          (none-accepted files (m.journal ++ (rec.Event (m.events + 1) e ∷ own ++ given.1.notes)) replies (sents-none files (length m.net + 1) place.Front given.1.segments))
+          (none-accepted files (m.journal ++ (rec.Event (m.events + 1) e ∷ own ++ given.1.notes ++ replies)) changes
           (timers-none files place.Front c (front_armed (table.get m.conns c)) (front_armed given.0)));
     }
 
@@ -230,7 +234,7 @@ module _ (files : FilesAt) (m : Machine) (T : IsTruthful files m) (e : Event) (o
     front-moves = ending given.0 (moved files m T c talk m.clients (front_put m c given.0).conns (packets_of place.Front given.1.segments) all_rs x given.0 front_steps
         (m.answered + given.1.answered) (m.events + 1)) where
           ending : (g : Option FrontConn)
-            → IsTruthful files (record m { conns = (front_put m c g).conns; net = m.net ++ packets_of place.Front given.1.segments; answered = m.answered + given.1.answered; events = m.events + 1; journal = m.journal ++ step_records (m.events + 1) e own given.1.notes replies (timer_change place.Front c (front_armed (table.get m.conns c)) (front_armed g)) })
-            → IsTruthful files (acted (front_put m c g) e own (record { place = place.Front; c = c; turn = given.1; was_armed = front_armed (table.get m.conns c); is_armed = front_armed g }))
+              → IsTruthful files (record m { conns = (front_put m c g).conns; net = m.net ++ packets_of place.Front given.1.segments; answered = m.answered + given.1.answered; events = m.events + 1; journal = m.journal ++ step_records (m.events + 1) e own given.1.notes replies (timer_change place.Front c (front_armed (table.get m.conns c)) (front_armed g)) })
+              → IsTruthful files (acted (front_put m c g) e own (record { place = place.Front; c = c; turn = given.1; was_armed = front_armed (table.get m.conns c); is_armed = front_armed g }))
           ending None h = h
           ending (Some y) h = h

@@ -1,5 +1,5 @@
 -- Each event keeps what holds of the whole machine.
-use Rattle.std.proofs.Common.{◌≡◌, ◌≢◌, ◌⊎◌, ℕ, zero, suc, ◌+◌, ◌-◌, ◌≤◌, ◌<◌, ◌^◌, List, [], ◌∷◌, ◌++◌, length, take, Bool, true, false, cond, ◌||◌, Option, Some, None, Result, Ok, Err, refl, sym, ap, ◌∙◌, subst, append-nil, is_some, arith, nat_eq, nat_lt}
+use Rattle.std.proofs.Common.{◌≡◌, ◌≢◌, ℕ, zero, suc, ◌+◌, ◌-◌, ◌≤◌, ◌^◌, List, [], ◌∷◌, ◌++◌, length, take, Bool, true, false, cond, Option, Some, None, Result, Ok, refl, sym, ap, ◌∙◌, subst, is_some, arith, nat_eq, nat_lt}
 use Rattle.std.proofs.lemmas.Bool.{both_ways}
 use Rattle.std.proofs.lemmas.Bool.Decides.{nat_tests}
 use Rattle.std.specs.FinMap as table
@@ -14,25 +14,22 @@ use Rattle.lard_files.specs.Files.{file_at}
 use Rattle.lard_history.specs.Journal.{Tale, about, event_shuts, request, tale, tale_step, told_on, untold}
 use Rattle.lard_history.specs.Laws.{EachMay, MayTell}
 use Rattle.lard_history.proofs.Each.{Each, each_append}
-use Rattle.lard_history.proofs.Tales.{others, tale-append, tale-nil, tale-others}
+use Rattle.lard_history.proofs.Tales.{others, tale-append, tale-others}
 use Rattle.lard_journal.specs.declared.rec.Rec.{Rec}
 use Rattle.lard_journal.specs.declared.rec.Rec.TheVariants as rec
-use Rattle.lard_machine.specs.declared.fault.StepFault.{StepFault}
-use Rattle.lard_machine.specs.declared.fault.StepFault.TheVariants.{Limit, WasLost}
-use Rattle.lard_machine.specs.declared.fault.What.TheVariants.{Stream as StreamLimit}
-use Rattle.lard_machine.specs.declared.fault.What.{What}
 use Rattle.lard_segment.specs.declared.fault.SegFault.{SegFault}
 use Rattle.lard_machine.specs.declared.machine.Machine.{Machine}
 use Rattle.lard_machine.specs.declared.places.FrontConn.{FrontConn}
 use Rattle.lard_machine.specs.declared.places.FrontConn.TheVariants.{Held, Lent, Closed}
 use Rattle.lard_machine.specs.declared.places.Station.{Station}
 use Rattle.lard_machine.specs.declared.places.Turn.{Turn}
-use Rattle.lard_machine.specs.Bounds.{HasRule, HasTimer}
+use Rattle.lard_machine.proofs.Forms.{Forms}
+use Rattle.lard_machine.specs.Bounds.{HasRule}
 use Rattle.lard_machine.specs.Client.{client_aborts, client_gets, client_holds, client_opens, client_shuts, client_takes, client_timer, client_writes}
 use Rattle.lard_endpoint.specs.Arriving.{on_segment}
 use Rattle.lard_endpoint.specs.Control.{ControlBlock}
 use Rattle.lard_machine.specs.Front.{FrontEnv, Service, front_gets, front_hears, front_timer, reads, settled}
-use Rattle.lard_machine.specs.Machine.{acted, aborts, client_goes_on, delivered, env_of, front_acted, happens, holds, limit_reached, lost, machine_step, opened, packets_of, passed, from_place, sent_records, shut, takes, timer, timer_at, timer_change, to_client, to_front, to_place, unless_limit, wrote}
+use Rattle.lard_machine.specs.Machine.{acted, client_acted, client_goes_on, env_of, front_acted, packets_of, passed, sent_records, timer_change}
 use Rattle.lard_net.specs.declared.net.Packet.{Packet}
 use Rattle.lard_net.specs.Net.{lose_at, packet_at}
 use Rattle.lard_segment.proofs.Again.{again}
@@ -42,32 +39,17 @@ use Rattle.lard_table.proofs.Map.{get_inserted, get_other}
 use Rattle.lard_truth.specs.Truth.{IsStream, Stream}
 use Rattle.lard_truth.proofs.Speaking.{speaks-stream}
 use Rattle.lard_laws_bytes.specs.Agreement.{Agrees, IsReply, IsWord}
-use Rattle.lard_laws_bytes.specs.Keeping.{ClientKeeps, ClientOpened, ClientTurned, FrontHearsTruth, FrontTimerIsTrue, FrontTurned, IsEnv, unwritten}
+use Rattle.lard_laws_bytes.specs.Keeping.{ClientKeeps, ClientOpened, FrontHearsTruth, FrontTimerIsTrue, IsEnv, unwritten}
 use Rattle.lard_laws_bytes.specs.Truthful.{AreFair, ConnAgrees, IsFair, IsTruthful, MayAccept, Talk}
 use Rattle.lard_laws_bytes.proofs.Acting.{IsAside, agreed, client-moves, front-moves, got-aside, nothing-aside}
 use Rattle.lard_laws_bytes.proofs.ClientHearing.{hears-turned}
 use Rattle.lard_laws_bytes.proofs.ClientTurns.{aborts-turned, holds-turned, opens-agreeing, shuts-turned, takes-turned, timer-turned, writes-turned}
-use Rattle.lard_laws_bytes.proofs.Later.{fair-append, fair-lost, put, put-same}
+use Rattle.lard_laws_bytes.proofs.Later.{fair-lost, put, put-same}
 use Rattle.lard_laws_bytes.proofs.Moments.{is_accepted, none-accepted, sents-none, timers-none}
 use Rattle.lard_laws_bytes.proofs.Moves.{Moves, moved}
 use Rattle.lard_laws_bytes.proofs.Notes.{other-number, same-number}
 use Rattle.lard_laws_bytes.proofs.Segments.{words-fair, words-may, words-others}
 use Rattle.lard_laws_bytes.proofs.Steps.{IsQuiet, step-may, step-others, step-tale, step_records, timers-may, timers-quiet}
-
--- what passes is what it is
-machine_or : Machine → Result Machine StepFault → Machine
-machine_or k (Ok n) = n
-machine_or k (Err fault) = k
-
-abbrev Gives : Result Machine StepFault → Machine → Type 0
-Gives r n = r ≡ Ok n
-
-pub from-ok : (P : Machine → Type 0) (k n : Machine) → Gives (Ok k) n → P k → P n
-unfolding machine_or
-from-ok P k n e h = subst P (ap (machine_or k) e) h
-
-pub no-err : (fault : StepFault) (n : Machine) → Gives (Err fault) n → ⊥
-no-err fault n e = cc
 
 -- a connection that the front end has is not forgotten
 settled-some : (env : FrontEnv) (b : ControlBlock) (count answered : ℕ) (notes : List Rec) (over : Option ℕ)
@@ -98,7 +80,7 @@ module _ (files : FilesAt) (m : Machine) (T : IsTruthful files m) where
   passed-on ps e own fair shuts quiet may none = record {
     talks = T.talks;
     connections = λ c. subst (λ (t : Tale). ConnAgrees files c (T.talks c) (table.get m.clients c) (table.get m.conns c) t)
-      (sym (tale-others m.journal (rec.Event (m.events + 1) e ∷ own) c (shuts c, quiet c))) (T.connections c);
+        (sym (tale-others m.journal (rec.Event (m.events + 1) e ∷ own) c (shuts c, quiet c))) (T.connections c);
     packets = fair;
     tells = each_append (MayTell files) [] m.journal (rec.Event (m.events + 1) e ∷ own) T.tells (tt, may);
     accepts = each_append (MayAccept files) [] m.journal (rec.Event (m.events + 1) e ∷ own) T.accepts (tt, none-accepted files (m.journal ++ rec.Event (m.events + 1) e ∷ []) own none);
@@ -153,20 +135,22 @@ module _ (files : FilesAt) (m : Machine) (T : IsTruthful files m) (c isn iss wnd
       ∙ ap (λ (ns : List Rec). told_on c (tale_step c untold (rec.Event (m.events + 1) e)) (rec.Opened c isn iss wnd mss ∷ ns)) it.notes
 
   agrees : ConnAgrees files c begins (Some after) None (tale (m.journal ++ rs) c)
-  agrees = subst (λ (t : Tale). ConnAgrees files c begins (Some after) None t) (sym told_is)
-      (record {
-        begins = refl;
-        says = record { spoken = refl; fronts = λ z. (verdicts z, refl); number = rule.5; most = omega arith };
-        client = it.agrees;
-        front = (refl, refl);
-        tale = record {
-          numbers = ap (λ (b : Bool). cond b (Some (record { isn = isn; iss = iss })) None) (same-number c c refl);
-          wrote = refl;
-          accepted = sym (ap (λ (n : ℕ). take n []) it.accepted);
-          served = refl;
-          fin = λ f. absurd (both_ways false refl f);
-        };
-      }, refl)
+  agrees = subst (λ (t : Tale). ConnAgrees files c begins (Some after) None t) (sym told_is) (
+    record {
+      begins = refl;
+      says = record { spoken = refl; fronts = λ z. (verdicts z, refl); number = rule.5; most = omega arith };
+      client = it.agrees;
+      front = (refl, refl);
+      tale = record {
+        numbers = ap (λ (b : Bool). cond b (Some (record { isn = isn; iss = iss })) None) (same-number c c refl);
+        wrote = refl;
+        accepted = sym (ap (λ (n : ℕ). take n []) it.accepted);
+        served = refl;
+        fin = λ f. absurd (both_ways false refl f);
+      };
+    },
+    refl,
+  )
 
   opens : Moves files m T c begins (table.insert m.clients c after) m.conns (packets_of (place.Client c) given.1.segments) rs after None
   opens = record {
@@ -177,25 +161,24 @@ module _ (files : FilesAt) (m : Machine) (T : IsTruthful files m) (c isn iss wnd
     on = λ there. absurd (both_ways false refl (sym (ap (λ (o : Option Station). is_some o) none) ∙ there));
     agrees = agrees;
     others = λ q n. step-others (m.events + 1) e [] notes sents timers q refl tt
-      (other-number c c q refl n, subst (λ (ns : List Rec). Each (λ r. about q r ≡ false) ns) (sym it.notes) tt)
-      (words-others q (length m.net + 1) c given.1.segments) (timers-quiet (place.Client c) c false (is_armed given.0) q);
+        (other-number c c q refl n, subst (λ (ns : List Rec). Each (λ r. about q r ≡ false) ns) (sym it.notes) tt)
+        (words-others q (length m.net + 1) c given.1.segments) (timers-quiet (place.Client c) c false (is_armed given.0) q);
     may = step-may (m.events + 1) e [] notes sents timers (MayTell files) m.journal (tt, tt)
-      (tt, subst (λ (ns : List Rec). EachMay (MayTell files) (m.journal ++ (rec.Event (m.events + 1) e ∷ []) ++ rec.Opened c isn iss wnd mss ∷ []) ns) (sym it.notes) tt)
-      (words-may files (m.journal ++ (rec.Event (m.events + 1) e ∷ [] ++ notes)) (length m.net + 1) c given.1.segments)
-      (timers-may files (m.journal ++ (rec.Event (m.events + 1) e ∷ [] ++ notes ++ sents)) (place.Client c) c false (is_armed given.0));
+        (tt, subst (λ (ns : List Rec). EachMay (MayTell files) (m.journal ++ (rec.Event (m.events + 1) e ∷ []) ++ rec.Opened c isn iss wnd mss ∷ []) ns) (sym it.notes) tt)
+        (words-may files (m.journal ++ (rec.Event (m.events + 1) e ∷ [] ++ notes)) (length m.net + 1) c given.1.segments)
+        (timers-may files (m.journal ++ (rec.Event (m.events + 1) e ∷ [] ++ notes ++ sents)) (place.Client c) c false (is_armed given.0));
     fair = words-fair (put T.talks c begins) (λ d. table.get (table.insert m.clients c after) d) c (unwritten isn) given.1.segments
-      (ap (λ (o : Option Station). is_some o) (get_inserted m.clients c after)) (ap (λ (y : Talk). y.w) (put-same T.talks c begins)) it.sent;
+        (ap (λ (o : Option Station). is_some o) (get_inserted m.clients c after)) (ap (λ (y : Talk). y.w) (put-same T.talks c begins)) it.sent;
     accepts = step-may (m.events + 1) e [] notes sents timers (MayAccept files) m.journal (tt, tt)
-      (none-accepted files (m.journal ++ (rec.Event (m.events + 1) e ∷ [])) notes
+        (none-accepted files (m.journal ++ (rec.Event (m.events + 1) e ∷ [])) notes
         (refl, subst (λ (ns : List Rec). Each (λ r. is_accepted files r ≡ false) ns) (sym it.notes) tt))
-      (none-accepted files (m.journal ++ (rec.Event (m.events + 1) e ∷ [] ++ notes)) sents (sents-none files (length m.net + 1) (place.Client c) given.1.segments))
-      (none-accepted files (m.journal ++ (rec.Event (m.events + 1) e ∷ [] ++ notes ++ sents)) timers (timers-none files (place.Client c) c false (is_armed given.0)));
+        (none-accepted files (m.journal ++ (rec.Event (m.events + 1) e ∷ [] ++ notes)) sents (sents-none files (length m.net + 1) (place.Client c) given.1.segments))
+        (none-accepted files (m.journal ++ (rec.Event (m.events + 1) e ∷ [] ++ notes ++ sents)) timers (timers-none files (place.Client c) c false (is_armed given.0)));
   }
 
-  pub opened-on : (n : Machine) → opened m c isn iss wnd mss None ≡ Ok n → IsTruthful files n
-  unfolding opened acted
-  opened-on n e1 = from-ok (IsTruthful files) _ n e1
-      (moved files m T c begins (table.insert m.clients c after) m.conns (packets_of (place.Client c) given.1.segments) rs after None opens (m.answered + given.1.answered) (m.events + 1))
+  pub opened-on : IsTruthful files (client_acted m e (rec.Opened c isn iss wnd mss ∷ []) c iss false given)
+  unfolding acted
+  opened-on = moved files m T c begins (table.insert m.clients c after) m.conns (packets_of (place.Client c) given.1.segments) rs after None opens (m.answered + given.1.answered) (m.events + 1)
 
 -- ---- the rules of clients and of the front end
 
@@ -267,125 +250,42 @@ module _ (hears : FrontHearsTruth) (fires : FrontTimerIsTrue) (m : Machine) (T :
     go true e = absurd cc
     go false e = fair-at m.net (k - 1) p T.packets e
 
-  -- it comes to the front end
-  from-client : (k : ℕ) (bytes : List ℕ) (c : ℕ) (o : Option Station) → table.get m.clients c ≡ o → IsFair T.talks (λ d. table.get m.clients d) (place.Client c) place.Front bytes
-      → IsTruthful files (to_front m k bytes c o)
-  from-client k bytes c None e f = absurd (both_ways false refl (sym (ap (λ (o : Option Station). is_some o) e) ∙ f.0))
-  from-client k bytes c (Some x) e f =
+  -- true segments come to their places
+  front-gets : (k c : ℕ) (p : Packet) (x : Station) → packet_at m.net k ≡ Some p → p.from ≡ place.Client c → p.to ≡ place.Front → table.get m.clients c ≡ Some x
+      → IsTruthful files (front_acted m (event.Deliver k) (rec.Got k ∷ []) c (front_gets (env_of m c x.iss) (table.get m.conns c) (decoded p.bytes c ToCluster)))
+  front-gets k c p x at from to is =
+      let f : IsFair T.talks (λ d. table.get m.clients d) (place.Client c) place.Front p.bytes =
+      subst (λ (a : Place). IsFair T.talks (λ d. table.get m.clients d) a place.Front p.bytes) from
+      (subst (λ (b : Place). IsFair T.talks (λ d. table.get m.clients d) p.from b p.bytes) to (packet-fair k p at)) in
       subst (λ (r : Result Said SegFault). IsTruthful files (front_acted m (event.Deliver k) (rec.Got k ∷ []) c (front_gets (env_of m c x.iss) (table.get m.conns c) r)))
-        (sym (ap (λ (l : List ℕ). decoded l c ToCluster) f.1.1 ∙ again c ToCluster f.1.0 f.1.2.sendable)) (front-got c x e k f.1.0 f.1.2)
+      (sym (ap (λ (l : List ℕ). decoded l c ToCluster) f.1.1 ∙ again c ToCluster f.1.0 f.1.2.sendable)) (front-got c x is k f.1.0 f.1.2)
 
-  -- or to a client
-  to-client : (k : ℕ) (bytes : List ℕ) (c : ℕ) (o : Option Station) → table.get m.clients c ≡ o → IsFair T.talks (λ d. table.get m.clients d) place.Front (place.Client c) bytes
-      → IsTruthful files (to_client m k bytes c o)
-  to-client k bytes c None e f = absurd (both_ways false refl (sym (ap (λ (o : Option Station). is_some o) e) ∙ f.0))
-  to-client k bytes c (Some x) e f =
-      subst (λ (r : Result Said SegFault). IsTruthful files (client_goes_on m (event.Deliver k) (rec.Got k ∷ []) c x (client_gets x.client r)))
-        (sym (ap (λ (l : List ℕ). decoded l c ToClient) f.1.1 ∙ again c ToClient f.1.0 f.1.2.sendable)) (client-got c x e k f.1.0 f.1.2)
+  client-gets : (k c : ℕ) (p : Packet) (x : Station) → packet_at m.net k ≡ Some p → p.to ≡ place.Client c → table.get m.clients c ≡ Some x
+      → IsTruthful files (client_goes_on m (event.Deliver k) (rec.Got k ∷ []) c x (client_gets x.client (decoded p.bytes c ToClient)))
+  client-gets k c p x at to is = from-front p.from (subst (λ (b : Place). IsFair T.talks (λ d. table.get m.clients d) p.from b p.bytes) to (packet-fair k p at)) where
+    from-front : (from : Place) → IsFair T.talks (λ d. table.get m.clients d) from (place.Client c) p.bytes
+        → IsTruthful files (client_goes_on m (event.Deliver k) (rec.Got k ∷ []) c x (client_gets x.client (decoded p.bytes c ToClient)))
+    from-front place.Front f =
+        subst (λ (r : Result Said SegFault). IsTruthful files (client_goes_on m (event.Deliver k) (rec.Got k ∷ []) c x (client_gets x.client r)))
+        (sym (ap (λ (l : List ℕ). decoded l c ToClient) f.1.1 ∙ again c ToClient f.1.0 f.1.2.sendable)) (client-got c x is k f.1.0 f.1.2)
+    from-front (place.Client d) f = absurd f
+    from-front (place.Node j) f = absurd f
 
-  comes : (k : ℕ) (p : Packet) (from to : Place) → IsFair T.talks (λ d. table.get m.clients d) from to p.bytes → p.from ≡ from → IsTruthful files (to_place m k p to)
-  comes k p (place.Client c) place.Front f e =
-      subst (λ (from : Place). IsTruthful files (from_place m k p.bytes from)) (sym e) (from-client k p.bytes c (table.get m.clients c) refl f)
-  comes k p place.Front (place.Client c) f e = to-client k p.bytes c (table.get m.clients c) refl f
-  comes k p (place.Client c) (place.Client d) f e = absurd f
-  comes k p (place.Client c) (place.Node n) f e = absurd f
-  comes k p place.Front place.Front f e = absurd f
-  comes k p place.Front (place.Node n) f e = absurd f
-  comes k p (place.Node n) to f e = absurd f
-
-  pub delivered-on : (k : ℕ) (o : Option Packet) → packet_at m.net k ≡ o → (n : Machine) → Gives (delivered m k o) n → IsTruthful files n
-  unfolding delivered
-  delivered-on k None e n g = absurd (no-err _ n g)
-  delivered-on k (Some p) e n g = go p.lost g where
-    go : (b : Bool) → Gives (cond b (Err (WasLost k)) (Ok (to_place m k p p.to))) n → IsTruthful files n
-    go true g = absurd (no-err _ n g)
-    go false g = from-ok (IsTruthful files) _ n g (comes k p p.from p.to (packet-fair k p e) refl)
-
-  pub lost-on : (k : ℕ) (o : Option Packet) → (n : Machine) → Gives (lost m k o) n → IsTruthful files n
-  unfolding lost
-  lost-on k None n g = absurd (no-err _ n g)
-  lost-on k (Some p) n g = go p.lost g where
-    go : (b : Bool) → Gives (cond b (Err (WasLost k)) (Ok (passed (record m { net = lose_at (k - 1) m.net }) (event.Lose k) (rec.Lost k ∷ [])))) n → IsTruthful files n
-    go true g = absurd (no-err _ n g)
-    go false g = from-ok (IsTruthful files) _ n g
-        (passed-on files m T (lose_at (k - 1) m.net) (event.Lose k) (rec.Lost k ∷ []) (fair-lost T.talks (λ c. table.get m.clients c) (k - 1) m.net T.packets) (λ q. refl) (λ q. (refl, tt)) (tt, tt) (refl, tt))
-
-  -- ---- a client's events
-
-  module _ (c : ℕ) where
-    abbrev Kept : (Option Station → Result Machine StepFault) → Type 0
-    Kept rule = (o : Option Station) → table.get m.clients c ≡ o → (n : Machine) → Gives (rule o) n → IsTruthful files n
-
-    shut-on : Kept (shut m c)
-    unfolding shut
-    shut-on None e n g = absurd (no-err _ n g)
-    shut-on (Some x) e n g = from-ok (IsTruthful files) _ n g (keeps c x e (event.Shut c) (λ q d. not-same q d) client_shuts shuts-turned') where
-      not-same : (q : ℕ) → q ≢ c → nat_eq c q ≡ false
-      not-same q d = other-number c c q refl d
-      shuts-turned' : ClientKeeps client_shuts
-      shuts-turned' c w out x most h = shuts-turned c w out x most h
-
-    aborts-on : Kept (aborts m c)
-    unfolding aborts
-    aborts-on None e n g = absurd (no-err _ n g)
-    aborts-on (Some x) e n g = from-ok (IsTruthful files) _ n g (keeps c x e (event.Abort c) (λ q d. refl) client_aborts (λ c w out x most h. aborts-turned c w out x most h))
-
-    holds-on : Kept (holds m c)
-    unfolding holds
-    holds-on None e n g = absurd (no-err _ n g)
-    holds-on (Some x) e n g = from-ok (IsTruthful files) _ n g (keeps c x e (event.Hold c) (λ q d. refl) client_holds (λ c w out x most h. holds-turned c w out x most h))
-
-    takes-on : Kept (takes m c)
-    unfolding takes
-    takes-on None e n g = absurd (no-err _ n g)
-    takes-on (Some x) e n g = from-ok (IsTruthful files) _ n g (keeps c x e (event.Take c) (λ q d. refl) client_takes (λ c w out x most h. takes-turned c w out x most h))
-
-    wrote-on : (ev : Event) (bytes : List ℕ) → ((q : ℕ) → event_shuts q ev ≡ false) → Kept (wrote m ev c bytes)
-    unfolding wrote
-    wrote-on ev bytes shuts None e n g = absurd (no-err _ n g)
-    wrote-on ev bytes shuts (Some x) e n g = go (nat_lt m.config.stream (written_len x.client bytes)) refl g where
-      go : (b : Bool) → nat_lt m.config.stream (written_len x.client bytes) ≡ b
-          → Gives (cond b (Err (Limit StreamLimit)) (Ok (client_goes_on m ev [] c x (client_writes x.client bytes)))) n → IsTruthful files n
-      go true f g = absurd (no-err _ n g)
-      go false f g = from-ok (IsTruthful files) _ n g (writes c x e ev bytes (λ q d. shuts q) f)
-
-    timer-on : (p : Place) → HasTimer p c → Kept (timer m p c)
-    unfolding timer
-    timer-on p has None e n g = absurd (no-err _ n g)
-    timer-on place.Front has (Some x) e n g = from-ok (IsTruthful files) _ n g (front-fires c x e)
-    timer-on (place.Client d) has (Some x) e n g = from-ok (IsTruthful files) _ n g
-        (keeps c x e (event.Timer (place.Client d) c) (λ q d. refl) client_timer (λ c w out x most h. timer-turned c w out x most h))
-    timer-on (place.Node j) has (Some x) e n g = absurd has
-
-    used : (isn iss wnd mss : ℕ) (x : Station) (n : Machine) → Gives (opened m c isn iss wnd mss (Some x)) n → ⊥
-    unfolding opened
-    used isn iss wnd mss x n g = no-err _ n g
-
-    open-on : (isn iss wnd mss : ℕ) → HasRule (event.Open c isn iss wnd mss) → Kept (opened m c isn iss wnd mss)
-    open-on isn iss wnd mss rule None e n g = opened-on files m T c isn iss wnd mss e rule n g
-    open-on isn iss wnd mss rule (Some x) e n g = absurd (used isn iss wnd mss x n g)
-
-  -- ---- each event
-
-  happens-on : (e : Event) → HasRule e → (n : Machine) → Gives (happens m e) n → IsTruthful files n
-  happens-on (event.Open c isn iss wnd mss) rule n g = open-on c isn iss wnd mss rule (table.get m.clients c) refl n g
-  happens-on (event.Get c path) rule n g = wrote-on c (event.Get c path) (request path) (λ q. refl) (table.get m.clients c) refl n g
-  happens-on (event.Write c bytes) rule n g = wrote-on c (event.Write c bytes) bytes (λ q. refl) (table.get m.clients c) refl n g
-  happens-on (event.Shut c) rule n g = shut-on c (table.get m.clients c) refl n g
-  happens-on (event.Abort c) rule n g = aborts-on c (table.get m.clients c) refl n g
-  happens-on (event.Hold c) rule n g = holds-on c (table.get m.clients c) refl n g
-  happens-on (event.Take c) rule n g = takes-on c (table.get m.clients c) refl n g
-  happens-on (event.Deliver k) rule n g = delivered-on k (packet_at m.net k) refl n g
-  happens-on (event.Lose k) rule n g = lost-on k (packet_at m.net k) n g
-  happens-on (event.Timer p c) rule n g = timer-on c p rule (table.get m.clients c) refl n g
-  happens-on (event.Disk j k) rule n g = absurd rule
-  happens-on (event.Clock ms) rule n g = absurd rule
-  happens-on (event.Settle rounds) rule n g = absurd rule
-  happens-on (event.Inject c bytes) rule n g = absurd rule
-
-  pub step-on : (e : Event) → HasRule e → (n : Machine) → Gives (machine_step m e) n → IsTruthful files n
-  unfolding machine_step
-  step-on e rule n g = go (limit_reached m) g where
-    go : (o : Option What) → Gives (unless_limit o (happens m e)) n → IsTruthful files n
-    go None g = happens-on e rule n g
-    go (Some what) g = absurd (no-err _ n g)
+  -- ---- each form of a step
+  pub forms-kept : Forms m (λ e n. IsTruthful files n)
+  forms-kept = record {
+    opens = λ c isn iss wnd mss rule none. opened-on files m T c isn iss wnd mss none rule;
+    gets = λ c path x is fits. writes c x is (event.Get c path) (request path) (λ q d. refl) fits;
+    writes = λ c bytes x is fits. writes c x is (event.Write c bytes) bytes (λ q d. refl) fits;
+    shuts = λ c x is. keeps c x is (event.Shut c) (λ q d. other-number c c q refl d) client_shuts (λ c w out x most h. shuts-turned c w out x most h);
+    aborts = λ c x is. keeps c x is (event.Abort c) (λ q d. refl) client_aborts (λ c w out x most h. aborts-turned c w out x most h);
+    holds = λ c x is. keeps c x is (event.Hold c) (λ q d. refl) client_holds (λ c w out x most h. holds-turned c w out x most h);
+    takes = λ c x is. keeps c x is (event.Take c) (λ q d. refl) client_takes (λ c w out x most h. takes-turned c w out x most h);
+    client_timer = λ d c x same is. keeps c x is (event.Timer (place.Client d) c) (λ q n. refl) client_timer (λ c w out x most h. timer-turned c w out x most h);
+    front_timer = λ c x is. front-fires c x is;
+    front_gets = λ k c p x at on from to is. front-gets k c p x at from to is;
+    client_gets = λ k c p x at on to is. client-gets k c p x at to is;
+    nobody = λ k p at on. passed-on files m T m.net (event.Deliver k) (rec.Got k ∷ []) T.packets (λ q. refl) (λ q. (refl, tt)) (tt, tt) (refl, tt);
+    loses = λ k p at on. passed-on files m T (lose_at (k - 1) m.net) (event.Lose k) (rec.Lost k ∷ []) (fair-lost T.talks (λ c. table.get m.clients c) (k - 1) m.net T.packets)
+        (λ q. refl) (λ q. (refl, tt)) (tt, tt) (refl, tt);
+  }

@@ -17,3 +17,4 @@ pub mod Moments
 pub mod Moves
 pub mod Acting
 pub mod Events
+pub mod Reached

@@ -1,5 +1,5 @@
 -- What clients accept goes on as the answers do, record by record and at every moment.
-use Rattle.std.proofs.Common.{◌≡◌, ℕ, ◌+◌, List, [], ◌∷◌, ◌++◌, length, take, drop, Bool, true, false, cond, refl, sym, ap, ◌∙◌, subst, append_assoc, append-nil, nat_eq}
+use Rattle.std.proofs.Common.{◌≡◌, ℕ, ◌+◌, List, [], ◌∷◌, ◌++◌, Bool, true, false, cond, refl, sym, ap, ◌∙◌, subst, append_assoc, append-nil, nat_eq}
 use Rattle.std.proofs.lemmas.Bool.{both_ways, eqb-true}
 use Rattle.std.proofs.lemmas.List.Sums.{fold-append}
 use Rattle.lard_answers.specs.Answers.{FilesAt, IsFront, answer_bytes}
@@ -92,31 +92,39 @@ module _ (files : FilesAt) where
       let whole : IsFront ((a ++ bytes) ++ accepted_in rs) said = subst (λ (l : List ℕ). IsFront l said) (sym e) ac in
       let first : IsFront (a ++ bytes) said = IsFront-trans (a ++ bytes) ((a ++ bytes) ++ accepted_in rs) said (accepted_in rs, refl) whole in
       let longer : IsFront (answer_bytes files w) (answer_bytes files (tale past c).wrote) =
-        subst (λ (l : List ℕ). IsFront (answer_bytes files w) (answer_bytes files l)) (sym wr.1) (answer_bytes-grow files w wr.0) in
+      subst (λ (l : List ℕ). IsFront (answer_bytes files w) (answer_bytes files l)) (sym wr.1) (answer_bytes-grow files w wr.0) in
       let here : IsFront (a ++ bytes) (answer_bytes files (tale past c).wrote) =
-        IsFront-trans (a ++ bytes) (answer_bytes files w) (answer_bytes files (tale past c).wrote) (IsFront-trans (a ++ bytes) said (answer_bytes files w) first front) longer in
+      IsFront-trans (a ++ bytes) (answer_bytes files w) (answer_bytes files (tale past c).wrote) (IsFront-trans (a ++ bytes) said (answer_bytes files w) first front) longer in
       let may : MayAccept files past (rec.Accepted d bytes) =
-        subst (λ (q : ℕ). MayAccept files past (rec.Accepted q bytes)) (sym n.0)
-          (subst (λ (l : List ℕ). IsFront (l ++ bytes) (answer_bytes files (wrote past c))) (sym (accepted-tale past c))
-            (subst (λ (l : List ℕ). IsFront (a ++ bytes) (answer_bytes files l)) (sym (wrote-tale past c)) here)) in
-      let next : tale (past ++ rec.Accepted d bytes ∷ []) c ≡ tale_step c (tale past c) (rec.Accepted d bytes) = tale-append past (rec.Accepted d bytes ∷ []) c in
-      (may, client-accepts c said w front (past ++ rec.Accepted d bytes ∷ []) rs n.1
-        (subst (λ (u : Tale). IsFront w u.wrote) (sym next) wr)
-        (subst (λ (u : Tale). IsFront (u.accepted ++ accepted_in rs) said) (sym next)
-          (subst (λ (b : Bool). IsFront (cond b (a ++ bytes) a ++ accepted_in rs) said) (sym (same-number d c n.0)) whole)))
+      subst (λ (q : ℕ). MayAccept files past (rec.Accepted q bytes)) (sym n.0)
+      (subst (λ (l : List ℕ). IsFront (l ++ bytes) (answer_bytes files (wrote past c))) (sym (accepted-tale past c))
+      (subst (λ (l : List ℕ). IsFront (a ++ bytes) (answer_bytes files l)) (sym (wrote-tale past c)) here)) in
+      let next : tale (past ++ rec.Accepted d bytes ∷ []) c ≡ tale_step c (tale past c) (rec.Accepted d bytes) = tale-append past (rec.Accepted d bytes ∷ []) c in (
+        may,
+        client-accepts c said w front (past ++ rec.Accepted d bytes ∷ []) rs n.1
+            (subst (λ (u : Tale). IsFront w u.wrote) (sym next) wr)
+            (subst (λ (u : Tale). IsFront (u.accepted ++ accepted_in rs) said) (sym next)
+            (subst (λ (b : Bool). IsFront (cond b (a ++ bytes) a ++ accepted_in rs) said) (sym (same-number d c n.0)) whole)),
+      )
   client-accepts c said w front past (rec.Wrote d bytes ∷ rs) n wr ac =
-      let next : tale (past ++ rec.Wrote d bytes ∷ []) c ≡ tale_step c (tale past c) (rec.Wrote d bytes) = tale-append past (rec.Wrote d bytes ∷ []) c in
-      (tt, client-accepts c said w front (past ++ rec.Wrote d bytes ∷ []) rs n.1
-        (subst (λ (u : Tale). IsFront w u.wrote) (sym next)
-          (subst (λ (b : Bool). IsFront w (cond b ((tale past c).wrote ++ bytes) (tale past c).wrote)) (sym (same-number d c n.0))
+      let next : tale (past ++ rec.Wrote d bytes ∷ []) c ≡ tale_step c (tale past c) (rec.Wrote d bytes) = tale-append past (rec.Wrote d bytes ∷ []) c in (
+        tt,
+        client-accepts c said w front (past ++ rec.Wrote d bytes ∷ []) rs n.1
+            (subst (λ (u : Tale). IsFront w u.wrote) (sym next)
+            (subst (λ (b : Bool). IsFront w (cond b ((tale past c).wrote ++ bytes) (tale past c).wrote)) (sym (same-number d c n.0))
             (IsFront-trans w (tale past c).wrote ((tale past c).wrote ++ bytes) wr (bytes, refl))))
-        (subst (λ (u : Tale). IsFront (u.accepted ++ accepted_in rs) said) (sym next) ac))
+            (subst (λ (u : Tale). IsFront (u.accepted ++ accepted_in rs) said) (sym next) ac),
+      )
   client-accepts c said w front past (rec.Eof d ∷ rs) n wr ac =
-      let next : tale (past ++ rec.Eof d ∷ []) c ≡ tale_step c (tale past c) (rec.Eof d) = tale-append past (rec.Eof d ∷ []) c in
-      (tt, client-accepts c said w front (past ++ rec.Eof d ∷ []) rs n.1 (subst (λ (u : Tale). IsFront w u.wrote) (sym next) wr)
-        (subst (λ (u : Tale). IsFront (u.accepted ++ accepted_in rs) said) (sym next) ac))
+      let next : tale (past ++ rec.Eof d ∷ []) c ≡ tale_step c (tale past c) (rec.Eof d) = tale-append past (rec.Eof d ∷ []) c in (
+        tt,
+        client-accepts c said w front (past ++ rec.Eof d ∷ []) rs n.1 (subst (λ (u : Tale). IsFront w u.wrote) (sym next) wr)
+            (subst (λ (u : Tale). IsFront (u.accepted ++ accepted_in rs) said) (sym next) ac),
+      )
   client-accepts c said w front past (rec.Aborted d ∷ rs) n wr ac =
-      let next : tale (past ++ rec.Aborted d ∷ []) c ≡ tale_step c (tale past c) (rec.Aborted d) = tale-append past (rec.Aborted d ∷ []) c in
-      (tt, client-accepts c said w front (past ++ rec.Aborted d ∷ []) rs n.1 (subst (λ (u : Tale). IsFront w u.wrote) (sym next) wr)
-        (subst (λ (u : Tale). IsFront (u.accepted ++ accepted_in rs) said) (sym next) ac))
+      let next : tale (past ++ rec.Aborted d ∷ []) c ≡ tale_step c (tale past c) (rec.Aborted d) = tale-append past (rec.Aborted d ∷ []) c in (
+        tt,
+        client-accepts c said w front (past ++ rec.Aborted d ∷ []) rs n.1 (subst (λ (u : Tale). IsFront w u.wrote) (sym next) wr)
+            (subst (λ (u : Tale). IsFront (u.accepted ++ accepted_in rs) said) (sym next) ac),
+      )
   client-accepts c said w front past (_ ∷ rs) n wr ac = absurd n.0

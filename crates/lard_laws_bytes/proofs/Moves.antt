@@ -1,38 +1,21 @@
 -- A step in which one connection moves keeps what holds of the whole machine.
-use Rattle.std.proofs.Common.{◌≡◌, ◌≢◌, ◌⊎◌, ℕ, ◌+◌, List, [], ◌∷◌, ◌++◌, length, Bool, true, false, cond, ◌||◌, Option, Some, None, refl, sym, ap, ◌∙◌, subst, ⊎_elim, arith, nat_eq, is_some}
+use Rattle.std.proofs.Common.{◌≡◌, ◌≢◌, ℕ, List, [], ◌++◌, true, false, Option, Some, sym, ap, ◌∙◌, subst, ⊎_elim, nat_eq, is_some}
 use Rattle.std.proofs.lemmas.Bool.Decides.{eqb_tells}
 use Rattle.std.specs.FinMap as table
 use Rattle.std.specs.FinMap.{FinMap}
 use Rattle.std.specs.Ordering.{nat_cmp}
-use Rattle.std.specs.List.{list_any}
 use Rattle.lard_answers.specs.Answers.{FilesAt}
-use Rattle.lard_base.specs.declared.event.Event.{Event}
-use Rattle.lard_base.specs.declared.place.Place.{Place}
-use Rattle.lard_base.specs.declared.place.Place.TheVariants as place
-use Rattle.lard_client.specs.Control.{ClientBlock, is_armed}
-use Rattle.lard_history.specs.Journal.{Tale, about, event_shuts, tale, tale_step, told_on, untold}
+use Rattle.lard_history.specs.Journal.{Tale, about, tale}
 use Rattle.lard_history.specs.Laws.{EachMay, MayTell}
 use Rattle.lard_history.proofs.Each.{Each, each_append}
-use Rattle.lard_history.proofs.Tales.{others, tale-append, tale-others}
+use Rattle.lard_history.proofs.Tales.{tale-others}
 use Rattle.lard_journal.specs.declared.rec.Rec.{Rec}
-use Rattle.lard_journal.specs.declared.rec.Rec.TheVariants as rec
 use Rattle.lard_machine.specs.declared.machine.Machine.{Machine}
 use Rattle.lard_machine.specs.declared.places.FrontConn.{FrontConn}
 use Rattle.lard_machine.specs.declared.places.Station.{Station}
-use Rattle.lard_machine.specs.declared.places.Turn.{Turn}
-use Rattle.lard_machine.specs.Machine.{acted, client_goes_on, front_acted, front_armed, front_put, packets_of, sent_records, timer_change}
 use Rattle.lard_net.specs.declared.net.Packet.{Packet}
-use Rattle.lard_table.proofs.Map.{get_inserted, get_other}
-use Rattle.lard_truth.specs.Truth.{GoesOn, Stream}
-use Rattle.lard_truth.proofs.Growth.{goes_on-same}
-use Rattle.lard_laws_bytes.specs.Agreement.{Agrees}
-use Rattle.lard_laws_bytes.specs.Keeping.{ClientTurned, FrontTurned, accepted_in, resets, served_in, written_in}
 use Rattle.lard_laws_bytes.specs.Truthful.{AreFair, ConnAgrees, IsTruthful, MayAccept, Talk}
 use Rattle.lard_laws_bytes.proofs.Later.{AllStay, AllTalkOn, TalksOn, all-later, fair-append, put, put-other, put-same, talks-same}
-use Rattle.lard_laws_bytes.proofs.Notes.{Adds, adds-both, adds-none, client-notes, client-others, front-notes, front-others}
-use Rattle.lard_laws_bytes.proofs.Segments.{Moment, replies-fair, replies-may, replies-moment, replies-others, words-fair, words-may, words-others}
-use Rattle.lard_laws_bytes.proofs.Steps.{IsQuiet, notes-tale, own-tale, step-may, step-others, step-tale, step_records, timers-may, timers-quiet}
-use Rattle.lard_laws_bytes.proofs.Turns.{client-agrees, client-may, front-agrees, front-may, front-moment}
 
 -- a number is another's, or not
 pub by_number : (P : Type 0) (d c : ℕ) → (d ≡ c → P) → (d ≢ c → P) → P
@@ -60,20 +43,20 @@ module _ (files : FilesAt) (m : Machine) (T : IsTruthful files m) (c : ℕ) (l :
   at_it : ConnAgrees files c (put T.talks c l c) (table.get clients c) (table.get conns c) (tale (m.journal ++ rs) c)
   at_it =
       subst (λ (k : Talk). ConnAgrees files c k (table.get clients c) (table.get conns c) (tale (m.journal ++ rs) c)) (sym (put-same T.talks c l))
-        (subst (λ (o : Option Station). ConnAgrees files c l o (table.get conns c) (tale (m.journal ++ rs) c)) (sym v.client_is)
-          (subst (λ (o : Option FrontConn). ConnAgrees files c l (Some x) o (tale (m.journal ++ rs) c)) (sym v.conn_is) v.agrees))
+      (subst (λ (o : Option Station). ConnAgrees files c l o (table.get conns c) (tale (m.journal ++ rs) c)) (sym v.client_is)
+      (subst (λ (o : Option FrontConn). ConnAgrees files c l (Some x) o (tale (m.journal ++ rs) c)) (sym v.conn_is) v.agrees))
 
   at_other : (d : ℕ) → d ≢ c → ConnAgrees files d (put T.talks c l d) (table.get clients d) (table.get conns d) (tale (m.journal ++ rs) d)
   at_other d n =
       subst (λ (k : Talk). ConnAgrees files d k (table.get clients d) (table.get conns d) (tale (m.journal ++ rs) d)) (sym (put-other T.talks c d l n))
-        (subst (λ (o : Option Station). ConnAgrees files d (T.talks d) o (table.get conns d) (tale (m.journal ++ rs) d)) (sym (v.client_others d n))
-          (subst (λ (o : Option FrontConn). ConnAgrees files d (T.talks d) (table.get m.clients d) o (tale (m.journal ++ rs) d)) (sym (v.conn_others d n))
-            (subst (λ (t : Tale). ConnAgrees files d (T.talks d) (table.get m.clients d) (table.get m.conns d) t) (sym (tale-others m.journal rs d (v.others d n))) (T.connections d))))
+      (subst (λ (o : Option Station). ConnAgrees files d (T.talks d) o (table.get conns d) (tale (m.journal ++ rs) d)) (sym (v.client_others d n))
+      (subst (λ (o : Option FrontConn). ConnAgrees files d (T.talks d) (table.get m.clients d) o (tale (m.journal ++ rs) d)) (sym (v.conn_others d n))
+      (subst (λ (t : Tale). ConnAgrees files d (T.talks d) (table.get m.clients d) (table.get m.conns d) t) (sym (tale-others m.journal rs d (v.others d n))) (T.connections d))))
 
   all_on : AllTalkOn (λ d. table.get m.clients d) T.talks (put T.talks c l)
   all_on d there = by_number (TalksOn (T.talks d) (put T.talks c l d)) d c
       (λ e. subst (λ (q : ℕ). TalksOn (T.talks q) (put T.talks c l q)) (sym e)
-        (subst (λ (k : Talk). TalksOn (T.talks c) k) (sym (put-same T.talks c l)) (v.on (subst (λ (q : ℕ). is_some (table.get m.clients q) ≡ true) e there))))
+      (subst (λ (k : Talk). TalksOn (T.talks c) k) (sym (put-same T.talks c l)) (v.on (subst (λ (q : ℕ). is_some (table.get m.clients q) ≡ true) e there))))
       (λ n. subst (λ (k : Talk). TalksOn (T.talks d) k) (sym (put-other T.talks c d l n)) (talks-same (T.talks d)))
 
   all_stay : AllStay (λ d. table.get m.clients d) (λ d. table.get clients d)
@@ -86,10 +69,10 @@ module _ (files : FilesAt) (m : Machine) (T : IsTruthful files m) (c : ℕ) (l :
   moved answered events = record {
     talks = put T.talks c l;
     connections = λ d. by_number (ConnAgrees files d (put T.talks c l d) (table.get clients d) (table.get conns d) (tale (m.journal ++ rs) d)) d c
-      (λ e. subst (λ (q : ℕ). ConnAgrees files q (put T.talks c l q) (table.get clients q) (table.get conns q) (tale (m.journal ++ rs) q)) (sym e) at_it)
-      (at_other d);
+        (λ e. subst (λ (q : ℕ). ConnAgrees files q (put T.talks c l q) (table.get clients q) (table.get conns q) (tale (m.journal ++ rs) q)) (sym e) at_it)
+        (at_other d);
     packets = fair-append (put T.talks c l) (λ d. table.get clients d) m.net ps
-      (all-later (λ d. table.get m.clients d) (λ d. table.get clients d) T.talks (put T.talks c l) all_on all_stay m.net T.packets) v.fair;
+        (all-later (λ d. table.get m.clients d) (λ d. table.get clients d) T.talks (put T.talks c l) all_on all_stay m.net T.packets) v.fair;
     tells = each_append (MayTell files) [] m.journal rs T.tells v.may;
     accepts = each_append (MayAccept files) [] m.journal rs T.accepts v.accepts;
   }

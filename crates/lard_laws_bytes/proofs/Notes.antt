@@ -1,5 +1,5 @@
 -- What the records of a turn add to the tale of their connection, and that they are about no other.
-use Rattle.std.proofs.Common.{◌≡◌, ◌≢◌, ℕ, ◌+◌, List, [], ◌∷◌, ◌++◌, Bool, true, false, cond, ◌||◌, refl, sym, ap, ◌∙◌, subst, append_assoc, append-nil, arith, nat_eq}
+use Rattle.std.proofs.Common.{◌≡◌, ◌≢◌, ℕ, ◌+◌, List, [], ◌∷◌, ◌++◌, Bool, true, false, cond, ◌||◌, refl, sym, ap, ◌∙◌, append_assoc, append-nil, arith, nat_eq}
 use Rattle.std.proofs.lemmas.Bool.{eq-eqb}
 use Rattle.std.proofs.lemmas.Bool.Decides.{nat_tests}
 use Rattle.std.specs.List.{list_any}
@@ -7,7 +7,7 @@ use Rattle.lard_history.specs.Journal.{Tale, about, tale_step, told_on}
 use Rattle.lard_history.proofs.Each.{Each}
 use Rattle.lard_journal.specs.declared.rec.Rec.{Rec}
 use Rattle.lard_journal.specs.declared.rec.Rec.TheVariants as rec
-use Rattle.lard_laws_bytes.specs.Keeping.{AreClientNotes, AreFrontNotes, accepted_in, is_client_note, is_front_note, resets, served_in, written_in}
+use Rattle.lard_laws_bytes.specs.Keeping.{AreClientNotes, AreFrontNotes, accepted_in, resets, served_in, written_in}
 
 -- Of what is told of a connection, what bytes rest on goes on so.
 pub record Adds (t : Tale) (written accepted_ : List ℕ) (more : ℕ) (reset : Bool) (u : Tale) : Type 0 where
@@ -67,32 +67,32 @@ pub client-notes : (c : ℕ) (t : Tale) (rs : List Rec) → AreClientNotes c rs 
 client-notes c t [] notes = adds-none t t refl refl refl refl refl refl
 client-notes c t (rec.Wrote d bytes ∷ rs) notes =
     adds-both t (tale_step c t (rec.Wrote d bytes)) (told_on c (tale_step c t (rec.Wrote d bytes)) rs) bytes [] (written_in rs) (accepted_in rs) 0 0 0 false false refl
-      (record {
-        numbers = refl;
-        wrote = ap (λ (b : Bool). cond b (t.wrote ++ bytes) t.wrote) (same-number d c notes.0);
-        accepted = sym (append-nil t.accepted);
-        served = plus-none t.served;
-        was_reset = or-false t.was_reset;
-        fin_sent = refl;
-      })
-      (client-notes c (tale_step c t (rec.Wrote d bytes)) rs notes.1)
+    (record {
+      numbers = refl;
+      wrote = ap (λ (b : Bool). cond b (t.wrote ++ bytes) t.wrote) (same-number d c notes.0);
+      accepted = sym (append-nil t.accepted);
+      served = plus-none t.served;
+      was_reset = or-false t.was_reset;
+      fin_sent = refl;
+    })
+    (client-notes c (tale_step c t (rec.Wrote d bytes)) rs notes.1)
 client-notes c t (rec.Accepted d bytes ∷ rs) notes =
     adds-both t (tale_step c t (rec.Accepted d bytes)) (told_on c (tale_step c t (rec.Accepted d bytes)) rs) [] bytes (written_in rs) (accepted_in rs) 0 0 0 false false refl
-      (record {
-        numbers = refl;
-        wrote = sym (append-nil t.wrote);
-        accepted = ap (λ (b : Bool). cond b (t.accepted ++ bytes) t.accepted) (same-number d c notes.0);
-        served = plus-none t.served;
-        was_reset = or-false t.was_reset;
-        fin_sent = refl;
-      })
-      (client-notes c (tale_step c t (rec.Accepted d bytes)) rs notes.1)
+    (record {
+      numbers = refl;
+      wrote = sym (append-nil t.wrote);
+      accepted = ap (λ (b : Bool). cond b (t.accepted ++ bytes) t.accepted) (same-number d c notes.0);
+      served = plus-none t.served;
+      was_reset = or-false t.was_reset;
+      fin_sent = refl;
+    })
+    (client-notes c (tale_step c t (rec.Accepted d bytes)) rs notes.1)
 client-notes c t (rec.Eof d ∷ rs) notes =
     adds-both t (tale_step c t (rec.Eof d)) (told_on c (tale_step c t (rec.Eof d)) rs) [] [] (written_in rs) (accepted_in rs) 0 0 0 false false refl
-      (adds-none t (tale_step c t (rec.Eof d)) refl refl refl refl refl refl) (client-notes c (tale_step c t (rec.Eof d)) rs notes.1)
+    (adds-none t (tale_step c t (rec.Eof d)) refl refl refl refl refl refl) (client-notes c (tale_step c t (rec.Eof d)) rs notes.1)
 client-notes c t (rec.Aborted d ∷ rs) notes =
     adds-both t (tale_step c t (rec.Aborted d)) (told_on c (tale_step c t (rec.Aborted d)) rs) [] [] (written_in rs) (accepted_in rs) 0 0 0 false false refl
-      (adds-none t (tale_step c t (rec.Aborted d)) refl refl refl refl refl refl) (client-notes c (tale_step c t (rec.Aborted d)) rs notes.1)
+    (adds-none t (tale_step c t (rec.Aborted d)) refl refl refl refl refl refl) (client-notes c (tale_step c t (rec.Aborted d)) rs notes.1)
 client-notes c t (_ ∷ rs) notes = absurd notes.0
 
 pub client-others : (c q : ℕ) (rs : List Rec) → q ≢ c → AreClientNotes c rs → Each (λ r. about q r ≡ false) rs
@@ -109,29 +109,29 @@ pub front-notes : (c : ℕ) (t : Tale) (rs : List Rec) → AreFrontNotes c rs �
 front-notes c t [] notes = adds-none t t refl refl refl refl refl refl
 front-notes c t (rec.Took place d epoch ∷ rs) notes =
     adds-both t (tale_step c t (rec.Took place d epoch)) (told_on c (tale_step c t (rec.Took place d epoch)) rs) [] [] [] [] 0 (served_in rs) (served_in rs) false (list_any resets rs) (omega arith)
-      (adds-none t (tale_step c t (rec.Took place d epoch)) refl refl refl refl refl refl) (front-notes c (tale_step c t (rec.Took place d epoch)) rs notes.1)
+    (adds-none t (tale_step c t (rec.Took place d epoch)) refl refl refl refl refl refl) (front-notes c (tale_step c t (rec.Took place d epoch)) rs notes.1)
 front-notes c t (rec.Served place d r code size via ∷ rs) notes =
     adds-both t (tale_step c t (rec.Served place d r code size via)) (told_on c (tale_step c t (rec.Served place d r code size via)) rs) [] [] [] [] 1 (served_in rs) (1 + served_in rs) false (list_any resets rs) refl
-      (record {
-        numbers = refl;
-        wrote = sym (append-nil t.wrote);
-        accepted = sym (append-nil t.accepted);
-        served = ap (λ (b : Bool). cond b (t.served + 1) t.served) (same-number d c notes.0);
-        was_reset = or-false t.was_reset;
-        fin_sent = refl;
-      })
-      (front-notes c (tale_step c t (rec.Served place d r code size via)) rs notes.1)
+    (record {
+      numbers = refl;
+      wrote = sym (append-nil t.wrote);
+      accepted = sym (append-nil t.accepted);
+      served = ap (λ (b : Bool). cond b (t.served + 1) t.served) (same-number d c notes.0);
+      was_reset = or-false t.was_reset;
+      fin_sent = refl;
+    })
+    (front-notes c (tale_step c t (rec.Served place d r code size via)) rs notes.1)
 front-notes c t (rec.Reset place d total ∷ rs) notes =
     adds-both t (tale_step c t (rec.Reset place d total)) (told_on c (tale_step c t (rec.Reset place d total)) rs) [] [] [] [] 0 (served_in rs) (served_in rs) true (list_any resets rs) (omega arith)
-      (record {
-        numbers = refl;
-        wrote = sym (append-nil t.wrote);
-        accepted = sym (append-nil t.accepted);
-        served = plus-none t.served;
-        was_reset = ap (λ (b : Bool). cond b true t.was_reset) (same-number d c notes.0) ∙ sym (or-true t.was_reset);
-        fin_sent = refl;
-      })
-      (front-notes c (tale_step c t (rec.Reset place d total)) rs notes.1)
+    (record {
+      numbers = refl;
+      wrote = sym (append-nil t.wrote);
+      accepted = sym (append-nil t.accepted);
+      served = plus-none t.served;
+      was_reset = ap (λ (b : Bool). cond b true t.was_reset) (same-number d c notes.0) ∙ sym (or-true t.was_reset);
+      fin_sent = refl;
+    })
+    (front-notes c (tale_step c t (rec.Reset place d total)) rs notes.1)
 front-notes c t (_ ∷ rs) notes = absurd notes.0
 
 pub front-others : (c q : ℕ) (rs : List Rec) → q ≢ c → AreFrontNotes c rs → Each (λ r. about q r ≡ false) rs

@@ -1,5 +1,5 @@
 -- The records of a step: which tales they change, and that each may stand where it does.
-use Rattle.std.proofs.Common.{◌≡◌, ℕ, List, [], ◌∷◌, ◌++◌, Bool, true, false, refl, sym, ap, ◌∙◌, subst, append_assoc}
+use Rattle.std.proofs.Common.{◌≡◌, ℕ, List, ◌∷◌, ◌++◌, Bool, true, false, refl, ap, ◌∙◌}
 use Rattle.lard_answers.specs.Answers.{FilesAt}
 use Rattle.lard_base.specs.declared.event.Event.{Event}
 use Rattle.lard_base.specs.declared.place.Place.{Place}
@@ -38,7 +38,7 @@ module _ (i : ℕ) (e : Event) (own notes sents timers : List Rec) where
   step-others q shuts o n s t =
       let P : Rec → Type 0 = λ r. about q r ≡ false in
       Each-append P (rec.Event i e ∷ own ++ notes ++ sents) timers
-        (Each-append P (rec.Event i e ∷ own ++ notes) sents (Each-append P (rec.Event i e ∷ own) notes (shuts, o) n) s) t
+      (Each-append P (rec.Event i e ∷ own ++ notes) sents (Each-append P (rec.Event i e ∷ own) notes (shuts, o) n) s) t
 
   -- what they tell of a connection is told by the event, the notes and the segments
   pub step-tale : (c : ℕ) (t : Tale) → IsQuiet own → IsQuiet timers
@@ -66,4 +66,4 @@ module _ (i : ℕ) (e : Event) (own notes sents timers : List Rec) where
       → EachMay may J (step_records i e own notes sents timers)
   step-may may J o n s t =
       each_append may J (rec.Event i e ∷ own ++ notes ++ sents) timers
-        (each_append may J (rec.Event i e ∷ own ++ notes) sents (each_append may J (rec.Event i e ∷ own) notes o n) s) t
+      (each_append may J (rec.Event i e ∷ own ++ notes) sents (each_append may J (rec.Event i e ∷ own) notes o n) s) t

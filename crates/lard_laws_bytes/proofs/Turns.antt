@@ -1,5 +1,5 @@
 -- A turn of a place keeps what its connection agrees on.
-use Rattle.std.proofs.Common.{◌≡◌, ◌⊎◌, inl, inr, ℕ, ◌+◌, ◌-◌, ◌≤◌, List, [], ◌∷◌, ◌++◌, length, take, Bool, true, false, ◌||◌, Option, Some, None, refl, sym, ap, ◌∙◌, subst, arith, append_assoc, append-nil}
+use Rattle.std.proofs.Common.{◌≡◌, ◌⊎◌, inl, inr, ℕ, ◌+◌, ◌-◌, ◌≤◌, List, [], ◌∷◌, ◌++◌, length, Bool, true, false, ◌||◌, Option, Some, None, refl, sym, ap, ◌∙◌, subst, arith, append_assoc, append-nil}
 use Rattle.std.proofs.lemmas.Bool.{both_ways}
 use Rattle.std.specs.List.{list_any}
 use Rattle.lard_answers.specs.Answers.{FilesAt, IsFront, verdicts, verdicts_on}
@@ -20,7 +20,7 @@ use Rattle.lard_endpoint.specs.declared.control.moving.Final.{Final}
 use Rattle.lard_seq.specs.Seq.{seq_add}
 use Rattle.lard_truth.specs.Truth.{GoesOn, Stream}
 use Rattle.lard_truth.proofs.Growth.{accepted-grown, front-length, front-take, heard-grown}
-use Rattle.lard_laws_bytes.specs.Agreement.{Agrees, FrontAgrees, HasRead, HoldsIt}
+use Rattle.lard_laws_bytes.specs.Agreement.{Agrees, FrontAgrees, HasRead}
 use Rattle.lard_laws_bytes.specs.Keeping.{AreClientNotes, AreFrontNotes, ClientTurned, FrontTurned, accepted_in, resets, served_in, written_in}
 use Rattle.lard_laws_bytes.proofs.Notes.{Adds}
 use Rattle.lard_laws_bytes.proofs.Segments.{Moment}
@@ -31,7 +31,7 @@ module _ (w v : Stream) (g : GoesOn w v) where
   read-grown : (b : ControlBlock) (vs : List Verdict) → b.recv.got ≤ length w.bytes → HasRead w b vs → HasRead v b vs
   read-grown b vs within h = record {
     cut = λ d z. subst (λ (l : List ℕ). verdicts_on (blocks (l ++ z)) ≡ vs ++ verdicts_on (blocks z))
-      (sym (front-take (b.recv.got - length b.recv.unread) w.bytes v.bytes g.bytes (omega (arith, within)))) (h.cut d z);
+        (sym (front-take (b.recv.got - length b.recv.unread) w.bytes v.bytes g.bytes (omega (arith, within)))) (h.cut d z);
     goes_on = h.goes_on;
     stops = h.stops;
   }
@@ -76,7 +76,7 @@ module _ (files : FilesAt) (c : ℕ) (w out : Stream) (vs : List Verdict) (x : S
     says = record {
       spoken = a.says.spoken;
       fronts = λ z. subst (λ (l : List ℕ). IsFront vs (verdicts (l ++ z))) (sym k.wrote)
-        (subst (λ (l : List ℕ). IsFront vs (verdicts l)) (sym (append_assoc w.bytes (written_in given.1.notes) z)) (a.says.fronts (written_in given.1.notes ++ z)));
+          (subst (λ (l : List ℕ). IsFront vs (verdicts l)) (sym (append_assoc w.bytes (written_in given.1.notes) z)) (a.says.fronts (written_in given.1.notes ++ z)));
       number = a.says.number;
       most = a.says.most;
     };
@@ -148,9 +148,10 @@ pub front-may : (files : FilesAt) (c : ℕ) (out : Stream) (past rs : List Rec) 
 front-may files c out past [] notes unless fin = tt
 front-may files c out past (rec.Took place d epoch ∷ rs) notes unless fin =
     (tt, front-may files c out (past ++ rec.Took place d epoch ∷ []) rs notes.1 unless (λ e. fin (sym (ap (λ u. u.fin_sent) (tale-append past (rec.Took place d epoch ∷ []) c)) ∙ e)))
-front-may files c out past (rec.Served place d r code size via ∷ rs) notes (inl open_) fin =
-    (not-ended past c d out notes.0 open_ fin,
-      front-may files c out (past ++ rec.Served place d r code size via ∷ []) rs notes.1 (inl open_) (λ e. fin (sym (ap (λ u. u.fin_sent) (tale-append past (rec.Served place d r code size via ∷ []) c)) ∙ e)))
+front-may files c out past (rec.Served place d r code size via ∷ rs) notes (inl open_) fin = (
+  not-ended past c d out notes.0 open_ fin,
+  front-may files c out (past ++ rec.Served place d r code size via ∷ []) rs notes.1 (inl open_) (λ e. fin (sym (ap (λ u. u.fin_sent) (tale-append past (rec.Served place d r code size via ∷ []) c)) ∙ e)),
+)
 front-may files c out past (rec.Served place d r code size via ∷ rs) notes (inr none) fin = absurd (omega (arith, none))
 front-may files c out past (rec.Reset place d total ∷ rs) notes unless fin =
     (tt, front-may files c out (past ++ rec.Reset place d total ∷ []) rs notes.1 unless (λ e. fin (sym (ap (λ u. u.fin_sent) (tale-append past (rec.Reset place d total ∷ []) c)) ∙ e)))

@@ -1,14 +1,13 @@
 -- What a turn of a place keeps of the agreement of its connection.
-use Rattle.std.specs.Prelude.{◌≡◌, ◌⊎◌, ℕ, ◌+◌, ◌^◌, ◌≤◌, ◌<◌, ◌||◌, Bool, true, false, List, [], ◌∷◌, ◌++◌, length, take, Option, Some, Ok}
-use Rattle.std.specs.List.{concat, list_any}
+use Rattle.std.specs.Prelude.{◌≡◌, ◌⊎◌, ℕ, ◌+◌, ◌^◌, ◌≤◌, ◌<◌, ◌||◌, Bool, true, false, List, [], ◌∷◌, ◌++◌, length, take, Option, Ok}
+use Rattle.std.specs.List.{list_any}
 use Rattle.lard_answers.specs.Answers.{FilesAt}
 use Rattle.lard_client.specs.Control.{ClientBlock, written_len}
-use Rattle.lard_history.specs.Journal.{Tale}
 use Rattle.lard_journal.specs.declared.rec.Rec.{Rec}
 use Rattle.lard_journal.specs.declared.rec.Rec.TheVariants as rec
 use Rattle.lard_machine.specs.declared.places.FrontConn.{FrontConn}
 use Rattle.lard_machine.specs.declared.places.Turn.{Turn}
-use Rattle.lard_machine.specs.Client.{client_aborts, client_gets, client_holds, client_opens, client_shuts, client_takes, client_timer, client_writes}
+use Rattle.lard_machine.specs.Client.{client_gets, client_opens, client_writes}
 use Rattle.lard_machine.specs.Front.{FrontEnv, front_gets, front_timer}
 use Rattle.lard_request.specs.declared.verdict.Verdict.{Verdict}
 use Rattle.lard_segment.specs.Segment.{Said}

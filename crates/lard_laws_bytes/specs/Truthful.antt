@@ -3,7 +3,7 @@ use Rattle.std.specs.Prelude.{◌≡◌, ℕ, Bool, true, List, [], ◌∷◌, �
 use Rattle.std.specs.FinMap as table
 use Rattle.lard_answers.specs.Answers.{FilesAt, IsFront, answer_bytes}
 use Rattle.lard_base.specs.declared.place.Place.{Place}
-use Rattle.lard_base.specs.declared.place.Place.TheVariants.{Front, Node, Client}
+use Rattle.lard_base.specs.declared.place.Place.TheVariants.{Front, Client}
 use Rattle.lard_history.specs.Journal.{Tale, accepted, tale, untold, wrote}
 use Rattle.lard_history.specs.Laws.{EachMay, TellsTheTruth}
 use Rattle.lard_journal.specs.declared.rec.Rec.{Rec}
