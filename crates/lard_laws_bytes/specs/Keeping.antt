@@ -19,10 +19,6 @@ use Rattle.lard_laws_bytes.specs.Agreement.{AreReplies, AreWords, ClientAgrees, 
 -- ---- the front end's turn
 
 -- its notes: it took the connection, served, or reset it
-abbrev pub is_served : Rec → Bool
-is_served (rec.Served place c r code size via) = true
-is_served _ = false
-
 abbrev pub resets : Rec → Bool
 resets (rec.Reset place c total) = true
 resets _ = false
