@@ -18,11 +18,12 @@ use Rattle.lard_laws_bytes.specs.Agreement.{AreReplies, AreWords, ClientAgrees, 
 
 -- ---- the front end's turn
 
--- its notes: it took the connection, served, or reset it
+-- the record resets its connection at the stream limit
 abbrev pub resets : Rec → Bool
 resets (rec.Reset place c total) = true
 resets _ = false
 
+-- its notes: it took the connection, served, or reset it
 abbrev pub is_front_note : ℕ → Rec → Type 0
 is_front_note c (rec.Took place d epoch) = d ≡ c
 is_front_note c (rec.Served place d r code size via) = d ≡ c
