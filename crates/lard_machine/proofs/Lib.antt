@@ -1,0 +1,4 @@
+pub mod Draining
+pub mod Packets
+pub mod Saying
+pub mod Reading
