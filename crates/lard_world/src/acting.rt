@@ -1,12 +1,12 @@
 //! The end of a step: its packets are sent, and all of its records are appended at once.
 
-ghost use Rattle.std.specs.Prelude.{◌≡◌, ◌+◌, ◌^◌, ◌≤◌, ◌<◌, ◌∷◌, ◌++◌, length, OnOk, OnErr};
+ghost use Rattle.std.specs.Prelude.{◌≡◌, ◌+◌, ◌^◌, ◌≤◌, ◌<◌, ◌-◌, [], ◌∷◌, ◌++◌, length, IfOk, OnOk, OnErr};
 ghost use Rattle.lard_machine.specs.Machine.{acted, packets_of, passed, sent_records, timer_change};
 ghost use Rattle.lard_machine.specs.Speaking.{AreShort, listed};
 ghost use Rattle.lard_world.specs.Acting.{act_of};
 ghost use Rattle.lard_world.specs.Turns.{HasRoom, IsTurn};
 
-use lard_base::{ConnId, Event, NoMemory, Place, Sends, TimerKind};
+use lard_base::{Bytes, ConnId, Event, NoMemory, Place, Sends, TimerKind};
 use lard_journal::{Rec, Recs};
 use lard_machine::{Machine, Turn};
 use lard_net::Net;
@@ -53,8 +53,8 @@ pub fn conclude(
     recs.push(Rec::Event { i, event })?;
     push(&mut recs, own)?;
     push_all(&mut recs, notes)?;
-    send(&mut machine.net, alloc, place, segments, &mut recs)?;
-    push(&mut recs, timer_change(place, c, was_armed, is_armed))?;
+    send(&mut machine.net, alloc, &place, segments, &mut recs)?;
+    push(&mut recs, timer_change(&place, c, was_armed, is_armed))?;
     machine.journal.append(recs)?;
     machine.answered += u64::from(answered);
     machine.events = i;
@@ -80,21 +80,38 @@ pub fn pass(machine: &mut Machine, alloc: Global, event: Event, own: Rec) -> Res
 fn send(
     net: &mut Net,
     alloc: Global,
-    from: Place,
+    from: &Place,
     segments: Sends,
     recs: &mut Recs,
 ) -> Result<(), NoMemory>
     requires room { length net.old + length segments < 2 ^ 32 - 1 }
     requires short { AreShort segments }
-    ensures net { OnOk result (net.new ≡ net.old ++ packets_of from segments) }
-    ensures recs { OnOk result (recs.new ≡ recs.old ++ sent_records (length net.old + 1) from segments) }
+    ensures net { OnOk result (net.new ≡ net.old ++ packets_of from.now segments) }
+    ensures recs { OnOk result (recs.new ≡ recs.old ++ sent_records (length net.old + 1) from.now segments) }
 {
     for (to, bytes) in segments.into_vec() {
-        let copy = bytes.copy(alloc)?;
-        let k = net.send(from, to, copy)?;
-        recs.push(Rec::Sent { k, from, to, bytes })?;
+        recs.push(send_one(net, alloc, from, &to, bytes)?)?;
     }
     Ok(())
+}
+
+/// Sends a packet, and answers the record of it.
+fn send_one(
+    net: &mut Net,
+    alloc: Global,
+    from: &Place,
+    to: &Place,
+    bytes: Bytes,
+) -> Result<Rec, NoMemory>
+    requires room { length net.old < 2 ^ 32 - 1 }
+    requires short { length bytes ≤ 1520 }
+    ensures net { OnOk result (net.new ≡ net.old ++ packets_of from.now ((to.now, bytes) ∷ [])) }
+    ensures rec { IfOk result (λ rec. rec ≡ Rec.Sent (length net.old + 1) from.now to.now bytes) }
+{
+    let copy = bytes.copy(alloc)?;
+    let k = net.send(*from, *to, copy)?;
+    let (from, to) = (*from, *to);
+    Ok(Rec::Sent { k, from, to, bytes })
 }
 
 /// Adds a record, where there is one.
@@ -118,10 +135,11 @@ fn push_all(recs: &mut Recs, more: Recs) -> Result<(), NoMemory>
 }
 
 /// The record of the timer that changed, from its flags before and after the step.
-fn timer_change(place: Place, c: ConnId, was: bool, is: bool) -> Option<Rec>
-    ensures { listed result ≡ timer_change place c was is }
+fn timer_change(place: &Place, c: ConnId, was: bool, is: bool) -> Option<Rec>
+    ensures { listed result ≡ timer_change place.now c was is }
 {
     let kind = TimerKind::Tcp;
+    let place = *place;
     match (was, is) {
         (false, true) => Some(Rec::Armed { place, c, kind }),
         (true, false) => Some(Rec::Cleared { place, c, kind }),

@@ -1,10 +1,11 @@
 //! The rules of the front end, each over one connection. The connection comes back in each case, also without memory.
 
-ghost use Rattle.std.specs.Prelude.{◌≡◌, ◌+◌, ◌^◌, ◌≤◌, false, [], ◌∷◌, ◌++◌, length, None, Some, IfOk, IfSome, OnOk, option_map};
+ghost use Rattle.std.specs.Prelude.{◌≡◌, ◌+◌, ◌^◌, ◌≤◌, true, false, [], ◌∷◌, ◌++◌, length, None, Some, IfOk, IfSome, OnOk, option_map};
 ghost use Rattle.lard_endpoint.specs.Control.{ControlBlock};
 ghost use Rattle.lard_endpoint.specs.Leaving.{IsReady};
 ghost use Rattle.lard_machine.specs.Client.{silent};
-ghost use Rattle.lard_machine.specs.Front.{begun, cut_off, front_armed, front_gets, front_hears, front_timer, heard, is_plain_syn, is_telling, last_ack, last_words, limit_said, met, ready_of, refusal, rested, settled, spoken, told, tombstone};
+ghost use Rattle.lard_machine.specs.Front.{begun, cut_off, front_gets, front_hears, front_timer, heard, is_plain_syn, is_telling, last_ack, last_words, limit_said, met, ready_of, refusal, rested, settled, spoken, told, tombstone};
+ghost use Rattle.lard_machine.specs.Machine.{front_armed};
 ghost use Rattle.lard_machine.specs.Speaking.{AreShort};
 ghost use Rattle.lard_segment.specs.Segment.{decoded, said};
 ghost use Rattle.lard_world.specs.Front.{IsCounted, IsCountedIn, begun_of, env_seen, service_of};

@@ -1,10 +1,10 @@
 //! The steps of packets and timers.
 
-ghost use Rattle.std.specs.Prelude.{◌≡◌, ◌^◌, ◌≤◌, ◌∷◌, [], length, OnOk, OnErr, Some};
+ghost use Rattle.std.specs.Prelude.{◌≡◌, ◌^◌, ◌≤◌, ◌∷◌, [], length, false, OnOk, OnErr};
 ghost use Rattle.std.specs.FinMap as table;
 ghost use Rattle.lard_net.specs.Net.{packet_at};
 ghost use Rattle.lard_machine.specs.Bounds.{HasTimer};
-ghost use Rattle.lard_machine.specs.Machine.{Steps, delivered, from_place, lost, timer, timer_at, to_client, to_front, to_place};
+ghost use Rattle.lard_machine.specs.Machine.{Steps, delivered, from_place, lost, timer, to_client, to_front, to_place};
 ghost use Rattle.lard_world.specs.Turns.{HasCounts, HasRoom};
 
 use crate::acting::pass;
@@ -129,49 +129,50 @@ pub fn lose(machine: &mut Machine, alloc: Global, k: u32) -> Result<(), StepFaul
 }
 
 /// The timers of a connection at a place fire.
-#[tactic(auto, using(crate::proofs::Lent::client_back), unfolding(lard_machine::specs::Machine::timer))]
-pub fn fire(machine: &mut Machine, alloc: Global, place: Place, c: ConnId) -> Result<(), StepFault>
+pub fn fire(
+    machine: &mut Machine,
+    alloc: Global,
+    place: Place,
+    c: ConnId,
+) -> Result<(), StepFault>
     requires room { HasRoom machine.old }
     requires counts { HasCounts machine.old }
     requires timers { HasTimer place c }
     ensures { Steps (timer machine.old place c (table.get machine.old.clients c)) machine.old machine.new result }
 {
-    let Some(station) = machine.clients.get(c.number()) else {
-        return Err(StepFault::NoClient(c.number()));
-    };
-    let iss = station.iss;
     match place {
-        Place::Front => {
-            conns::fire(machine, alloc, c, iss)?;
-            return Ok(());
-        }
-        Place::Client(_) => {
-            fire_client(machine, alloc, c)?;
-            return Ok(());
-        }
+        Place::Front => return fire_front(machine, alloc, c),
+        Place::Client(_) => return fire_client(machine, alloc, c),
         Place::Node(_) => unreachable!(),
     }
 }
 
-/// The timer of a client that opened fires.
-#[tactic(auto, using(crate::proofs::Lent::client_back))]
-fn fire_client(machine: &mut Machine, alloc: Global, c: ConnId) -> Result<(), NoMemory>
+/// The front end's timer for a connection fires.
+#[tactic(auto, unfolding(lard_machine::specs::Machine::timer))]
+fn fire_front(machine: &mut Machine, alloc: Global, c: ConnId) -> Result<(), StepFault>
     requires room { HasRoom machine.old }
-    requires opened { IsSome (table.get machine.old.clients c) }
-    ensures ok { OnOk result (OnSome (table.get machine.old.clients c) (λ x. machine.new ≡ timer_at machine.old (Place.Client c) c x)) }
-    ensures err { OnErr result (machine.new.journal ≡ machine.old.journal) }
+    requires counts { HasCounts machine.old }
+    ensures { Steps (timer machine.old Place.Front c (table.get machine.old.clients c)) machine.old machine.new result }
+{
+    let Some(station) = machine.clients.get(c.number()) else {
+        return Err(StepFault::NoClient(c.number()));
+    };
+    let iss = station.iss;
+    conns::fire(machine, alloc, c, iss)?;
+    Ok(())
+}
+
+/// A client's timer fires.
+#[tactic(auto, using(crate::proofs::Lent::client_back), unfolding(lard_machine::specs::Machine::timer))]
+fn fire_client(machine: &mut Machine, alloc: Global, c: ConnId) -> Result<(), StepFault>
+    requires { HasRoom machine.old }
+    ensures { Steps (timer machine.old (Place.Client c) c (table.get machine.old.clients c)) machine.old machine.new result }
 {
     let Some(mut acting) = take_out(machine, alloc, c) else {
-        unreachable!()
+        return Err(StepFault::NoClient(c.number()));
     };
     let turn = clients::fire(alloc, &mut acting.station.client)?;
     let place = Place::Client(c);
-    put_back(
-        machine,
-        alloc,
-        Event::Timer { place, c },
-        None,
-        acting,
-        turn,
-    )
+    put_back(machine, alloc, Event::Timer { place, c }, None, acting, turn)?;
+    Ok(())
 }

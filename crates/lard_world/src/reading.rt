@@ -1,6 +1,7 @@
 //! How the front end reads the requests of a connection, and answers them.
 
-ghost use Rattle.std.specs.Prelude.{◌≡◌, ◌+◌, ◌^◌, ◌≤◌, ◌<◌, false, [], ◌∷◌, ◌++◌, length, IfOk, IfSome, IsTrue, OnOk, option_copied, if◌then◌else◌};
+ghost use Rattle.std.specs.Prelude.{◌≡◌, ◌+◌, ◌^◌, ◌≤◌, ◌<◌, false, [], ◌∷◌, ◌++◌, length, IfOk, IfSome, IsTrue, OnOk, true, if◌then◌else◌};
+ghost use Rattle.std.specs.Option.{option_copied};
 ghost use Rattle.lard_answers.specs.Answers.{answer, found};
 ghost use Rattle.lard_files.specs.Files.{file_at};
 ghost use Rattle.lard_endpoint.specs.Control.{ControlBlock, finishing};
@@ -223,7 +224,7 @@ fn response(alloc: Global, files: &Files, verdict: &Verdict) -> Result<Bytes, No
 /// The response to a request for a path that names this file, or none.
 fn found(alloc: Global, body: Option<&[u8]>, head: bool, close: bool) -> Result<Bytes, NoMemory>
     requires { IfSome body (λ bytes. length bytes.now ≤ 2 ^ 26) }
-    ensures response { IfOk result (λ bytes. bytes ≡ found (option_copied body) head close) }
+    ensures response { IfOk result (λ bytes. bytes ≡ found (option_copied body.entry) head close) }
     ensures size { IfOk result (λ bytes. (1 ≤ length bytes) × (length bytes ≤ 2 ^ 27)) }
 {
     match body {

@@ -23,9 +23,11 @@ pub struct World {
 }
 
 impl Model for World {
-    ghost use Rattle.lard_world.specs.World.{Standing};
+    ghost use Rattle.lard_world.specs.World.{Standing, coded_standing};
 
     ghost Value = { Standing };
+
+    ghost coded = { coded_standing };
 
     ghost view = { λ w. record { machine = w.machine; spoiled = w.spoiled } };
 }
