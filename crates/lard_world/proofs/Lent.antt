@@ -1,5 +1,5 @@
 -- What was in hand and is put back.
-use Rattle.std.proofs.Common.{◌≡◌, ℕ, List, Bool, ap}
+use Rattle.std.proofs.Common.{◌≡◌, ℕ, suc, zero, List, [], ◌∷◌, length, Bool, refl, ap}
 use Rattle.std.specs.FinMap as table
 use Rattle.std.specs.FinMap.{FinMap}
 use Rattle.std.specs.Ordering.{nat_cmp}
@@ -13,6 +13,8 @@ use Rattle.lard_machine.specs.declared.places.FrontConn.{FrontConn}
 use Rattle.lard_machine.specs.declared.places.FrontConn.TheVariants.{Lent}
 use Rattle.lard_machine.specs.declared.places.Station.{Station}
 use Rattle.lard_machine.specs.declared.places.Turn.{Turn}
+use Rattle.lard_net.specs.declared.net.Packet.{Packet}
+use Rattle.lard_net.specs.Net.{lose_at}
 use Rattle.lard_table.proofs.Map.{insert_twice}
 use Rattle.lard_world.specs.Lent.{stand_in, without_client, without_conn}
 
@@ -24,3 +26,9 @@ client_back m e own c iss was given =
 
 pub conn_back : (m : Machine) (c : ℕ) (x : FrontConn) → record (without_conn m c) { conns = table.insert (without_conn m c).conns c x } ≡ record m { conns = table.insert m.conns c x }
 conn_back m c x = ap (λ (t : FinMap nat_cmp FrontConn). record m { conns = t }) (insert_twice m.conns c Lent x)
+
+-- a packet that is lost stays among those that were sent
+pub lost_len : (n : ℕ) (net : List Packet) → length (lose_at n net) ≡ length net
+lost_len n [] = refl
+lost_len zero (p ∷ ps) = refl
+lost_len (suc n) (p ∷ ps) = ap suc (lost_len n ps)

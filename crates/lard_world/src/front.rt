@@ -93,10 +93,13 @@ fn cut_off(alloc: Global, env: &Env<'_>, mut endpoint: Endpoint, service: Servic
 {
     let sends = speak_symbols(alloc, env.c, &mut endpoint);
     let last = endpoint.kill();
-    (
-        FrontConn::Closed(last),
-        limit_turn(alloc, env, last, service, sends),
-    )
+    match sends {
+        Ok(sends) => {
+            let turn = limit_turn(alloc, env, last, service, sends);
+            return (FrontConn::Closed(last), turn);
+        }
+        Err(NoMemory) => return (FrontConn::Closed(last), Err(NoMemory)),
+    }
 }
 
 /// The turn at the stream limit: these packets, and the RST.
@@ -105,15 +108,15 @@ fn limit_turn(
     env: &Env<'_>,
     last: Final,
     service: Service,
-    sends: Result<Sends, NoMemory>,
+    sends: Sends,
 ) -> Result<Turn, NoMemory>
-    requires short { IfOk sends AreShort }
-    requires few { IfOk sends (λ sends. length sends ≤ 2 ^ 30 + 3) }
+    requires short { AreShort sends }
+    requires few { length sends ≤ 2 ^ 30 + 3 }
     requires counted { service.answered ≤ 2 ^ 30 }
-    ensures turn { IfOk result (λ turn. IfOk sends (λ sends. turn ≡ record { notes = service.notes; segments = sends ++ told (env_seen env.now) (limit_said last) ∷ []; answered = service.answered })) }
+    ensures turn { IfOk result (λ turn. turn ≡ record { notes = service.notes; segments = sends ++ told (env_seen env.now) (limit_said last) ∷ []; answered = service.answered }) }
     ensures fits { IfOk result IsTurn }
 {
-    let mut segments = sends?;
+    let mut segments = sends;
     segments.push(told(alloc, env, &limit_segment(last))?)?;
     Ok(Turn {
         notes: service.notes,

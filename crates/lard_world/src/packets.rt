@@ -111,7 +111,7 @@ fn to_client(
 }
 
 /// A packet arrives no more from now on.
-#[tactic(auto, unfolding(lard_machine::specs::Machine::lost))]
+#[tactic(auto, using(crate::proofs::Lent::lost_len), unfolding(lard_machine::specs::Machine::lost))]
 pub fn lose(machine: &mut Machine, alloc: Global, k: u32) -> Result<(), StepFault>
     requires { HasRoom machine.old }
     ensures { Steps (lost machine.old k (packet_at machine.old.net k)) machine.old machine.new result }

@@ -1,11 +1,11 @@
 //! How the front end reads the requests of a connection, and answers them.
 
-ghost use Rattle.std.specs.Prelude.{◌≡◌, ◌+◌, ◌^◌, ◌≤◌, ◌<◌, false, [], ◌∷◌, ◌++◌, length, IfOk, IfSome, IsTrue, OnOk, true, if◌then◌else◌};
+ghost use Rattle.std.specs.Prelude.{◌≡◌, ◌+◌, ◌^◌, ◌≤◌, ◌<◌, false, [], ◌∷◌, ◌++◌, length, IfOk, IfSome, IsTrue, OnOk, Some, true, if◌then◌else◌};
 ghost use Rattle.std.specs.Option.{option_copied};
 ghost use Rattle.lard_answers.specs.Answers.{answer, found};
 ghost use Rattle.lard_files.specs.Files.{file_at};
-ghost use Rattle.lard_endpoint.specs.Control.{ControlBlock, finishing};
-ghost use Rattle.lard_machine.specs.Front.{answered, closed_behind, code_of, may_read, passed_over, reads};
+ghost use Rattle.lard_endpoint.specs.Control.{finishing};
+ghost use Rattle.lard_machine.specs.Front.{answered, closed_behind, code_of, may_read, reads};
 ghost use Rattle.lard_response.specs.Response.{number, response};
 ghost use Rattle.lard_world.specs.Front.{IsCounted, env_seen, service_of};
 
@@ -69,7 +69,7 @@ pub fn read(
     ensures read { OnOk result (service_of endpoint.new service.new ≡ reads (env_seen env.now) (service_of endpoint.old service.old)) }
     ensures counted { OnOk result (IsCounted endpoint.new service.new) }
 {
-    while may_read(endpoint, service) {
+    'reading: while may_read(endpoint, service) {
         match cut(endpoint.unread()) {
             Found::More { skip } => {
                 endpoint.consume(skip);
@@ -139,7 +139,10 @@ fn answer(
 
 /// The response would pass the stream limit: the connection is to be reset in its place.
 fn pass_over(env: &Env<'_>, service: &mut Service, total: u32) -> Result<(), NoMemory>
-    ensures { OnOk result ((b : ControlBlock) → service_of b service.new ≡ passed_over (env_seen env.now) total (service_of b service.old)) }
+    ensures { OnOk result (service.new ≡ record service.old {
+      notes = service.old.notes ++ Rec.Reset Place.Front env.now.c total ∷ [];
+      over = Some total;
+    }) }
 {
     service.notes.push(Rec::Reset {
         place: Place::Front,
@@ -222,6 +225,7 @@ fn response(alloc: Global, files: &Files, verdict: &Verdict) -> Result<Bytes, No
 }
 
 /// The response to a request for a path that names this file, or none.
+#[tactic(auto, using(crate::proofs::Responses::response_fits))]
 fn found(alloc: Global, body: Option<&[u8]>, head: bool, close: bool) -> Result<Bytes, NoMemory>
     requires { IfSome body (λ bytes. length bytes.now ≤ 2 ^ 26) }
     ensures response { IfOk result (λ bytes. bytes ≡ found (option_copied body.entry) head close) }
@@ -234,6 +238,7 @@ fn found(alloc: Global, body: Option<&[u8]>, head: bool, close: bool) -> Result<
 }
 
 /// The response to a fault, behind which the connection closes.
+#[tactic(auto, using(crate::proofs::Responses::response_fits))]
 fn fault(alloc: Global, code: Code) -> Result<Bytes, NoMemory>
     ensures response { IfOk result (λ bytes. bytes ≡ response code [] false true) }
     ensures size { IfOk result (λ bytes. (1 ≤ length bytes) × (length bytes ≤ 2 ^ 27)) }

@@ -4,7 +4,7 @@ use Rattle.lard_base.specs.declared.place.Place.{Place}
 use Rattle.lard_client.specs.Control.{ClientBlock}
 use Rattle.lard_client.specs.Leaving.{emitted, after_emit}
 use Rattle.lard_machine.specs.Speaking.{AreShort, client_speaks, to_front}
-use Rattle.lard_machine.proofs.Packets.{short-push}
+use Rattle.lard_machine.proofs.Packets.{short_push}
 use Rattle.lard_machine.proofs.Saying.{client-more, client-done}
 use Rattle.lard_world.proofs.Loops.{sent_more, sent_all}
 use Rattle.lard_world.proofs.speaking.client_speak.Goals as goal
@@ -22,7 +22,7 @@ loop-ready-preserved c =
       said = more.0 ∙ c.loop-ready.invariant.said;
       after = more.1 ∙ c.loop-ready.invariant.after;
       sound = c.written-written-in-Some.ensures.sending;
-      short = subst AreShort (sym c.in_ok-push.ensures.ok) (short-push c.loop-ready.sends packet c.loop-ready.invariant.short c.in_ok-to_front.ensures.short);
+      short = subst AreShort (sym c.in_ok-push.ensures.ok) (short_push c.loop-ready.sends packet c.loop-ready.invariant.short c.in_ok-to_front.ensures.short);
       few = omega (arith, c.loop-ready.invariant.few, c.in-Some.ensures.falls, ap length c.in_ok-push.ensures.ok, length-append c.loop-ready.sends (packet ∷ []));
     }
 
