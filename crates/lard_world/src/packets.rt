@@ -83,7 +83,6 @@ fn to_front(
 }
 
 /// A packet comes to client `c`.
-#[tactic(auto, using(crate::proofs::Lent::client_back))]
 fn to_client(
     machine: &mut Machine,
     alloc: Global,
@@ -107,7 +106,8 @@ fn to_client(
         Some(Rec::Got(k)),
         acting,
         turn,
-    )
+    )?;
+    Ok(())
 }
 
 /// A packet arrives no more from now on.
@@ -163,7 +163,7 @@ fn fire_front(machine: &mut Machine, alloc: Global, c: ConnId) -> Result<(), Ste
 }
 
 /// A client's timer fires.
-#[tactic(auto, using(crate::proofs::Lent::client_back), unfolding(lard_machine::specs::Machine::timer))]
+#[tactic(auto, unfolding(lard_machine::specs::Machine::timer))]
 fn fire_client(machine: &mut Machine, alloc: Global, c: ConnId) -> Result<(), StepFault>
     requires { HasRoom machine.old }
     ensures { Steps (timer machine.old (Place.Client c) c (table.get machine.old.clients c)) machine.old machine.new result }
