@@ -129,12 +129,7 @@ pub fn lose(machine: &mut Machine, alloc: Global, k: u32) -> Result<(), StepFaul
 }
 
 /// The timers of a connection at a place fire.
-pub fn fire(
-    machine: &mut Machine,
-    alloc: Global,
-    place: Place,
-    c: ConnId,
-) -> Result<(), StepFault>
+pub fn fire(machine: &mut Machine, alloc: Global, place: Place, c: ConnId) -> Result<(), StepFault>
     requires room { HasRoom machine.old }
     requires counts { HasCounts machine.old }
     requires timers { HasTimer place c }
@@ -173,6 +168,13 @@ fn fire_client(machine: &mut Machine, alloc: Global, c: ConnId) -> Result<(), St
     };
     let turn = clients::fire(alloc, &mut acting.station.client)?;
     let place = Place::Client(c);
-    put_back(machine, alloc, Event::Timer { place, c }, None, acting, turn)?;
+    put_back(
+        machine,
+        alloc,
+        Event::Timer { place, c },
+        None,
+        acting,
+        turn,
+    )?;
     Ok(())
 }

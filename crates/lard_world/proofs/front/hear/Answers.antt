@@ -1,6 +1,5 @@
 -- No byte is queued by what comes.
 use Rattle.std.proofs.Common.{◌≡◌, ◌≤◌, arith, subst, ap, ◌∙◌}
-use Rattle.lard_endpoint.specs.Arriving.{on_segment}
 use Rattle.lard_endpoint.specs.declared.control.arriving.Arrival.{Arrival}
 use Rattle.lard_endpoint.specs.Control.{ControlBlock}
 use Rattle.lard_machine.proofs.Totals.{arrival_total}

@@ -1,5 +1,5 @@
 -- The rule was followed on the station that was taken out, of which the limit was tested.
-use Rattle.std.proofs.Common.{◌≡◌, ℕ, ◌≤◌, [], Ok, Err, Result, Some, Option, false, cond, nat_lt, refl, sym, ap, ◌∙◌, arith}
+use Rattle.std.proofs.Common.{◌≡◌, ℕ, ◌≤◌, [], Ok, Err, Result, Some, Option, false, cond, nat_lt, ap, ◌∙◌, arith}
 use Rattle.std.proofs.lemmas.Bool.Decides.{nat_tests}
 use Rattle.std.specs.FinMap as table
 use Rattle.lard_client.specs.Control.{written_len}
