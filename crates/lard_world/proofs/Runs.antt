@@ -1,5 +1,6 @@
 -- A step leads from run to run, and what every run's journal obeys holds after each step, done or not.
-use Rattle.std.proofs.Common.{◌≡◌, ℕ, ◌≤◌, ◌^◌, List, [], ◌∷◌, IsTrue, arith, Result, Ok, Err, refl, sym, ap, subst}
+use Rattle.std.proofs.Common.{◌≡◌, ℕ, ◌≤◌, ◌^◌, List, [], ◌∷◌, IsTrue, true, false, arith, Result, Ok, Err, refl, sym, ap, subst}
+use Rattle.std.proofs.lemmas.Bool.{both_ways}
 use Rattle.std.proofs.lemmas.Bool.Decides.{nat_tests}
 use Rattle.std.specs.FinMap as table
 use Rattle.std.specs.FinMap.{FinMap}
@@ -19,6 +20,7 @@ use Rattle.lard_machine.specs.Machine.{Steps, machine_step, start}
 use Rattle.lard_net.specs.declared.net.Packet.{Packet}
 use Rattle.lard_machine.proofs.Runs.{reached-more, step-set}
 use Rattle.lard_world.specs.Runs.{IsRun}
+use Rattle.lard_world.specs.World.{is_short}
 
 pub step-run : (m n : Machine) (e : Event) → IsRun m → HasRule e → machine_step m e ≡ Ok n → IsRun n
 step-run m n e r rule is = record {
@@ -39,9 +41,9 @@ module _ (old new : Machine) (e : Event) (run : IsRun old) (rule : HasRule e) wh
   still P law (Err (Limit what)) steps = subst P (ap (λ (m : Machine). m.journal) (sym steps.0)) (law old run refl refl)
 
   -- and a world whose memory sufficed has run
-  pub runs-on : (result : Result (Unit {0}) StepFault) → Steps (machine_step old e) old new result → (result ≡ Err NoMemory → ⊥) → IsRun new
+  pub runs-on : (result : Result (Unit {0}) StepFault) → Steps (machine_step old e) old new result → is_short result ≡ false → IsRun new
   runs-on (Ok done) steps some = step-run old new e run rule steps
-  runs-on (Err NoMemory) steps some = absurd (some refl)
+  runs-on (Err NoMemory) steps some = absurd (both_ways true some refl)
   runs-on (Err (NotSent k sent)) steps some = subst IsRun (sym steps.0) run
   runs-on (Err (WasLost k)) steps some = subst IsRun (sym steps.0) run
   runs-on (Err (NoClient c)) steps some = subst IsRun (sym steps.0) run
