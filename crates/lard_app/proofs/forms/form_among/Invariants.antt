@@ -1,6 +1,6 @@
 use Rattle.std.proofs.Common.{◌≡◌, drop}
-use Rattle.lard_app.specs.Lines.{form_in}
-use Rattle.lard_app.proofs.lines.form_among.Given as goal
+use Rattle.lard_app.specs.Forms.{form_in}
+use Rattle.lard_app.proofs.forms.form_among.Given as goal
 
 -- the forms that are left have the first that fits
 abbrev pub invariant-loop-form : goal.invariant-loop-form
