@@ -1,0 +1,3 @@
+mod Growth
+mod Passing
+mod Steps

@@ -1,0 +1,127 @@
+-- The report of a replay grows by what each line adds.
+use Rattle.std.proofs.Common.{◌≡◌, ℕ, ◌+◌, List, [], ◌∷◌, ◌++◌, length, drop, Bool, true, false, cond, Option, Some, None, Result, Ok, Err, refl, sym, ap, ◌∙◌, subst, append_assoc, append-nil}
+use Rattle.lard_base.specs.Config.{config_check, range_check}
+use Rattle.lard_base.specs.declared.config.Config.{Config}
+use Rattle.lard_base.specs.declared.config.ConfigFault.{ConfigFault}
+use Rattle.lard_base.specs.declared.config.Key.{Key}
+use Rattle.lard_base.specs.declared.event.Event.{Event}
+use Rattle.lard_journal.specs.declared.rec.Rec.{Rec}
+use Rattle.lard_journal.specs.Report.{report, heading_line}
+use Rattle.lard_journal.proofs.Growth.{report-append, report-heading}
+use Rattle.lard_machine.specs.Machine.{machine_step, start}
+use Rattle.lard_machine.specs.declared.fault.StepFault.{StepFault}
+use Rattle.lard_machine.specs.declared.fault.What.TheVariants.{Input}
+use Rattle.lard_machine.specs.declared.machine.Machine.{Machine}
+use Rattle.lard_schedule.specs.declared.item.Item.{Item}
+use Rattle.lard_schedule.specs.declared.item.Item.TheVariants as item
+use Rattle.lard_schedule.specs.declared.reader.Reader.{Reader}
+use Rattle.lard_schedule.specs.declared.reader.Stage.{Stage}
+use Rattle.lard_schedule.specs.declared.reader.Stage.TheVariants.{Start, Settings, Files, Running}
+use Rattle.lard_schedule.specs.Laws.{IsBefore, MayStand}
+use Rattle.lard_schedule.specs.Reader.{item_of}
+use Rattle.lard_app.specs.declared.status.Form.{Form}
+use Rattle.lard_app.specs.declared.status.Status.{Status}
+use Rattle.lard_app.specs.declared.status.Status.TheVariants.{Limit}
+use Rattle.lard_app.specs.declared.status.Why.{Why}
+use Rattle.lard_app.specs.Forms.{missing, unbuilt}
+use Rattle.lard_app.specs.Replay.{Progress, begun, config_set, counted, followed, found, gain, go_gain, is_past, item_gain, item_taken, judged, judged_gain, moved, passed, replayed, report_at, report_of, step_gain, stepped, taken, unless_unbuilt}
+use Rattle.lard_app.proofs.Passing.{Took, judged_by, passed-took, passed_by, took-fits, took-gain}
+use Rattle.lard_app.proofs.Steps.{step-grows}
+
+-- an answer that is known
+pub ok_is : {A E : Type 0} (x y : A) → ◌≡◌ {A = Result A E} (Ok x) (Ok y) → x ≡ y
+ok_is x y e = cc
+
+-- ---- the report grows by what a line adds
+
+-- nothing was written before `go`
+before_none : (stage : Stage) (m : Machine) → IsBefore stage → report_at stage m ≡ []
+before_none Start m b = absurd b
+before_none Settings m b = refl
+before_none Files m b = refl
+before_none Running m b = absurd b
+
+module _ (s t : Progress) where
+  set-grown : (key : Key) (value : ℕ) (r : Result (Unit {0}) ConfigFault) → config_set s key value r ≡ Ok t → report_of t ≡ report_of s ++ []
+  set-grown key value (Ok u) e = ap report_of (sym (ok_is _ t e)) ∙ sym (append-nil (report_of s))
+  set-grown key value (Err fault) e = cc
+
+  -- the reader has passed the line
+  begun-grown : (before : Stage) (r : Result (Unit {0}) ConfigFault) → s.reader.stage ≡ Running → IsBefore before → begun s r ≡ Ok t → report_of t ≡ report_at before s.machine ++ go_gain s.config r
+  begun-grown before (Ok u) running b e =
+      ap report_of (sym (ok_is _ t e)) ∙ ap (λ st. report_at st (start s.config [])) running ∙ report-heading s.config ∙ ap (λ xs. xs ++ heading_line s.config) (sym (before_none before s.machine b))
+  begun-grown before (Err fault) running b e = cc
+
+  moved-grown : (e : Event) (r : Result Machine StepFault) → s.reader.stage ≡ Running → machine_step s.machine e ≡ r → moved s r ≡ Ok t → report_of t ≡ report_of s ++ step_gain s (moved s r)
+  moved-grown e (Err fault) running is h = cc
+  moved-grown e (Ok m) running is h =
+      let grows = step-grows s.machine m e is in
+      ap report_of (sym (ok_is _ t h)) ∙ ap (λ st. report_at st m) running ∙ ap (λ c. report c [] m.journal) grows.1 ∙ ap (report s.machine.config []) grows.0
+      ∙ report-append s.machine.config [] s.machine.journal (drop (length s.machine.journal) m.journal)
+      ∙ ap (λ st. report_at st s.machine ++ step_gain s (moved s (Ok m))) (sym running)
+
+  event-grown : (e : Event) (o : Option Form) → s.reader.stage ≡ Running → stepped s e o ≡ Ok t → report_of t ≡ report_of s ++ step_gain s (stepped s e o)
+  event-grown e (Some form) running h = cc
+  event-grown e None running h = moved-grown e (machine_step s.machine e) running refl h
+
+-- what an item adds, where it may stand
+item-grown : (s t : Progress) (x : Item) → MayStand s.reader x → taken (followed s x) x ≡ Ok t → report_of t ≡ report_of s ++ item_gain (followed s x) x
+item-grown s t item.Header stands e = ap report_of (sym (ok_is _ t e)) ∙ ap (λ st. report_at st s.machine ++ []) (sym stands)
+item-grown s t (item.Set key value) stands e = set-grown (followed s (item.Set key value)) t key value (range_check key value) e
+item-grown s t (item.File path bytes) stands e = cc
+item-grown s t item.Go stands e = begun-grown (followed s item.Go) t s.reader.stage (config_check s.config) refl stands e
+item-grown s t (item.Event d) stands e = event-grown (followed s (item.Event d)) t d (missing d) stands e
+
+-- a line that is passed
+pub passed-grown : (s t : Progress) (line : List ℕ) → passed s line ≡ Ok t → report_of t ≡ report_of s ++ gain s line
+passed-grown s t line e =
+    let k = passed-took s t line e in
+    item-grown (counted s line) t k.item (took-fits s t line k).1 k.is ∙ ap (λ xs. report_of s ++ xs) (sym (took-gain s t line k))
+
+-- ---- a line that ends the run adds nothing
+
+module _ (s : Progress) (status : Status) where
+  go-none : (r : Result (Unit {0}) ConfigFault) → begun s r ≡ Err status → go_gain s.config r ≡ []
+  go-none (Ok u) h = cc
+  go-none (Err fault) h = refl
+
+  step-none : (r : Result Progress Status) → r ≡ Err status → step_gain s r ≡ []
+  step-none (Err other) h = refl
+  step-none (Ok t) h = cc
+
+  item-none : (x : Item) → taken s x ≡ Err status → item_gain s x ≡ []
+  item-none item.Header h = refl
+  item-none (item.Set key value) h = refl
+  item-none (item.File path bytes) h = refl
+  item-none item.Go h = go-none (config_check s.config) h
+  item-none (item.Event e) h = step-none (stepped s e (missing e)) h
+
+judged-none : (s : Progress) (status : Status) (j : Result Item Why) → item_taken s j ≡ Err status → judged_gain s j ≡ []
+judged-none s status (Err why) h = refl
+judged-none s status (Ok x) h = item-none (followed s x) status x h
+
+pub passed-none : (s : Progress) (line : List ℕ) (status : Status) → passed s line ≡ Err status → gain s line ≡ []
+unfolding passed gain
+passed-none s line status e = go (is_past s line) e where
+  go : (b : Bool) → cond b (Err (Limit (s.lines + 1) Input)) (item_taken (counted s line) (judged s.reader line)) ≡ Err status → cond b [] (judged_gain (counted s line) (judged s.reader line)) ≡ []
+  go true h = refl
+  go false h = judged-none (counted s line) status (judged s.reader line) h
+
+-- ---- the report of a state is a front of that of a replay from there on
+
+-- the report of the end begins with a text
+pub record BeginsWith (s : Progress) (lines : List (List ℕ)) (text : List ℕ) : Type 0 where
+  pub more : List ℕ
+  pub is : report_of (replayed s lines).0 ≡ text ++ more
+
+pub begins : (s : Progress) (lines : List (List ℕ)) → BeginsWith s lines (report_of s)
+begins s [] = record { more = []; is = sym (append-nil (report_of s)) }
+begins s (last ∷ []) = record { more = []; is = sym (append-nil (report_of s)) }
+begins s (line ∷ next ∷ more) = go (passed s line) refl (λ t. begins t (next ∷ more)) where
+  go : (r : Result Progress Status) → passed s line ≡ r → ((t : Progress) → BeginsWith t (next ∷ more) (report_of t))
+      → BeginsWith s (line ∷ next ∷ more) (report_of s)
+  go (Err status) e later = record { more = []; is = rw (e, replayed) (sym (append-nil (report_of s))) }
+  go (Ok t) e later = record {
+    more = gain s line ++ (later t).more;
+    is = rw (e, replayed) ((later t).is ∙ ap (λ xs. xs ++ (later t).more) (passed-grown s t line e) ∙ append_assoc (report_of s) (gain s line) (later t).more);
+  }
