@@ -1,3 +1,4 @@
 mod Growth
+mod Keeping
 mod Passing
 mod Steps
