@@ -25,12 +25,8 @@ use Rattle.lard_app.specs.declared.status.Status.TheVariants.{Limit}
 use Rattle.lard_app.specs.declared.status.Why.{Why}
 use Rattle.lard_app.specs.Forms.{missing, unbuilt}
 use Rattle.lard_app.specs.Replay.{Progress, begun, config_set, counted, followed, found, gain, go_gain, is_past, item_gain, item_taken, judged, judged_gain, moved, passed, replayed, report_at, report_of, step_gain, stepped, taken, unless_unbuilt}
-use Rattle.lard_app.proofs.Passing.{Took, judged_by, passed-took, passed_by, took-fits, took-gain}
+use Rattle.lard_app.proofs.Passing.{Took, judged_by, ok_is, passed-took, passed_by, took-fits, took-gain}
 use Rattle.lard_app.proofs.Steps.{step-grows}
-
--- an answer that is known
-pub ok_is : {A E : Type 0} (x y : A) → ◌≡◌ {A = Result A E} (Ok x) (Ok y) → x ≡ y
-ok_is x y e = cc
 
 -- ---- the report grows by what a line adds
 

@@ -27,8 +27,7 @@ use Rattle.lard_app.specs.declared.status.Form.{Form}
 use Rattle.lard_app.specs.declared.status.Status.{Status}
 use Rattle.lard_app.specs.Forms.{missing}
 use Rattle.lard_app.specs.Replay.{Progress, begin, begun, config_set, counted, event_listed, events_from, events_of, followed, input_limit, is_past, judged, lines_of, machine_of, moved, passed, replayed, stepped, taken, whole}
-use Rattle.lard_app.proofs.Growth.{ok_is}
-use Rattle.lard_app.proofs.Passing.{Took, passed-took, took-fits, took-judged}
+use Rattle.lard_app.proofs.Passing.{Took, ok_is, passed-took, took-fits, took-judged}
 use Rattle.lard_app.proofs.Steps.{step-grows}
 
 -- ---- events that may be stepped

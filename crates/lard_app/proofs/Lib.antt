@@ -1,4 +1,7 @@
+mod Going
 mod Growth
 mod Keeping
 mod Passing
+mod Reached
+mod Settled
 mod Steps

@@ -1,8 +1,15 @@
 -- What a line that passes was: it stood for an item, which was taken.
 use Rattle.std.proofs.Common.{◌≡◌, ℕ, ◌+◌, List, [], ◌∷◌, ◌++◌, length, Bool, true, false, cond, Option, Some, None, Result, Ok, Err, refl, sym, ap, ◌∙◌, subst}
+use Rattle.lard_base.specs.Config.{config_check, range_check}
+use Rattle.lard_base.specs.declared.config.ConfigFault.{ConfigFault}
+use Rattle.lard_base.specs.declared.config.Key.{Key}
 use Rattle.lard_base.specs.declared.event.Event.{Event}
+use Rattle.lard_machine.specs.Machine.{machine_step}
+use Rattle.lard_machine.specs.declared.fault.StepFault.{StepFault}
+use Rattle.lard_machine.specs.declared.machine.Machine.{Machine}
 use Rattle.lard_machine.specs.declared.fault.What.TheVariants.{Input}
 use Rattle.lard_schedule.specs.declared.item.Item.{Item}
+use Rattle.lard_schedule.specs.declared.item.Item.TheVariants as item
 use Rattle.lard_schedule.specs.declared.reader.Reader.{Reader}
 use Rattle.lard_schedule.specs.Laws.{IsLineOf, MayStand}
 use Rattle.lard_schedule.specs.Reader.{HasRange, item_of}
@@ -12,8 +19,8 @@ use Rattle.lard_app.specs.declared.status.Status.{Status}
 use Rattle.lard_app.specs.declared.status.Status.TheVariants.{Limit}
 use Rattle.lard_app.specs.declared.status.Why.{Why}
 use Rattle.lard_app.specs.declared.status.Why.TheVariants as why
-use Rattle.lard_app.specs.Forms.{unbuilt}
-use Rattle.lard_app.specs.Replay.{Progress, counted, event_listed, followed, found, gain, is_past, item_gain, item_taken, judged, judged_gain, passed, taken, unless_unbuilt}
+use Rattle.lard_app.specs.Forms.{missing, unbuilt}
+use Rattle.lard_app.specs.Replay.{Progress, begun, config_set, counted, event_listed, followed, found, gain, is_past, item_gain, item_taken, judged, judged_gain, moved, passed, stepped, taken, unless_unbuilt}
 
 -- what a line stands for, once its first word and its place were looked up
 pub judged_by : (r : Reader) (line : List ℕ) (f : Option Form) (x : Option Item) → unbuilt line ≡ f → item_of r line ≡ x → judged r line ≡ unless_unbuilt f (found x)
@@ -59,3 +66,45 @@ module _ (s t : Progress) (line : List ℕ) (k : Took s t line) where
 
   pub took-fits : IsLineOf line k.item × MayStand s.reader k.item × HasRange k.item
   took-fits = line_spelled s.reader line k.item k.stands
+
+-- ---- lines and bytes that are counted
+
+-- an answer that is known
+pub ok_is : {A E : Type 0} (x y : A) → ◌≡◌ {A = Result A E} (Ok x) (Ok y) → x ≡ y
+ok_is x y e = cc
+
+-- both have read as many lines and bytes
+abbrev pub HaveRead : Progress → Progress → Type 0
+HaveRead s t = (t.lines ≡ s.lines) × (t.read ≡ s.read)
+
+-- an item counts nothing
+module _ (s t : Progress) where
+  read_as : (u : Progress) → HaveRead s u → ◌≡◌ {A = Result Progress Status} (Ok u) (Ok t) → HaveRead s t
+  read_as u h e = subst (HaveRead s) (ok_is u t e) h
+
+  set-read : (key : Key) (value : ℕ) (r : Result (Unit {0}) ConfigFault) → config_set s key value r ≡ Ok t → HaveRead s t
+  set-read key value (Ok u) e = read_as _ (refl, refl) e
+  set-read key value (Err fault) e = cc
+
+  begun-read : (r : Result (Unit {0}) ConfigFault) → begun s r ≡ Ok t → HaveRead s t
+  begun-read (Ok u) e = read_as _ (refl, refl) e
+  begun-read (Err fault) e = cc
+
+  moved-read : (r : Result Machine StepFault) → moved s r ≡ Ok t → HaveRead s t
+  moved-read (Ok m) e = read_as _ (refl, refl) e
+  moved-read (Err fault) e = cc
+
+  stepped-read : (e : Event) (o : Option Form) → stepped s e o ≡ Ok t → HaveRead s t
+  stepped-read e (Some form) h = cc
+  stepped-read e None h = moved-read (machine_step s.machine e) h
+
+  taken-read : (x : Item) → taken s x ≡ Ok t → HaveRead s t
+  taken-read item.Header e = read_as s (refl, refl) e
+  taken-read (item.Set key value) e = set-read key value (range_check key value) e
+  taken-read (item.File path bytes) e = cc
+  taken-read item.Go e = begun-read (config_check s.config) e
+  taken-read (item.Event d) e = stepped-read d (missing d) e
+
+-- a line that passes is counted
+pub passed-read : (s t : Progress) (line : List ℕ) → passed s line ≡ Ok t → HaveRead (counted s line) t
+passed-read s t line e = let k = passed-took s t line e in taken-read (followed (counted s line) k.item) t k.item k.is
