@@ -1,3 +1,4 @@
+mod Failures
 mod Going
 mod Growth
 mod Keeping

@@ -101,15 +101,15 @@ WritesTooMuch m (event.Get c path) = WouldPass m c (request path)
 WritesTooMuch m (event.Write c bytes) = WouldPass m c bytes
 WritesTooMuch m _ = ⊥
 
--- no limit was reached, and the event is not one that may come now
-abbrev pub Fails : List Rec → Event → Why → Type 0
-Fails J e (why.NotSent k sent) = (limit_at J ≡ None) × IsOfPacket e k × (sent ≡ sent_count J) × ((k ≡ 0) ⊎ (sent < k))
-Fails J e (why.WasLost k) = (limit_at J ≡ None) × IsOfPacket e k × (1 ≤ k) × (k ≤ sent_count J) × (is_lost J k ≡ true)
-Fails J e (why.NoClient c) = (limit_at J ≡ None) × IsOfClient e c × (numbers_of J c ≡ None)
-Fails J e (why.Used c) = (limit_at J ≡ None) × Opens e c × IsSome (numbers_of J c)
-Fails J e why.Syntax = ⊥
-Fails J e (why.Config fault) = ⊥
-Fails J e (why.FormNotBuilt f) = ⊥
+-- the event is not one that may come now
+abbrev pub IsUntimely : List Rec → Event → Why → Type 0
+IsUntimely J e (why.NotSent k sent) = IsOfPacket e k × (sent ≡ sent_count J) × ((k ≡ 0) ⊎ (sent < k))
+IsUntimely J e (why.WasLost k) = IsOfPacket e k × (1 ≤ k) × (k ≤ sent_count J) × (is_lost J k ≡ true)
+IsUntimely J e (why.NoClient c) = IsOfClient e c × (numbers_of J c ≡ None)
+IsUntimely J e (why.Used c) = Opens e c × IsSome (numbers_of J c)
+IsUntimely J e why.Syntax = ⊥
+IsUntimely J e (why.Config fault) = ⊥
+IsUntimely J e (why.FormNotBuilt f) = ⊥
 
 -- a limit was reached before the step, or the event would pass that on what a client writes
 abbrev pub Reaches : Machine → Event → What → Type 0
@@ -122,7 +122,7 @@ abbrev pub Refuses : Progress → List ℕ → Why → Type 0
 Refuses s line (why.FormNotBuilt f) = (unbuilt line ≡ Some f) ⊎ ((x : Item) × StandsFor s line x × IsUnbuilt x f)
 Refuses s line why.Syntax = (unbuilt line ≡ None) × ((x : Item) → ¬ (Stands s line x))
 Refuses s line (why.Config fault) = (x : Item) × StandsFor s line x × IsUnfit s.config x fault
-Refuses s line cause = (e : Event) × Tries s line e × Fails s.machine.journal e cause
+Refuses s line cause = (e : Event) × Tries s line e × (limit_at s.machine.journal ≡ None) × IsUntimely s.machine.journal e cause
 
 -- how a line ends the run, after n lines of so many bytes: it holds the byte after the limit, or it is refused, or a
 -- limit is reached
