@@ -1,7 +1,10 @@
+mod Causes
+mod Endings
 mod Failures
 mod Going
 mod Growth
 mod Keeping
+mod Knows
 mod Passing
 mod Reached
 mod Settled

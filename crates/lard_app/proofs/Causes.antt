@@ -1,0 +1,194 @@
+-- A line ends a replay with a status exactly where it gives its cause.
+use Rattle.std.proofs.Common.{◌≡◌, ◌⊎◌, ℕ, ◌+◌, ◌^◌, ◌≤◌, ◌<◌, List, [], ◌∷◌, length, Bool, true, false, cond, Option, Some, None, Result, Ok, Err, refl, sym, ap, ◌∙◌, subst, inl, inr, ⊎_elim, arith}
+use Rattle.std.proofs.lemmas.Bool.Decides.{nat_tests}
+use Rattle.std.specs.Prelude.{nat_le, nat_lt}
+use Rattle.lard_base.specs.Config.{config_check, range_check}
+use Rattle.lard_base.specs.declared.config.ConfigFault.{ConfigFault}
+use Rattle.lard_base.specs.declared.config.Key.{Key}
+use Rattle.lard_base.specs.declared.event.Event.{Event}
+use Rattle.lard_history.specs.Journal.{answered_bytes, packet_bytes, sent_count}
+use Rattle.lard_machine.specs.Machine.{limit_of, machine_step}
+use Rattle.lard_machine.specs.declared.fault.StepFault.{StepFault}
+use Rattle.lard_machine.specs.declared.fault.StepFault.TheVariants as fault
+use Rattle.lard_machine.specs.declared.fault.What.{What}
+use Rattle.lard_machine.specs.declared.fault.What.TheVariants as what
+use Rattle.lard_machine.specs.declared.machine.Machine.{Machine}
+use Rattle.lard_schedule.specs.declared.item.Item.{Item}
+use Rattle.lard_schedule.specs.declared.item.Item.TheVariants as item
+use Rattle.lard_schedule.specs.Reader.{item_of}
+use Rattle.lard_schedule.proofs.Lines.{line_read, line_spelled, none_is}
+use Rattle.lard_app.specs.declared.status.Form.{Form}
+use Rattle.lard_app.specs.declared.status.Form.TheVariants as form
+use Rattle.lard_app.specs.declared.status.Status.{Status}
+use Rattle.lard_app.specs.declared.status.Status.TheVariants.{Done, Usage, Refused, ReadFault, WriteFault, NoMemory, Limit}
+use Rattle.lard_app.specs.declared.status.Why.{Why}
+use Rattle.lard_app.specs.declared.status.Why.TheVariants as why
+use Rattle.lard_app.specs.Causes.{EndsLine, IsUnbuilt, IsUnfit, IsUntimely, Reaches, Refuses, Stands, StandsFor, Tries, limit_at}
+use Rattle.lard_app.specs.Forms.{missing, unbuilt}
+use Rattle.lard_app.specs.Replay.{Progress, begun, config_set, counted, ended_by, followed, found, input_limit, is_past, item_taken, judged, moved, passed, stepped, taken, unless_unbuilt}
+use Rattle.lard_app.proofs.Failures.{IsFault, fault-step, limit-step, step-fault}
+use Rattle.lard_app.proofs.Knows.{Knows}
+use Rattle.lard_app.proofs.Passing.{judged_by, passed_by}
+use Rattle.lard_app.proofs.Reached.{Told, reached-told}
+
+-- ---- numbers
+
+is_over : (r b n : ℕ) → r ≡ b → nat_lt input_limit (r + n + 1) ≡ true → input_limit < b + (n + 1)
+is_over r b n e o = grind (arith, nat_tests, e, o)
+
+over : (r b n : ℕ) → r ≡ b → input_limit < b + (n + 1) → nat_lt input_limit (r + n + 1) ≡ true
+over r b n e o = grind (arith, nat_tests, e, o)
+
+is_within : (r b n : ℕ) → r ≡ b → nat_lt input_limit (r + n + 1) ≡ false → b + (n + 1) ≤ input_limit
+is_within r b n e o = grind (arith, nat_tests, e, o)
+
+within : (r b n : ℕ) → r ≡ b → b + (n + 1) ≤ input_limit → nat_lt input_limit (r + n + 1) ≡ false
+within r b n e o = grind (arith, nat_tests, e, o)
+
+-- ---- limits
+
+-- no step reaches the limit on the input
+no_input : (packets bytes records answered : ℕ) → ¬ (limit_of packets bytes records answered ≡ Some what.Input)
+no_input packets bytes records answered e = go (nat_le 1000000 packets) (nat_le (2 ^ 29) bytes) (nat_le 4000000 records) (nat_le (2 ^ 29) answered) e where
+  go : (p q r t : Bool) → ¬ (cond p (Some what.Packets) (cond q (Some what.PacketBytes) (cond r (Some what.Records) (cond t (Some what.Answers) None))) ≡ Some what.Input)
+  go true q r t h = cc
+  go false true r t h = cc
+  go false false true t h = cc
+  go false false false true h = cc
+  go false false false false h = cc
+
+unreached : (m : Machine) (e : Event) → ¬ (Reaches m e what.Input)
+unreached m e (inl l) = no_input (sent_count m.journal) (packet_bytes m.journal) (length m.journal) (answered_bytes m.journal) l
+unreached m e (inr h) = let both : what.Input ≡ what.Stream = h.1 in cc
+
+err_status : (x y : Status) → ◌≡◌ {A = Result Progress Status} (Err x) (Err y) → x ≡ y
+err_status x y e = cc
+
+module _ (n bytes : ℕ) (s : Progress) (k : Knows n bytes s) (line : List ℕ) where
+  told : Told s.machine
+  told = reached-told s.machine.config s.machine (k.events, k.keeps.runs)
+
+  pub next_number : s.lines + 1 ≡ n + 1
+  next_number = ap (λ m. m + 1) k.lines
+
+  -- ---- why the line ended the run
+
+  module _ (short : bytes + (length line + 1) ≤ input_limit) (status : Status) where
+    refused_here : (cause : Why) → Refuses s line cause → ◌≡◌ {A = Result Progress Status} (Err (Refused (s.lines + 1) cause)) (Err status) → EndsLine s n bytes line status
+    refused_here cause r e = subst (EndsLine s n bytes line) (err_status (Refused (s.lines + 1) cause) status e) (next_number, short, r)
+
+    limited : (w : What) (e : Event) → Tries s line e → Reaches s.machine e w → EndsLine s n bytes line (Limit (s.lines + 1) w)
+    limited what.Input e t r = absurd (unreached s.machine e r)
+    limited what.Packets e t r = (next_number, short, (e, t, r))
+    limited what.PacketBytes e t r = (next_number, short, (e, t, r))
+    limited what.Records e t r = (next_number, short, (e, t, r))
+    limited what.Answers e t r = (next_number, short, (e, t, r))
+    limited what.Stream e t r = (next_number, short, (e, t, r))
+
+    limited_here : (w : What) (e : Event) → Tries s line e → Reaches s.machine e w → ◌≡◌ {A = Result Progress Status} (Err (Limit (s.lines + 1) w)) (Err status) → EndsLine s n bytes line status
+    limited_here w e t r h = subst (EndsLine s n bytes line) (err_status (Limit (s.lines + 1) w) status h) (limited w e t r)
+
+    fault-ends : (e : Event) (f : StepFault) → Tries s line e → limit_at s.machine.journal ≡ None → IsFault s.machine e f → ◌≡◌ {A = Result Progress Status} (Err (ended_by (s.lines + 1) f)) (Err status) → EndsLine s n bytes line status
+    fault-ends e (fault.NotSent j sent) t l h is = refused_here (why.NotSent j sent) (e, t, l, h) is
+    fault-ends e (fault.WasLost j) t l h is = refused_here (why.WasLost j) (e, t, l, h) is
+    fault-ends e (fault.NoClient c) t l h is = refused_here (why.NoClient c) (e, t, l, h) is
+    fault-ends e (fault.Used c) t l h is = refused_here (why.Used c) (e, t, l, h) is
+    fault-ends e (fault.Limit w) t l h is = limited_here w e t (inr (l, h.0, h.1)) is
+    fault-ends e fault.NoMemory t l h is = absurd h
+
+    moved-ends : (e : Event) (r : Result Machine StepFault) → Tries s line e → machine_step s.machine e ≡ r → moved (followed (counted s line) (item.Event e)) r ≡ Err status → EndsLine s n bytes line status
+    moved-ends e (Ok m) t is h = cc
+    moved-ends e (Err f) t is h = ⊎_elim
+        (λ (l : (w : What) × (limit_at s.machine.journal ≡ Some w) × (fault.Limit w ≡ f)). limited_here l.0 e t (inl l.1) (ap (λ g. Err (ended_by (s.lines + 1) g)) l.2 ∙ h))
+        (λ (l : (limit_at s.machine.journal ≡ None) × IsFault s.machine e f). fault-ends e f t l.0 l.1 h)
+        (step-fault s.machine told e f is)
+
+    event-ends : (e : Event) (o : Option Form) → StandsFor s line (item.Event e) → missing e ≡ o → stepped (followed (counted s line) (item.Event e)) e o ≡ Err status → EndsLine s n bytes line status
+    event-ends e (Some f) stands m h = refused_here (why.FormNotBuilt f) (inr (item.Event e, stands, m)) h
+    event-ends e None stands m h = moved-ends e (machine_step s.machine e) (stands, m) refl h
+
+    set-ends : (key : Key) (value : ℕ) (r : Result (Unit {0}) ConfigFault) → StandsFor s line (item.Set key value) → range_check key value ≡ r
+        → config_set (followed (counted s line) (item.Set key value)) key value r ≡ Err status → EndsLine s n bytes line status
+    set-ends key value (Ok u) stands c h = cc
+    set-ends key value (Err fault) stands c h = refused_here (why.Config fault) (item.Set key value, stands, c) h
+
+    begun-ends : (r : Result (Unit {0}) ConfigFault) → StandsFor s line item.Go → config_check s.config ≡ r → begun (followed (counted s line) item.Go) r ≡ Err status → EndsLine s n bytes line status
+    begun-ends (Ok u) stands c h = cc
+    begun-ends (Err fault) stands c h = refused_here (why.Config fault) (item.Go, stands, c) h
+
+    item-ends : (x : Item) → StandsFor s line x → taken (followed (counted s line) x) x ≡ Err status → EndsLine s n bytes line status
+    item-ends item.Header stands h = cc
+    item-ends (item.Set key value) stands h = set-ends key value (range_check key value) stands refl h
+    item-ends (item.File path bytes) stands h = refused_here (why.FormNotBuilt form.File) (inr (item.File path bytes, stands, refl)) h
+    item-ends item.Go stands h = begun-ends (config_check s.config) stands refl h
+    item-ends (item.Event e) stands h = event-ends e (missing e) stands refl h
+
+    judged-ends : (f : Option Form) (x : Option Item) → unbuilt line ≡ f → item_of s.reader line ≡ x → item_taken (counted s line) (unless_unbuilt f (found x)) ≡ Err status → EndsLine s n bytes line status
+    judged-ends (Some f) x u i h = refused_here (why.FormNotBuilt f) (inl u) h
+    judged-ends None None u i h = refused_here why.Syntax (u, (none_is s.reader line).0 i) h
+    judged-ends None (Some x) u i h = item-ends x (u, line_spelled s.reader line x i) h
+
+  pub line-ends : (status : Status) → passed s line ≡ Err status → EndsLine s n bytes line status
+  line-ends status e = go (is_past s line) refl where
+    go : (b : Bool) → is_past s line ≡ b → EndsLine s n bytes line status
+    go true p = subst (EndsLine s n bytes line) (err_status (Limit (s.lines + 1) what.Input) status (sym (passed_by s line true p) ∙ e)) (next_number, is_over s.read bytes (length line) k.read p)
+    go false p = judged-ends (is_within s.read bytes (length line) k.read p) status (unbuilt line) (item_of s.reader line) refl refl
+        (ap (item_taken (counted s line)) (sym (judged_by s.reader line (unbuilt line) (item_of s.reader line) refl refl)) ∙ sym (passed_by s line false p) ∙ e)
+
+  -- ---- and back
+
+  module _ (short : bytes + (length line + 1) ≤ input_limit) where
+    -- what a line leads to that is read as something
+    read_by : (f : Option Form) (x : Option Item) → unbuilt line ≡ f → item_of s.reader line ≡ x → passed s line ≡ item_taken (counted s line) (unless_unbuilt f (found x))
+    read_by f x u i = passed_by s line false (within s.read bytes (length line) k.read short) ∙ ap (item_taken (counted s line)) (judged_by s.reader line f x u i)
+
+    stands_by : (x : Item) → StandsFor s line x → passed s line ≡ taken (followed (counted s line) x) x
+    stands_by x t = read_by None (Some x) t.0 (line_read s.reader line x t.1.0 t.1.1 t.1.2)
+
+    tried_by : (e : Event) (f : StepFault) → Tries s line e → machine_step s.machine e ≡ Err f → passed s line ≡ Err (ended_by (s.lines + 1) f)
+    tried_by e f t is = stands_by (item.Event e) t.0 ∙ ap (stepped (followed (counted s line) (item.Event e)) e) t.1 ∙ ap (moved (followed (counted s line) (item.Event e))) is
+
+    unbuilt-refused : (x : Item) (f : Form) → StandsFor s line x → IsUnbuilt x f → passed s line ≡ Err (Refused (s.lines + 1) (why.FormNotBuilt f))
+    unbuilt-refused item.Header f t u = absurd u
+    unbuilt-refused (item.Set key value) f t u = absurd u
+    unbuilt-refused (item.File path bytes) f t u = stands_by (item.File path bytes) t ∙ ap (λ g. Err (Refused (s.lines + 1) (why.FormNotBuilt g))) (sym u)
+    unbuilt-refused item.Go f t u = absurd u
+    unbuilt-refused (item.Event e) f t u = stands_by (item.Event e) t ∙ ap (stepped (followed (counted s line) (item.Event e)) e) u
+
+    unfit-refused : (x : Item) (fault : ConfigFault) → StandsFor s line x → IsUnfit s.config x fault → passed s line ≡ Err (Refused (s.lines + 1) (why.Config fault))
+    unfit-refused item.Header fault t u = absurd u
+    unfit-refused (item.Set key value) fault t u = stands_by (item.Set key value) t ∙ ap (config_set (followed (counted s line) (item.Set key value)) key value) u
+    unfit-refused (item.File path bytes) fault t u = absurd u
+    unfit-refused item.Go fault t u = stands_by item.Go t ∙ ap (begun (followed (counted s line) item.Go)) u
+    unfit-refused (item.Event e) fault t u = absurd u
+
+    refused : (cause : Why) → Refuses s line cause → passed s line ≡ Err (Refused (s.lines + 1) cause)
+    refused (why.FormNotBuilt f) (inl u) = read_by (Some f) (item_of s.reader line) u refl
+    refused (why.FormNotBuilt f) (inr u) = unbuilt-refused u.0 f u.1 u.2
+    refused why.Syntax u = read_by None None u.0 ((none_is s.reader line).1 u.1)
+    refused (why.Config fault) u = unfit-refused u.0 fault u.1 u.2
+    refused (why.NotSent j sent) u = tried_by u.0 (fault.NotSent j sent) u.1 (fault-step s.machine told u.0 (fault.NotSent j sent) u.2 u.3)
+    refused (why.WasLost j) u = tried_by u.0 (fault.WasLost j) u.1 (fault-step s.machine told u.0 (fault.WasLost j) u.2 u.3)
+    refused (why.NoClient c) u = tried_by u.0 (fault.NoClient c) u.1 (fault-step s.machine told u.0 (fault.NoClient c) u.2 u.3)
+    refused (why.Used c) u = tried_by u.0 (fault.Used c) u.1 (fault-step s.machine told u.0 (fault.Used c) u.2 u.3)
+
+    reached : (w : What) (e : Event) → Tries s line e → Reaches s.machine e w → passed s line ≡ Err (Limit (s.lines + 1) w)
+    reached w e t (inl l) = tried_by e (fault.Limit w) t (limit-step s.machine told e w l)
+    reached w e t (inr h) = tried_by e (fault.Limit w) t (fault-step s.machine told e (fault.Limit w) h.0 (h.1, h.2))
+
+  numbered : (cause : ℕ → Status) (number : ℕ) → number ≡ n + 1 → passed s line ≡ Err (cause (s.lines + 1)) → passed s line ≡ Err (cause number)
+  numbered cause number is e = e ∙ ap (λ m. Err (cause m)) (next_number ∙ sym is)
+
+  pub ends-line : (status : Status) → EndsLine s n bytes line status → passed s line ≡ Err status
+  ends-line (Limit number what.Input) u = numbered (λ m. Limit m what.Input) number u.0 (passed_by s line true (over s.read bytes (length line) k.read u.1))
+  ends-line (Limit number what.Packets) u = numbered (λ m. Limit m what.Packets) number u.0 (reached u.1 what.Packets u.2.0 u.2.1 u.2.2)
+  ends-line (Limit number what.PacketBytes) u = numbered (λ m. Limit m what.PacketBytes) number u.0 (reached u.1 what.PacketBytes u.2.0 u.2.1 u.2.2)
+  ends-line (Limit number what.Records) u = numbered (λ m. Limit m what.Records) number u.0 (reached u.1 what.Records u.2.0 u.2.1 u.2.2)
+  ends-line (Limit number what.Answers) u = numbered (λ m. Limit m what.Answers) number u.0 (reached u.1 what.Answers u.2.0 u.2.1 u.2.2)
+  ends-line (Limit number what.Stream) u = numbered (λ m. Limit m what.Stream) number u.0 (reached u.1 what.Stream u.2.0 u.2.1 u.2.2)
+  ends-line (Refused number cause) u = numbered (λ m. Refused m cause) number u.0 (refused u.1 cause u.2)
+  ends-line Done u = absurd u
+  ends-line Usage u = absurd u
+  ends-line ReadFault u = absurd u
+  ends-line WriteFault u = absurd u
+  ends-line NoMemory u = absurd u
