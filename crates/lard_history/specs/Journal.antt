@@ -267,3 +267,26 @@ told_on c t rs = fold (tale_step c) t rs
 
 unfoldable pub tale : List Rec → ℕ → Tale
 tale J c = told_on c untold J
+
+-- ---- records about one connection
+
+abbrev pub goes_to : ℕ → Place → Bool
+goes_to c (Client d) = nat_eq d c
+goes_to c Front = false
+goes_to c (Node n) = false
+
+-- the record may change what is told of connection c
+abbrev pub about : ℕ → Rec → Bool
+about c (rec.Event i e) = event_shuts c e
+about c (rec.Inner e) = event_shuts c e
+about c (rec.Opened d isn iss wnd mss) = nat_eq d c
+about c (rec.Wrote d bytes) = nat_eq d c
+about c (rec.Accepted d bytes) = nat_eq d c
+about c (rec.Eof d) = nat_eq d c
+about c (rec.Aborted d) = nat_eq d c
+about c (rec.Took place d epoch) = nat_eq d c
+about c (rec.Gave place d epoch) = nat_eq d c
+about c (rec.Served place d r code size via) = nat_eq d c
+about c (rec.Reset place d total) = nat_eq d c
+about c (rec.Sent k from to bytes) = is_cluster from && goes_to c to
+about c _ = false

@@ -1,5 +1,5 @@
 -- Laws of a journal: what each record may say where it stands, and how the steps follow the events.
-use Rattle.std.specs.Prelude.{◌≡◌, ◌⊎◌, ℕ, ◌+◌, ◌<◌, ◌≤◌, Bool, true, false, not, List, [], ◌∷◌, ◌++◌, length, Some, None, Ok, IfSome, IsSome}
+use Rattle.std.specs.Prelude.{◌≡◌, ◌⊎◌, ℕ, ◌+◌, ◌<◌, ◌≤◌, Bool, true, false, not, List, [], ◌∷◌, ◌++◌, length, Some, None, Ok, IsSome}
 use Rattle.std.specs.List.{list_all}
 use Rattle.lard_answers.specs.Answers.{FilesAt, IsFront, answer_bytes}
 use Rattle.lard_arrival.specs.Arrival.{IsPartAt}

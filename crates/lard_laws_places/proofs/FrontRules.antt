@@ -1,0 +1,295 @@
+-- What each rule of the front end says: its notes may stand, and the connection stands as they tell.
+use Rattle.std.proofs.Common.{◌≡◌, ℕ, zero, suc, ◌+◌, ◌≤◌, Bool, true, false, cond, nat_lt, List, [], ◌∷◌, ◌++◌, length, take, drop, Option, Some, None, Result, Ok, Err, refl, sym, ap, ◌∙◌, subst, nat_eq, arith}
+use Rattle.std.proofs.lemmas.Bool.{cond_both, and_parts, ltb-true, ltb-false}
+use Rattle.std.proofs.lemmas.Bool.Decides.{nat_tests}
+use Rattle.std.proofs.lemmas.List.Sums.{fold-append}
+use Rattle.std.specs.List.{fold}
+use Rattle.lard_answers.specs.Answers.{FilesAt, answer, found}
+use Rattle.lard_base.specs.declared.place.Place.{Place}
+use Rattle.lard_base.specs.declared.place.Place.TheVariants as place
+use Rattle.lard_base.specs.declared.place.Reason.TheVariants as reason
+use Rattle.lard_base.specs.declared.place.Via.TheVariants.{Own}
+use Rattle.lard_block.specs.declared.block.Found.{Found}
+use Rattle.lard_block.specs.declared.block.Found.TheVariants.{Block, More, TooLong}
+use Rattle.lard_block.specs.Blocks.{cut_of}
+use Rattle.lard_endpoint.specs.declared.control.moving.Final.{Final}
+use Rattle.lard_endpoint.specs.Arriving.{on_segment}
+use Rattle.lard_endpoint.specs.Control.{ControlBlock, consuming, discarding_on, finishing, listening, queueing}
+use Rattle.lard_endpoint.specs.Leaving.{after_timer, timed}
+use Rattle.lard_endpoint.specs.Moving.{end_reason, final_of, may_end}
+use Rattle.lard_history.specs.Journal.{Tale, answered_step, tale_step, told_on}
+use Rattle.lard_history.proofs.Each.{Each, Each-append}
+use Rattle.lard_history.proofs.Tales.{told_on-append}
+use Rattle.lard_journal.specs.declared.rec.Rec.{Rec}
+use Rattle.lard_journal.specs.declared.rec.Rec.TheVariants as rec
+use Rattle.lard_laws_places.specs.Places.{FrontStands, FrontTale, IsFronts, IsServing, IsUntaken, client_tale, front_tale}
+use Rattle.lard_laws_places.proofs.Endpoints.{AllTo, ready-to, segment-many, speaks-to, speaks_symbols-to, timer-many}
+use Rattle.lard_laws_places.proofs.Telling.{MayStand, Tells, Tells-append}
+use Rattle.lard_machine.specs.declared.places.FrontConn.{FrontConn}
+use Rattle.lard_machine.specs.declared.places.FrontConn.TheVariants.{Held, Lent, Closed}
+use Rattle.lard_machine.specs.declared.places.Turn.{Turn}
+use Rattle.lard_machine.specs.Client.{silent}
+use Rattle.lard_machine.specs.Front.{FrontEnv, Service, answered, begun, closed_behind, code_of, consumed, cut_off, front_gets, front_hears, front_timer, is_plain_syn, last_words, limit_said, may_read, met, passed_over, queued, read_found, reads_on, ready_of, replied, rested, settled, spoken, told, tombstone}
+use Rattle.lard_machine.specs.Speaking.{speaks, speaks_symbols}
+use Rattle.lard_request.specs.declared.verdict.Code.{Code}
+use Rattle.lard_request.specs.declared.verdict.Code.TheVariants as code
+use Rattle.lard_request.specs.declared.verdict.Verdict.{Verdict}
+use Rattle.lard_request.specs.declared.verdict.Verdict.TheVariants.{Serve, Fault}
+use Rattle.lard_request.specs.Verdict.{closes, verdict}
+use Rattle.lard_response.specs.Response.{response}
+use Rattle.lard_segment.specs.declared.fault.SegFault.{SegFault}
+use Rattle.lard_segment.specs.Segment.{Said}
+
+-- what the front end notes in its turn
+abbrev pub IsOfFront : Rec → Type 0
+IsOfFront (rec.Took p c epoch) = Unit {0}
+IsOfFront (rec.Served p c r code size via) = Unit {0}
+IsOfFront (rec.Reset p c total) = Unit {0}
+IsOfFront _ = ⊥
+
+-- it changes nothing of what is told of the client
+front-client : (c : ℕ) (t : Tale) (r : Rec) → IsOfFront r → client_tale (tale_step c t r) ≡ client_tale t
+front-client c t (rec.Took p d epoch) i = refl
+front-client c t (rec.Served p d r code size via) i = refl
+front-client c t (rec.Reset p d total) i = refl
+front-client c t _ i = absurd i
+
+pub fronts-client : (c : ℕ) (t : Tale) (rs : List Rec) → Each IsOfFront rs → client_tale (told_on c t rs) ≡ client_tale t
+fronts-client c t [] e = refl
+fronts-client c t (r ∷ rs) e = fronts-client c (tale_step c t r) rs e.1 ∙ front-client c t r e.0
+
+-- ---- responses
+
+response-some : (code : Code) (body : List ℕ) (head close : Bool) → 1 ≤ length (response code body head close)
+unfolding response
+response-some code body head close = omega arith
+
+found-some : (o : Option (List ℕ)) (head close : Bool) → 1 ≤ length (found o head close)
+found-some None head close = response-some code.NotFound [] head close
+found-some (Some body) head close = response-some code.Ok body head close
+
+-- each response has a byte
+pub answer-some : (files : FilesAt) (v : Verdict) → 1 ≤ length (answer files v)
+answer-some files (Serve path head close) = found-some (files path) head close
+answer-some files (Fault fault) = response-some fault [] false true
+
+own : (c : ℕ) → nat_eq c c ≡ true
+own c = grind (arith, nat_tests)
+
+-- what is told while requests are answered, and once the stream limit was passed
+abbrev Serves : ℕ → Option ℕ → ℕ → ℕ → FrontTale → Type 0
+Serves stream None count total t = IsServing stream count total t
+Serves stream (Some over) count total t = IsFronts t × (t.was_reset ≡ true)
+
+-- a connection that nobody took was none before, and nothing goes out of it
+abbrev pub SaysNothing : Option FrontConn → Option FrontConn → List (Place × List ℕ) → Type 0
+SaysNothing x None segments = (x ≡ None) × (segments ≡ [])
+SaysNothing x (Some conn) segments = Unit {0}
+
+module _ (env : FrontEnv) (u : Tale) where
+  -- the connection after its rule, and the front end's turn, where so much was told of it before
+  pub record FrontSays (x : Option FrontConn) (given : Option FrontConn × Turn) : Type 0 where
+    pub told : Tells env.stream env.c u given.1.notes
+    pub notes : Each IsOfFront given.1.notes
+    pub stands : FrontStands env.stream given.0 (front_tale (told_on env.c u given.1.notes))
+    pub to : AllTo (place.Client env.c) given.1.segments
+    pub none : SaysNothing x given.0 given.1.segments
+    pub answered : (n : ℕ) → fold answered_step n given.1.notes ≡ n + given.1.answered
+
+  -- a service between two of its turns
+  record IsAnswering (w : Service) : Type 0 where
+    told : Tells env.stream env.c u w.notes
+    notes : Each IsOfFront w.notes
+    serves : Serves env.stream w.over w.count w.block.send.total (front_tale (told_on env.c u w.notes))
+    answered : (n : ℕ) → fold answered_step n w.notes ≡ n + w.answered
+
+  many-serves : (o : Option ℕ) (count total other : ℕ) (t : FrontTale) → other ≡ total → Serves env.stream o count total t → Serves env.stream o count other t
+  many-serves o count total other t e h = subst (λ n. Serves env.stream o count n t) (sym e) h
+
+  -- another endpoint with as many bytes
+  reblocked : (w : Service) (b : ControlBlock) → b.send.total ≡ w.block.send.total → IsAnswering w → IsAnswering (record w { block = b })
+  reblocked w b e h = record {
+    told = h.told;
+    notes = h.notes;
+    serves = many-serves w.over w.count w.block.send.total b.send.total (front_tale (told_on env.c u w.notes)) e h.serves;
+    answered = h.answered;
+  }
+
+  module _ (w : Service) (h : IsAnswering w) where
+    -- one more note
+    noted : (r : Rec) (v : Service) → v.notes ≡ w.notes ++ r ∷ [] → MayStand env.stream env.c (told_on env.c u w.notes) r → IsOfFront r
+        → Serves env.stream v.over v.count v.block.send.total (front_tale (tale_step env.c (told_on env.c u w.notes) r))
+        → ((n : ℕ) → answered_step (n + w.answered) r ≡ n + v.answered) → IsAnswering v
+    noted r v is may of serves answered = record {
+      told = subst (Tells env.stream env.c u) (sym is) (Tells-append env.stream env.c u w.notes (r ∷ []) h.told (may, tt));
+      notes = subst (Each IsOfFront) (sym is) (Each-append IsOfFront w.notes (r ∷ []) h.notes (of, tt));
+      serves = subst (λ (t : Tale). Serves env.stream v.over v.count v.block.send.total (front_tale t))
+          (sym (ap (told_on env.c u) is ∙ told_on-append env.c u w.notes (r ∷ []))) serves;
+      answered = λ n. ap (fold answered_step n) is ∙ fold-append answered_step n w.notes (r ∷ []) ∙ ap (λ k. answered_step k r) (h.answered n) ∙ answered n;
+    }
+
+  closed_behind-many : (v : Verdict) (b : ControlBlock) → (closed_behind v b).send.total ≡ b.send.total
+  closed_behind-many v b = cond_both (closes v) (finishing (discarding_on b)) b (λ d. d.send.total ≡ b.send.total) (λ t. refl) (λ t. refl)
+
+  replied-answers : (v : Verdict) (bytes : List ℕ) (w : Service) → 1 ≤ length bytes → w.over ≡ None → IsAnswering w → IsAnswering (replied env v bytes w)
+  replied-answers v bytes w some none h =
+      let t = told_on env.c u w.notes in
+      let total = w.block.send.total in
+      let s : IsServing env.stream w.count total (front_tale t) = subst (λ o. Serves env.stream o w.count total (front_tale t)) none h.serves in
+      let mine : nat_eq env.c env.c ≡ true = own env.c in
+      cond_both (nat_lt env.stream (total + length bytes)) (passed_over env (total + length bytes) w) (queued env v bytes w) IsAnswering
+      (λ over. noted w h (rec.Reset place.Front env.c (total + length bytes)) (passed_over env (total + length bytes) w) refl
+      (refl, ltb-true env.stream (total + length bytes) over, s.reset) tt
+      (record { owner = s.taken.owner; epoch = s.taken.epoch }, ap (λ b. cond b true t.was_reset) mine)
+      (λ n. refl))
+      (λ within.
+      let le : total + length bytes ≤ env.stream = ltb-false env.stream (total + length bytes) within in
+      let bytes_are : t.served_bytes ≡ total = s.bytes in
+      let more : (closed_behind v (queueing w.block bytes)).send.total ≡ total + length bytes = closed_behind-many v (queueing w.block bytes) in
+      noted w h (rec.Served place.Front env.c (w.count + 1) (code_of env.files v) (length bytes) Own) (queued env v bytes w) refl
+      (refl, omega arith, s.reset) tt
+      (many-serves None (w.count + 1) (total + length bytes) (closed_behind v (queueing w.block bytes)).send.total _ more
+      (record {
+        taken = record { owner = s.taken.owner; epoch = s.taken.epoch };
+        served = ap (λ b. cond b (t.served + 1) t.served) mine ∙ ap (λ n. n + 1) s.served;
+        bytes = ap (λ b. cond b (t.served_bytes + length bytes) t.served_bytes) mine ∙ ap (λ n. n + length bytes) s.bytes;
+        within = le;
+        some = let few = s.some in omega arith;
+        reset = s.reset;
+      }))
+      (λ n. omega arith))
+
+  -- ---- reading
+
+  none_over : (o : Option ℕ) → (elim o [ None ↦ true | Some total ↦ false ]) ≡ true → o ≡ None
+  none_over None e = refl
+  none_over (Some total) e = cc
+
+  found-answers : (later : Service → Service) (w : Service) (f : Found) → ((v : Service) → IsAnswering v → IsAnswering (later v)) → w.over ≡ None → IsAnswering w → IsAnswering (read_found env later w f)
+  found-answers later w (More skip) on none h =
+      let v : Service = consumed skip w in
+      cond_both v.block.recv.fin (record v { block = finishing v.block }) v IsAnswering
+      (λ t. reblocked w (finishing v.block) refl h)
+      (λ t. reblocked w v.block refl h)
+  found-answers later w (Block skip len) on none h =
+      let v = verdict (take len (drop skip w.block.recv.unread)) in
+      let next : Service = consumed (skip + len) w in
+      on (answered env v next) (replied-answers v (answer env.files v) next (answer-some env.files v) none (reblocked w (consuming w.block (skip + len)) refl h))
+  found-answers later w (TooLong skip) on none h =
+      let v : Verdict = Fault code.FieldsTooLarge in
+      let next : Service = consumed (length w.block.recv.unread) w in
+      on (answered env v next) (replied-answers v (answer env.files v) next (answer-some env.files v) none
+      (reblocked w (consuming w.block (length w.block.recv.unread)) refl h))
+
+  reads_on-answers : (n : ℕ) (w : Service) → IsAnswering w → IsAnswering (reads_on n env w)
+  unfolding reads_on
+  reads_on-answers zero w h = h
+  reads_on-answers (suc n) w h =
+      let go_on : (v : Service) → IsAnswering v → IsAnswering (reads_on n env v) = λ v k. reads_on-answers n v k in
+      cond_both (may_read w) (read_found env (reads_on n env) w (cut_of w.block.recv.unread)) w IsAnswering
+      (λ t.
+      let over = (and_parts _ _ ((and_parts _ _ t).1)).1 in
+      found-answers (reads_on n env) w (cut_of w.block.recv.unread) go_on (none_over w.over over) h)
+      (λ t. h)
+
+  -- ---- the end of a turn
+
+  never_limit : (b : ControlBlock) (t : FrontTale) → end_reason b ≡ reason.Limit → t.was_reset ≡ true
+  never_limit b t e = absurd (go b.reset e) where
+    go : (r : Bool) → cond r reason.Peer reason.Closed ≡ reason.Limit → ⊥
+    go true i = cc
+    go false i = cc
+
+  rested-stands : (b : ControlBlock) (count : ℕ) (t : FrontTale) → IsServing env.stream count b.send.total t → FrontStands env.stream (Some (rested b count)) t
+  rested-stands b count t s = cond_both (may_end b) (Closed (final_of b (end_reason b))) (Held b count) (λ conn. FrontStands env.stream (Some conn) t)
+      (λ e. (s.taken, never_limit b t))
+      (λ e. s)
+
+  spoken-says : (x : Option FrontConn) (w : Service) (before : List (Place × List ℕ)) → w.over ≡ None → AllTo (place.Client env.c) before → IsAnswering w → FrontSays x (spoken env w before)
+  spoken-says x w before none to h =
+      let t = front_tale (told_on env.c u w.notes) in
+      let said = speaks-to env.c w.block in
+      let s : IsServing env.stream w.count w.block.send.total t = subst (λ o. Serves env.stream o w.count w.block.send.total t) none h.serves in
+      record {
+        told = h.told;
+        notes = h.notes;
+        stands = rested-stands (speaks env.c w.block).1 w.count t (many-serves None w.count w.block.send.total (speaks env.c w.block).1.send.total t said.many s);
+        to = Each-append (λ s. s.0 ≡ place.Client env.c) before (speaks env.c w.block).0 to said.to;
+        none = tt;
+        answered = h.answered;
+      }
+
+  cut_off-says : (x : Option FrontConn) (w : Service) (total : ℕ) → w.over ≡ Some total → IsAnswering w → FrontSays x (cut_off env w)
+  cut_off-says x w total over h =
+      let t = front_tale (told_on env.c u w.notes) in
+      let said = speaks_symbols-to env.c w.block in
+      let s : IsFronts t × (t.was_reset ≡ true) = subst (λ o. Serves env.stream o w.count w.block.send.total t) over h.serves in
+      record {
+        told = h.told;
+        notes = h.notes;
+        stands = (s.0, λ e. s.1);
+        to = Each-append (λ s. s.0 ≡ place.Client env.c) (speaks_symbols env.c w.block).0 (told env (limit_said (final_of (speaks_symbols env.c w.block).1 reason.Limit)) ∷ []) said.to (refl, tt);
+        none = tt;
+        answered = h.answered;
+      }
+
+  settled-says : (x : Option FrontConn) (w : Service) → IsAnswering w → FrontSays x (settled env w)
+  settled-says x w h = go w.over refl where
+    go : (o : Option ℕ) → w.over ≡ o → FrontSays x (elim o [ None ↦ spoken env w [] | Some total ↦ cut_off env w ])
+    go None e = spoken-says x w [] e tt h
+    go (Some total) e = cut_off-says x w total e h
+
+  -- ---- rule by rule
+
+  silent-says : (x : Option FrontConn) → FrontStands env.stream x (front_tale u) → FrontSays x (x, silent)
+  silent-says x h = record { told = tt; notes = tt; stands = h; to = tt; none = go x; answered = λ n. omega arith } where
+    go : (o : Option FrontConn) → SaysNothing o o []
+    go None = (refl, refl)
+    go (Some conn) = tt
+
+  met-says : (s : Said) → IsUntaken (front_tale u) → FrontSays None (met env s)
+  met-says s h =
+      let mine : nat_eq env.c env.c ≡ true = own env.c in
+      cond_both {A = Option FrontConn × Turn} (is_plain_syn s) (begun env s) (None, silent) (FrontSays None)
+      (λ t. spoken-says None (record { block = listening s env.iss; count = 0; notes = rec.Took place.Front env.c (record { 0 = 1 }) ∷ []; answered = 0; over = None }) [] refl tt
+      (record {
+        told = ((refl, (let first = h.epoch in omega arith), h.owner), tt);
+        notes = (tt, tt);
+        serves = record {
+          taken = record { owner = ap (λ b. cond b (Some place.Front) u.owner) mine; epoch = ap (λ b. cond b 1 u.epoch) mine };
+          served = h.served;
+          bytes = h.bytes;
+          within = omega arith;
+          some = omega arith;
+          reset = h.reset;
+        };
+        answered = λ n. omega arith;
+      }))
+      (λ t. silent-says None h)
+
+  -- an endpoint with as many bytes as that which is held
+  held-answers : (b d : ControlBlock) (count : ℕ) → d.send.total ≡ b.send.total → IsServing env.stream count b.send.total (front_tale u)
+      → IsAnswering (record { block = d; count = count; notes = []; answered = 0; over = None })
+  held-answers b d count e s = record { told = tt; notes = tt; serves = many-serves None count b.send.total d.send.total (front_tale u) e s; answered = λ n. omega arith }
+
+  tombstone-says : (last : Final) (o : Option Said) → FrontStands env.stream (Some (Closed last)) (front_tale u) → FrontSays (Some (Closed last)) (Some (Closed last), tombstone env o)
+  tombstone-says last None h = silent-says (Some (Closed last)) h
+  tombstone-says last (Some s) h = record { told = tt; notes = tt; stands = h; to = (refl, tt); none = tt; answered = λ n. omega arith }
+
+  hears-says : (x : Option FrontConn) (s : Said) → FrontStands env.stream x (front_tale u) → FrontSays x (front_hears env x s)
+  hears-says None s h = met-says s h
+  hears-says (Some (Held b count)) s h = settled-says (Some (Held b count)) _ (reads_on-answers _ _ (held-answers b (on_segment b s).1 count (segment-many b s) h))
+  hears-says (Some Lent) s h = absurd h
+  hears-says (Some (Closed last)) s h = tombstone-says last (last_words last.reason last s) h
+
+  pub gets-says : (x : Option FrontConn) (r : Result Said SegFault) → FrontStands env.stream x (front_tale u) → FrontSays x (front_gets env x r)
+  gets-says x (Err fault) h = silent-says x h
+  gets-says x (Ok s) h = hears-says x s h
+
+  pub timer-says : (x : Option FrontConn) → FrontStands env.stream x (front_tale u) → FrontSays x (front_timer env x)
+  timer-says None h = silent-says None h
+  timer-says (Some (Held b count)) h =
+      spoken-says (Some (Held b count)) (record { block = after_timer b; count = count; notes = []; answered = 0; over = None }) (ready_of env (after_timer b) (timed b)) refl (ready-to env (after_timer b) (timed b))
+      (held-answers b (after_timer b) count (timer-many b) h)
+  timer-says (Some Lent) h = absurd h
+  timer-says (Some (Closed last)) h = silent-says (Some (Closed last)) h

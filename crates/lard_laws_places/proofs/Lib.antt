@@ -1,0 +1,14 @@
+pub mod ClientRules
+pub mod ClientTurns
+pub mod Endpoints
+pub mod Following
+pub mod Forms
+pub mod FrontRules
+pub mod Keeping
+pub mod Kept
+pub mod Linked
+pub mod Lookups
+pub mod Reached
+pub mod Sides
+pub mod Steps
+pub mod Telling
