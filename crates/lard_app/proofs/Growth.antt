@@ -8,6 +8,7 @@ use Rattle.lard_base.specs.declared.event.Event.{Event}
 use Rattle.lard_journal.specs.declared.rec.Rec.{Rec}
 use Rattle.lard_journal.specs.Report.{report, heading_line}
 use Rattle.lard_journal.proofs.Growth.{report-append, report-heading}
+use Rattle.lard_machine.specs.Bounds.{HasRule}
 use Rattle.lard_machine.specs.Machine.{machine_step, start}
 use Rattle.lard_machine.specs.declared.fault.StepFault.{StepFault}
 use Rattle.lard_machine.specs.declared.fault.What.TheVariants.{Input}
@@ -18,7 +19,8 @@ use Rattle.lard_schedule.specs.declared.reader.Reader.{Reader}
 use Rattle.lard_schedule.specs.declared.reader.Stage.{Stage}
 use Rattle.lard_schedule.specs.declared.reader.Stage.TheVariants.{Start, Settings, Files, Running}
 use Rattle.lard_schedule.specs.Laws.{IsBefore, MayStand}
-use Rattle.lard_schedule.specs.Reader.{item_of}
+use Rattle.lard_schedule.specs.Events.{IsInRange}
+use Rattle.lard_schedule.specs.Reader.{HasRange, item_of}
 use Rattle.lard_app.specs.declared.status.Form.{Form}
 use Rattle.lard_app.specs.declared.status.Status.{Status}
 use Rattle.lard_app.specs.declared.status.Status.TheVariants.{Limit}
@@ -26,7 +28,7 @@ use Rattle.lard_app.specs.declared.status.Why.{Why}
 use Rattle.lard_app.specs.Forms.{missing, unbuilt}
 use Rattle.lard_app.specs.Replay.{Progress, begun, config_set, counted, followed, found, gain, go_gain, is_past, item_gain, item_taken, judged, judged_gain, moved, passed, replayed, report_at, report_of, step_gain, stepped, taken, unless_unbuilt}
 use Rattle.lard_app.proofs.Passing.{Took, judged_by, ok_is, passed-took, passed_by, took-fits, took-gain}
-use Rattle.lard_app.proofs.Steps.{step-grows}
+use Rattle.lard_app.proofs.Steps.{ruled, step-grows}
 
 -- ---- the report grows by what a line adds
 
@@ -48,31 +50,31 @@ module _ (s t : Progress) where
       ap report_of (sym (ok_is _ t e)) ∙ ap (λ st. report_at st (start s.config [])) running ∙ report-heading s.config ∙ ap (λ xs. xs ++ heading_line s.config) (sym (before_none before s.machine b))
   begun-grown before (Err fault) running b e = cc
 
-  moved-grown : (e : Event) (r : Result Machine StepFault) → s.reader.stage ≡ Running → machine_step s.machine e ≡ r → moved s r ≡ Ok t → report_of t ≡ report_of s ++ step_gain s (moved s r)
-  moved-grown e (Err fault) running is h = cc
-  moved-grown e (Ok m) running is h =
-      let grows = step-grows s.machine m e is in
+  moved-grown : (e : Event) (r : Result Machine StepFault) → s.reader.stage ≡ Running → HasRule e → machine_step s.machine e ≡ r → moved s r ≡ Ok t → report_of t ≡ report_of s ++ step_gain s (moved s r)
+  moved-grown e (Err fault) running rule is h = cc
+  moved-grown e (Ok m) running rule is h =
+      let grows = step-grows s.machine m e rule is in
       ap report_of (sym (ok_is _ t h)) ∙ ap (λ st. report_at st m) running ∙ ap (λ c. report c [] m.journal) grows.1 ∙ ap (report s.machine.config []) grows.0
       ∙ report-append s.machine.config [] s.machine.journal (drop (length s.machine.journal) m.journal)
       ∙ ap (λ st. report_at st s.machine ++ step_gain s (moved s (Ok m))) (sym running)
 
-  event-grown : (e : Event) (o : Option Form) → s.reader.stage ≡ Running → stepped s e o ≡ Ok t → report_of t ≡ report_of s ++ step_gain s (stepped s e o)
-  event-grown e (Some form) running h = cc
-  event-grown e None running h = moved-grown e (machine_step s.machine e) running refl h
+  event-grown : (e : Event) (o : Option Form) → s.reader.stage ≡ Running → IsInRange e → missing e ≡ o → stepped s e o ≡ Ok t → report_of t ≡ report_of s ++ step_gain s (stepped s e o)
+  event-grown e (Some form) running range m h = cc
+  event-grown e None running range m h = moved-grown e (machine_step s.machine e) running (ruled e m range) refl h
 
 -- what an item adds, where it may stand
-item-grown : (s t : Progress) (x : Item) → MayStand s.reader x → taken (followed s x) x ≡ Ok t → report_of t ≡ report_of s ++ item_gain (followed s x) x
-item-grown s t item.Header stands e = ap report_of (sym (ok_is _ t e)) ∙ ap (λ st. report_at st s.machine ++ []) (sym stands)
-item-grown s t (item.Set key value) stands e = set-grown (followed s (item.Set key value)) t key value (range_check key value) e
-item-grown s t (item.File path bytes) stands e = cc
-item-grown s t item.Go stands e = begun-grown (followed s item.Go) t s.reader.stage (config_check s.config) refl stands e
-item-grown s t (item.Event d) stands e = event-grown (followed s (item.Event d)) t d (missing d) stands e
+item-grown : (s t : Progress) (x : Item) → MayStand s.reader x → HasRange x → taken (followed s x) x ≡ Ok t → report_of t ≡ report_of s ++ item_gain (followed s x) x
+item-grown s t item.Header stands range e = ap report_of (sym (ok_is _ t e)) ∙ ap (λ st. report_at st s.machine ++ []) (sym stands)
+item-grown s t (item.Set key value) stands range e = set-grown (followed s (item.Set key value)) t key value (range_check key value) e
+item-grown s t (item.File path bytes) stands range e = cc
+item-grown s t item.Go stands range e = begun-grown (followed s item.Go) t s.reader.stage (config_check s.config) refl stands e
+item-grown s t (item.Event d) stands range e = event-grown (followed s (item.Event d)) t d (missing d) stands range refl e
 
 -- a line that is passed
 pub passed-grown : (s t : Progress) (line : List ℕ) → passed s line ≡ Ok t → report_of t ≡ report_of s ++ gain s line
 passed-grown s t line e =
     let k = passed-took s t line e in
-    item-grown (counted s line) t k.item (took-fits s t line k).1 k.is ∙ ap (λ xs. report_of s ++ xs) (sym (took-gain s t line k))
+    item-grown (counted s line) t k.item (took-fits s t line k).1 (took-fits s t line k).2 k.is ∙ ap (λ xs. report_of s ++ xs) (sym (took-gain s t line k))
 
 -- ---- a line that ends the run adds nothing
 

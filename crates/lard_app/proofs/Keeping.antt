@@ -28,28 +28,7 @@ use Rattle.lard_app.specs.declared.status.Status.{Status}
 use Rattle.lard_app.specs.Forms.{missing}
 use Rattle.lard_app.specs.Replay.{Progress, begin, begun, config_set, counted, event_listed, events_from, events_of, followed, input_limit, is_past, judged, lines_of, machine_of, moved, passed, replayed, stepped, taken, whole}
 use Rattle.lard_app.proofs.Passing.{Took, ok_is, passed-took, took-fits, took-judged}
-use Rattle.lard_app.proofs.Steps.{step-grows}
-
--- ---- events that may be stepped
-
--- an event that a line can have, and that is built, has a rule
-pub ruled : (e : Event) → missing e ≡ None → IsInRange e → HasRule e
-ruled (event.Open c isn iss wnd mss) m r = (r.3.0, r.4.0, r.4.1)
-ruled (event.Get c path) m r = tt
-ruled (event.Write c bytes) m r = cc
-ruled (event.Shut c) m r = tt
-ruled (event.Abort c) m r = tt
-ruled (event.Hold c) m r = tt
-ruled (event.Take c) m r = tt
-ruled (event.Deliver k) m r = tt
-ruled (event.Lose k) m r = tt
-ruled (event.Timer place.Front c) m r = tt
-ruled (event.Timer (place.Client d) c) m r = let same = r.2 in grind (arith, nat_tests, same)
-ruled (event.Timer (place.Node n) c) m r = cc
-ruled (event.Disk n j) m r = cc
-ruled (event.Clock ms) m r = cc
-ruled (event.Settle rounds) m r = cc
-ruled (event.Inject c bytes) m r = cc
+use Rattle.lard_app.proofs.Steps.{ruled, step-grows}
 
 -- one more event
 passes-push : (m n t : Machine) (es : List Event) (e : Event) → Passes m es n → HasRule e → machine_step n e ≡ Ok t → Passes m (es ++ e ∷ []) t
@@ -145,7 +124,7 @@ module _ (s t : Progress) (es : List Event) (k : Keeps s es) where
   moved-keeps : (e : Event) (r : Result Machine StepFault) → s.reader.stage ≡ Running → HasRule e → machine_step s.machine e ≡ r → moved (followed s (item.Event e)) r ≡ Ok t → Keeps t (es ++ e ∷ [])
   moved-keeps e (Err fault) running rule is h = cc
   moved-keeps e (Ok m) running rule is h =
-      let kept = (step-grows s.machine m e is).1 in
+      let kept = (step-grows s.machine m e rule is).1 in
       subst (λ (v : Progress). Keeps v (es ++ e ∷ [])) (ok_is _ t h) (record {
         idle = subst (λ st. IsIdle st (es ++ e ∷ [])) (sym running) tt;
         runs = subst (λ (c : Config). Passes (start c []) (es ++ e ∷ []) m) (sym kept) (passes-push (start s.machine.config []) s.machine m es e k.runs rule is);

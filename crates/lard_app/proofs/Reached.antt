@@ -1,9 +1,11 @@
 -- What the laws of the machine say of every state that a replay comes to.
-use Rattle.std.proofs.Common.{◌≡◌, ℕ, List, [], length, Option, Some, None, IsSome}
+use Rattle.std.proofs.Common.{◌≡◌, ℕ, List, [], length, Option, Some, None, IsSome, refl, sym, ap, ◌∙◌, subst}
 use Rattle.std.specs.FinMap as table
 use Rattle.lard_base.specs.declared.config.Config.{Config}
-use Rattle.lard_history.specs.Journal.{answered_bytes, is_lost, numbers_of, packet_bytes, sent_count}
-use Rattle.lard_machine.specs.Bounds.{IsBounded}
+use Rattle.lard_history.specs.Journal.{Tale, answered_bytes, is_lost, numbers_of, packet_bytes, sent_count, tale}
+use Rattle.lard_history.proofs.Tales.{numbers-tale}
+use Rattle.lard_laws_places.specs.Places.{ClientStands, client_tale, lost_in}
+use Rattle.lard_laws_places.proofs.Reached.{reached-holds}
 use Rattle.lard_machine.specs.Machine.{IsReached}
 use Rattle.lard_machine.specs.declared.machine.Machine.{Machine}
 use Rattle.lard_machine.specs.declared.places.Station.{Station}
@@ -19,8 +21,14 @@ pub record Told (m : Machine) : Type 0 where
   pub opened : (c : ℕ) (x : Station) → table.get m.clients c ≡ Some x → IsSome (numbers_of m.journal c)
   pub unopened : (c : ℕ) → table.get m.clients c ≡ None → numbers_of m.journal c ≡ None
 
-pub reached-bounded : (config : Config) (m : Machine) → IsReached config [] m → IsBounded m
-reached-bounded config m r = ?
-
 pub reached-told : (config : Config) (m : Machine) → IsReached config [] m → Told m
-reached-told config m r = ?
+reached-told config m r =
+    let h = reached-holds config [] m r in
+    record {
+      sent = h.linked.is.sent;
+      bytes = h.linked.is.bytes;
+      answered = h.linked.bytes;
+      lost = λ k p at. h.linked.is.lost k ∙ ap lost_in at;
+      opened = λ c x at. subst (λ n. IsSome n) (sym (numbers-tale m.journal c ∙ (subst (λ o. ClientStands c o (client_tale (tale m.journal c))) at (h.stands c).client).numbers)) refl;
+      unopened = λ c at. numbers-tale m.journal c ∙ (subst (λ o. ClientStands c o (client_tale (tale m.journal c))) at (h.stands c).client).numbers;
+    }
