@@ -5,6 +5,7 @@ mod Going
 mod Growth
 mod Keeping
 mod Knows
+mod Lawful
 mod Passing
 mod Reached
 mod Settled

@@ -1,5 +1,5 @@
 -- Which events are stepped, and what each step keeps: it takes no record back, and changes no number of the configuration.
-use Rattle.std.proofs.Common.{◌≡◌, ℕ, List, [], ◌∷◌, ◌++◌, length, drop, Bool, Option, Some, None, Ok, refl, sym, ap, arith}
+use Rattle.std.proofs.Common.{◌≡◌, ℕ, ◌+◌, ◌≤◌, List, [], ◌∷◌, ◌++◌, length, drop, Bool, Option, Some, None, Ok, refl, sym, ap, ◌∙◌, arith, length-append}
 use Rattle.std.proofs.lemmas.Bool.Decides.{nat_tests}
 use Rattle.std.proofs.Math.Seq.{drop-append_seam}
 use Rattle.lard_base.specs.declared.event.Event.{Event}
@@ -78,3 +78,9 @@ forms-grow m = record {
 -- a step that is done
 pub step-grows : (m t : Machine) (e : Event) → HasRule e → machine_step m e ≡ Ok t → Grows m t
 step-grows m t e rule is = step_has m t e (λ d j. Grows m j) (forms-grow m) rule is
+
+-- so the journal is no shorter
+pub grows-longer : (m t : Machine) → Grows m t → length m.journal ≤ length t.journal
+grows-longer m t g =
+    let longer : length t.journal ≡ length m.journal + length (drop (length m.journal) t.journal) = ap length g.0 ∙ length-append m.journal (drop (length m.journal) t.journal) in
+    omega (arith, longer)

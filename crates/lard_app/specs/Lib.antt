@@ -2,4 +2,5 @@ pub mod Causes
 pub mod Forms
 pub mod Replay
 pub mod Run
+pub mod Seen
 pub mod Status

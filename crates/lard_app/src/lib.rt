@@ -1,8 +1,14 @@
 //! The top call `run`: it reads a schedule, replays it through the core, and writes the report.
+//!
+//! It stands at the top of the path. `run` reads its words and the input, the reader of `lard_schedule` makes an item
+//! of each line, the world of `lard_world` does the step of an event, and the step's records go to the sink as lines.
 #![tactic(auto)]
 
+mod commands;
 mod forms;
+mod replay;
 mod status;
 
+pub use commands::run;
 pub use lard_machine::What;
 pub use status::{Form, Status, Why};

@@ -1,0 +1,134 @@
+//! The top call.
+
+ghost use Rattle.std.specs.Prelude.{◌≡◌, ◌≤◌, ◌+◌, ◌↔◌, ℕ, false, List, [], length, codes, IsTrue};
+ghost use Rattle.std.specs.Io.KnownBytes.{Keeps};
+ghost use Rattle.std.specs.List.{position};
+ghost use Rattle.lard_base.specs.Causes.{Rose};
+ghost use Rattle.lard_history.specs.Laws.{Follows, IsNetwork, IsOwnership, IsSoleSender, ResetsAtTheLimit, WritesWhileOpen};
+ghost use Rattle.lard_machine.specs.Machine.{Passes, start};
+ghost use Rattle.lard_app.specs.Causes.{Ends};
+ghost use Rattle.lard_app.specs.declared.status.Status.{Status};
+ghost use Rattle.lard_app.specs.Replay.{begin, config_of, events_of, input_limit, is_feed, journal_of, lines_of, machine_of, whole};
+ghost use Rattle.lard_app.specs.Run.{IsReplay, IsSettled, Ran, Replays};
+ghost use Rattle.lard_app.specs.Seen.{seen};
+
+use crate::replay::{INPUT_LIMIT, Replay};
+use crate::status::Status;
+use lard_base::{InputFault, Sink, Source, read_up_to};
+use std::alloc::Global;
+
+/// Does all that the program does for these words, which are those after its name. `replay` reads a schedule of at
+/// most 2^26 bytes from the source and writes the report of its replay to the sink; all other words are `Usage`,
+/// which reads and writes nothing.
+pub fn run<S: Source, K: Sink>(
+    alloc: Global,
+    words: &[String],
+    source: &mut S,
+    sink: &mut K,
+) -> Status
+    ensures usage { (result ≡ Status.Usage) ↔ (¬ IsReplay words.now) }
+    ensures unread { result ≡ Status.Usage → Keeps (S.left source.old) (S.left source.new) }
+    ensures unwritten { result ≡ Status.Usage → Keeps (K.written sink.old) (K.written sink.new) }
+
+    ensures replay { IsReplay words.now → Ran result (S.left source.old) (S.left source.new) (K.written sink.old) (K.written sink.new) }
+
+    ensures read_fault { result ≡ Status.ReadFault → Rose (S.faults source.old) (S.faults source.new) }
+    ensures write_fault { result ≡ Status.WriteFault → Rose (K.faults sink.old) (K.faults sink.new) }
+
+    // Where no count of faults rose, the input alone decides how the run ends, unless memory runs out.
+    ensures complete { IsReplay words.now → ¬ Rose (S.faults source.old) (S.faults source.new) → ¬ Rose (K.faults sink.old) (K.faults sink.new)
+        → IsSettled result (S.left source.old) }
+
+    // A text's replay ends with a status exactly where a line, or the text's end, gives its cause.
+    ensures causes { (text : List ℕ) (status : Status) → ((whole text).1 ≡ status) ↔ Ends (lines_of text) status }
+
+    // Whatever text it is, its journal is that of the machine after the events of the lines that were passed.
+    ensures machine { (text : List ℕ) → Passes (start (config_of text) []) (events_of text) (machine_of text) }
+
+    // And it obeys these laws.
+    ensures follows { (text : List ℕ) → Follows 1 (events_of text) (journal_of text) }
+    ensures network { (text : List ℕ) → IsNetwork (journal_of text) }
+    ensures ownership { (text : List ℕ) → IsOwnership (journal_of text) }
+    ensures sole_sender { (text : List ℕ) → IsSoleSender (journal_of text) }
+    ensures writers { (text : List ℕ) → WritesWhileOpen (journal_of text) }
+    ensures resets { (text : List ℕ) → ResetsAtTheLimit (config_of text).stream (journal_of text) }
+{
+    if !asks_replay(words) {
+        return Status::Usage;
+    }
+    replay(alloc, source, sink)
+}
+
+fn asks_replay(words: &[String]) -> bool
+    ensures { IsTrue result ↔ IsReplay words.now }
+{
+    match words {
+        [word] => is_replay(word.as_str()),
+        _ => false,
+    }
+}
+
+fn is_replay(word: &str) -> bool
+    ensures { IsTrue result ↔ (word.now ≡ codes "replay") }
+{
+    word == "replay"
+}
+
+/// Reads the whole input, and replays it.
+fn replay<S: Source, K: Sink>(alloc: Global, source: &mut S, sink: &mut K) -> Status
+    ensures ran { Ran result (S.left source.old) (S.left source.new) (K.written sink.old) (K.written sink.new) }
+    ensures read_fault { result ≡ Status.ReadFault → Rose (S.faults source.old) (S.faults source.new) }
+    ensures write_fault { result ≡ Status.WriteFault → Rose (K.faults sink.old) (K.faults sink.new) }
+{
+    let mut text = Vec::new(alloc);
+    match read_up_to(source, &mut text, INPUT_LIMIT) {
+        Ok(()) => return replay_text(alloc, sink, text.as_slice()),
+        Err(InputFault::Failed) => return Status::ReadFault,
+        Err(InputFault::NoMemory) => return Status::NoMemory,
+    }
+}
+
+/// Replays a text, and writes its report.
+fn replay_text<K: Sink>(alloc: Global, sink: &mut K, text: &[u8]) -> Status
+    requires { length text.now ≤ input_limit + 1 }
+    ensures replayed { Replays result text.now (K.written sink.old) (K.written sink.new) }
+    ensures later { K.faults sink.old ≤ K.faults sink.new }
+    ensures write_fault { result ≡ Status.WriteFault → Rose (K.faults sink.old) (K.faults sink.new) }
+{
+    let mut replay = Replay::new(alloc);
+    let status = replay_lines(&mut replay, alloc, sink, text);
+    replay.finish();
+    status
+}
+
+/// Passes the lines of a text, one after another, to a replay that has read nothing.
+fn replay_lines<K: Sink>(
+    replay: &mut Replay,
+    alloc: Global,
+    sink: &mut K,
+    text: &[u8],
+) -> Status
+    requires begins { seen replay.old ≡ begin }
+    requires usable { replay.old.world.spoiled ≡ false }
+    requires short { length text.now ≤ input_limit + 1 }
+    ensures replayed { Replays result text.now (K.written sink.old) (K.written sink.new) }
+    ensures later { K.faults sink.old ≤ K.faults sink.new }
+    ensures write_fault { result ≡ Status.WriteFault → Rose (K.faults sink.old) (K.faults sink.new) }
+{
+    let mut rest = text;
+    while let Some(at) = feed_in(rest) {
+        match replay.pass(alloc, sink, &rest[..at]) {
+            Ok(()) => {}
+            Err(status) => return status,
+        }
+        rest = &rest[at + 1..];
+    }
+    replay.end(rest)
+}
+
+/// Where the first line feed stands.
+fn feed_in(text: &[u8]) -> Option<usize>
+    ensures { result ≡ position is_feed text.now }
+{
+    text.iter().position(|byte| *byte == b'\n')
+}

@@ -1,0 +1,253 @@
+//! A replay: what was read of a schedule so far, and the world that its events have led to.
+
+ghost use Rattle.std.specs.Prelude.{◌≡◌, ◌+◌, ◌≤◌, ◌<◌, ◌^◌, false, length, drop, IfOk, OnOk, IsErrOf};
+ghost use Rattle.std.specs.List.{flat_map};
+ghost use Rattle.lard_base.specs.Causes.{Rose};
+ghost use Rattle.lard_base.specs.Config.{range_check};
+ghost use Rattle.lard_journal.specs.Report.{rec_line};
+ghost use Rattle.lard_machine.specs.Bounds.{IsBounded};
+ghost use Rattle.lard_schedule.specs.Events.{IsInRange};
+ghost use Rattle.lard_schedule.specs.Reader.{HasRange};
+ghost use Rattle.lard_app.specs.Forms.{missing};
+ghost use Rattle.lard_app.specs.Replay.{IsSound, Passes, Writes, begin, config_set, ending, gain, item_gain, passed, stepped, taken};
+ghost use Rattle.lard_app.specs.Seen.{Sets, seen};
+
+use crate::forms::{missing, unbuilt};
+use crate::status::{Form, Status, Why};
+use lard_base::{Config, Event, Failed, Key, NoMemory, Sink, write_all};
+use lard_files::Files;
+use lard_journal::{Journal, Rec, heading, push_line};
+use lard_machine::{StepFault, What};
+use lard_schedule::{Item, LineFault, Reader, Stage};
+use lard_world::World;
+use std::alloc::Global;
+use std::mem;
+
+/// The most bytes of an input.
+pub const INPUT_LIMIT: usize = 1 << 26;
+
+/// What was read so far, and what it led to. It holds a world, and so has to be spent, by `finish`.
+pub struct Replay {
+    /// What may follow.
+    pub reader: Reader,
+    /// The numbers that the lines have set so far.
+    pub config: Config,
+    /// How many lines were passed.
+    pub lines: u64,
+    /// How many bytes these lines have, with their line feeds.
+    pub read: u64,
+    /// The world, which begins when `go` has passed.
+    pub world: World,
+}
+
+impl Replay {
+    /// Nothing was read.
+    pub fn new(alloc: Global) -> Replay
+        ensures begin { seen result ≡ begin }
+        ensures usable { result.world.spoiled ≡ false }
+    {
+        let config = Config::standard();
+        Replay {
+            reader: Reader::new(),
+            config,
+            lines: 0,
+            read: 0,
+            world: World::new(alloc, config, Files::new(alloc)),
+        }
+    }
+
+    /// Takes a line, which is given without its line feed, and writes what the report gains.
+    #[tactic(auto, unfolding(crate::specs::Replay::passed, crate::specs::Replay::gain, crate::specs::Replay::judged))]
+    pub fn pass<K: Sink>(&mut self, alloc: Global, sink: &mut K, line: &[u8]) -> Result<(), Status>
+        requires usable { self.old.world.spoiled ≡ false }
+        requires sound { IsSound (seen self.old) }
+        requires small { length line.now < 2 ^ 32 }
+        ensures passed { Passes (passed (seen self.old) line.now) (gain (seen self.old) line.now) (K.written sink.old) (K.written sink.new) (seen self.new) result }
+        ensures usable { OnOk result (self.new.world.spoiled ≡ false) }
+        ensures later { K.faults sink.old ≤ K.faults sink.new }
+        ensures cause { IsErrOf result Status.WriteFault → Rose (K.faults sink.old) (K.faults sink.new) }
+    {
+        let number = self.lines + 1;
+        let read = self.read + line.len() as u64 + 1;
+        if read > INPUT_LIMIT as u64 {
+            return Err(Status::Limit {
+                line: number,
+                what: What::Input,
+            });
+        }
+        if let Some(form) = unbuilt(line) {
+            return Err(refused(number, Why::FormNotBuilt(form)));
+        }
+        match self.reader.feed_line(alloc, line) {
+            Ok(item) => {
+                self.lines = number;
+                self.read = read;
+                return self.take(alloc, sink, item);
+            }
+            Err(LineFault::Syntax) => return Err(refused(number, Why::Syntax)),
+            Err(LineFault::NoMemory) => return Err(Status::NoMemory),
+        }
+    }
+
+    /// Takes what a line stands for, once the line is counted and the reader has passed it.
+    fn take<K: Sink>(&mut self, alloc: Global, sink: &mut K, item: Item) -> Result<(), Status>
+        requires usable { self.old.world.spoiled ≡ false }
+        requires bounded { IsBounded self.old.world.machine }
+        requires stream { self.old.world.machine.config.stream ≤ 2 ^ 30 }
+        requires range { HasRange item }
+        ensures taken { Passes (taken (seen self.old) item) (item_gain (seen self.old) item) (K.written sink.old) (K.written sink.new) (seen self.new) result }
+        ensures usable { OnOk result (self.new.world.spoiled ≡ false) }
+        ensures later { K.faults sink.old ≤ K.faults sink.new }
+        ensures cause { IsErrOf result Status.WriteFault → Rose (K.faults sink.old) (K.faults sink.new) }
+    {
+        match item {
+            Item::Header => return Ok(()),
+            Item::Set(key, value) => return self.set(key, value),
+            Item::File { path: _, bytes: _ } => {
+                return Err(refused(self.lines, Why::FormNotBuilt(Form::File)));
+            }
+            Item::Go => return self.go(alloc, sink),
+            Item::Event(event) => return self.step(alloc, sink, event),
+        }
+    }
+
+    /// Keeps a number of the configuration, if it is in its range.
+    fn set(&mut self, key: Key, value: u64) -> Result<(), Status>
+        ensures set { Sets (config_set (seen self.old) key value (range_check key value)) (seen self.new) result }
+        ensures world { self.new.world ≡ self.old.world }
+    {
+        match self.config.set(key, value) {
+            Ok(()) => return Ok(()),
+            Err(fault) => return Err(refused(self.lines, Why::Config(fault))),
+        }
+    }
+
+    /// The world begins, if the configuration can be used, and the heading is written.
+    fn go<K: Sink>(&mut self, alloc: Global, sink: &mut K) -> Result<(), Status>
+        requires usable { self.old.world.spoiled ≡ false }
+        ensures taken { Passes (taken (seen self.old) Item.Go) (item_gain (seen self.old) Item.Go) (K.written sink.old) (K.written sink.new) (seen self.new) result }
+        ensures usable { OnOk result (self.new.world.spoiled ≡ false) }
+        ensures later { K.faults sink.old ≤ K.faults sink.new }
+        ensures cause { IsErrOf result Status.WriteFault → Rose (K.faults sink.old) (K.faults sink.new) }
+    {
+        if let Err(fault) = self.config.check() {
+            return Err(refused(self.lines, Why::Config(fault)));
+        }
+        let before = mem::replace(&mut self.world, World::new(alloc, self.config, Files::new(alloc)));
+        let _empty = before.finish();
+        match heading(alloc, &self.config) {
+            Ok(text) => return write(sink, text.as_slice()),
+            Err(NoMemory) => return Err(Status::NoMemory),
+        }
+    }
+
+    /// Does the step of an event, and writes its records.
+    fn step<K: Sink>(&mut self, alloc: Global, sink: &mut K, event: Event) -> Result<(), Status>
+        requires usable { self.old.world.spoiled ≡ false }
+        requires bounded { IsBounded self.old.world.machine }
+        requires stream { self.old.world.machine.config.stream ≤ 2 ^ 30 }
+        requires range { IsInRange event }
+        ensures taken { Passes (stepped (seen self.old) event (missing event)) (item_gain (seen self.old) (Item.Event event)) (K.written sink.old) (K.written sink.new) (seen self.new) result }
+        ensures usable { OnOk result (self.new.world.spoiled ≡ false) }
+        ensures later { K.faults sink.old ≤ K.faults sink.new }
+        ensures cause { IsErrOf result Status.WriteFault → Rose (K.faults sink.old) (K.faults sink.new) }
+    {
+        if let Some(form) = missing(&event) {
+            return Err(refused(self.lines, Why::FormNotBuilt(form)));
+        }
+        let before = self.world.journal().len() as usize;
+        match self.world.step(alloc, event) {
+            Ok(()) => return write_records(alloc, sink, self.world.journal(), before),
+            Err(StepFault::NotSent { k, sent }) => {
+                return Err(refused(self.lines, Why::NotSent { k, sent }));
+            }
+            Err(StepFault::WasLost(k)) => return Err(refused(self.lines, Why::WasLost(k))),
+            Err(StepFault::NoClient(c)) => return Err(refused(self.lines, Why::NoClient(c))),
+            Err(StepFault::Used(c)) => return Err(refused(self.lines, Why::Used(c))),
+            Err(StepFault::Limit(what)) => {
+                return Err(Status::Limit {
+                    line: self.lines,
+                    what,
+                });
+            }
+            Err(StepFault::NoMemory) => return Err(Status::NoMemory),
+        }
+    }
+
+    /// How a run ends whose input ends with these bytes, which no line feed follows.
+    pub fn end(&self, rest: &[u8]) -> Status
+        requires sound { IsSound (seen self.now) }
+        requires small { length rest.now < 2 ^ 32 }
+        ensures { result ≡ ending (seen self.now) rest.now }
+    {
+        let number = self.lines + 1;
+        if self.read + rest.len() as u64 > INPUT_LIMIT as u64 && !rest.is_empty() {
+            return Status::Limit {
+                line: number,
+                what: What::Input,
+            };
+        }
+        match (rest, self.reader.stage) {
+            ([], Stage::Running) => Status::Done,
+            _ => refused(number, Why::Syntax),
+        }
+    }
+
+    /// Spends the replay.
+    pub fn finish(self) {
+        let Replay {
+            reader: _,
+            config: _,
+            lines: _,
+            read: _,
+            world,
+        } = self;
+        let _journal = world.finish();
+    }
+}
+
+fn refused(line: u64, why: Why) -> Status
+    ensures { result ≡ Status.Refused line why }
+{
+    Status::Refused { line, why }
+}
+
+/// Writes the records of a journal from a place on, in one piece.
+fn write_records<K: Sink>(
+    alloc: Global,
+    sink: &mut K,
+    journal: &Journal,
+    from: usize,
+) -> Result<(), Status>
+    requires { from ≤ length journal.now }
+    ensures written { Writes (flat_map rec_line (drop from journal.now)) (K.written sink.old) (K.written sink.new) result }
+    ensures later { K.faults sink.old ≤ K.faults sink.new }
+    ensures cause { IsErrOf result Status.WriteFault → Rose (K.faults sink.old) (K.faults sink.new) }
+{
+    match lines_of(alloc, &journal.as_slice()[from..]) {
+        Ok(text) => return write(sink, text.as_slice()),
+        Err(NoMemory) => return Err(Status::NoMemory),
+    }
+}
+
+/// The lines of records, one after another.
+fn lines_of(alloc: Global, recs: &[Rec]) -> Result<Vec<u8>, NoMemory>
+    ensures { IfOk result (λ text. text.items ≡ flat_map rec_line recs.now) }
+{
+    let mut text = Vec::new(alloc);
+    for rec in recs {
+        push_line(&mut text, rec)?;
+    }
+    Ok(text)
+}
+
+fn write<K: Sink>(sink: &mut K, text: &[u8]) -> Result<(), Status>
+    ensures written { Writes text.now (K.written sink.old) (K.written sink.new) result }
+    ensures later { K.faults sink.old ≤ K.faults sink.new }
+    ensures cause { IsErrOf result Status.WriteFault → Rose (K.faults sink.old) (K.faults sink.new) }
+{
+    match write_all(sink, text) {
+        Ok(()) => return Ok(()),
+        Err(Failed) => return Err(Status::WriteFault),
+    }
+}
