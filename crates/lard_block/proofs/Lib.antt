@@ -1,5 +1,5 @@
 mod Ends
 mod Pairs
-mod Cutting
+pub mod Cutting
 pub mod Division
 mod Skips

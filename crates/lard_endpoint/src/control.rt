@@ -126,6 +126,13 @@ impl Endpoint {
         self.recv.finished()
     }
 
+    /// Whether the peer reset the connection. Nothing is sent then, and `end` ends it.
+    pub fn was_reset(&self) -> bool
+        ensures { result ≡ self.now.reset }
+    {
+        self.reset
+    }
+
     /// Whether all that was sent or queued is acknowledged, the SYN and the FIN too.
     pub fn clear(&self) -> bool
         ensures { result ≡ is_clear self.now.send }

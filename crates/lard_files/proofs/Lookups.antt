@@ -1,8 +1,9 @@
 -- What a look-up finds once a file is added.
-use Rattle.std.proofs.Common.{◌≡◌, ◌≢◌, ℕ, Bool, true, false, List, [], ◌∷◌, ◌++◌, Option, Some, None, cond, refl, ap}
+use Rattle.std.proofs.Common.{◌≡◌, ◌≢◌, ◌≤◌, length, arith, ℕ, Bool, true, false, List, [], ◌∷◌, ◌++◌, Option, Some, None, cond, refl, ap}
 use Rattle.std.proofs.lemmas.Slice.Eq.{bytes_eq-Decides}
+use Rattle.std.proofs.lemmas.List.Sums.{sum_by-cons}
 use Rattle.std.specs.Str.{bytes_eq}
-use Rattle.lard_files.specs.Files.{file_at}
+use Rattle.lard_files.specs.Files.{file_at, total}
 
 -- a path is equal to itself, and a test of another is false
 same : (q : List ℕ) → bytes_eq q q ≡ true
@@ -27,3 +28,11 @@ finds_added (f ∷ files) path bytes none = go (finds_added files path bytes) (b
 pub others_stay : (files : List (List ℕ × List ℕ)) (path bytes other : List ℕ) → other ≢ path → file_at (files ++ (path, bytes) ∷ []) other ≡ file_at files other
 others_stay [] path bytes other n = ap (λ b. cond {A = Option (List ℕ)} b (Some bytes) None) (differs other path n)
 others_stay (f ∷ files) path bytes other n = ap (λ o. cond {A = Option (List ℕ)} (bytes_eq other f.0) (Some f.1) o) (others_stay files path bytes other n)
+
+-- a file that is found is one of those whose lengths are added up
+pub file-within : (files : List (List ℕ × List ℕ)) (path bytes : List ℕ) → file_at files path ≡ Some bytes → length bytes ≤ total files
+file-within [] path bytes h = cc
+file-within (f ∷ files) path bytes h = go (file-within files path bytes) (bytes_eq path f.0) h where
+  go : (file_at files path ≡ Some bytes → length bytes ≤ total files) → (b : Bool) → cond {A = Option (List ℕ)} b (Some f.1) (file_at files path) ≡ Some bytes → length bytes ≤ total (f ∷ files)
+  go later true e = let same : length f.1 ≡ length bytes = let k : f.1 ≡ bytes = cc in ap length k in omega (arith, same, sum_by-cons (λ (g : List ℕ × List ℕ). length g.1) f files)
+  go later false e = omega (arith, later e, sum_by-cons (λ (g : List ℕ × List ℕ). length g.1) f files)

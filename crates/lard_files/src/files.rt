@@ -1,6 +1,6 @@
 //! The map from paths to bytes.
 
-ghost use Rattle.std.specs.Prelude.{◌≡◌, ◌≢◌, ℕ, ◌<◌, ◌≤◌, ◌^◌, List, [], ◌∷◌, ◌++◌, length, OnOk, OnErr, option_copied};
+ghost use Rattle.std.specs.Prelude.{◌≡◌, ◌≢◌, ℕ, ◌<◌, ◌≤◌, ◌^◌, List, [], ◌∷◌, ◌++◌, length, OnOk, OnErr, IfSome, option_copied};
 ghost use Rattle.lard_files.specs.Files.{file_at, add_check, Answers, first_fault as first_fault_of};
 
 use crate::fault::FileFault;
@@ -66,9 +66,10 @@ impl Files {
         }
     }
 
-    /// The bytes of the file with this path, lent. `None` where there is no such file.
+    /// The bytes of the file with this path, lent, at most 2^26. `None` where there is no such file.
     pub fn get(&self, path: &[u8]) -> Option<&[u8]>
-        ensures { option_copied result ≡ file_at self.now path.now }
+        ensures file { option_copied result ≡ file_at self.now path.now }
+        ensures size { IfSome result (λ bytes. length bytes.now ≤ 2 ^ 26) }
     {
         match self.files.get(path) {
             Some(bytes) => Some(bytes.as_slice()),

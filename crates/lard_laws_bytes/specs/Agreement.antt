@@ -10,7 +10,7 @@ use Rattle.lard_block.specs.Blocks.{blocks}
 use Rattle.lard_client.specs.Control.{ClientBlock, IsClientBlock}
 use Rattle.lard_endpoint.specs.Control.{ControlBlock, IsControlBlock}
 use Rattle.lard_endpoint.specs.declared.control.moving.Final.{Final}
-use Rattle.lard_history.specs.Journal.{Numbers, Tale}
+use Rattle.lard_history.specs.Journal.{Tale}
 use Rattle.lard_machine.specs.declared.places.FrontConn.{FrontConn}
 use Rattle.lard_machine.specs.declared.places.FrontConn.TheVariants.{Held, Lent, Closed}
 use Rattle.lard_machine.specs.declared.places.Station.{Station}

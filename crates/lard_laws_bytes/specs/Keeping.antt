@@ -1,18 +1,17 @@
 -- What a turn of a place keeps of the agreement of its connection.
-use Rattle.std.specs.Prelude.{◌≡◌, ◌⊎◌, ℕ, ◌+◌, ◌^◌, ◌≤◌, ◌<◌, ◌||◌, Bool, true, false, List, [], ◌∷◌, ◌++◌, length, take, Option, Some, Ok}
-use Rattle.std.specs.List.{concat, list_any}
+use Rattle.std.specs.Prelude.{◌≡◌, ◌⊎◌, ℕ, ◌+◌, ◌^◌, ◌≤◌, ◌<◌, ◌||◌, Bool, true, false, List, [], ◌∷◌, ◌++◌, length, take, Option, Ok}
+use Rattle.std.specs.List.{list_any}
 use Rattle.lard_answers.specs.Answers.{FilesAt}
 use Rattle.lard_client.specs.Control.{ClientBlock, written_len}
-use Rattle.lard_history.specs.Journal.{Tale}
 use Rattle.lard_journal.specs.declared.rec.Rec.{Rec}
 use Rattle.lard_journal.specs.declared.rec.Rec.TheVariants as rec
 use Rattle.lard_machine.specs.declared.places.FrontConn.{FrontConn}
 use Rattle.lard_machine.specs.declared.places.Turn.{Turn}
-use Rattle.lard_machine.specs.Client.{client_aborts, client_gets, client_holds, client_shuts, client_takes, client_timer, client_writes}
+use Rattle.lard_machine.specs.Client.{client_gets, client_opens, client_writes}
 use Rattle.lard_machine.specs.Front.{FrontEnv, front_gets, front_timer}
 use Rattle.lard_request.specs.declared.verdict.Verdict.{Verdict}
 use Rattle.lard_segment.specs.Segment.{Said}
-use Rattle.lard_truth.specs.Truth.{Stream, GoesOn, IsTrueOf}
+use Rattle.lard_truth.specs.Truth.{Stream, IsStream, GoesOn, IsTrueOf}
 use Rattle.lard_laws_bytes.specs.Agreement.{AreReplies, AreWords, ClientAgrees, FrontAgrees, SaysAnswers}
 
 -- ---- the front end's turn
@@ -64,12 +63,12 @@ pub record IsEnv (files : FilesAt) (c : ℕ) (out : Stream) (env : FrontEnv) : T
 
 abbrev pub FrontHearsTruth : Type 0
 FrontHearsTruth = (files : FilesAt) (c : ℕ) (w out : Stream) (vs : List Verdict) (was_reset : Bool) (env : FrontEnv) (f : Option FrontConn) (s : Said)
-    → IsEnv files c out env → length w.bytes ≤ 2 ^ 30 → SaysAnswers files w out vs → FrontAgrees w out vs was_reset f → IsTrueOf w s
+    → IsEnv files c out env → IsStream w → SaysAnswers files w out vs → FrontAgrees w out vs was_reset f → s.ack < 2 ^ 32 → IsTrueOf w s
     → FrontTurned files c w out vs was_reset (front_gets env f (Ok s))
 
 abbrev pub FrontTimerIsTrue : Type 0
 FrontTimerIsTrue = (files : FilesAt) (c : ℕ) (w out : Stream) (vs : List Verdict) (was_reset : Bool) (env : FrontEnv) (f : Option FrontConn)
-    → IsEnv files c out env → length w.bytes ≤ 2 ^ 30 → SaysAnswers files w out vs → FrontAgrees w out vs was_reset f
+    → IsEnv files c out env → SaysAnswers files w out vs → FrontAgrees w out vs was_reset f
     → FrontTurned files c w out vs was_reset (front_timer env f)
 
 -- ---- a client's turn
@@ -116,3 +115,18 @@ ClientHearsTruth = (c : ℕ) (w out : Stream) (x : ClientBlock) (s : Said) → l
 abbrev pub ClientWritesTruth : Type 0
 ClientWritesTruth = (c : ℕ) (w out : Stream) (x : ClientBlock) (bytes : List ℕ) → length out.bytes ≤ 2 ^ 30 → written_len x bytes ≤ 2 ^ 30 → ClientAgrees c w out x
     → ClientTurned c w out x (client_writes x bytes)
+
+-- the stream of a client that wrote nothing yet
+abbrev pub unwritten : ℕ → Stream
+unwritten isn = record { first = isn; bytes = []; ended = false }
+
+-- A client that opened: it wrote and accepted nothing, whatever it is to be sent, and its SYN is true.
+pub record ClientOpened (c : ℕ) (w out : Stream) (given : ClientBlock × Turn) : Type 0 where
+  pub agrees : ClientAgrees c w out given.0
+  pub accepted : given.0.accepted ≡ 0
+  pub notes : given.1.notes ≡ []
+  pub sent : AreWords c w given.1.segments
+
+abbrev pub ClientOpens : Type 0
+ClientOpens = (c isn wnd mss : ℕ) (out : Stream) → isn < 2 ^ 32 → wnd < 2 ^ 16 → 1 ≤ mss → mss ≤ 1460
+    → ClientOpened c (unwritten isn) out (client_opens c isn wnd mss)

@@ -4,17 +4,24 @@
 //! clauses. It has no code.
 #![tactic(auto)]
 
-ghost use Rattle.lard_laws_bytes.specs.Keeping.{ClientHearsTruth, ClientKeeps, ClientWritesTruth, FrontHearsTruth, FrontTimerIsTrue};
+ghost use Rattle.lard_laws_bytes.specs.Keeping.{ClientHearsTruth, ClientKeeps, ClientOpens, ClientWritesTruth, FrontHearsTruth, FrontTimerIsTrue};
+ghost use Rattle.lard_laws_bytes.specs.Prefix.{AcceptedAreAnswers, SaidAreAnswers};
+ghost use Rattle.lard_laws_bytes.specs.Runs.{ClientsAcceptAnswers, JournalsTellTheTruth, StatesAreTruthful};
 ghost use Rattle.lard_machine.specs.Client.{client_aborts, client_holds, client_shuts, client_takes, client_timer};
+
+use lard_block::laws::what_is_taken_is_cut;
 
 /// The front end answers what its client wrote, and says nothing else.
 pub fn the_front_end_keeps_the_agreement()
     ensures segment { FrontHearsTruth }
     ensures timer { FrontTimerIsTrue }
-{}
+{
+    what_is_taken_is_cut();
+}
 
 /// A client writes its stream, and accepts the cluster's.
 pub fn a_client_keeps_the_agreement()
+    ensures opening { ClientOpens }
     ensures segment { ClientHearsTruth }
     ensures write { ClientWritesTruth }
     ensures shut { ClientKeeps client_shuts }
@@ -23,3 +30,19 @@ pub fn a_client_keeps_the_agreement()
     ensures take { ClientKeeps client_takes }
     ensures timer { ClientKeeps client_timer }
 {}
+
+/// What a client accepted begins the answers to what it wrote.
+pub fn the_agreement_gives_the_prefix()
+    ensures accepted { AcceptedAreAnswers }
+    ensures said { SaidAreAnswers }
+{}
+
+/// In every run, whatever is lost, repeated or comes out of order, all that was ever sent is true, and what a client
+/// accepts is at every moment a front of the responses to what it wrote.
+pub fn every_run_is_true()
+    ensures states { StatesAreTruthful }
+    ensures told { JournalsTellTheTruth }
+    ensures prefix { ClientsAcceptAnswers }
+{
+    the_front_end_keeps_the_agreement();
+}

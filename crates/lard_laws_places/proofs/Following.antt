@@ -14,7 +14,7 @@ use Rattle.lard_history.specs.Laws.{AreOwn, IsStep, is_own}
 use Rattle.lard_history.proofs.Each.{Each}
 use Rattle.lard_journal.specs.declared.rec.Rec.{Rec}
 use Rattle.lard_journal.specs.declared.rec.Rec.TheVariants as rec
-use Rattle.lard_laws_places.proofs.Forms.{Forms}
+use Rattle.lard_machine.proofs.Forms.{Forms}
 use Rattle.lard_laws_places.proofs.FrontRules as front
 use Rattle.lard_laws_places.proofs.FrontRules.{IsOfFront}
 use Rattle.lard_laws_places.proofs.Keeping.{station}

@@ -17,7 +17,7 @@ use Rattle.lard_journal.specs.declared.rec.Rec.{Rec}
 use Rattle.lard_journal.specs.declared.rec.Rec.TheVariants as rec
 use Rattle.lard_laws_places.specs.Places.{ClientStands, IsBetween, IsOpened, IsUnopened, Stands, client_tale, goal_in, lost_in}
 use Rattle.lard_laws_places.proofs.ClientRules.{ClientSays, aborts-says, gets-says, holds-says, opens-says, shuts-says, takes-says, timer-says, writes-says}
-use Rattle.lard_laws_places.proofs.Forms.{Forms, step_has}
+use Rattle.lard_machine.proofs.Forms.{Forms, step_has}
 use Rattle.lard_laws_places.proofs.FrontRules as front
 use Rattle.lard_laws_places.proofs.Kept.{Begins, before, begun, client-holds, front-holds, more_events}
 use Rattle.lard_laws_places.proofs.Linked.{Linked, delivers, loses, quiet, quiets}

@@ -2,7 +2,6 @@ pub mod ClientRules
 pub mod ClientTurns
 pub mod Endpoints
 pub mod Following
-pub mod Forms
 pub mod FrontRules
 pub mod Keeping
 pub mod Kept

@@ -1,9 +1,8 @@
 -- From one step to every state that events lead to.
-use Rattle.std.proofs.Common.{◌≡◌, ℕ, zero, suc, ◌+◌, ◌-◌, List, [], ◌∷◌, ◌++◌, Bool, true, false, cond, Option, Some, None, Ok, refl, sym, ap, ◌∙◌, subst, append_assoc, append-nil, nat_eq}
+use Rattle.std.proofs.Common.{◌≡◌, ℕ, zero, suc, ◌+◌, ◌-◌, List, [], ◌∷◌, ◌++◌, Bool, true, false, cond, Option, Some, None, refl, sym, ap, ◌∙◌, subst, append_assoc, append-nil, nat_eq}
 use Rattle.std.specs.Prelude.{slice_get}
 use Rattle.lard_base.specs.declared.config.Config.{Config}
 use Rattle.lard_base.specs.declared.event.Event.{Event}
-use Rattle.lard_client.specs.Control.{ClientBlock}
 use Rattle.lard_history.specs.Journal.{tale}
 use Rattle.lard_history.specs.Laws.{EachMay, Follows}
 use Rattle.lard_history.proofs.Each.{Each, each_weaker}
@@ -11,63 +10,20 @@ use Rattle.lard_journal.specs.declared.rec.Rec.{Rec}
 use Rattle.lard_laws_places.specs.Laws.{Always}
 use Rattle.lard_laws_places.specs.Places.{FrontStands, IsBetween, front_tale}
 use Rattle.lard_laws_places.proofs.Following.{Adds, forms-add}
-use Rattle.lard_laws_places.proofs.Forms.{Forms, step_has}
 use Rattle.lard_laws_places.proofs.Keeping.{start-holds, step-holds}
 use Rattle.lard_laws_places.proofs.Steps.{Holds}
 use Rattle.lard_laws_places.proofs.Telling.{IsLawful}
+use Rattle.lard_machine.proofs.Forms.{step_has}
+use Rattle.lard_machine.proofs.Runs.{passes-keep}
 use Rattle.lard_machine.specs.declared.machine.Machine.{Machine}
 use Rattle.lard_machine.specs.declared.places.FrontConn.{FrontConn}
-use Rattle.lard_machine.specs.declared.places.Turn.{Turn}
-use Rattle.lard_machine.specs.Bounds.{HasRule, IsBounded}
-use Rattle.lard_machine.specs.Machine.{IsReached, Passes, acted, client_acted, front_acted, machine_step, start}
+use Rattle.lard_machine.specs.Bounds.{IsBounded}
+use Rattle.lard_machine.specs.Machine.{IsReached, Passes, start}
 use Rattle.lard_net.specs.declared.net.Packet.{Packet}
 use Rattle.lard_net.specs.Net.{packet_at}
 
--- what each step keeps holds after many
-pub passes-keep : (P : Machine → Type 0) → ((m n : Machine) (e : Event) → P m → HasRule e → machine_step m e ≡ Ok n → P n) → (es : List Event) (m n : Machine) → Passes m es n → P m → P n
-passes-keep P step [] m n same p = subst P (sym same) p
-passes-keep P step (e ∷ es) m n past p = passes-keep P step es past.0 n past.3 (step m past.0 e p past.1 past.2)
-
 pub reached-holds : Always Holds
 reached-holds config files m r = passes-keep Holds step-holds r.0 (start config files) m r.1 (start-holds config files)
-
--- ---- settings
-
-abbrev HasSettings : Machine → Machine → Type 0
-HasSettings m n = (n.config ≡ m.config) × (n.files ≡ m.files)
-
-client-set : (m : Machine) (e : Event) (own : List Rec) (c iss : ℕ) (was : Bool) (given : ClientBlock × Turn) → HasSettings m (client_acted m e own c iss was given)
-unfolding acted
-client-set m e own c iss was given = (refl, refl)
-
-front-set : (m : Machine) (e : Event) (own : List Rec) (c : ℕ) (given : Option FrontConn × Turn) → HasSettings m (front_acted m e own c given)
-unfolding acted
-front-set m e own c given = go given.0 where
-  go : (conn : Option FrontConn) → HasSettings m (front_acted m e own c (conn, given.1))
-  go None = (refl, refl)
-  go (Some conn) = (refl, refl)
-
-forms-set : (m : Machine) → Forms m (λ e n. HasSettings m n)
-forms-set m = record {
-  opens = λ c isn iss wnd mss rule none. client-set m _ _ c iss _ _;
-  gets = λ c path x is le. client-set m _ _ c x.iss _ _;
-  writes = λ c bytes x is le. client-set m _ _ c x.iss _ _;
-  shuts = λ c x is. client-set m _ _ c x.iss _ _;
-  aborts = λ c x is. client-set m _ _ c x.iss _ _;
-  holds = λ c x is. client-set m _ _ c x.iss _ _;
-  takes = λ c x is. client-set m _ _ c x.iss _ _;
-  client_timer = λ d c x same is. client-set m _ _ c x.iss _ _;
-  front_timer = λ c x is. front-set m _ _ c _;
-  front_gets = λ k c p x at on from to is. front-set m _ _ c _;
-  client_gets = λ k c p x at on to is. client-set m _ _ c x.iss _ _;
-  nobody = λ k p at on. (refl, refl);
-  loses = λ k p at on. (refl, refl);
-}
-
-pub reached-set : (config : Config) (files : List (List ℕ × List ℕ)) (m : Machine) → IsReached config files m → (m.config ≡ config) × (m.files ≡ files)
-reached-set config files m r = passes-keep (HasSettings (start config files))
-    (λ k n e h rule is. let same = step_has k n e (λ d j. HasSettings k j) (forms-set k) rule is in (same.0 ∙ h.0, same.1 ∙ h.1))
-    r.0 (start config files) m r.1 (refl, refl)
 
 -- ---- laws
 

@@ -22,7 +22,7 @@ HasTimer (Node n) c = ⊥
 
 -- the event has a rule, and its numbers are ones that the rule can take
 abbrev pub HasRule : Event → Type 0
-HasRule (Open c isn iss wnd mss) = (1 ≤ wnd) × (1 ≤ mss) × (mss ≤ 1460)
+HasRule (Open c isn iss wnd mss) = (1 ≤ wnd) × (1 ≤ mss) × (mss ≤ 1460) × (wnd < 2 ^ 16) × (isn < 2 ^ 32) × (iss < 2 ^ 32)
 HasRule (Get c path) = Unit {0}
 HasRule (Write c bytes) = Unit {0}
 HasRule (Shut c) = Unit {0}

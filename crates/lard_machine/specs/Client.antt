@@ -1,7 +1,6 @@
 -- The rules of a client's place, each over one client: the client after it, and its turn. After its rule it sends what it
 -- may, until none.
-use Rattle.std.specs.Prelude.{ℕ, nat_lt, List, [], ◌∷◌, ◌++◌, take, drop, Bool, true, false, if◌then◌else◌, Option, Some, None, Result, Ok, Err}
-use Rattle.std.specs.Option.{option_map}
+use Rattle.std.specs.Prelude.{ℕ, nat_lt, List, [], ◌∷◌, ◌++◌, take, drop, if◌then◌else◌, Option, Some, None, Result, Ok, Err}
 use Rattle.lard_base.specs.declared.place.Place.{Place}
 use Rattle.lard_client.specs.declared.heard.Heard.{Heard}
 use Rattle.lard_client.specs.Control.{ClientBlock, opened, written, is_writing, shut_down, held_on, taken, aborted}
@@ -10,7 +9,7 @@ use Rattle.lard_client.specs.Leaving.{timed, after_timer, abort_ready}
 use Rattle.lard_journal.specs.declared.rec.Rec.{Rec}
 use Rattle.lard_journal.specs.declared.rec.Rec.TheVariants as rec
 use Rattle.lard_machine.specs.declared.places.Turn.{Turn}
-use Rattle.lard_machine.specs.Speaking.{listed, to_front, client_speaks}
+use Rattle.lard_machine.specs.Speaking.{to_front, client_speaks}
 use Rattle.lard_segment.specs.declared.fault.SegFault.{SegFault}
 use Rattle.lard_segment.specs.declared.segment.Ready.{Ready}
 use Rattle.lard_segment.specs.Segment.{Said}

@@ -1,10 +1,7 @@
 -- The machine: one step of the whole, as a function of its state and the event. It looks up what the event is about, does
 -- the rule of the place that acts, puts its connection back, and appends what the place said.
-use Rattle.std.specs.Prelude.{◌≡◌, ℕ, ◌+◌, ◌-◌, ◌*◌, ◌^◌, ◌≤◌, ◌<◌, ◌==◌, nat_le, nat_lt, not, Bool, true, false, if◌then◌else◌, List, [], ◌∷◌, ◌++◌, map, length, codes, Option, Some, None, Result, Ok, Err}
+use Rattle.std.specs.Prelude.{◌≡◌, ℕ, ◌+◌, ◌-◌, ◌^◌, nat_le, nat_lt, not, Bool, true, false, if◌then◌else◌, List, [], ◌∷◌, ◌++◌, map, length, Option, Some, None, Result, Ok, Err}
 use Rattle.std.specs.FinMap as table
-use Rattle.std.specs.FinMap.{FinMap}
-use Rattle.std.specs.Ordering.{nat_cmp}
-use Rattle.lard_answers.specs.Answers.{FilesAt}
 use Rattle.lard_base.specs.declared.config.Config.{Config}
 use Rattle.lard_base.specs.declared.event.Event.{Event}
 use Rattle.lard_base.specs.declared.event.Event.TheVariants as event
@@ -28,7 +25,6 @@ use Rattle.lard_machine.specs.declared.places.Turn.{Turn}
 use Rattle.lard_machine.specs.Bounds.{HasRule}
 use Rattle.lard_machine.specs.Client.{client_opens, client_writes, client_shuts, client_holds, client_takes, client_aborts, client_timer, client_gets}
 use Rattle.lard_machine.specs.Front.{FrontEnv, front_gets, front_timer}
-use Rattle.lard_machine.specs.Speaking.{listed}
 use Rattle.lard_net.specs.declared.net.Packet.{Packet}
 use Rattle.lard_net.specs.Net.{bytes_in, lose_at, packet_at}
 use Rattle.lard_segment.specs.declared.segment.Dir.TheVariants.{ToClient, ToCluster}

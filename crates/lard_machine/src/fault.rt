@@ -1,5 +1,7 @@
 //! Why a step is not done.
 
+use lard_base::NoMemory;
+
 /// The limits of a run.
 #[derive(Clone, Copy, Debug, PartialEq, Eq)]
 pub enum What {
@@ -31,4 +33,15 @@ pub enum StepFault {
     /// A limit was reached before the step; or the client would write more than `Stream` allows.
     Limit(What),
     NoMemory,
+}
+
+impl From<NoMemory> for StepFault {
+    ghost use Rattle.std.specs.Prelude.{◌≡◌};
+    ghost use Rattle.lard_machine.specs.declared.fault.StepFault.TheVariants.{NoMemory};
+
+    ghost from_gives = { λ _ fault. fault ≡ NoMemory };
+
+    fn from(_: NoMemory) -> StepFault {
+        StepFault::NoMemory
+    }
 }

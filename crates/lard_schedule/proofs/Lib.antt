@@ -6,4 +6,4 @@ pub mod Lines
 pub mod Places
 pub mod Readings
 pub mod Sentences
-pub mod Settled
+pub mod KeysSet

@@ -1,8 +1,8 @@
 //! An event, from its words.
 
-ghost use Rattle.std.specs.Prelude.{◌≡◌, ◌≤◌, Some, IfSome, length};
+ghost use Rattle.std.specs.Prelude.{◌≡◌, ◌≤◌, IfSome};
 ghost use Rattle.std.specs.List.{list_all};
-ghost use Rattle.lard_schedule.specs.Events.{bytes_of, client_alone, client_and_word, disk_of, event_after, event_of, get_of, inject_of, is_path, is_visible, may_keep, number_alone, numbered_place, open_of, place_of, settle_of, some_bytes_of, timer_of, write_of};
+ghost use Rattle.lard_schedule.specs.Events.{bytes_of, client_alone, client_and_word, disk_of, event_after, event_of, get_of, inject_of, is_path, is_visible, may_keep, number_alone, open_of, place_of, settle_of, some_bytes_of, timer_of, write_of};
 ghost use Rattle.lard_schedule.specs.Words.{Finds, Judges, left_of, seen_pair};
 
 use crate::item::LineFault;

@@ -1,6 +1,6 @@
 //! A file, from its words.
 
-ghost use Rattle.std.specs.Prelude.{◌≡◌, ◌≤◌, ◌^◌, ◌<◌, Some, replicate, IfOk, IfSome};
+ghost use Rattle.std.specs.Prelude.{◌≡◌, replicate, IfOk};
 ghost use Rattle.std.specs.List.{list_all};
 ghost use Rattle.lard_schedule.specs.Files.{byte_of, content_of, file_item, file_of, fill_of, is_file_path, is_no_question, path_and_word, path_then, run_of};
 ghost use Rattle.lard_schedule.specs.Words.{Finds, Judges, ended, left_of, seen_texts, seen_word};

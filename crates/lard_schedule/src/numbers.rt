@@ -1,6 +1,6 @@
 //! Numbers in decimal, and what they count.
 
-ghost use Rattle.std.specs.Prelude.{◌≡◌, ◌≤◌, ◌-◌, ◌^◌, Some, IfSome};
+ghost use Rattle.std.specs.Prelude.{◌≡◌, ◌≤◌, ◌-◌, ◌^◌, IfSome};
 ghost use Rattle.lard_schedule.specs.Words.{Finds, client_then, count_of, count_then, digit_on, digits_on, left_of, number_of, number_then, seen};
 
 use crate::words::{Words, next};

@@ -2,7 +2,7 @@
 
 ghost use Rattle.std.specs.Prelude.{◌≡◌, ◌↔◌, IsTrue, IfOk, OnErr};
 ghost use Rattle.lard_schedule.specs.Reader.{HasRange, after, header_of, item_of, set_of, setting_of, start, value_of};
-ghost use Rattle.lard_schedule.specs.Words.{Judges, left_of, words_of};
+ghost use Rattle.lard_schedule.specs.Words.{Judges, left_of};
 
 use crate::events::event;
 use crate::files::file_item;

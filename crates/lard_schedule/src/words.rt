@@ -1,6 +1,6 @@
 //! The words of a line, one after another.
 
-ghost use Rattle.std.specs.Prelude.{◌≡◌, Some, bytes_eq};
+ghost use Rattle.std.specs.Prelude.{◌≡◌, bytes_eq};
 ghost use Rattle.std.specs.List.{position};
 ghost use Rattle.lard_schedule.specs.Words.{Finds, ended, first_word, is_space, left_of, seen_word, word_then, words_of};
 

@@ -43,10 +43,10 @@ truth-grown x y s g t = record {
 }
 
 -- ---- what was taken
-front-length : (xs ys : List ℕ) → IsFront xs ys → length xs ≤ length ys
+pub front-length : (xs ys : List ℕ) → IsFront xs ys → length xs ≤ length ys
 front-length xs ys f = omega (arith, ap length f.1, length-append xs f.0)
 
-front-take : (n : ℕ) (xs ys : List ℕ) → IsFront xs ys → n ≤ length xs → take n ys ≡ take n xs
+pub front-take : (n : ℕ) (xs ys : List ℕ) → IsFront xs ys → n ≤ length xs → take n ys ≡ take n xs
 front-take n xs ys f le = ap (take n) f.1 ∙ take-append-le n xs f.0 le
 
 pub heard-grown : (x y : Stream) (r : Received) → GoesOn x y → Hears x r → Hears y r

@@ -1,5 +1,6 @@
 -- By what holds of every state.
-use Rattle.lard_laws_places.proofs.Reached.{reached-between, reached-bounded, reached-holds, reached-set}
+use Rattle.lard_machine.proofs.Runs.{reached-set}
+use Rattle.lard_laws_places.proofs.Reached.{reached-between, reached-bounded, reached-holds}
 use Rattle.lard_laws_places.proofs.states_are_told.Goals as goal
 
 pub returns : goal.returns

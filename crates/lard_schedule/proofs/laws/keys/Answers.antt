@@ -1,4 +1,4 @@
-use Rattle.lard_schedule.proofs.Settled.{has_set, has_other}
+use Rattle.lard_schedule.proofs.KeysSet.{has_set, has_other}
 use Rattle.lard_schedule.proofs.laws.keys.Goals as goal
 
 pub returns-clause-set : goal.returns-clause-set

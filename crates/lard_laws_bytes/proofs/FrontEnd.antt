@@ -1,0 +1,282 @@
+-- A turn of the front end, by the state of the connection.
+use Rattle.std.proofs.Common.{◌≡◌, ◌≤◌, ◌<◌, ◌+◌, ◌^◌, ℕ, Bool, true, false, not, ◌&&◌, ◌||◌, List, [], ◌∷◌, ◌++◌, map, length, take, Option, Some, None, IfSome, arith, inr, refl, ap, ◌∙◌, sym, subst}
+use Rattle.std.specs.List.{concat, list_any}
+use Rattle.std.specs.Prelude.{Ok}
+use Rattle.std.proofs.lemmas.Bool.{cond_both, and_parts}
+use Rattle.lard_answers.specs.Answers.{FilesAt, answer}
+use Rattle.lard_base.specs.declared.place.Place.{Place}
+use Rattle.lard_base.specs.declared.place.Place.TheVariants as place_
+use Rattle.lard_base.specs.declared.place.Reason.{Reason}
+use Rattle.lard_base.specs.declared.place.Reason.TheVariants as reason
+use Rattle.lard_block.specs.Blocks.{skipped, Cuts}
+use Rattle.lard_endpoint.specs.declared.control.moving.Final.{Final}
+use Rattle.lard_endpoint.specs.Arriving.{on_segment}
+use Rattle.lard_endpoint.specs.Control.{ControlBlock, listening}
+use Rattle.lard_endpoint.specs.Leaving.{emits_left, timed, after_timer, filled}
+use Rattle.lard_endpoint.specs.Moving.{may_end, end_reason, final_of}
+use Rattle.lard_journal.specs.declared.rec.Rec.TheVariants as rec
+use Rattle.lard_laws_bytes.specs.Agreement.{AreReplies, EndedIt, FrontAgrees, HasRead, HoldsIt, IsReply, SaysAnswers}
+use Rattle.lard_laws_bytes.specs.Keeping.{FrontTurned, FrontHearsTruth, FrontTimerIsTrue, IsEnv, resets}
+use Rattle.lard_laws_bytes.proofs.FrontEndpoint.{IsBetween, between-sound, between-timed, between-arrived, between-begun, read-same, read-arrived}
+use Rattle.lard_laws_bytes.proofs.FrontSpeaking.{Spoke, awaits-within, emits-spoke, emits_symbols-spoke, timed-reply}
+use Rattle.lard_laws_bytes.proofs.Reading.{Goes, IsReading, Serves, or-last, reads-goes}
+use Rattle.lard_machine.specs.declared.places.FrontConn.{FrontConn}
+use Rattle.lard_machine.specs.declared.places.FrontConn.TheVariants.{Held, Lent, Closed}
+use Rattle.lard_machine.specs.declared.places.Turn.{Turn}
+use Rattle.lard_machine.specs.Front.{FrontEnv, Service, begun, cut_off, front_gets, front_timer, heard, is_plain_syn, is_telling, last_ack, last_words, limit_said, met, ready_of, reads, refusal, settled, spoken, told, tombstone}
+use Rattle.lard_machine.specs.Client.{silent}
+use Rattle.lard_machine.specs.Speaking.{speaks, speaks_symbols}
+use Rattle.lard_request.specs.declared.verdict.Verdict.{Verdict}
+use Rattle.lard_segment.specs.declared.segment.Ready.{Ready}
+use Rattle.lard_segment.specs.Segment.{Said}
+use Rattle.lard_truth.specs.Truth.{Stream, IsStream, IsTrueOf}
+use Rattle.lard_truth.proofs.Endpoint.{timer-left}
+use Rattle.lard_truth.proofs.Growth.{goes_on-same}
+use Rattle.lard_truth.proofs.Pieces.{bare-true}
+
+or-false : (b : Bool) → b ≡ (b || false)
+or-false true = refl
+or-false false = refl
+
+replies-append : (c : ℕ) (w out : Stream) (r : Bool) (ps qs : List (Place × List ℕ)) → AreReplies c w out r ps → AreReplies c w out r qs → AreReplies c w out r (ps ++ qs)
+replies-append c w out r [] qs h k = k
+replies-append c w out r (p ∷ ps) qs h k = (h.0, h.1, replies-append c w out r ps qs h.2 k)
+
+-- ---- the end of a turn
+
+not_limit : (b : ControlBlock) → end_reason b ≡ reason.Limit → ⊥
+not_limit b = cond_both b.reset reason.Peer reason.Closed (λ (r : Reason). r ≡ reason.Limit → ⊥) (λ _ e. cc) (λ _ e. cc)
+
+module _ (env : FrontEnv) (w out : Stream) (vs : List Verdict) (was_reset : Bool) where
+  abbrev Turned : Option FrontConn × Turn → Type 0
+  Turned given = FrontTurned env.files env.c w out vs was_reset given
+
+  abbrev reset_in : Service → Bool
+  reset_in s = was_reset || list_any resets s.notes
+
+  ended-it : (now : Stream) (b : ControlBlock) (why : Reason) (r : Bool) → IsBetween w now b → (why ≡ reason.Limit → r ≡ true) → EndedIt w r (final_of b why)
+  ended-it now b why r h limit = record { snd_fits = omega arith; acks = awaits-within w now b h; limit = limit }
+
+  spoken-turned : (s : Service) (g : Serves env w out vs s) (before : List (Place × List ℕ)) → HasRead w s.block g.vs_now → AreReplies env.c w g.out_now (reset_in s) before
+      → Turned (spoken env s before)
+  spoken-turned s g before read replies =
+      let r = reset_in s in
+      let said = speaks env.c s.block in
+      let talk : Spoke env.c w g.out_now r s.block said = emits-spoke env.c w g.out_now r (emits_left s.block) s.block g.between in
+      let P : FrontConn → Type 0 = λ f. FrontAgrees w g.out_now g.vs_now r (Some f) in
+      record {
+        out_after = g.out_now;
+        vs_after = g.vs_now;
+        longer = g.longer;
+        says = g.says;
+        agrees = cond_both (may_end said.1) (Closed (final_of said.1 (end_reason said.1))) (Held said.1 s.count) P
+            (λ _. ended-it g.out_now said.1 (end_reason said.1) r talk.between (λ e. absurd (not_limit said.1 e)))
+            (λ _. record {
+              counted = g.counted;
+              sound = between-sound w g.out_now said.1 talk.between;
+              speaks = talk.between.speaks;
+              out_is = talk.between.out_is;
+              hears = talk.between.hears;
+              has_read = read-same w g.out_now s.block said.1 g.vs_now g.between talk.between talk.recv read;
+            });
+        notes = g.notes;
+        served = g.served;
+        unless_ended = g.unless_ended;
+        sent = replies-append env.c w g.out_now r before said.0 replies talk.sent;
+      }
+
+  -- at the stream limit
+  limit-reply : (now : Stream) (b : ControlBlock) (r : Bool) → r ≡ true → IsReply w now r (limit_said (final_of b reason.Limit))
+  limit-reply now b r e = record {
+    sendable = record { seq_fits = omega arith; ack_fits = omega arith; wnd_fits = omega arith; some_mss = tt; small_mss = tt; small_payload = omega arith; no_ack = λ f. absurd (cc) };
+    true_of = bare-true now (limit_said (final_of b reason.Limit)) (λ f. absurd (cc)) refl refl;
+    acks = λ f. absurd (cc);
+    resets = λ _. e;
+  }
+
+  cut_off-turned : (s : Service) → Serves env w out vs s → list_any resets s.notes ≡ true → Turned (cut_off env s)
+  cut_off-turned s g e =
+      let r = reset_in s in
+      let was : r ≡ true = or-last was_reset (list_any resets s.notes) e in
+      let said = speaks_symbols env.c s.block in
+      let talk : Spoke env.c w g.out_now r s.block said = emits_symbols-spoke env.c w g.out_now r (emits_left s.block) s.block g.between in
+      let last = final_of said.1 reason.Limit in
+      record {
+        out_after = g.out_now;
+        vs_after = g.vs_now;
+        longer = g.longer;
+        says = g.says;
+        agrees = ended-it g.out_now said.1 reason.Limit r talk.between (λ _. was);
+        notes = g.notes;
+        served = g.served;
+        unless_ended = g.unless_ended;
+        sent = replies-append env.c w g.out_now r said.0 (told env (limit_said last) ∷ []) talk.sent ((refl, (limit_said last, refl, limit-reply g.out_now said.1 r was), tt));
+      }
+
+  settled-turned : (s : Service) → Goes env w out vs s → Turned (settled env s)
+  settled-turned s g = go s.over g.1 where
+    go : (o : Option ℕ) → IsReading w g.0.vs_now s.block s.notes o → Turned (elim o [ None ↦ spoken env s [] | Some total ↦ cut_off env s ])
+    go None read = spoken-turned s g.0 [] read tt
+    go (Some total) e = cut_off-turned s g.0 e
+
+  -- nothing is noted, and the streams stay
+  still-turned : (f : Option FrontConn) (segments : List (Place × List ℕ)) → SaysAnswers env.files w out vs → FrontAgrees w out vs was_reset f
+      → AreReplies env.c w out (was_reset || false) segments → Turned (f, record { notes = []; segments = segments; answered = 0 })
+  still-turned f segments says agrees sent = record {
+    out_after = out;
+    vs_after = vs;
+    longer = goes_on-same out;
+    says = says;
+    agrees = subst (λ (r : Bool). FrontAgrees w out vs r f) (or-false was_reset) agrees;
+    notes = tt;
+    served = omega arith;
+    unless_ended = inr refl;
+    sent = sent;
+  }
+
+  -- ---- an open connection
+
+  -- the beginning of its turn
+  abbrev opening : ControlBlock → ℕ → Service
+  opening b count = record { block = b; count = count; notes = []; answered = 0; over = None }
+
+  turn-begins : (b : ControlBlock) (count : ℕ) → SaysAnswers env.files w out vs → count ≡ length vs → IsBetween w out b → HasRead w b vs → Goes env w out vs (opening b count)
+  turn-begins b count says counted between read = (
+    record {
+      out_now = out;
+      vs_now = vs;
+      longer = goes_on-same out;
+      says = says;
+      counted = counted;
+      between = between;
+      notes = tt;
+      served = omega arith;
+      unless_ended = inr refl;
+    },
+    read,
+  )
+
+  held-between : (b : ControlBlock) (count : ℕ) → HoldsIt w out vs b count → IsBetween w out b
+  held-between b count h = record { same_irs = h.sound.same_irs; speaks = h.speaks; out_is = h.out_is; hears = h.hears }
+
+  heard-turned : ((q : List ℕ) → Cuts (take (skipped q) q) []) → env.stream ≤ 2 ^ 30 → (b : ControlBlock) (count : ℕ) (s : Said) → IsStream w → SaysAnswers env.files w out vs → HoldsIt w out vs b count
+      → IsTrueOf w s → Turned (heard env (on_segment b s).1 count)
+  heard-turned pairs most b count s is says h t =
+      let before = held-between b count h in
+      let after = between-arrived w out b before s is t in
+      let start = opening (on_segment b s).1 count in
+      let first = turn-begins (on_segment b s).1 count says h.counted after (read-arrived w out b vs s before after h.has_read) in
+      settled-turned (reads env start) (reads-goes env w out vs pairs most (length (on_segment b s).1.recv.unread + 1) start first)
+
+  timer-turned : (b : ControlBlock) (count : ℕ) → SaysAnswers env.files w out vs → HoldsIt w out vs b count → Turned (front_timer env (Some (Held b count)))
+  unfolding turn-begins
+  timer-turned b count says h =
+      let before = held-between b count h in
+      let after = between-timed w out b before in
+      let read = read-same w out b (after_timer b) vs before after (timer-left b out.bytes h.speaks).2 h.has_read in
+      let first = turn-begins (after_timer b) count says h.counted after read in
+      spoken-turned (opening (after_timer b) count) first.0 (ready_of env (after_timer b) (timed b)) first.1 (replies (timed b) refl)
+    where
+      replies : (o : Option Ready) → timed b ≡ o → AreReplies env.c w out (was_reset || false) (ready_of env (after_timer b) o)
+      replies None e = tt
+      replies (Some q) e = (refl, (filled (after_timer b) q, refl, timed-reply env.c w out (was_reset || false) b q (held-between b count h) e), tt)
+
+  -- ---- a connection that begins
+
+  -- nothing was said
+  nothing-said : SaysAnswers env.files w out vs → vs ≡ [] → out.bytes ≡ []
+  nothing-said says e = says.spoken ∙ ap (λ us. concat (map (answer env.files) us)) e
+
+  nothing-read : (s : Said) (iss : ℕ) → vs ≡ [] → HasRead w (listening s iss) vs
+  nothing-read s iss e =
+      let P : List Verdict → Type 0 = λ us. HasRead w (listening s iss) us in
+      subst P (sym e) (record { cut = λ _ z. refl; goes_on = λ _. refl; stops = λ f. absurd (cc) })
+
+  begun-turned : (s : Said) → env.iss ≡ out.first → SaysAnswers env.files w out vs → vs ≡ [] → out.ended ≡ false → s.seq ≡ w.first → Turned (begun env s)
+  begun-turned s begins says none open_ first =
+      let P : ℕ → Type 0 = λ n. IsBetween w out (listening s n) in
+      let between = subst P (sym begins) (between-begun w out s says.number (nothing-said says none) open_ first) in
+      spoken-turned (record { block = listening s env.iss; count = 0; notes = rec.Took place_.Front env.c (record { 0 = 1 }) ∷ []; answered = 0; over = None })
+      (record {
+        out_now = out;
+        vs_now = vs;
+        longer = goes_on-same out;
+        says = says;
+        counted = sym (ap length none);
+        between = between;
+        notes = (refl, tt);
+        served = omega arith;
+        unless_ended = inr refl;
+      }) [] (nothing-read s env.iss none) tt
+
+  met-turned : (s : Said) → env.iss ≡ out.first → SaysAnswers env.files w out vs → (vs ≡ []) × (out.ended ≡ false) → IsTrueOf w s → Turned (met env s)
+  met-turned s begins says h t = cond_both (is_plain_syn s) (begun env s) (None, silent) Turned
+      (λ syn. begun-turned s begins says h.0 h.1 (t.greets (and_parts s.flags.syn _ syn).0))
+      (λ _. still-turned None [] says h tt)
+
+  -- ---- a connection that ended
+
+  words-reply : (why : Reason) (last : Final) (s : Said) → s.ack < 2 ^ 32 → last.reason ≡ why → EndedIt w was_reset last → IfSome (last_words why last s) (IsReply w out (was_reset || false))
+  words-reply reason.Closed last s fits e h =
+      let P : Option Said → Type 0 = λ o. IfSome o (IsReply w out (was_reset || false)) in
+      let ack = h.acks in
+      let seq = h.snd_fits in
+      let at = ack.1 in
+      cond_both (is_telling s) (Some (last_ack last)) None P
+      (λ _. record {
+        sendable = record { seq_fits = seq; ack_fits = omega arith; wnd_fits = omega arith; some_mss = tt; small_mss = tt; small_payload = omega arith; no_ack = λ f. absurd (cc) };
+        true_of = bare-true out (last_ack last) (λ f. absurd (cc)) refl refl;
+        acks = λ _. ack;
+        resets = λ f. absurd (cc);
+      })
+      (λ _. tt)
+  words-reply reason.Peer last s fits e h = tt
+  words-reply reason.Limit last s fits e h =
+      let P : Option Said → Type 0 = λ o. IfSome o (IsReply w out (was_reset || false)) in
+      cond_both (s.flags.ack && not s.flags.rst) (Some (refusal s.ack)) None P
+      (λ _. record {
+        sendable = record { seq_fits = fits; ack_fits = omega arith; wnd_fits = omega arith; some_mss = tt; small_mss = tt; small_payload = omega arith; no_ack = λ _. refl };
+        true_of = bare-true out (refusal s.ack) (λ f. absurd (cc)) refl refl;
+        acks = λ f. absurd (cc);
+        resets = λ _. sym (or-false was_reset) ∙ h.limit e;
+      })
+      (λ _. tt)
+
+  tombstone-turned : (last : Final) (o : Option Said) → SaysAnswers env.files w out vs → EndedIt w was_reset last → IfSome o (IsReply w out (was_reset || false))
+      → Turned (Some (Closed last), tombstone env o)
+  tombstone-turned last None says h k = still-turned (Some (Closed last)) [] says h tt
+  tombstone-turned last (Some s) says h k = still-turned (Some (Closed last)) (told env s ∷ []) says h ((refl, (s, refl, k), tt))
+
+  -- ---- the two rules
+
+  gets-turned : ((q : List ℕ) → Cuts (take (skipped q) q) []) → env.stream ≤ 2 ^ 30 → env.iss ≡ out.first → (f : Option FrontConn) (s : Said) → IsStream w → SaysAnswers env.files w out vs
+      → FrontAgrees w out vs was_reset f → s.ack < 2 ^ 32 → IsTrueOf w s → Turned (front_gets env f (Ok s))
+  gets-turned pairs most begins None s is says h fits t = met-turned s begins says h t
+  gets-turned pairs most begins (Some (Held b count)) s is says h fits t = heard-turned pairs most b count s is says h t
+  gets-turned pairs most begins (Some Lent) s is says h fits t = absurd h
+  gets-turned pairs most begins (Some (Closed last)) s is says h fits t = tombstone-turned last (last_words last.reason last s) says h (words-reply last.reason last s fits refl h)
+
+  fires-turned : (f : Option FrontConn) → SaysAnswers env.files w out vs → FrontAgrees w out vs was_reset f → Turned (front_timer env f)
+  fires-turned None says h = still-turned None [] says h tt
+  fires-turned (Some (Held b count)) says h = timer-turned b count says h
+  fires-turned (Some Lent) says h = absurd h
+  fires-turned (Some (Closed last)) says h = still-turned (Some (Closed last)) [] says h tt
+
+-- ---- the laws
+
+-- the surroundings have the connection's own number and files
+for-its-own : (files : FilesAt) (c : ℕ) (w out : Stream) (vs : List Verdict) (was_reset : Bool) (env : FrontEnv) (given : Option FrontConn × Turn) → IsEnv files c out env
+    → (SaysAnswers env.files w out vs → FrontTurned env.files env.c w out vs was_reset given) → SaysAnswers files w out vs → FrontTurned files c w out vs was_reset given
+for-its-own files c w out vs was_reset env given i turned says =
+    let Says : FilesAt → Type 0 = λ fs. SaysAnswers fs w out vs in
+    let Turns : FilesAt → Type 0 = λ fs. FrontTurned fs c w out vs was_reset given in
+    let Numbered : ℕ → Type 0 = λ n. FrontTurned env.files n w out vs was_reset given in
+    subst Turns i.files_are (subst Numbered i.number (turned (subst Says (sym i.files_are) says)))
+
+pub hears-truth : ((q : List ℕ) → Cuts (take (skipped q) q) []) → FrontHearsTruth
+hears-truth pairs files c w out vs was_reset env f s i is says agrees fits t = for-its-own files c w out vs was_reset env (front_gets env f (Ok s)) i
+    (λ own. gets-turned env w out vs was_reset pairs i.most i.begins f s is own agrees fits t) says
+
+pub timer-true : FrontTimerIsTrue
+timer-true files c w out vs was_reset env f i says agrees = for-its-own files c w out vs was_reset env (front_timer env f) i
+    (λ own. fires-turned env w out vs was_reset f own agrees) says

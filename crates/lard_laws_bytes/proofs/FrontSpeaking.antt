@@ -1,0 +1,118 @@
+-- What the front end sends at the end of its turn: true replies, call by call, and the streams stay as they were.
+use Rattle.std.proofs.Common.{◌≡◌, ◌≤◌, ◌+◌, ℕ, zero, suc, Bool, false, cond, List, [], ◌∷◌, length, Option, Some, None, IfSome, arith, refl, ap, ◌∙◌, sym, subst}
+use Rattle.std.proofs.lemmas.Bool.{cond_both}
+use Rattle.lard_base.specs.declared.place.Place.{Place}
+use Rattle.lard_endpoint.specs.Control.{ControlBlock, rcv_nxt}
+use Rattle.lard_endpoint.specs.Leaving.{ack_ready, owes, owed_ready, ready_of, advanced, retried, emitted, after_emit, timed, after_timer, filled}
+use Rattle.lard_laws_bytes.specs.Agreement.{AreReplies, IsReply}
+use Rattle.lard_laws_bytes.proofs.FrontEndpoint.{IsBetween, between-emitted}
+use Rattle.lard_machine.specs.Speaking.{to_client, emits, has_symbol, emits_symbols}
+use Rattle.lard_recv.specs.Recv.{one_if}
+use Rattle.lard_segment.specs.declared.segment.Ready.{Ready}
+use Rattle.lard_segment.specs.Segment.{Said}
+use Rattle.lard_send.specs.declared.piece.Piece.{Piece}
+use Rattle.lard_send.specs.Send.{next_piece, resent_piece}
+use Rattle.lard_seq.specs.Seq.{seq_add}
+use Rattle.lard_truth.specs.Truth.{Stream}
+use Rattle.lard_truth.proofs.Endpoint.{emitted-fair, timed-fair, emit-left}
+use Rattle.lard_truth.proofs.Pieces.{Fair}
+use Rattle.lard_truth.proofs.Speaking.{one_small}
+
+-- ---- what is acknowledged
+
+-- a segment has RCV.NXT, and is no RST
+abbrev Acknowledges : ControlBlock → Ready → Type 0
+Acknowledges b r = (r.ack.0 ≡ rcv_nxt b) × (r.flags.rst ≡ false)
+
+ready-acks : (b : ControlBlock) (p : Option Piece) (other : Option Ready) → IfSome other (Acknowledges b) → IfSome (ready_of b p other) (Acknowledges b)
+ready-acks b (Some p) other h = (refl, refl)
+ready-acks b None other h = h
+
+emitted-acks : (b : ControlBlock) → IfSome (emitted b) (Acknowledges b)
+emitted-acks b =
+    let P : Option Ready → Type 0 = λ o. IfSome o (Acknowledges b) in
+    cond_both b.reset None (ready_of (advanced b) (next_piece b.send) (owed_ready (advanced b))) P (λ _. tt)
+    (λ _. ready-acks (advanced b) (next_piece b.send) (owed_ready (advanced b)) (cond_both (owes (advanced b)) (Some (ack_ready (advanced b))) None P (λ _. (refl, refl)) (λ _. tt)))
+
+timed-acks : (b : ControlBlock) → IfSome (timed b) (Acknowledges b)
+timed-acks b =
+    let P : Option Ready → Type 0 = λ o. IfSome o (Acknowledges b) in
+    cond_both b.reset None (ready_of (retried b) (resent_piece b.send) None) P (λ _. tt) (λ _. ready-acks (retried b) (resent_piece b.send) None tt)
+
+-- RCV.NXT is no further than the client's FIN
+pub awaits-within : (w out : Stream) (b : ControlBlock) → IsBetween w out b → (n : ℕ) × (rcv_nxt b ≡ seq_add w.first n) × (n ≤ 2 + length w.bytes)
+awaits-within w out b h =
+    let n = 1 + b.recv.got + one_if b.recv.fin in
+    let within = h.hears.within in
+    let one = one_small b.recv.fin in
+    (n, ap (λ i. seq_add i n) h.hears.first, omega arith)
+
+-- ---- a segment
+
+module _ (c : ℕ) (w out : Stream) (was_reset : Bool) where
+  reply-of : (b : ControlBlock) (r : Ready) (s : Said) → IsBetween w out b → s.ack ≡ r.ack.0 → s.flags ≡ r.flags → Acknowledges b r → Fair out s → IsReply w out was_reset s
+  reply-of b r s h ack flags k fair =
+      let far = awaits-within w out b h in
+      record {
+        sendable = fair.1;
+        true_of = fair.0;
+        acks = λ _. (far.0, ack ∙ k.0 ∙ far.1, far.2);
+        resets = λ e. absurd (let plain : s.flags.rst ≡ false = ap (λ f. f.rst) flags ∙ k.1 in cc);
+      }
+
+  emitted-reply : (b : ControlBlock) (r : Ready) → IsBetween w out b → emitted b ≡ Some r → IsReply w out was_reset (filled (after_emit b) r)
+  emitted-reply b r h e = reply-of b r (filled (after_emit b) r) h refl refl
+      (subst (λ (o : Option Ready). IfSome o (Acknowledges b)) e (emitted-acks b))
+      (subst (λ (x : Stream). Fair x (filled (after_emit b) r)) (sym h.out_is) (emitted-fair b out.bytes h.speaks r e))
+
+  pub timed-reply : (b : ControlBlock) (r : Ready) → IsBetween w out b → timed b ≡ Some r → IsReply w out was_reset (filled (after_timer b) r)
+  timed-reply b r h e = reply-of b r (filled (after_timer b) r) h refl refl
+      (subst (λ (o : Option Ready). IfSome o (Acknowledges b)) e (timed-acks b))
+      (subst (λ (x : Stream). Fair x (filled (after_timer b) r)) (sym h.out_is) (timed-fair b out.bytes h.speaks r e))
+
+-- what goes out are true replies, and the endpoint has read what it had
+pub record Spoke (c : ℕ) (w out : Stream) (was_reset : Bool) (b : ControlBlock) (given : List (Place × List ℕ) × ControlBlock) : Type 0 where
+  pub sent : AreReplies c w out was_reset given.0
+  pub between : IsBetween w out given.1
+  pub recv : given.1.recv ≡ b.recv
+
+module _ (c : ℕ) (w out : Stream) (was_reset : Bool) where
+  abbrev Speaks_on : ControlBlock → List (Place × List ℕ) × ControlBlock → Type 0
+  Speaks_on b given = Spoke c w out was_reset b given
+
+  silent-spoke : (b : ControlBlock) → IsBetween w out b → Speaks_on b ([], b)
+  silent-spoke b h = record { sent = tt; between = h; recv = refl }
+
+  -- one segment, and those after it
+  more-spoke : (b : ControlBlock) (r : Ready) (later : List (Place × List ℕ) × ControlBlock) → IsBetween w out b → emitted b ≡ Some r → Speaks_on (after_emit b) later
+      → Speaks_on b (to_client c (after_emit b) r ∷ later.0, later.1)
+  more-spoke b r later h e k = record {
+    sent = (refl, (filled (after_emit b) r, refl, emitted-reply c w out was_reset b r h e), k.sent);
+    between = k.between;
+    recv = k.recv ∙ (emit-left b out.bytes h.speaks).2;
+  }
+
+  pub emits-spoke : (n : ℕ) (b : ControlBlock) → IsBetween w out b → Speaks_on b (emits c n b)
+  unfolding emits
+  emits-spoke zero b h = silent-spoke b h
+  emits-spoke (suc n) b h = go (emits-spoke n (after_emit b) (between-emitted w out b h)) (emitted b) refl where
+    go : Speaks_on (after_emit b) (emits c n (after_emit b)) → (o : Option Ready) → emitted b ≡ o
+        → Speaks_on b (elim o [ None ↦ ([], b) | Some r ↦ (to_client c (after_emit b) r ∷ (emits c n (after_emit b)).0, (emits c n (after_emit b)).1) ])
+    go later None e = silent-spoke b h
+    go later (Some r) e = more-spoke b r (emits c n (after_emit b)) h e later
+
+  pub emits_symbols-spoke : (n : ℕ) (b : ControlBlock) → IsBetween w out b → Speaks_on b (emits_symbols c n b)
+  unfolding emits_symbols
+  emits_symbols-spoke zero b h = silent-spoke b h
+  emits_symbols-spoke (suc n) b h = go (emits_symbols-spoke n (after_emit b) (between-emitted w out b h)) (emitted b) refl where
+    go : Speaks_on (after_emit b) (emits_symbols c n (after_emit b)) → (o : Option Ready) → emitted b ≡ o
+        → Speaks_on b (elim o [
+          | None ↦ ([], b)
+          | Some r ↦ cond (has_symbol r) (to_client c (after_emit b) r ∷ (emits_symbols c n (after_emit b)).0, (emits_symbols c n (after_emit b)).1) ([], after_emit b)
+        ])
+    go later None e = silent-spoke b h
+    go later (Some r) e =
+        let more : List (Place × List ℕ) × ControlBlock = (to_client c (after_emit b) r ∷ (emits_symbols c n (after_emit b)).0, (emits_symbols c n (after_emit b)).1) in
+        cond_both (has_symbol r) more ([], after_emit b) (Speaks_on b)
+        (λ _. more-spoke b r (emits_symbols c n (after_emit b)) h e later)
+        (λ _. record { sent = tt; between = between-emitted w out b h; recv = (emit-left b out.bytes h.speaks).2 })

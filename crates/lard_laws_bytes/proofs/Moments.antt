@@ -1,0 +1,130 @@
+-- What clients accept goes on as the answers do, record by record and at every moment.
+use Rattle.std.proofs.Common.{◌≡◌, ℕ, ◌+◌, List, [], ◌∷◌, ◌++◌, Bool, true, false, cond, refl, sym, ap, ◌∙◌, subst, append_assoc, append-nil, nat_eq}
+use Rattle.std.proofs.lemmas.Bool.{both_ways, eqb-true}
+use Rattle.std.proofs.lemmas.List.Sums.{fold-append}
+use Rattle.lard_answers.specs.Answers.{FilesAt, IsFront, answer_bytes}
+use Rattle.lard_answers.proofs.Growing.{IsFront-trans, answer_bytes-grow}
+use Rattle.lard_base.specs.declared.place.Place.{Place}
+use Rattle.lard_history.specs.Journal.{Tale, accepted, accepted_step, tale, tale_step, wrote, wrote_step}
+use Rattle.lard_history.specs.Laws.{AcceptsOnlyAnswers, EachMay}
+use Rattle.lard_history.proofs.Each.{Each, each_then}
+use Rattle.lard_history.proofs.Tales.{accepted-tale, tale-append, wrote-tale}
+use Rattle.lard_journal.specs.declared.rec.Rec.{Rec}
+use Rattle.lard_journal.specs.declared.rec.Rec.TheVariants as rec
+use Rattle.lard_machine.specs.Machine.{sent_records, timer_change}
+use Rattle.lard_laws_bytes.specs.Keeping.{AreClientNotes, AreFrontNotes, accepted_in}
+use Rattle.lard_laws_bytes.specs.Truthful.{MayAccept}
+use Rattle.lard_laws_bytes.proofs.Notes.{same-number}
+
+module _ (files : FilesAt) where
+  wrote-more : (J : List Rec) (r : Rec) (c : ℕ) → wrote (J ++ r ∷ []) c ≡ wrote_step c (wrote J c) r
+  wrote-more J r c = fold-append (wrote_step c) [] J (r ∷ [])
+
+  accepted-more : (J : List Rec) (r : Rec) (c : ℕ) → accepted (J ++ r ∷ []) c ≡ accepted_step c (accepted J c) r
+  accepted-more J r c = fold-append (accepted_step c) [] J (r ∷ [])
+
+  -- what a client accepted is answered
+  abbrev IsAnswered : List Rec → ℕ → Type 0
+  IsAnswered J c = IsFront (accepted J c) (answer_bytes files (wrote J c))
+
+  same_answered : (J : List Rec) (r : Rec) (c : ℕ) (a w : List ℕ) → accepted_step c (accepted J c) r ≡ a → wrote_step c (wrote J c) r ≡ w → IsFront a (answer_bytes files w) → IsAnswered (J ++ r ∷ []) c
+  same_answered J r c a w e f front =
+      subst (λ (xs : List ℕ). IsFront xs (answer_bytes files (wrote (J ++ r ∷ []) c))) (sym (accepted-more J r c ∙ e))
+      (subst (λ (xs : List ℕ). IsFront a (answer_bytes files xs)) (sym (wrote-more J r c ∙ f)) front)
+
+  one_more : (J : List Rec) (r : Rec) (c : ℕ) → MayAccept files J r → IsAnswered J c → IsAnswered (J ++ r ∷ []) c
+  one_more J (rec.Accepted d bytes) c may front = go (nat_eq d c) refl where
+    go : (b : Bool) → nat_eq d c ≡ b → IsAnswered (J ++ rec.Accepted d bytes ∷ []) c
+    go true e = same_answered J (rec.Accepted d bytes) c (accepted J c ++ bytes) (wrote J c) (ap (λ b. cond b (accepted J c ++ bytes) (accepted J c)) e) refl
+        (subst (λ k. IsFront (accepted J k ++ bytes) (answer_bytes files (wrote J k))) (eqb-true d c e) may)
+    go false e = same_answered J (rec.Accepted d bytes) c (accepted J c) (wrote J c) (ap (λ b. cond b (accepted J c ++ bytes) (accepted J c)) e) refl front
+  one_more J (rec.Wrote d bytes) c may front = go (nat_eq d c) refl where
+    go : (b : Bool) → nat_eq d c ≡ b → IsAnswered (J ++ rec.Wrote d bytes ∷ []) c
+    go true e = same_answered J (rec.Wrote d bytes) c (accepted J c) (wrote J c ++ bytes) refl (ap (λ b. cond b (wrote J c ++ bytes) (wrote J c)) e)
+        (IsFront-trans (accepted J c) (answer_bytes files (wrote J c)) (answer_bytes files (wrote J c ++ bytes)) front (answer_bytes-grow files (wrote J c) bytes))
+    go false e = same_answered J (rec.Wrote d bytes) c (accepted J c) (wrote J c) refl (ap (λ b. cond b (wrote J c ++ bytes) (wrote J c)) e) front
+  one_more J r c may front = same_answered J r c (accepted J c) (wrote J c) refl refl front
+
+  all_more : (J rs : List Rec) (c : ℕ) → EachMay (MayAccept files) J rs → IsAnswered J c → IsAnswered (J ++ rs) c
+  all_more J [] c each front = subst (λ (K : List Rec). IsAnswered K c) (sym (append-nil J)) front
+  all_more J (r ∷ rs) c each front = subst (λ (K : List Rec). IsAnswered K c) (append_assoc J (r ∷ []) rs) (all_more (J ++ r ∷ []) rs c each.1 (one_more J r c each.0 front))
+
+  pub at_every_moment : (J : List Rec) → EachMay (MayAccept files) [] J → AcceptsOnlyAnswers files J
+  at_every_moment J each past later c is = all_more [] past c (each_then (MayAccept files) J past later is each) (answer_bytes files [], refl)
+
+  -- ---- records of which none says that bytes were accepted
+
+  abbrev pub is_accepted : Rec → Bool
+  is_accepted (rec.Accepted c bytes) = true
+  is_accepted _ = false
+
+  pub none-accepted : (past rs : List Rec) → Each (λ r. is_accepted r ≡ false) rs → EachMay (MayAccept files) past rs
+  none-accepted past [] n = tt
+  none-accepted past (rec.Accepted c bytes ∷ rs) n = absurd (both_ways true n.0 refl)
+  none-accepted past (r ∷ rs) n = (tt, none-accepted (past ++ r ∷ []) rs n.1)
+
+  pub sents-none : (k : ℕ) (from : Place) (ss : List (Place × List ℕ)) → Each (λ r. is_accepted r ≡ false) (sent_records k from ss)
+  sents-none k from [] = tt
+  sents-none k from (s ∷ ss) = (refl, sents-none (k + 1) from ss)
+
+  pub timers-none : (p : Place) (c : ℕ) (a b : Bool) → Each (λ r. is_accepted r ≡ false) (timer_change p c a b)
+  timers-none p c false false = tt
+  timers-none p c false true = (refl, tt)
+  timers-none p c true false = (refl, tt)
+  timers-none p c true true = tt
+
+  pub front-none : (c : ℕ) (rs : List Rec) → AreFrontNotes c rs → Each (λ r. is_accepted r ≡ false) rs
+  front-none c [] n = tt
+  front-none c (rec.Took place d epoch ∷ rs) n = (refl, front-none c rs n.1)
+  front-none c (rec.Served place d r code size via ∷ rs) n = (refl, front-none c rs n.1)
+  front-none c (rec.Reset place d total ∷ rs) n = (refl, front-none c rs n.1)
+  front-none c (_ ∷ rs) n = absurd n.0
+
+  -- ---- a client's notes
+
+  -- what it accepts is a front of what was said, and that of the answers to what it wrote at some time
+  pub client-accepts : (c : ℕ) (said w : List ℕ) → IsFront said (answer_bytes files w) → (past rs : List Rec) → AreClientNotes c rs → IsFront w (tale past c).wrote
+      → IsFront ((tale past c).accepted ++ accepted_in rs) said → EachMay (MayAccept files) past rs
+  client-accepts c said w front past [] n wr ac = tt
+  client-accepts c said w front past (rec.Accepted d bytes ∷ rs) n wr ac =
+      let a : List ℕ = (tale past c).accepted in
+      let e : (a ++ bytes) ++ accepted_in rs ≡ a ++ (bytes ++ accepted_in rs) = append_assoc a bytes (accepted_in rs) in
+      let whole : IsFront ((a ++ bytes) ++ accepted_in rs) said = subst (λ (l : List ℕ). IsFront l said) (sym e) ac in
+      let first : IsFront (a ++ bytes) said = IsFront-trans (a ++ bytes) ((a ++ bytes) ++ accepted_in rs) said (accepted_in rs, refl) whole in
+      let longer : IsFront (answer_bytes files w) (answer_bytes files (tale past c).wrote) =
+      subst (λ (l : List ℕ). IsFront (answer_bytes files w) (answer_bytes files l)) (sym wr.1) (answer_bytes-grow files w wr.0) in
+      let here : IsFront (a ++ bytes) (answer_bytes files (tale past c).wrote) =
+      IsFront-trans (a ++ bytes) (answer_bytes files w) (answer_bytes files (tale past c).wrote) (IsFront-trans (a ++ bytes) said (answer_bytes files w) first front) longer in
+      let may : MayAccept files past (rec.Accepted d bytes) =
+      subst (λ (q : ℕ). MayAccept files past (rec.Accepted q bytes)) (sym n.0)
+      (subst (λ (l : List ℕ). IsFront (l ++ bytes) (answer_bytes files (wrote past c))) (sym (accepted-tale past c))
+      (subst (λ (l : List ℕ). IsFront (a ++ bytes) (answer_bytes files l)) (sym (wrote-tale past c)) here)) in
+      let next : tale (past ++ rec.Accepted d bytes ∷ []) c ≡ tale_step c (tale past c) (rec.Accepted d bytes) = tale-append past (rec.Accepted d bytes ∷ []) c in (
+        may,
+        client-accepts c said w front (past ++ rec.Accepted d bytes ∷ []) rs n.1
+            (subst (λ (u : Tale). IsFront w u.wrote) (sym next) wr)
+            (subst (λ (u : Tale). IsFront (u.accepted ++ accepted_in rs) said) (sym next)
+            (subst (λ (b : Bool). IsFront (cond b (a ++ bytes) a ++ accepted_in rs) said) (sym (same-number d c n.0)) whole)),
+      )
+  client-accepts c said w front past (rec.Wrote d bytes ∷ rs) n wr ac =
+      let next : tale (past ++ rec.Wrote d bytes ∷ []) c ≡ tale_step c (tale past c) (rec.Wrote d bytes) = tale-append past (rec.Wrote d bytes ∷ []) c in (
+        tt,
+        client-accepts c said w front (past ++ rec.Wrote d bytes ∷ []) rs n.1
+            (subst (λ (u : Tale). IsFront w u.wrote) (sym next)
+            (subst (λ (b : Bool). IsFront w (cond b ((tale past c).wrote ++ bytes) (tale past c).wrote)) (sym (same-number d c n.0))
+            (IsFront-trans w (tale past c).wrote ((tale past c).wrote ++ bytes) wr (bytes, refl))))
+            (subst (λ (u : Tale). IsFront (u.accepted ++ accepted_in rs) said) (sym next) ac),
+      )
+  client-accepts c said w front past (rec.Eof d ∷ rs) n wr ac =
+      let next : tale (past ++ rec.Eof d ∷ []) c ≡ tale_step c (tale past c) (rec.Eof d) = tale-append past (rec.Eof d ∷ []) c in (
+        tt,
+        client-accepts c said w front (past ++ rec.Eof d ∷ []) rs n.1 (subst (λ (u : Tale). IsFront w u.wrote) (sym next) wr)
+            (subst (λ (u : Tale). IsFront (u.accepted ++ accepted_in rs) said) (sym next) ac),
+      )
+  client-accepts c said w front past (rec.Aborted d ∷ rs) n wr ac =
+      let next : tale (past ++ rec.Aborted d ∷ []) c ≡ tale_step c (tale past c) (rec.Aborted d) = tale-append past (rec.Aborted d ∷ []) c in (
+        tt,
+        client-accepts c said w front (past ++ rec.Aborted d ∷ []) rs n.1 (subst (λ (u : Tale). IsFront w u.wrote) (sym next) wr)
+            (subst (λ (u : Tale). IsFront (u.accepted ++ accepted_in rs) said) (sym next) ac),
+      )
+  client-accepts c said w front past (_ ∷ rs) n wr ac = absurd n.0

@@ -1,0 +1,142 @@
+-- What the records of a turn add to the tale of their connection, and that they are about no other.
+use Rattle.std.proofs.Common.{◌≡◌, ◌≢◌, ℕ, ◌+◌, List, [], ◌∷◌, ◌++◌, Bool, true, false, cond, ◌||◌, refl, sym, ap, ◌∙◌, append_assoc, append-nil, arith, nat_eq}
+use Rattle.std.proofs.lemmas.Bool.{eq-eqb}
+use Rattle.std.proofs.lemmas.Bool.Decides.{nat_tests}
+use Rattle.std.specs.List.{list_any}
+use Rattle.lard_history.specs.Journal.{Tale, about, tale_step, told_on}
+use Rattle.lard_history.proofs.Each.{Each}
+use Rattle.lard_journal.specs.declared.rec.Rec.{Rec}
+use Rattle.lard_journal.specs.declared.rec.Rec.TheVariants as rec
+use Rattle.lard_laws_bytes.specs.Keeping.{AreClientNotes, AreFrontNotes, accepted_in, resets, served_in, written_in}
+
+-- Of what is told of a connection, what bytes rest on goes on so.
+pub record Adds (t : Tale) (written accepted_ : List ℕ) (more : ℕ) (reset : Bool) (u : Tale) : Type 0 where
+  pub numbers : u.numbers ≡ t.numbers
+  pub wrote : u.wrote ≡ t.wrote ++ written
+  pub accepted : u.accepted ≡ t.accepted ++ accepted_
+  pub served : u.served ≡ t.served + more
+  pub was_reset : u.was_reset ≡ (t.was_reset || reset)
+  pub fin_sent : u.fin_sent ≡ t.fin_sent
+
+or-false : (b : Bool) → b ≡ (b || false)
+or-false true = refl
+or-false false = refl
+
+or-true : (b : Bool) → (b || true) ≡ true
+or-true true = refl
+or-true false = refl
+
+plus-none : (n : ℕ) → n ≡ n + 0
+plus-none n = omega arith
+
+-- nothing of that is told
+pub adds-none : (t u : Tale) → u.numbers ≡ t.numbers → u.wrote ≡ t.wrote → u.accepted ≡ t.accepted → u.served ≡ t.served → u.was_reset ≡ t.was_reset
+    → u.fin_sent ≡ t.fin_sent → Adds t [] [] 0 false u
+adds-none t u n w a s r f = record {
+  numbers = n;
+  wrote = w ∙ sym (append-nil t.wrote);
+  accepted = a ∙ sym (append-nil t.accepted);
+  served = s ∙ plus-none t.served;
+  was_reset = r ∙ or-false t.was_reset;
+  fin_sent = f;
+}
+
+pub adds-both : (t u v : Tale) (w1 a1 w2 a2 : List ℕ) (n1 n2 n : ℕ) (r1 r2 : Bool) → n ≡ n1 + n2 → Adds t w1 a1 n1 r1 u → Adds u w2 a2 n2 r2 v
+    → Adds t (w1 ++ w2) (a1 ++ a2) n (r1 || r2) v
+adds-both t u v w1 a1 w2 a2 n1 n2 n r1 r2 sum x y = record {
+  numbers = y.numbers ∙ x.numbers;
+  wrote = y.wrote ∙ ap (λ (l : List ℕ). l ++ w2) x.wrote ∙ append_assoc t.wrote w1 w2;
+  accepted = y.accepted ∙ ap (λ (l : List ℕ). l ++ a2) x.accepted ∙ append_assoc t.accepted a1 a2;
+  served = (let e : v.served ≡ u.served + n2 = y.served in let f : u.served ≡ t.served + n1 = x.served in omega arith);
+  was_reset = y.was_reset ∙ ap (λ b. b || r2) x.was_reset ∙ or-assoc t.was_reset r1 r2;
+  fin_sent = y.fin_sent ∙ x.fin_sent;
+} where
+  or-assoc : (a b c : Bool) → ((a || b) || c) ≡ (a || (b || c))
+  or-assoc true b c = refl
+  or-assoc false b c = refl
+
+pub same-number : (d c : ℕ) → d ≡ c → nat_eq d c ≡ true
+same-number d c e = eq-eqb d c e
+
+pub other-number : (d c q : ℕ) → d ≡ c → q ≢ c → nat_eq d q ≡ false
+other-number d c q e n = grind (arith, nat_tests, e, n)
+
+-- ---- a client's notes
+
+pub client-notes : (c : ℕ) (t : Tale) (rs : List Rec) → AreClientNotes c rs → Adds t (written_in rs) (accepted_in rs) 0 false (told_on c t rs)
+client-notes c t [] notes = adds-none t t refl refl refl refl refl refl
+client-notes c t (rec.Wrote d bytes ∷ rs) notes =
+    adds-both t (tale_step c t (rec.Wrote d bytes)) (told_on c (tale_step c t (rec.Wrote d bytes)) rs) bytes [] (written_in rs) (accepted_in rs) 0 0 0 false false refl
+    (record {
+      numbers = refl;
+      wrote = ap (λ (b : Bool). cond b (t.wrote ++ bytes) t.wrote) (same-number d c notes.0);
+      accepted = sym (append-nil t.accepted);
+      served = plus-none t.served;
+      was_reset = or-false t.was_reset;
+      fin_sent = refl;
+    })
+    (client-notes c (tale_step c t (rec.Wrote d bytes)) rs notes.1)
+client-notes c t (rec.Accepted d bytes ∷ rs) notes =
+    adds-both t (tale_step c t (rec.Accepted d bytes)) (told_on c (tale_step c t (rec.Accepted d bytes)) rs) [] bytes (written_in rs) (accepted_in rs) 0 0 0 false false refl
+    (record {
+      numbers = refl;
+      wrote = sym (append-nil t.wrote);
+      accepted = ap (λ (b : Bool). cond b (t.accepted ++ bytes) t.accepted) (same-number d c notes.0);
+      served = plus-none t.served;
+      was_reset = or-false t.was_reset;
+      fin_sent = refl;
+    })
+    (client-notes c (tale_step c t (rec.Accepted d bytes)) rs notes.1)
+client-notes c t (rec.Eof d ∷ rs) notes =
+    adds-both t (tale_step c t (rec.Eof d)) (told_on c (tale_step c t (rec.Eof d)) rs) [] [] (written_in rs) (accepted_in rs) 0 0 0 false false refl
+    (adds-none t (tale_step c t (rec.Eof d)) refl refl refl refl refl refl) (client-notes c (tale_step c t (rec.Eof d)) rs notes.1)
+client-notes c t (rec.Aborted d ∷ rs) notes =
+    adds-both t (tale_step c t (rec.Aborted d)) (told_on c (tale_step c t (rec.Aborted d)) rs) [] [] (written_in rs) (accepted_in rs) 0 0 0 false false refl
+    (adds-none t (tale_step c t (rec.Aborted d)) refl refl refl refl refl refl) (client-notes c (tale_step c t (rec.Aborted d)) rs notes.1)
+client-notes c t (_ ∷ rs) notes = absurd notes.0
+
+pub client-others : (c q : ℕ) (rs : List Rec) → q ≢ c → AreClientNotes c rs → Each (λ r. about q r ≡ false) rs
+client-others c q [] n notes = tt
+client-others c q (rec.Wrote d bytes ∷ rs) n notes = (other-number d c q notes.0 n, client-others c q rs n notes.1)
+client-others c q (rec.Accepted d bytes ∷ rs) n notes = (other-number d c q notes.0 n, client-others c q rs n notes.1)
+client-others c q (rec.Eof d ∷ rs) n notes = (other-number d c q notes.0 n, client-others c q rs n notes.1)
+client-others c q (rec.Aborted d ∷ rs) n notes = (other-number d c q notes.0 n, client-others c q rs n notes.1)
+client-others c q (_ ∷ rs) n notes = absurd notes.0
+
+-- ---- the front end's notes
+
+pub front-notes : (c : ℕ) (t : Tale) (rs : List Rec) → AreFrontNotes c rs → Adds t [] [] (served_in rs) (list_any resets rs) (told_on c t rs)
+front-notes c t [] notes = adds-none t t refl refl refl refl refl refl
+front-notes c t (rec.Took place d epoch ∷ rs) notes =
+    adds-both t (tale_step c t (rec.Took place d epoch)) (told_on c (tale_step c t (rec.Took place d epoch)) rs) [] [] [] [] 0 (served_in rs) (served_in rs) false (list_any resets rs) (omega arith)
+    (adds-none t (tale_step c t (rec.Took place d epoch)) refl refl refl refl refl refl) (front-notes c (tale_step c t (rec.Took place d epoch)) rs notes.1)
+front-notes c t (rec.Served place d r code size via ∷ rs) notes =
+    adds-both t (tale_step c t (rec.Served place d r code size via)) (told_on c (tale_step c t (rec.Served place d r code size via)) rs) [] [] [] [] 1 (served_in rs) (1 + served_in rs) false (list_any resets rs) refl
+    (record {
+      numbers = refl;
+      wrote = sym (append-nil t.wrote);
+      accepted = sym (append-nil t.accepted);
+      served = ap (λ (b : Bool). cond b (t.served + 1) t.served) (same-number d c notes.0);
+      was_reset = or-false t.was_reset;
+      fin_sent = refl;
+    })
+    (front-notes c (tale_step c t (rec.Served place d r code size via)) rs notes.1)
+front-notes c t (rec.Reset place d total ∷ rs) notes =
+    adds-both t (tale_step c t (rec.Reset place d total)) (told_on c (tale_step c t (rec.Reset place d total)) rs) [] [] [] [] 0 (served_in rs) (served_in rs) true (list_any resets rs) (omega arith)
+    (record {
+      numbers = refl;
+      wrote = sym (append-nil t.wrote);
+      accepted = sym (append-nil t.accepted);
+      served = plus-none t.served;
+      was_reset = ap (λ (b : Bool). cond b true t.was_reset) (same-number d c notes.0) ∙ sym (or-true t.was_reset);
+      fin_sent = refl;
+    })
+    (front-notes c (tale_step c t (rec.Reset place d total)) rs notes.1)
+front-notes c t (_ ∷ rs) notes = absurd notes.0
+
+pub front-others : (c q : ℕ) (rs : List Rec) → q ≢ c → AreFrontNotes c rs → Each (λ r. about q r ≡ false) rs
+front-others c q [] n notes = tt
+front-others c q (rec.Took place d epoch ∷ rs) n notes = (other-number d c q notes.0 n, front-others c q rs n notes.1)
+front-others c q (rec.Served place d r code size via ∷ rs) n notes = (other-number d c q notes.0 n, front-others c q rs n notes.1)
+front-others c q (rec.Reset place d total ∷ rs) n notes = (other-number d c q notes.0 n, front-others c q rs n notes.1)
+front-others c q (_ ∷ rs) n notes = absurd notes.0

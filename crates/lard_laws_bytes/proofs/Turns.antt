@@ -1,0 +1,158 @@
+-- A turn of a place keeps what its connection agrees on.
+use Rattle.std.proofs.Common.{◌≡◌, ◌⊎◌, inl, inr, ℕ, ◌+◌, ◌-◌, ◌≤◌, List, [], ◌∷◌, ◌++◌, length, Bool, true, false, ◌||◌, Option, Some, None, refl, sym, ap, ◌∙◌, subst, arith, append_assoc, append-nil}
+use Rattle.std.proofs.lemmas.Bool.{both_ways}
+use Rattle.std.specs.List.{list_any}
+use Rattle.lard_answers.specs.Answers.{FilesAt, IsFront, verdicts, verdicts_on}
+use Rattle.lard_block.specs.Blocks.{blocks}
+use Rattle.lard_client.specs.Control.{ClientBlock}
+use Rattle.lard_endpoint.specs.Control.{ControlBlock}
+use Rattle.lard_history.specs.Journal.{Tale, fin_sent, tale}
+use Rattle.lard_history.specs.Laws.{EachMay, MayTell}
+use Rattle.lard_history.proofs.Tales.{fin-tale, tale-append}
+use Rattle.lard_journal.specs.declared.rec.Rec.{Rec}
+use Rattle.lard_journal.specs.declared.rec.Rec.TheVariants as rec
+use Rattle.lard_machine.specs.declared.places.FrontConn.{FrontConn}
+use Rattle.lard_machine.specs.declared.places.FrontConn.TheVariants.{Held, Lent, Closed}
+use Rattle.lard_machine.specs.declared.places.Station.{Station}
+use Rattle.lard_machine.specs.declared.places.Turn.{Turn}
+use Rattle.lard_request.specs.declared.verdict.Verdict.{Verdict}
+use Rattle.lard_endpoint.specs.declared.control.moving.Final.{Final}
+use Rattle.lard_seq.specs.Seq.{seq_add}
+use Rattle.lard_truth.specs.Truth.{GoesOn, Stream}
+use Rattle.lard_truth.proofs.Growth.{accepted-grown, front-length, front-take, heard-grown}
+use Rattle.lard_laws_bytes.specs.Agreement.{Agrees, FrontAgrees, HasRead}
+use Rattle.lard_laws_bytes.specs.Keeping.{AreClientNotes, AreFrontNotes, ClientTurned, FrontTurned, accepted_in, resets, served_in, written_in}
+use Rattle.lard_laws_bytes.proofs.Notes.{Adds}
+use Rattle.lard_laws_bytes.proofs.Segments.{Moment}
+
+-- ---- while the client's stream goes on
+
+module _ (w v : Stream) (g : GoesOn w v) where
+  read-grown : (b : ControlBlock) (vs : List Verdict) → b.recv.got ≤ length w.bytes → HasRead w b vs → HasRead v b vs
+  read-grown b vs within h = record {
+    cut = λ d z. subst (λ (l : List ℕ). verdicts_on (blocks (l ++ z)) ≡ vs ++ verdicts_on (blocks z))
+        (sym (front-take (b.recv.got - length b.recv.unread) w.bytes v.bytes g.bytes (omega (arith, within)))) (h.cut d z);
+    goes_on = h.goes_on;
+    stops = h.stops;
+  }
+
+  acks-grown : (last : Final) → ((n : ℕ) × (last.rcv.0 ≡ seq_add w.first n) × (n ≤ 2 + length w.bytes)) → (n : ℕ) × (last.rcv.0 ≡ seq_add v.first n) × (n ≤ 2 + length v.bytes)
+  acks-grown last a =
+      let longer : length w.bytes ≤ length v.bytes = front-length w.bytes v.bytes g.bytes in
+      (a.0, a.1 ∙ ap (λ (n : ℕ). seq_add n a.0) (sym g.first), (let b = a.2 in omega (arith, b, longer)))
+
+  pub front-grown : (out : Stream) (vs : List Verdict) (reset : Bool) (f : Option FrontConn) → FrontAgrees w out vs reset f → FrontAgrees v out vs reset f
+  front-grown out vs reset None h = h
+  front-grown out vs reset (Some (Held b count)) h = record {
+    counted = h.counted;
+    sound = h.sound;
+    speaks = h.speaks;
+    out_is = h.out_is;
+    hears = heard-grown w v b.recv g h.hears;
+    has_read = read-grown b vs h.hears.within h.has_read;
+  }
+  front-grown out vs reset (Some Lent) h = h
+  front-grown out vs reset (Some (Closed last)) h = record {
+    snd_fits = h.snd_fits;
+    acks = acks-grown last h.acks;
+    limit = h.limit;
+  }
+
+-- ---- one connection
+
+plus-zero : (n m : ℕ) → n ≡ m + 0 → n ≡ m
+plus-zero n m e = omega (arith, e)
+
+or-false : (b : Bool) → (b || false) ≡ b
+or-false true = refl
+or-false false = refl
+
+module _ (files : FilesAt) (c : ℕ) (w out : Stream) (vs : List Verdict) (x : Station) (f : Option FrontConn) (t : Tale) (a : Agrees files c w out vs x f t) where
+  -- after a client's turn
+  pub client-agrees : (given : ClientBlock × Turn) (u : Tale) (k : ClientTurned c w out x.client given)
+      → Adds t (written_in given.1.notes) (accepted_in given.1.notes) 0 false u → Agrees files c k.w_after out vs (record { client = given.0; iss = x.iss }) f u
+  client-agrees given u k adds = record {
+    begins = a.begins;
+    says = record {
+      spoken = a.says.spoken;
+      fronts = λ z. subst (λ (l : List ℕ). IsFront vs (verdicts (l ++ z))) (sym k.wrote)
+          (subst (λ (l : List ℕ). IsFront vs (verdicts l)) (sym (append_assoc w.bytes (written_in given.1.notes) z)) (a.says.fronts (written_in given.1.notes ++ z)));
+      number = a.says.number;
+      most = a.says.most;
+    };
+    client = k.agrees;
+    front = subst (λ (b : Bool). FrontAgrees k.w_after out vs b f) (sym (adds.was_reset ∙ or-false t.was_reset)) (front-grown w k.w_after k.longer out vs t.was_reset f a.front);
+    tale = record {
+      numbers = adds.numbers ∙ a.tale.numbers ∙ ap (λ (n : ℕ). Some (record { isn = n; iss = out.first })) (sym k.longer.first);
+      wrote = adds.wrote ∙ ap (λ (l : List ℕ). l ++ written_in given.1.notes) a.tale.wrote ∙ sym k.wrote;
+      accepted = adds.accepted ∙ ap (λ (l : List ℕ). l ++ accepted_in given.1.notes) a.tale.accepted ∙ sym k.accepted;
+      served = plus-zero u.served t.served adds.served ∙ a.tale.served;
+      fin = λ e. a.tale.fin (sym adds.fin_sent ∙ e);
+    };
+  }
+
+  -- at the end of the notes of the front end's turn
+  pub front-moment : (given : Option FrontConn × Turn) (u : Tale) (k : FrontTurned files c w out vs t.was_reset given)
+      → Adds t [] [] (served_in given.1.notes) (list_any resets given.1.notes) u → Moment w k.out_after k.vs_after (t.was_reset || list_any resets given.1.notes) u
+  front-moment given u k adds = record {
+    numbers = adds.numbers ∙ a.tale.numbers ∙ ap (λ (n : ℕ). Some (record { isn = w.first; iss = n })) (sym k.longer.first);
+    wrote = adds.wrote ∙ append-nil t.wrote ∙ a.tale.wrote;
+    served = adds.served ∙ ap (λ (n : ℕ). n + served_in given.1.notes) a.tale.served ∙ sym k.served;
+    was_reset = adds.was_reset;
+    fin = λ e. (let ended : out.ended ≡ true = a.tale.fin (sym adds.fin_sent ∙ e) in ap (λ (y : Stream). y.ended) (k.longer.ended ended) ∙ ended);
+  }
+
+  -- after the front end's turn
+  pub front-agrees : (given : Option FrontConn × Turn) (u : Tale) (k : FrontTurned files c w out vs t.was_reset given)
+      → Moment w k.out_after k.vs_after (t.was_reset || list_any resets given.1.notes) u → u.accepted ≡ t.accepted → Agrees files c w k.out_after k.vs_after x given.0 u
+  front-agrees given u k m same = record {
+    begins = k.longer.first ∙ a.begins;
+    says = k.says;
+    client = record {
+      numbered = a.client.numbered;
+      sound = a.client.sound;
+      wide = a.client.wide;
+      speaks = a.client.speaks;
+      w_is = a.client.w_is;
+      accepts = accepted-grown out k.out_after x.client k.longer a.client.accepts;
+    };
+    front = subst (λ (b : Bool). FrontAgrees w k.out_after k.vs_after b given.0) (sym m.was_reset) k.agrees;
+    tale = record {
+      numbers = m.numbers;
+      wrote = m.wrote;
+      accepted = same ∙ a.tale.accepted ∙ sym (front-take x.client.accepted out.bytes k.out_after.bytes k.longer.bytes a.client.accepts.within);
+      served = m.served;
+      fin = m.fin;
+    };
+  }
+
+-- ---- the notes may stand where they do
+
+pub client-may : (files : FilesAt) (c : ℕ) (past rs : List Rec) → AreClientNotes c rs → EachMay (MayTell files) past rs
+client-may files c past [] notes = tt
+client-may files c past (rec.Wrote d bytes ∷ rs) notes = (tt, client-may files c (past ++ rec.Wrote d bytes ∷ []) rs notes.1)
+client-may files c past (rec.Accepted d bytes ∷ rs) notes = (tt, client-may files c (past ++ rec.Accepted d bytes ∷ []) rs notes.1)
+client-may files c past (rec.Eof d ∷ rs) notes = (tt, client-may files c (past ++ rec.Eof d ∷ []) rs notes.1)
+client-may files c past (rec.Aborted d ∷ rs) notes = (tt, client-may files c (past ++ rec.Aborted d ∷ []) rs notes.1)
+client-may files c past (_ ∷ rs) notes = absurd notes.0
+
+-- a response is queued only before the FIN
+not-ended : (past : List Rec) (c d : ℕ) (out : Stream) → d ≡ c → out.ended ≡ false → ((tale past c).fin_sent ≡ true → out.ended ≡ true) → fin_sent past d ≡ false
+not-ended past c d out e open_ fin = subst (λ (n : ℕ). fin_sent past n ≡ false) (sym e) (fin-tale past c ∙ go (tale past c).fin_sent fin) where
+  go : (b : Bool) → (b ≡ true → out.ended ≡ true) → b ≡ false
+  go true h = absurd (both_ways out.ended open_ (h refl))
+  go false h = refl
+
+pub front-may : (files : FilesAt) (c : ℕ) (out : Stream) (past rs : List Rec) → AreFrontNotes c rs → (out.ended ≡ false) ⊎ (served_in rs ≡ 0)
+    → ((tale past c).fin_sent ≡ true → out.ended ≡ true) → EachMay (MayTell files) past rs
+front-may files c out past [] notes unless fin = tt
+front-may files c out past (rec.Took place d epoch ∷ rs) notes unless fin =
+    (tt, front-may files c out (past ++ rec.Took place d epoch ∷ []) rs notes.1 unless (λ e. fin (sym (ap (λ u. u.fin_sent) (tale-append past (rec.Took place d epoch ∷ []) c)) ∙ e)))
+front-may files c out past (rec.Served place d r code size via ∷ rs) notes (inl open_) fin = (
+  not-ended past c d out notes.0 open_ fin,
+  front-may files c out (past ++ rec.Served place d r code size via ∷ []) rs notes.1 (inl open_) (λ e. fin (sym (ap (λ u. u.fin_sent) (tale-append past (rec.Served place d r code size via ∷ []) c)) ∙ e)),
+)
+front-may files c out past (rec.Served place d r code size via ∷ rs) notes (inr none) fin = absurd (omega (arith, none))
+front-may files c out past (rec.Reset place d total ∷ rs) notes unless fin =
+    (tt, front-may files c out (past ++ rec.Reset place d total ∷ []) rs notes.1 unless (λ e. fin (sym (ap (λ u. u.fin_sent) (tale-append past (rec.Reset place d total ∷ []) c)) ∙ e)))
+front-may files c out past (_ ∷ rs) notes unless fin = absurd notes.0

@@ -1,0 +1,24 @@
+-- The laws of bytes, over every run of the machine.
+use Rattle.std.specs.Prelude.{ℕ, ◌≤◌, ◌^◌, List}
+use Rattle.lard_base.specs.declared.config.Config.{Config}
+use Rattle.lard_files.specs.Files.{file_at}
+use Rattle.lard_history.specs.Laws.{AcceptsOnlyAnswers, TellsTheTruth}
+use Rattle.lard_machine.specs.declared.machine.Machine.{Machine}
+use Rattle.lard_machine.specs.Machine.{IsReached}
+use Rattle.lard_laws_bytes.specs.Truthful.{IsTruthful}
+
+-- Every state that events lead to, where the stream limit is within what one direction of a connection carries.
+abbrev pub Always : (List (List ℕ × List ℕ) → Machine → Type 0) → Type 0
+Always P = (config : Config) (files : List (List ℕ × List ℕ)) (m : Machine) → config.stream ≤ 2 ^ 30 → IsReached config files m → P files m
+
+-- What clients, the front end, the journal and all packets say agrees.
+abbrev pub StatesAreTruthful : Type 0
+StatesAreTruthful = Always (λ files m. IsTruthful (file_at files) m)
+
+-- What the cluster sends to a client is true.
+abbrev pub JournalsTellTheTruth : Type 0
+JournalsTellTheTruth = Always (λ files m. TellsTheTruth (file_at files) m.journal)
+
+-- At every moment, what a client accepted is a front of the responses to what it wrote.
+abbrev pub ClientsAcceptAnswers : Type 0
+ClientsAcceptAnswers = Always (λ files m. AcceptsOnlyAnswers (file_at files) m.journal)

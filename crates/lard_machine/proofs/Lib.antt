@@ -1,0 +1,6 @@
+pub mod Draining
+pub mod Forms
+pub mod Packets
+pub mod Reading
+pub mod Runs
+pub mod Saying
