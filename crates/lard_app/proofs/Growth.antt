@@ -8,6 +8,7 @@ use Rattle.lard_base.specs.declared.event.Event.{Event}
 use Rattle.lard_journal.specs.declared.rec.Rec.{Rec}
 use Rattle.lard_journal.specs.Report.{report, heading_line}
 use Rattle.lard_journal.proofs.Growth.{report-append, report-heading}
+use Rattle.lard_machine.proofs.Runs.{step-set}
 use Rattle.lard_machine.specs.Bounds.{HasRule}
 use Rattle.lard_machine.specs.Machine.{machine_step, start}
 use Rattle.lard_machine.specs.declared.fault.StepFault.{StepFault}
@@ -53,8 +54,7 @@ module _ (s t : Progress) where
   moved-grown : (e : Event) (r : Result Machine StepFault) → s.reader.stage ≡ Running → HasRule e → machine_step s.machine e ≡ r → moved s r ≡ Ok t → report_of t ≡ report_of s ++ step_gain s (moved s r)
   moved-grown e (Err fault) running rule is h = cc
   moved-grown e (Ok m) running rule is h =
-      let grows = step-grows s.machine m e rule is in
-      ap report_of (sym (ok_is _ t h)) ∙ ap (λ st. report_at st m) running ∙ ap (λ c. report c [] m.journal) grows.1 ∙ ap (report s.machine.config []) grows.0
+      ap report_of (sym (ok_is _ t h)) ∙ ap (λ st. report_at st m) running ∙ ap (λ c. report c [] m.journal) (step-set s.machine m e rule is).0 ∙ ap (report s.machine.config []) (step-grows s.machine m e rule is)
       ∙ report-append s.machine.config [] s.machine.journal (drop (length s.machine.journal) m.journal)
       ∙ ap (λ st. report_at st s.machine ++ step_gain s (moved s (Ok m))) (sym running)
 

@@ -11,6 +11,7 @@ use Rattle.lard_base.specs.declared.config.Key.TheVariants.{Nodes, Low, High, Ag
 use Rattle.lard_base.specs.declared.event.Event.{Event}
 use Rattle.lard_base.specs.declared.event.Event.TheVariants as event
 use Rattle.lard_base.specs.declared.place.Place.TheVariants as place
+use Rattle.lard_machine.proofs.Runs.{passes-more, step-set}
 use Rattle.lard_machine.specs.Bounds.{HasRule}
 use Rattle.lard_machine.specs.Machine.{IsReached, machine_step, start}
 use Rattle.lard_machine.specs.Machine.{Passes}
@@ -28,12 +29,7 @@ use Rattle.lard_app.specs.declared.status.Status.{Status}
 use Rattle.lard_app.specs.Forms.{missing}
 use Rattle.lard_app.specs.Replay.{Progress, begin, begun, config_set, counted, event_listed, events_from, events_of, followed, input_limit, is_past, judged, lines_of, machine_of, moved, passed, replayed, stepped, taken, whole}
 use Rattle.lard_app.proofs.Passing.{Took, ok_is, passed-took, took-fits, took-judged}
-use Rattle.lard_app.proofs.Steps.{ruled, step-grows}
-
--- one more event
-passes-push : (m n t : Machine) (es : List Event) (e : Event) → Passes m es n → HasRule e → machine_step n e ≡ Ok t → Passes m (es ++ e ∷ []) t
-passes-push m n t [] e p rule is = (t, rule, subst (λ (k : Machine). machine_step k e ≡ Ok t) p is, refl)
-passes-push m n t (d ∷ ds) e p rule is = (p.0, p.1, p.2, passes-push p.0 n t ds e p.3 rule is)
+use Rattle.lard_app.proofs.Steps.{ruled}
 
 -- ---- a configuration that was checked
 
@@ -124,10 +120,10 @@ module _ (s t : Progress) (es : List Event) (k : Keeps s es) where
   moved-keeps : (e : Event) (r : Result Machine StepFault) → s.reader.stage ≡ Running → HasRule e → machine_step s.machine e ≡ r → moved (followed s (item.Event e)) r ≡ Ok t → Keeps t (es ++ e ∷ [])
   moved-keeps e (Err fault) running rule is h = cc
   moved-keeps e (Ok m) running rule is h =
-      let kept = (step-grows s.machine m e rule is).1 in
+      let kept = (step-set s.machine m e rule is).0 in
       subst (λ (v : Progress). Keeps v (es ++ e ∷ [])) (ok_is _ t h) (record {
         idle = subst (λ st. IsIdle st (es ++ e ∷ [])) (sym running) tt;
-        runs = subst (λ (c : Config). Passes (start c []) (es ++ e ∷ []) m) (sym kept) (passes-push (start s.machine.config []) s.machine m es e k.runs rule is);
+        runs = subst (λ (c : Config). Passes (start c []) (es ++ e ∷ []) m) (sym kept) (passes-more es (start s.machine.config []) s.machine m e k.runs rule is);
         stream = subst (λ (c : Config). c.stream ≤ 2 ^ 30) (sym kept) k.stream;
         lines = k.lines;
         read = k.read;

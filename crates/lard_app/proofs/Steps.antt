@@ -1,4 +1,4 @@
--- Which events are stepped, and what each step keeps: it takes no record back, and changes no number of the configuration.
+-- Which events are stepped; and a step takes no record back.
 use Rattle.std.proofs.Common.{◌≡◌, ℕ, ◌+◌, ◌≤◌, List, [], ◌∷◌, ◌++◌, length, drop, Bool, Option, Some, None, Ok, refl, sym, ap, ◌∙◌, arith, length-append}
 use Rattle.std.proofs.lemmas.Bool.Decides.{nat_tests}
 use Rattle.std.proofs.Math.Seq.{drop-append_seam}
@@ -7,7 +7,7 @@ use Rattle.lard_base.specs.declared.event.Event.TheVariants as event
 use Rattle.lard_base.specs.declared.place.Place.TheVariants as place
 use Rattle.lard_client.specs.Control.{ClientBlock}
 use Rattle.lard_journal.specs.declared.rec.Rec.{Rec}
-use Rattle.lard_laws_places.proofs.Forms.{Forms, step_has}
+use Rattle.lard_machine.proofs.Forms.{Forms, step_has}
 use Rattle.lard_machine.specs.Bounds.{HasRule}
 use Rattle.lard_machine.specs.Machine.{acted, client_acted, client_put, front_acted, front_put, machine_step, passed, Act}
 use Rattle.lard_machine.specs.declared.machine.Machine.{Machine}
@@ -18,7 +18,7 @@ use Rattle.lard_app.specs.Forms.{missing}
 
 -- an event that a line can have, and that is built, has a rule
 pub ruled : (e : Event) → missing e ≡ None → IsInRange e → HasRule e
-ruled (event.Open c isn iss wnd mss) m r = (r.3.0, r.4.0, r.4.1)
+ruled (event.Open c isn iss wnd mss) m r = (r.3.0, r.4.0, r.4.1, omega (arith, r.3.1), r.1, r.2)
 ruled (event.Get c path) m r = tt
 ruled (event.Write c bytes) m r = cc
 ruled (event.Shut c) m r = tt
@@ -35,19 +35,19 @@ ruled (event.Clock ms) m r = cc
 ruled (event.Settle rounds) m r = cc
 ruled (event.Inject c bytes) m r = cc
 
--- the journal is the old one with some records after it, and the configuration is the old one
+-- the journal is the old one with some records after it
 abbrev pub Grows : Machine → Machine → Type 0
-Grows old new = (new.journal ≡ old.journal ++ drop (length old.journal) new.journal) × (new.config ≡ old.config)
+Grows old new = new.journal ≡ old.journal ++ drop (length old.journal) new.journal
 
 with_more : (J rs : List Rec) → J ++ rs ≡ J ++ drop (length J) (J ++ rs)
 with_more J rs = ap (λ xs. J ++ xs) (sym (drop-append_seam J rs))
 
 passed-grows : (m : Machine) (e : Event) (own : List Rec) → Grows m (passed m e own)
-passed-grows m e own = (with_more m.journal _, refl)
+passed-grows m e own = with_more m.journal _
 
 acted-grows : (m : Machine) (e : Event) (own : List Rec) (a : Act) → Grows m (acted m e own a)
 unfolding acted
-acted-grows m e own a = (with_more m.journal _, refl)
+acted-grows m e own a = with_more m.journal _
 
 client-grows : (m : Machine) (e : Event) (own : List Rec) (c iss : ℕ) (was : Bool) (given : ClientBlock × Turn) → Grows m (client_acted m e own c iss was given)
 client-grows m e own c iss was given = acted-grows (client_put m c (record { client = given.0; iss = iss })) e own _
@@ -82,5 +82,5 @@ step-grows m t e rule is = step_has m t e (λ d j. Grows m j) (forms-grow m) rul
 -- so the journal is no shorter
 pub grows-longer : (m t : Machine) → Grows m t → length m.journal ≤ length t.journal
 grows-longer m t g =
-    let longer : length t.journal ≡ length m.journal + length (drop (length m.journal) t.journal) = ap length g.0 ∙ length-append m.journal (drop (length m.journal) t.journal) in
+    let longer : length t.journal ≡ length m.journal + length (drop (length m.journal) t.journal) = ap length g ∙ length-append m.journal (drop (length m.journal) t.journal) in
     omega (arith, longer)

@@ -1,5 +1,5 @@
 use Rattle.lard_app.proofs.Endings.{caused}
-use Rattle.lard_app.proofs.Lawful.{lawful}
+use Rattle.lard_app.proofs.Lawful.{lawful, prefix, tells}
 use Rattle.lard_app.proofs.Settled.{settled}
 use Rattle.lard_app.proofs.commands.run.Goals as goal
 
@@ -24,6 +24,12 @@ returns-then-not-asks_replay-clause-sole_sender g c = λ text. (lawful text).sol
 pub returns-then-not-asks_replay-clause-writers : goal.returns-then-not-asks_replay-clause-writers
 returns-then-not-asks_replay-clause-writers g c = λ text. (lawful text).writers
 
+pub returns-then-not-asks_replay-clause-tells : goal.returns-then-not-asks_replay-clause-tells
+returns-then-not-asks_replay-clause-tells g c = λ text. tells text c.every_run_is_true.ensures.told
+
+pub returns-then-not-asks_replay-clause-prefix : goal.returns-then-not-asks_replay-clause-prefix
+returns-then-not-asks_replay-clause-prefix g c = λ text. prefix text c.every_run_is_true.ensures.prefix
+
 pub returns-then-not-asks_replay-clause-resets : goal.returns-then-not-asks_replay-clause-resets
 returns-then-not-asks_replay-clause-resets g c = λ text. (lawful text).resets
 
@@ -47,6 +53,12 @@ returns-clause-sole_sender g c = λ text. (lawful text).sole_sender
 
 pub returns-clause-writers : goal.returns-clause-writers
 returns-clause-writers g c = λ text. (lawful text).writers
+
+pub returns-clause-tells : goal.returns-clause-tells
+returns-clause-tells g c = λ text. tells text c.every_run_is_true.ensures.told
+
+pub returns-clause-prefix : goal.returns-clause-prefix
+returns-clause-prefix g c = λ text. prefix text c.every_run_is_true.ensures.prefix
 
 pub returns-clause-resets : goal.returns-clause-resets
 returns-clause-resets g c = λ text. (lawful text).resets
