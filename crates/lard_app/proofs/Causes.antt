@@ -1,5 +1,5 @@
 -- A line ends a replay with a status exactly where it gives its cause.
-use Rattle.std.proofs.Common.{◌≡◌, ◌⊎◌, ℕ, ◌+◌, ◌^◌, ◌≤◌, ◌<◌, List, [], ◌∷◌, length, Bool, true, false, cond, Option, Some, None, Result, Ok, Err, refl, sym, ap, ◌∙◌, subst, inl, inr, ⊎_elim, arith}
+use Rattle.std.proofs.Common.{◌≡◌, ℕ, ◌+◌, ◌^◌, ◌≤◌, ◌<◌, List, length, Bool, true, false, cond, Option, Some, None, Result, Ok, Err, refl, sym, ap, ◌∙◌, subst, inl, inr, ⊎_elim, arith}
 use Rattle.std.proofs.lemmas.Bool.Decides.{nat_tests}
 use Rattle.std.specs.Prelude.{nat_le, nat_lt}
 use Rattle.lard_base.specs.Config.{config_check, range_check}
@@ -23,9 +23,9 @@ use Rattle.lard_app.specs.declared.status.Status.{Status}
 use Rattle.lard_app.specs.declared.status.Status.TheVariants.{Done, Usage, Refused, ReadFault, WriteFault, NoMemory, Limit}
 use Rattle.lard_app.specs.declared.status.Why.{Why}
 use Rattle.lard_app.specs.declared.status.Why.TheVariants as why
-use Rattle.lard_app.specs.Causes.{EndsLine, IsUnbuilt, IsUnfit, IsUntimely, Reaches, Refuses, Stands, StandsFor, Tries, limit_at}
+use Rattle.lard_app.specs.Causes.{EndsLine, IsUnbuilt, IsUnfit, Reaches, Refuses, StandsFor, Tries, limit_at}
 use Rattle.lard_app.specs.Forms.{missing, unbuilt}
-use Rattle.lard_app.specs.Replay.{Progress, begun, config_set, counted, ended_by, followed, found, input_limit, is_past, item_taken, judged, moved, passed, stepped, taken, unless_unbuilt}
+use Rattle.lard_app.specs.Replay.{Progress, begun, config_set, counted, ended_by, followed, found, input_limit, is_past, item_taken, moved, passed, stepped, taken, unless_unbuilt}
 use Rattle.lard_app.proofs.Failures.{IsFault, fault-step, limit-step, step-fault}
 use Rattle.lard_app.proofs.Knows.{Knows}
 use Rattle.lard_app.proofs.Passing.{judged_by, passed_by}

@@ -1,11 +1,9 @@
 -- The report of a replay grows by what each line adds.
-use Rattle.std.proofs.Common.{◌≡◌, ℕ, ◌+◌, List, [], ◌∷◌, ◌++◌, length, drop, Bool, true, false, cond, Option, Some, None, Result, Ok, Err, refl, sym, ap, ◌∙◌, subst, append_assoc, append-nil}
+use Rattle.std.proofs.Common.{◌≡◌, ℕ, ◌+◌, List, [], ◌∷◌, ◌++◌, length, drop, Bool, true, false, cond, Option, Some, None, Result, Ok, Err, refl, sym, ap, ◌∙◌, append_assoc, append-nil}
 use Rattle.lard_base.specs.Config.{config_check, range_check}
-use Rattle.lard_base.specs.declared.config.Config.{Config}
 use Rattle.lard_base.specs.declared.config.ConfigFault.{ConfigFault}
 use Rattle.lard_base.specs.declared.config.Key.{Key}
 use Rattle.lard_base.specs.declared.event.Event.{Event}
-use Rattle.lard_journal.specs.declared.rec.Rec.{Rec}
 use Rattle.lard_journal.specs.Report.{report, heading_line}
 use Rattle.lard_journal.proofs.Growth.{report-append, report-heading}
 use Rattle.lard_machine.proofs.Runs.{step-set}
@@ -16,19 +14,18 @@ use Rattle.lard_machine.specs.declared.fault.What.TheVariants.{Input}
 use Rattle.lard_machine.specs.declared.machine.Machine.{Machine}
 use Rattle.lard_schedule.specs.declared.item.Item.{Item}
 use Rattle.lard_schedule.specs.declared.item.Item.TheVariants as item
-use Rattle.lard_schedule.specs.declared.reader.Reader.{Reader}
 use Rattle.lard_schedule.specs.declared.reader.Stage.{Stage}
 use Rattle.lard_schedule.specs.declared.reader.Stage.TheVariants.{Start, Settings, Files, Running}
 use Rattle.lard_schedule.specs.Laws.{IsBefore, MayStand}
 use Rattle.lard_schedule.specs.Events.{IsInRange}
-use Rattle.lard_schedule.specs.Reader.{HasRange, item_of}
+use Rattle.lard_schedule.specs.Reader.{HasRange}
 use Rattle.lard_app.specs.declared.status.Form.{Form}
 use Rattle.lard_app.specs.declared.status.Status.{Status}
 use Rattle.lard_app.specs.declared.status.Status.TheVariants.{Limit}
 use Rattle.lard_app.specs.declared.status.Why.{Why}
-use Rattle.lard_app.specs.Forms.{missing, unbuilt}
-use Rattle.lard_app.specs.Replay.{Progress, begun, config_set, counted, followed, found, gain, go_gain, is_past, item_gain, item_taken, judged, judged_gain, moved, passed, replayed, report_at, report_of, step_gain, stepped, taken, unless_unbuilt}
-use Rattle.lard_app.proofs.Passing.{Took, judged_by, ok_is, passed-took, passed_by, took-fits, took-gain}
+use Rattle.lard_app.specs.Forms.{missing}
+use Rattle.lard_app.specs.Replay.{Progress, begun, config_set, counted, followed, gain, go_gain, is_past, item_gain, item_taken, judged, judged_gain, moved, passed, replayed, report_at, report_of, step_gain, stepped, taken}
+use Rattle.lard_app.proofs.Passing.{ok_is, passed-took, took-fits, took-gain}
 use Rattle.lard_app.proofs.Steps.{ruled, step-grows}
 
 -- ---- the report grows by what a line adds

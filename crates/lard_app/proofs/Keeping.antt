@@ -1,16 +1,14 @@
 -- What a replay keeps: its machine is one that the events of its lines have led to, and its numbers are bounded.
-use Rattle.std.proofs.Common.{◌≡◌, ℕ, ◌+◌, ◌≤◌, ◌^◌, List, [], ◌∷◌, ◌++◌, length, Bool, true, false, cond, Option, Some, None, Result, Ok, Err, refl, sym, ap, ◌∙◌, subst, append_assoc, append-nil, arith}
+use Rattle.std.proofs.Common.{◌≡◌, ℕ, ◌+◌, ◌≤◌, ◌^◌, List, [], ◌∷◌, ◌++◌, length, Bool, true, false, cond, Option, Some, None, Result, Ok, Err, refl, sym, ◌∙◌, subst, append_assoc, append-nil, arith}
 use Rattle.std.proofs.lemmas.Bool.Decides.{nat_tests}
-use Rattle.std.specs.Prelude.{nat_eq, nat_lt}
-use Rattle.lard_base.specs.Config.{all_keys, checked_from, config_check, is_in_range, range_check, set_key, value_of}
+use Rattle.std.specs.Prelude.{nat_lt}
+use Rattle.lard_base.specs.Config.{checked_from, config_check, is_in_range, range_check, value_of}
 use Rattle.lard_base.specs.declared.config.Config.{Config}
 use Rattle.lard_base.specs.declared.config.ConfigFault.{ConfigFault}
 use Rattle.lard_base.specs.declared.config.ConfigFault.TheVariants.{Range}
 use Rattle.lard_base.specs.declared.config.Key.{Key}
 use Rattle.lard_base.specs.declared.config.Key.TheVariants.{Nodes, Low, High, Age, Idle, Over, Miss, Cache, Stream}
 use Rattle.lard_base.specs.declared.event.Event.{Event}
-use Rattle.lard_base.specs.declared.event.Event.TheVariants as event
-use Rattle.lard_base.specs.declared.place.Place.TheVariants as place
 use Rattle.lard_machine.proofs.Runs.{passes-more, step-set}
 use Rattle.lard_machine.specs.Bounds.{HasRule}
 use Rattle.lard_machine.specs.Machine.{IsReached, machine_step, start}
@@ -27,8 +25,8 @@ use Rattle.lard_schedule.specs.Reader.{HasRange}
 use Rattle.lard_app.specs.declared.status.Form.{Form}
 use Rattle.lard_app.specs.declared.status.Status.{Status}
 use Rattle.lard_app.specs.Forms.{missing}
-use Rattle.lard_app.specs.Replay.{Progress, begin, begun, config_set, counted, event_listed, events_from, events_of, followed, input_limit, is_past, judged, lines_of, machine_of, moved, passed, replayed, stepped, taken, whole}
-use Rattle.lard_app.proofs.Passing.{Took, ok_is, passed-took, took-fits, took-judged}
+use Rattle.lard_app.specs.Replay.{Progress, begin, begun, config_set, counted, event_listed, events_from, events_of, followed, input_limit, is_past, judged, lines_of, moved, passed, replayed, stepped, taken, whole}
+use Rattle.lard_app.proofs.Passing.{ok_is, passed-took, took-fits, took-judged}
 use Rattle.lard_app.proofs.Steps.{ruled}
 
 -- ---- a configuration that was checked

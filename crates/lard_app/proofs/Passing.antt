@@ -1,5 +1,5 @@
 -- What a line that passes was: it stood for an item, which was taken.
-use Rattle.std.proofs.Common.{◌≡◌, ℕ, ◌+◌, List, [], ◌∷◌, ◌++◌, length, Bool, true, false, cond, Option, Some, None, Result, Ok, Err, refl, sym, ap, ◌∙◌, subst}
+use Rattle.std.proofs.Common.{◌≡◌, ℕ, ◌+◌, List, [], Bool, true, false, cond, Option, Some, None, Result, Ok, Err, refl, sym, ap, ◌∙◌, subst}
 use Rattle.lard_base.specs.Config.{config_check, range_check}
 use Rattle.lard_base.specs.declared.config.ConfigFault.{ConfigFault}
 use Rattle.lard_base.specs.declared.config.Key.{Key}
@@ -17,10 +17,9 @@ use Rattle.lard_schedule.proofs.Lines.{line_spelled}
 use Rattle.lard_app.specs.declared.status.Form.{Form}
 use Rattle.lard_app.specs.declared.status.Status.{Status}
 use Rattle.lard_app.specs.declared.status.Status.TheVariants.{Limit}
-use Rattle.lard_app.specs.declared.status.Why.{Why}
 use Rattle.lard_app.specs.declared.status.Why.TheVariants as why
 use Rattle.lard_app.specs.Forms.{missing, unbuilt}
-use Rattle.lard_app.specs.Replay.{Progress, begun, config_set, counted, event_listed, followed, found, gain, is_past, item_gain, item_taken, judged, judged_gain, moved, passed, stepped, taken, unless_unbuilt}
+use Rattle.lard_app.specs.Replay.{Progress, begun, config_set, counted, followed, found, gain, is_past, item_gain, item_taken, judged, judged_gain, moved, passed, stepped, taken, unless_unbuilt}
 
 -- what a line stands for, once its first word and its place were looked up
 pub judged_by : (r : Reader) (line : List ℕ) (f : Option Form) (x : Option Item) → unbuilt line ≡ f → item_of r line ≡ x → judged r line ≡ unless_unbuilt f (found x)

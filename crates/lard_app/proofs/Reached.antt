@@ -1,8 +1,8 @@
 -- What the laws of the machine say of every state that a replay comes to.
-use Rattle.std.proofs.Common.{◌≡◌, ℕ, List, [], length, Option, Some, None, IsSome, refl, sym, ap, ◌∙◌, subst}
+use Rattle.std.proofs.Common.{◌≡◌, ℕ, [], length, Some, None, IsSome, refl, sym, ap, ◌∙◌, subst}
 use Rattle.std.specs.FinMap as table
 use Rattle.lard_base.specs.declared.config.Config.{Config}
-use Rattle.lard_history.specs.Journal.{Tale, answered_bytes, is_lost, numbers_of, packet_bytes, sent_count, tale}
+use Rattle.lard_history.specs.Journal.{answered_bytes, is_lost, numbers_of, packet_bytes, sent_count, tale}
 use Rattle.lard_history.proofs.Tales.{numbers-tale}
 use Rattle.lard_laws_places.specs.Places.{ClientStands, client_tale, lost_in}
 use Rattle.lard_laws_places.proofs.Reached.{reached-holds}

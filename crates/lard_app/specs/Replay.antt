@@ -38,10 +38,10 @@ input_limit = 2 ^ 26
 
 -- What was read of a schedule so far, and what it led to.
 pub record Progress : Type 0 where
-  pub reader : Reader    -- what may follow
-  pub config : Config    -- the numbers that the lines have set so far
-  pub lines : ℕ          -- how many lines were passed
-  pub read : ℕ           -- how many bytes these lines have, with their line feeds
+  pub reader : Reader  -- what may follow
+  pub config : Config  -- the numbers that the lines have set so far
+  pub lines : ℕ  -- how many lines were passed
+  pub read : ℕ  -- how many bytes these lines have, with their line feeds
   pub machine : Machine  -- it begins when `go` has passed; before, it is one that nobody sees
 
 -- before the first line

@@ -107,12 +107,7 @@ fn replay_text<K: Sink>(alloc: Global, sink: &mut K, text: &[u8]) -> Status
 }
 
 /// Passes the lines of a text, one after another, to a replay that has read nothing.
-fn replay_lines<K: Sink>(
-    replay: &mut Replay,
-    alloc: Global,
-    sink: &mut K,
-    text: &[u8],
-) -> Status
+fn replay_lines<K: Sink>(replay: &mut Replay, alloc: Global, sink: &mut K, text: &[u8]) -> Status
     requires begins { seen replay.old ≡ begin }
     requires usable { replay.old.world.spoiled ≡ false }
     requires short { length text.now ≤ input_limit + 1 }

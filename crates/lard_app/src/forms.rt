@@ -100,5 +100,8 @@ fn all_plain(path: &[u8]) -> bool
 fn is_plain(byte: u8) -> bool
     ensures { result ≡ is_plain_byte byte }
 {
-    byte.is_ascii_lowercase() || byte.is_ascii_uppercase() || (b'-'..=b'9').contains(&byte) || byte == b'_'
+    byte.is_ascii_lowercase()
+        || byte.is_ascii_uppercase()
+        || (b'-'..=b'9').contains(&byte)
+        || byte == b'_'
 }

@@ -8,6 +8,8 @@ mod commands;
 mod forms;
 mod replay;
 mod status;
+#[cfg(test)]
+mod tests;
 
 pub use commands::run;
 pub use lard_machine::What;

@@ -116,10 +116,10 @@ impl Replay {
         ensures set { Sets (config_set (seen self.old) key value (range_check key value)) (seen self.new) result }
         ensures world { self.new.world ≡ self.old.world }
     {
-        match self.config.set(key, value) {
-            Ok(()) => return Ok(()),
-            Err(fault) => return Err(refused(self.lines, Why::Config(fault))),
+        if let Err(fault) = self.config.set(key, value) {
+            return Err(refused(self.lines, Why::Config(fault)));
         }
+        Ok(())
     }
 
     /// The world begins, if the configuration can be used, and the heading is written.
@@ -133,7 +133,10 @@ impl Replay {
         if let Err(fault) = self.config.check() {
             return Err(refused(self.lines, Why::Config(fault)));
         }
-        let before = mem::replace(&mut self.world, World::new(alloc, self.config, Files::new(alloc)));
+        let before = mem::replace(
+            &mut self.world,
+            World::new(alloc, self.config, Files::new(alloc)),
+        );
         let _empty = before.finish();
         match heading(alloc, &self.config) {
             Ok(text) => return write(sink, text.as_slice()),
