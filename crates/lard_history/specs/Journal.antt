@@ -1,13 +1,18 @@
 -- What a journal says: folds over its records, the oldest first.
 use Rattle.std.specs.Prelude.{ℕ, ◌+◌, Bool, true, false, ◌||◌, ◌&&◌, List, [], ◌++◌, length, take, codes, Option, Some, None, Result, Ok, Err, nat_eq, if◌then◌else◌}
-use Rattle.std.specs.List.{concat, fold}
-use Rattle.lard_answers.specs.Answers.{FilesAt, answers}
+use Rattle.std.specs.List.{concat, fold, slice_get}
+use Rattle.lard_answers.specs.Answers.{FilesAt, answers, verdicts}
 use Rattle.lard_base.specs.declared.event.Event.{Event}
 use Rattle.lard_base.specs.declared.event.Event.TheVariants as event
 use Rattle.lard_base.specs.declared.place.Place.{Place}
 use Rattle.lard_base.specs.declared.place.Place.TheVariants.{Front, Node, Client}
 use Rattle.lard_journal.specs.declared.rec.Rec.{Rec}
 use Rattle.lard_journal.specs.declared.rec.Rec.TheVariants as rec
+use Rattle.lard_request.specs.declared.verdict.Code.{Code}
+use Rattle.lard_request.specs.declared.verdict.Code.TheVariants as code
+use Rattle.lard_request.specs.declared.verdict.Verdict.{Verdict}
+use Rattle.lard_request.specs.declared.verdict.Verdict.TheVariants.{Serve, Fault}
+use Rattle.lard_response.specs.Response.{number}
 use Rattle.lard_segment.specs.declared.fault.SegFault.{SegFault}
 use Rattle.lard_segment.specs.declared.segment.Dir.TheVariants.{ToClient}
 use Rattle.lard_segment.specs.Segment.{Said, decoded}
@@ -167,6 +172,23 @@ answered_bytes J = fold answered_step 0 J
 -- the responses that were queued on connection c, joined: as many of its answers as were served
 abbrev pub said_to : FilesAt → List Rec → ℕ → List ℕ
 said_to files J c = concat (take (served J c) (answers files (wrote J c)))
+
+-- the verdict on the next request of client c, the first that is not answered, if it wrote one more
+abbrev pub next_verdict : List Rec → ℕ → Option Verdict
+next_verdict J c = slice_get (verdicts (wrote J c)) (served J c)
+
+-- the response to it
+abbrev pub next_answer : FilesAt → List Rec → ℕ → Option (List ℕ)
+next_answer files J c = slice_get (answers files (wrote J c)) (served J c)
+
+-- the code of the answer to a verdict
+abbrev pub found_code : Option (List ℕ) → Code
+found_code None = code.NotFound
+found_code (Some body) = code.Ok
+
+abbrev pub code_of : FilesAt → Verdict → ℕ
+code_of files (Serve path head close) = number (found_code (files path))
+code_of files (Fault fault) = number fault
 
 -- ---- resets, and the end of a stream
 

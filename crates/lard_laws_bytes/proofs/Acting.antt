@@ -9,8 +9,7 @@ use Rattle.lard_base.specs.declared.place.Place.{Place}
 use Rattle.lard_base.specs.declared.place.Place.TheVariants as place
 use Rattle.lard_client.specs.Control.{ClientBlock, is_armed}
 use Rattle.lard_history.specs.Journal.{Tale, event_shuts, tale, tale_step, told_on}
-use Rattle.lard_history.specs.Laws.{EachMay, MayTell}
-use Rattle.lard_history.proofs.Each.{Each}
+use Rattle.lard_history.specs.Laws.{EachMay, MayServe, MayTell}
 use Rattle.lard_history.proofs.Tales.{others, tale-append}
 use Rattle.lard_journal.specs.declared.rec.Rec.{Rec}
 use Rattle.lard_journal.specs.declared.rec.Rec.TheVariants as rec
@@ -22,10 +21,12 @@ use Rattle.lard_machine.specs.Machine.{acted, client_goes_on, front_acted, front
 use Rattle.lard_table.proofs.Map.{get_inserted, get_other}
 use Rattle.lard_truth.proofs.Growth.{goes_on-same}
 use Rattle.lard_laws_bytes.specs.Agreement.{Agrees}
-use Rattle.lard_laws_bytes.specs.Keeping.{ClientTurned, FrontTurned, accepted_in, resets, served_in, written_in}
+use Rattle.lard_laws_bytes.specs.Keeping.{ClientTurned, FrontTurned, TellsOf, accepted_in, resets, served_in, size_in, written_in}
 use Rattle.lard_laws_bytes.specs.Truthful.{ConnAgrees, IsTruthful, MayAccept, Talk}
 use Rattle.lard_laws_bytes.proofs.Later.{put, put-same}
-use Rattle.lard_laws_bytes.proofs.Moments.{client-accepts, front-none, is_accepted, none-accepted, sents-none, timers-none}
+use Rattle.lard_laws_bytes.proofs.Content.{ArePlain, accept-content, notes-may, serve-content}
+use Rattle.lard_laws_bytes.proofs.Moments.{client-accepts, front-accepts}
+use Rattle.lard_laws_bytes.proofs.Serving.{client-serves}
 use Rattle.lard_laws_bytes.proofs.Moves.{Moves, moved}
 use Rattle.lard_laws_bytes.proofs.Prefix.{said-front}
 use Rattle.lard_laws_bytes.proofs.Notes.{Adds, adds-both, adds-none, client-notes, client-others, front-notes, front-others}
@@ -38,21 +39,21 @@ pub record IsAside (files : FilesAt) (e : Event) (c : ℕ) (own : List Rec) : Ty
   pub quiet : IsQuiet own
   pub may : (past : List Rec) → EachMay (MayTell files) past own
   pub others : (q : ℕ) → q ≢ c → event_shuts q e ≡ false
-  pub none : Each (λ r. is_accepted files r ≡ false) own
+  pub plain : ArePlain own
 
 pub nothing-aside : (files : FilesAt) (e : Event) (c : ℕ) → ((q : ℕ) → q ≢ c → event_shuts q e ≡ false) → IsAside files e c []
-nothing-aside files e c n = record { quiet = λ q. tt; may = λ past. tt; others = n; none = tt }
+nothing-aside files e c n = record { quiet = λ q. tt; may = λ past. tt; others = n; plain = tt }
 
 pub got-aside : (files : FilesAt) (e : Event) (c k : ℕ) → ((q : ℕ) → q ≢ c → event_shuts q e ≡ false) → IsAside files e c (rec.Got k ∷ [])
-got-aside files e c k n = record { quiet = λ q. (refl, tt); may = λ past. (tt, tt); others = n; none = (refl, tt) }
+got-aside files e c k n = record { quiet = λ q. (refl, tt); may = λ past. (tt, tt); others = n; plain = (refl, tt) }
 
 or-false : (b : Bool) → (b || false) ≡ b
 or-false true = refl
 or-false false = refl
 
 -- the event and its own records tell nothing of bytes
-aside-adds : (i c : ℕ) (e : Event) (t : Tale) → Adds t [] [] 0 false (tale_step c t (rec.Event i e))
-aside-adds i c e t = adds-none t (tale_step c t (rec.Event i e)) refl refl refl refl refl refl
+aside-adds : (i c : ℕ) (e : Event) (t : Tale) → Adds t [] [] 0 0 false (tale_step c t (rec.Event i e))
+aside-adds i c e t = adds-none t (tale_step c t (rec.Event i e)) refl refl refl refl refl refl refl
 
 -- segments are no accepted bytes
 sents-accepted : (c k : ℕ) (t : Tale) (ss : List (Place × List ℕ)) → (told_on c t (sent_records k place.Front ss)).accepted ≡ t.accepted
@@ -89,7 +90,7 @@ module _ (files : FilesAt) (m : Machine) (T : IsTruthful files m) (e : Event) (o
     abbrev l : Talk
     l = record { w = k.w_after; out = (T.talks c).out; vs = (T.talks c).vs; was_reset = (T.talks c).was_reset }
 
-    adds : Adds (tale m.journal c) (written_in given.1.notes) (accepted_in given.1.notes) 0 false (tale (m.journal ++ rs) c)
+    adds : Adds (tale m.journal c) (written_in given.1.notes) (accepted_in given.1.notes) 0 0 false (tale (m.journal ++ rs) c)
     adds =
         let t : Tale = tale m.journal c in
         let t1 : Tale = tale_step c t (rec.Event (m.events + 1) e) in
@@ -97,8 +98,8 @@ module _ (files : FilesAt) (m : Machine) (T : IsTruthful files m) (e : Event) (o
         let is : tale (m.journal ++ rs) c ≡ t2 =
         tale-append m.journal rs c ∙ step-tale (m.events + 1) e own notes sents timers c t aside.quiet (timers-quiet (place.Client c) c (is_armed x.client) (is_armed given.0))
         ∙ others c t2 sents (words-others c (length m.net + 1) c given.1.segments) in
-        subst (λ (u : Tale). Adds t (written_in given.1.notes) (accepted_in given.1.notes) 0 false u) (sym is)
-        (adds-both t t1 t2 [] [] (written_in given.1.notes) (accepted_in given.1.notes) 0 0 0 false false refl (aside-adds (m.events + 1) c e t) (client-notes c t1 notes k.notes))
+        subst (λ (u : Tale). Adds t (written_in given.1.notes) (accepted_in given.1.notes) 0 0 false u) (sym is)
+        (adds-both t t1 t2 [] [] (written_in given.1.notes) (accepted_in given.1.notes) 0 0 0 0 0 0 false false refl refl (aside-adds (m.events + 1) c e t) (client-notes c t1 notes k.notes))
 
     -- before its notes
     before_is : tale (m.journal ++ (rec.Event (m.events + 1) e ∷ own)) c ≡ tale_step c (tale m.journal c) (rec.Event (m.events + 1) e)
@@ -133,12 +134,13 @@ module _ (files : FilesAt) (m : Machine) (T : IsTruthful files m) (e : Event) (o
           (timers-may files (m.journal ++ (rec.Event (m.events + 1) e ∷ own ++ notes ++ sents)) (place.Client c) c (is_armed x.client) (is_armed given.0));
       fair = words-fair (put T.talks c l) (λ d. table.get (table.insert m.clients c after) d) c k.w_after given.1.segments
           (ap (λ (o : Option Station). is_some o) (get_inserted m.clients c after)) (ap (λ (y : Talk). y.w) (put-same T.talks c l)) k.sent;
-      accepts = step-may (m.events + 1) e own notes sents timers (MayAccept files) m.journal
-          (tt, none-accepted files (m.journal ++ rec.Event (m.events + 1) e ∷ []) own aside.none)
+      accepts = notes-may (MayAccept files) (accept-content files) (m.events + 1) e own notes (length m.net + 1) (place.Client c) given.1.segments (place.Client c) c (is_armed x.client) (is_armed given.0)
+          m.journal aside.plain
           (client-accepts files c (T.talks c).out.bytes (T.talks c).w.bytes (said-front files (T.talks c).w (T.talks c).out (T.talks c).vs agreed.says)
-          (m.journal ++ (rec.Event (m.events + 1) e ∷ own)) notes k.notes wrote_so accepted_so)
-          (none-accepted files (m.journal ++ (rec.Event (m.events + 1) e ∷ own ++ notes)) sents (sents-none files (length m.net + 1) (place.Client c) given.1.segments))
-          (none-accepted files (m.journal ++ (rec.Event (m.events + 1) e ∷ own ++ notes ++ sents)) timers (timers-none files (place.Client c) c (is_armed x.client) (is_armed given.0)));
+          (m.journal ++ (rec.Event (m.events + 1) e ∷ own)) notes k.notes wrote_so accepted_so);
+      serves = notes-may (MayServe files) (serve-content files) (m.events + 1) e own notes (length m.net + 1) (place.Client c) given.1.segments (place.Client c) c (is_armed x.client) (is_armed given.0)
+          m.journal aside.plain
+          (client-serves files c (m.journal ++ (rec.Event (m.events + 1) e ∷ own)) notes k.notes);
     }
 
     pub client-moves : IsTruthful files (client_goes_on m e own c x given)
@@ -167,14 +169,19 @@ module _ (files : FilesAt) (m : Machine) (T : IsTruthful files m) (e : Event) (o
     abbrev told : Tale
     told = told_on c (tale_step c (tale m.journal c) (rec.Event (m.events + 1) e)) given.1.notes
 
-    told_adds : Adds (tale m.journal c) [] [] (served_in given.1.notes) (list_any resets given.1.notes) told
+    told_adds : Adds (tale m.journal c) [] [] (served_in given.1.notes) (size_in given.1.notes) (list_any resets given.1.notes) told
     told_adds =
         let t : Tale = tale m.journal c in
         let t1 : Tale = tale_step c t (rec.Event (m.events + 1) e) in
-        adds-both t t1 told [] [] [] [] 0 (served_in given.1.notes) (served_in given.1.notes) false (list_any resets given.1.notes) (omega arith) (aside-adds (m.events + 1) c e t) (front-notes c t1 given.1.notes k.notes)
+        adds-both t t1 told [] [] [] [] 0 (served_in given.1.notes) (served_in given.1.notes) 0 (size_in given.1.notes) (size_in given.1.notes) false (list_any resets given.1.notes) (omega arith) (omega arith) (aside-adds (m.events + 1) c e t) (front-notes c t1 given.1.notes k.noted.front)
 
     told_moment : Moment (T.talks c).w k.out_after k.vs_after reset told
     told_moment = front-moment files c (T.talks c).w (T.talks c).out (T.talks c).vs x (table.get m.conns c) (tale m.journal c) agreed given told k told_adds
+
+    -- before its notes
+    tells_so : TellsOf (T.talks c).w.bytes (T.talks c).out.bytes (T.talks c).vs (tale (m.journal ++ (rec.Event (m.events + 1) e ∷ own)) c)
+    tells_so = subst (TellsOf (T.talks c).w.bytes (T.talks c).out.bytes (T.talks c).vs) (sym (own-tale (m.events + 1) e own given.1.notes replies changes c m.journal aside.quiet))
+        (record { wrote = agreed.tale.wrote; served = agreed.tale.served; served_bytes = agreed.tale.served_bytes })
 
     end_is : tale (m.journal ++ all_rs) c ≡ told_on c told replies
     end_is = tale-append m.journal all_rs c ∙ step-tale (m.events + 1) e own given.1.notes replies changes c (tale m.journal c) aside.quiet
@@ -211,22 +218,22 @@ module _ (files : FilesAt) (m : Machine) (T : IsTruthful files m) (e : Event) (o
         front-agrees files c (T.talks c).w (T.talks c).out (T.talks c).vs x (table.get m.conns c) (tale m.journal c) agreed given (tale (m.journal ++ all_rs) c) k end_moment end_accepted,
         end_moment.was_reset,
       );
-      others = λ q n. step-others (m.events + 1) e own given.1.notes replies changes q (aside.others q n) (aside.quiet q) (front-others c q given.1.notes n k.notes)
+      others = λ q n. step-others (m.events + 1) e own given.1.notes replies changes q (aside.others q n) (aside.quiet q) (front-others c q given.1.notes n k.noted.front)
           (replies-others q (length m.net + 1) c (T.talks c).w k.out_after reset given.1.segments n k.sent) (timers-quiet place.Front c (front_armed (table.get m.conns c)) (front_armed given.0) q);
       may = step-may (m.events + 1) e own given.1.notes replies changes (MayTell files) m.journal (tt, aside.may (m.journal ++ rec.Event (m.events + 1) e ∷ []))
-          (front-may files c (T.talks c).out (m.journal ++ (rec.Event (m.events + 1) e ∷ own)) given.1.notes k.notes k.unless_ended
+          (front-may files c (T.talks c).out (m.journal ++ (rec.Event (m.events + 1) e ∷ own)) given.1.notes k.noted.front k.noted.unless_ended
           (λ f. agreed.tale.fin (sym (ap (λ (u : Tale). u.fin_sent) (own-tale (m.events + 1) e own given.1.notes replies changes c m.journal aside.quiet)) ∙ f)))
           (replies-may files c (length m.net + 1) (T.talks c).w k.out_after k.vs_after reset (m.journal ++ (rec.Event (m.events + 1) e ∷ own ++ given.1.notes)) given.1.segments k.says k.sent
           (subst (Moment (T.talks c).w k.out_after k.vs_after reset) (sym (notes-tale (m.events + 1) e own given.1.notes replies changes c m.journal aside.quiet)) told_moment))
           (timers-may files (m.journal ++ (rec.Event (m.events + 1) e ∷ own ++ given.1.notes ++ replies)) place.Front c (front_armed (table.get m.conns c)) (front_armed given.0));
       fair = replies-fair (put T.talks c talk) (λ d. table.get m.clients d) c (T.talks c).w k.out_after reset given.1.segments
           (ap (λ (o : Option Station). is_some o) there) (ap (λ (y : Talk). y.w) (put-same T.talks c talk)) (ap (λ (y : Talk). y.out) (put-same T.talks c talk)) (ap (λ (y : Talk). y.was_reset) (put-same T.talks c talk)) k.sent;
-      accepts = step-may (m.events + 1) e own given.1.notes replies changes (MayAccept files) m.journal
-          (tt, none-accepted files (m.journal ++ rec.Event (m.events + 1) e ∷ []) own aside.none)
-          (none-accepted files (m.journal ++ (rec.Event (m.events + 1) e ∷ own)) given.1.notes (front-none files c given.1.notes k.notes))
-          (none-accepted files (m.journal ++ (rec.Event (m.events + 1) e ∷ own ++ given.1.notes)) replies (sents-none files (length m.net + 1) place.Front given.1.segments))
-          (none-accepted files (m.journal ++ (rec.Event (m.events + 1) e ∷ own ++ given.1.notes ++ replies)) changes
-          (timers-none files place.Front c (front_armed (table.get m.conns c)) (front_armed given.0)));
+      accepts = notes-may (MayAccept files) (accept-content files) (m.events + 1) e own given.1.notes (length m.net + 1) place.Front given.1.segments place.Front c
+          (front_armed (table.get m.conns c)) (front_armed given.0) m.journal aside.plain
+          (front-accepts files c (m.journal ++ (rec.Event (m.events + 1) e ∷ own)) given.1.notes k.noted.front);
+      serves = notes-may (MayServe files) (serve-content files) (m.events + 1) e own given.1.notes (length m.net + 1) place.Front given.1.segments place.Front c
+          (front_armed (table.get m.conns c)) (front_armed given.0) m.journal aside.plain
+          (k.noted.serve (m.journal ++ (rec.Event (m.events + 1) e ∷ own)) tells_so);
     }
 
     pub front-moves : IsTruthful files (front_acted m e own c given)

@@ -12,7 +12,7 @@ use Rattle.lard_base.specs.declared.place.Place.TheVariants as place
 use Rattle.lard_client.specs.Control.{ClientBlock, is_armed, written_len}
 use Rattle.lard_files.specs.Files.{file_at}
 use Rattle.lard_history.specs.Journal.{Tale, about, event_shuts, request, tale, tale_step, told_on, untold}
-use Rattle.lard_history.specs.Laws.{EachMay, MayTell}
+use Rattle.lard_history.specs.Laws.{EachMay, MayServe, MayTell}
 use Rattle.lard_history.proofs.Each.{Each, each_append}
 use Rattle.lard_history.proofs.Tales.{others, tale-append, tale-others}
 use Rattle.lard_journal.specs.declared.rec.Rec.{Rec}
@@ -45,7 +45,7 @@ use Rattle.lard_laws_bytes.proofs.Acting.{IsAside, agreed, client-moves, front-m
 use Rattle.lard_laws_bytes.proofs.ClientHearing.{hears-turned}
 use Rattle.lard_laws_bytes.proofs.ClientTurns.{aborts-turned, holds-turned, opens-agreeing, shuts-turned, takes-turned, timer-turned, writes-turned}
 use Rattle.lard_laws_bytes.proofs.Later.{fair-lost, put, put-same}
-use Rattle.lard_laws_bytes.proofs.Moments.{is_accepted, none-accepted, sents-none, timers-none}
+use Rattle.lard_laws_bytes.proofs.Content.{ArePlain, IsOfContent, accept-content, notes-may, plain-may, serve-content}
 use Rattle.lard_laws_bytes.proofs.Moves.{Moves, moved}
 use Rattle.lard_laws_bytes.proofs.Notes.{other-number, same-number}
 use Rattle.lard_laws_bytes.proofs.Segments.{words-fair, words-may, words-others}
@@ -76,14 +76,17 @@ timer-some env (Some (Closed last)) e = absurd cc
 module _ (files : FilesAt) (m : Machine) (T : IsTruthful files m) where
   -- a step in which no place acted, and at most a packet was lost
   pub passed-on : (ps : List Packet) (e : Event) (own : List Rec) → AreFair T.talks (λ c. table.get m.clients c) ps → ((q : ℕ) → event_shuts q e ≡ false) → IsQuiet own
-      → EachMay (MayTell files) (m.journal ++ rec.Event (m.events + 1) e ∷ []) own → Each (λ r. is_accepted files r ≡ false) own → IsTruthful files (passed (record m { net = ps }) e own)
-  passed-on ps e own fair shuts quiet may none = record {
+      → EachMay (MayTell files) (m.journal ++ rec.Event (m.events + 1) e ∷ []) own → ArePlain own → IsTruthful files (passed (record m { net = ps }) e own)
+  passed-on ps e own fair shuts quiet may plain = record {
     talks = T.talks;
     connections = λ c. subst (λ (t : Tale). ConnAgrees files c (T.talks c) (table.get m.clients c) (table.get m.conns c) t)
         (sym (tale-others m.journal (rec.Event (m.events + 1) e ∷ own) c (shuts c, quiet c))) (T.connections c);
     packets = fair;
     tells = each_append (MayTell files) [] m.journal (rec.Event (m.events + 1) e ∷ own) T.tells (tt, may);
-    accepts = each_append (MayAccept files) [] m.journal (rec.Event (m.events + 1) e ∷ own) T.accepts (tt, none-accepted files (m.journal ++ rec.Event (m.events + 1) e ∷ []) own none);
+    accepts = each_append (MayAccept files) [] m.journal (rec.Event (m.events + 1) e ∷ own) T.accepts
+        (plain-may (MayAccept files) (accept-content files) m.journal (rec.Event (m.events + 1) e ∷ own) (refl, plain));
+    serves = each_append (MayServe files) [] m.journal (rec.Event (m.events + 1) e ∷ own) T.serves
+        (plain-may (MayServe files) (serve-content files) m.journal (rec.Event (m.events + 1) e ∷ own) (refl, plain));
   }
 
 -- ---- one client opens
@@ -146,11 +149,17 @@ module _ (files : FilesAt) (m : Machine) (T : IsTruthful files m) (c isn iss wnd
         wrote = refl;
         accepted = sym (ap (λ (n : ℕ). take n []) it.accepted);
         served = refl;
+        served_bytes = refl;
         fin = λ f. absurd (both_ways false refl f);
       };
     },
     refl,
   )
+
+  -- it says nothing of what is accepted or answered
+  opening-may : (may : List Rec → Rec → Type 0) → IsOfContent may → EachMay may m.journal rs
+  opening-may may of = notes-may may of (m.events + 1) e [] notes (length m.net + 1) (place.Client c) given.1.segments (place.Client c) c false (is_armed given.0) m.journal tt
+      (plain-may may of (m.journal ++ (rec.Event (m.events + 1) e ∷ [])) notes (refl, subst ArePlain (sym it.notes) tt))
 
   opens : Moves files m T c begins (table.insert m.clients c after) m.conns (packets_of (place.Client c) given.1.segments) rs after None
   opens = record {
@@ -169,11 +178,8 @@ module _ (files : FilesAt) (m : Machine) (T : IsTruthful files m) (c isn iss wnd
         (timers-may files (m.journal ++ (rec.Event (m.events + 1) e ∷ [] ++ notes ++ sents)) (place.Client c) c false (is_armed given.0));
     fair = words-fair (put T.talks c begins) (λ d. table.get (table.insert m.clients c after) d) c (unwritten isn) given.1.segments
         (ap (λ (o : Option Station). is_some o) (get_inserted m.clients c after)) (ap (λ (y : Talk). y.w) (put-same T.talks c begins)) it.sent;
-    accepts = step-may (m.events + 1) e [] notes sents timers (MayAccept files) m.journal (tt, tt)
-        (none-accepted files (m.journal ++ (rec.Event (m.events + 1) e ∷ [])) notes
-        (refl, subst (λ (ns : List Rec). Each (λ r. is_accepted files r ≡ false) ns) (sym it.notes) tt))
-        (none-accepted files (m.journal ++ (rec.Event (m.events + 1) e ∷ [] ++ notes)) sents (sents-none files (length m.net + 1) (place.Client c) given.1.segments))
-        (none-accepted files (m.journal ++ (rec.Event (m.events + 1) e ∷ [] ++ notes ++ sents)) timers (timers-none files (place.Client c) c false (is_armed given.0)));
+    accepts = opening-may (MayAccept files) (accept-content files);
+    serves = opening-may (MayServe files) (serve-content files);
   }
 
   pub opened-on : IsTruthful files (client_acted m e (rec.Opened c isn iss wnd mss ∷ []) c iss false given)

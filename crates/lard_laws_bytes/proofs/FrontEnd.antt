@@ -20,6 +20,7 @@ use Rattle.lard_laws_bytes.specs.Keeping.{FrontTurned, FrontHearsTruth, FrontTim
 use Rattle.lard_laws_bytes.proofs.FrontEndpoint.{IsBetween, between-sound, between-timed, between-arrived, between-begun, read-same, read-arrived}
 use Rattle.lard_laws_bytes.proofs.FrontSpeaking.{Spoke, awaits-within, emits-spoke, emits_symbols-spoke, timed-reply}
 use Rattle.lard_laws_bytes.proofs.Reading.{Goes, IsReading, Serves, or-last, reads-goes}
+use Rattle.lard_laws_bytes.proofs.Serving.{noted-nothing}
 use Rattle.lard_machine.specs.declared.places.FrontConn.{FrontConn}
 use Rattle.lard_machine.specs.declared.places.FrontConn.TheVariants.{Held, Lent, Closed}
 use Rattle.lard_machine.specs.declared.places.Turn.{Turn}
@@ -79,9 +80,7 @@ module _ (env : FrontEnv) (w out : Stream) (vs : List Verdict) (was_reset : Bool
               hears = talk.between.hears;
               has_read = read-same w g.out_now s.block said.1 g.vs_now g.between talk.between talk.recv read;
             });
-        notes = g.notes;
-        served = g.served;
-        unless_ended = g.unless_ended;
+        noted = g.noted;
         sent = replies-append env.c w g.out_now r before said.0 replies talk.sent;
       }
 
@@ -107,9 +106,7 @@ module _ (env : FrontEnv) (w out : Stream) (vs : List Verdict) (was_reset : Bool
         longer = g.longer;
         says = g.says;
         agrees = ended-it g.out_now said.1 reason.Limit r talk.between (λ _. was);
-        notes = g.notes;
-        served = g.served;
-        unless_ended = g.unless_ended;
+        noted = g.noted;
         sent = replies-append env.c w g.out_now r said.0 (told env (limit_said last) ∷ []) talk.sent ((refl, (limit_said last, refl, limit-reply g.out_now said.1 r was), tt));
       }
 
@@ -128,9 +125,7 @@ module _ (env : FrontEnv) (w out : Stream) (vs : List Verdict) (was_reset : Bool
     longer = goes_on-same out;
     says = says;
     agrees = subst (λ (r : Bool). FrontAgrees w out vs r f) (or-false was_reset) agrees;
-    notes = tt;
-    served = omega arith;
-    unless_ended = inr refl;
+    noted = noted-nothing env.files env.c w out vs;
     sent = sent;
   }
 
@@ -149,9 +144,7 @@ module _ (env : FrontEnv) (w out : Stream) (vs : List Verdict) (was_reset : Bool
       says = says;
       counted = counted;
       between = between;
-      notes = tt;
-      served = omega arith;
-      unless_ended = inr refl;
+      noted = noted-nothing env.files env.c w out vs;
     },
     read,
   )
@@ -204,9 +197,7 @@ module _ (env : FrontEnv) (w out : Stream) (vs : List Verdict) (was_reset : Bool
         says = says;
         counted = sym (ap length none);
         between = between;
-        notes = (refl, tt);
-        served = omega arith;
-        unless_ended = inr refl;
+        noted = record { front = (refl, tt); served = omega arith; size = omega arith; unless_ended = inr refl; serve = λ past t. (tt, tt) };
       }) [] (nothing-read s env.iss none) tt
 
   met-turned : (s : Said) → env.iss ≡ out.first → SaysAnswers env.files w out vs → (vs ≡ []) × (out.ended ≡ false) → IsTrueOf w s → Turned (met env s)

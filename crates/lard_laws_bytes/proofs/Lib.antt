@@ -1,6 +1,8 @@
 pub mod FrontEnd
 pub mod FrontEndpoint
 pub mod FrontSpeaking
+pub mod Content
+pub mod Serving
 pub mod Reading
 pub mod ReadingBytes
 pub mod ClientAlike

@@ -1,17 +1,15 @@
 -- What clients accept goes on as the answers do, record by record and at every moment.
-use Rattle.std.proofs.Common.{◌≡◌, ℕ, ◌+◌, List, [], ◌∷◌, ◌++◌, Bool, true, false, cond, refl, sym, ap, ◌∙◌, subst, append_assoc, append-nil, nat_eq}
-use Rattle.std.proofs.lemmas.Bool.{both_ways, eqb-true}
+use Rattle.std.proofs.Common.{◌≡◌, ℕ, List, [], ◌∷◌, ◌++◌, Bool, true, false, cond, refl, sym, ap, ◌∙◌, subst, append_assoc, append-nil, nat_eq}
+use Rattle.std.proofs.lemmas.Bool.{eqb-true}
 use Rattle.std.proofs.lemmas.List.Sums.{fold-append}
 use Rattle.lard_answers.specs.Answers.{FilesAt, IsFront, answer_bytes}
 use Rattle.lard_answers.proofs.Growing.{IsFront-trans, answer_bytes-grow}
-use Rattle.lard_base.specs.declared.place.Place.{Place}
 use Rattle.lard_history.specs.Journal.{Tale, accepted, accepted_step, tale, tale_step, wrote, wrote_step}
 use Rattle.lard_history.specs.Laws.{AcceptsOnlyAnswers, EachMay}
-use Rattle.lard_history.proofs.Each.{Each, each_then}
+use Rattle.lard_history.proofs.Each.{each_then}
 use Rattle.lard_history.proofs.Tales.{accepted-tale, tale-append, wrote-tale}
 use Rattle.lard_journal.specs.declared.rec.Rec.{Rec}
 use Rattle.lard_journal.specs.declared.rec.Rec.TheVariants as rec
-use Rattle.lard_machine.specs.Machine.{sent_records, timer_change}
 use Rattle.lard_laws_bytes.specs.Keeping.{AreClientNotes, AreFrontNotes, accepted_in}
 use Rattle.lard_laws_bytes.specs.Truthful.{MayAccept}
 use Rattle.lard_laws_bytes.proofs.Notes.{same-number}
@@ -52,33 +50,14 @@ module _ (files : FilesAt) where
   pub at_every_moment : (J : List Rec) → EachMay (MayAccept files) [] J → AcceptsOnlyAnswers files J
   at_every_moment J each past later c is = all_more [] past c (each_then (MayAccept files) J past later is each) (answer_bytes files [], refl)
 
-  -- ---- records of which none says that bytes were accepted
+  -- ---- the front end's notes say nothing of what is accepted
 
-  abbrev pub is_accepted : Rec → Bool
-  is_accepted (rec.Accepted c bytes) = true
-  is_accepted _ = false
-
-  pub none-accepted : (past rs : List Rec) → Each (λ r. is_accepted r ≡ false) rs → EachMay (MayAccept files) past rs
-  none-accepted past [] n = tt
-  none-accepted past (rec.Accepted c bytes ∷ rs) n = absurd (both_ways true n.0 refl)
-  none-accepted past (r ∷ rs) n = (tt, none-accepted (past ++ r ∷ []) rs n.1)
-
-  pub sents-none : (k : ℕ) (from : Place) (ss : List (Place × List ℕ)) → Each (λ r. is_accepted r ≡ false) (sent_records k from ss)
-  sents-none k from [] = tt
-  sents-none k from (s ∷ ss) = (refl, sents-none (k + 1) from ss)
-
-  pub timers-none : (p : Place) (c : ℕ) (a b : Bool) → Each (λ r. is_accepted r ≡ false) (timer_change p c a b)
-  timers-none p c false false = tt
-  timers-none p c false true = (refl, tt)
-  timers-none p c true false = (refl, tt)
-  timers-none p c true true = tt
-
-  pub front-none : (c : ℕ) (rs : List Rec) → AreFrontNotes c rs → Each (λ r. is_accepted r ≡ false) rs
-  front-none c [] n = tt
-  front-none c (rec.Took place d epoch ∷ rs) n = (refl, front-none c rs n.1)
-  front-none c (rec.Served place d r code size via ∷ rs) n = (refl, front-none c rs n.1)
-  front-none c (rec.Reset place d total ∷ rs) n = (refl, front-none c rs n.1)
-  front-none c (_ ∷ rs) n = absurd n.0
+  pub front-accepts : (c : ℕ) (past rs : List Rec) → AreFrontNotes c rs → EachMay (MayAccept files) past rs
+  front-accepts c past [] n = tt
+  front-accepts c past (rec.Took place d epoch ∷ rs) n = (tt, front-accepts c (past ++ rec.Took place d epoch ∷ []) rs n.1)
+  front-accepts c past (rec.Served place d r code size via ∷ rs) n = (tt, front-accepts c (past ++ rec.Served place d r code size via ∷ []) rs n.1)
+  front-accepts c past (rec.Reset place d total ∷ rs) n = (tt, front-accepts c (past ++ rec.Reset place d total ∷ []) rs n.1)
+  front-accepts c past (_ ∷ rs) n = absurd n.0
 
   -- ---- a client's notes
 

@@ -6,7 +6,7 @@ use Rattle.std.specs.FinMap.{FinMap}
 use Rattle.std.specs.Ordering.{nat_cmp}
 use Rattle.lard_answers.specs.Answers.{FilesAt}
 use Rattle.lard_history.specs.Journal.{Tale, about, tale}
-use Rattle.lard_history.specs.Laws.{EachMay, MayTell}
+use Rattle.lard_history.specs.Laws.{EachMay, MayServe, MayTell}
 use Rattle.lard_history.proofs.Each.{Each, each_append}
 use Rattle.lard_history.proofs.Tales.{tale-others}
 use Rattle.lard_journal.specs.declared.rec.Rec.{Rec}
@@ -37,6 +37,7 @@ pub record Moves (files : FilesAt) (m : Machine) (T : IsTruthful files m) (c : �
   pub may : EachMay (MayTell files) m.journal rs
   pub fair : AreFair (put T.talks c l) (λ d. table.get clients d) ps
   pub accepts : EachMay (MayAccept files) m.journal rs
+  pub serves : EachMay (MayServe files) m.journal rs
 
 module _ (files : FilesAt) (m : Machine) (T : IsTruthful files m) (c : ℕ) (l : Talk) (clients : FinMap nat_cmp Station) (conns : FinMap nat_cmp FrontConn)
     (ps : List Packet) (rs : List Rec) (x : Station) (f : Option FrontConn) (v : Moves files m T c l clients conns ps rs x f) where
@@ -75,4 +76,5 @@ module _ (files : FilesAt) (m : Machine) (T : IsTruthful files m) (c : ℕ) (l :
         (all-later (λ d. table.get m.clients d) (λ d. table.get clients d) T.talks (put T.talks c l) all_on all_stay m.net T.packets) v.fair;
     tells = each_append (MayTell files) [] m.journal rs T.tells v.may;
     accepts = each_append (MayAccept files) [] m.journal rs T.accepts v.accepts;
+    serves = each_append (MayServe files) [] m.journal rs T.serves v.serves;
   }

@@ -15,7 +15,7 @@ use Rattle.lard_machine.specs.Machine.{machine_step, start}
 use Rattle.lard_machine.proofs.Forms.{step_has}
 use Rattle.lard_machine.proofs.Runs.{HasSettings, passes-keep, reached-set, step-set}
 use Rattle.lard_truth.specs.Truth.{Stream}
-use Rattle.lard_laws_bytes.specs.Runs.{ClientsAcceptAnswers, JournalsTellTheTruth, StatesAreTruthful}
+use Rattle.lard_laws_bytes.specs.Runs.{ClientsAcceptAnswers, JournalsServeTheAnswers, JournalsTellTheTruth, StatesAreTruthful}
 use Rattle.lard_laws_bytes.specs.Truthful.{ConnAgrees, IsTruthful, Talk}
 use Rattle.lard_laws_bytes.proofs.Events.{forms-kept}
 use Rattle.lard_laws_bytes.specs.Keeping.{FrontHearsTruth}
@@ -36,6 +36,7 @@ start-truthful config files at = record {
   packets = tt;
   tells = tt;
   accepts = tt;
+  serves = tt;
 }
 
 -- what the induction carries: the state is truthful for the files that it keeps
@@ -63,3 +64,6 @@ module _ (hears : FrontHearsTruth) where
 
   pub clients-accept : ClientsAcceptAnswers
   clients-accept config files m small r = at_every_moment (file_at files) m.journal (states-truthful config files m small r).accepts
+
+  pub journals-serve : JournalsServeTheAnswers
+  journals-serve config files m small r = (states-truthful config files m small r).serves

@@ -1,12 +1,11 @@
 -- The reading of requests between two of its turns: the answers so far are the first to what the client wrote.
-use Rattle.std.proofs.Common.{◌≡◌, ◌⊎◌, ◌≤◌, ◌<◌, ◌+◌, ◌^◌, ℕ, zero, suc, Bool, true, false, nat_lt, not, ◌&&◌, ◌||◌, List, [], ◌∷◌, ◌++◌, map, length, take, drop, Option, Some, None, arith, inl, inr, ⊎_elim, refl, ap, ◌∙◌, sym, subst, append_assoc, append-nil, length-append}
+use Rattle.std.proofs.Common.{◌≡◌, ◌≤◌, ◌<◌, ◌+◌, ◌^◌, ℕ, zero, suc, Bool, true, false, nat_lt, not, ◌&&◌, ◌||◌, List, [], ◌∷◌, ◌++◌, map, length, take, drop, Option, Some, None, arith, refl, ap, ◌∙◌, sym, subst, append_assoc, append-nil, length-append}
 use Rattle.std.specs.List.{concat, list_any}
 use Rattle.std.proofs.lemmas.Bool.{cond_both, and_parts, not-true, ltb-false}
 use Rattle.std.proofs.lemmas.List.{map-append}
 use Rattle.std.proofs.lemmas.List.Folds.{concat-append, list_any-append}
 use Rattle.lard_answers.specs.Answers.{FilesAt, IsFront, answer, closes_any, verdicts}
 use Rattle.lard_base.specs.declared.place.Place.TheVariants as place_
-use Rattle.lard_base.specs.declared.place.Via.TheVariants.{Own}
 use Rattle.lard_block.specs.declared.block.Found.{Found}
 use Rattle.lard_block.specs.declared.block.Found.TheVariants.{Block, More, TooLong}
 use Rattle.lard_block.specs.Blocks.{skipped, cut_of, Head, Cuts}
@@ -15,27 +14,17 @@ use Rattle.lard_endpoint.specs.Control.{ControlBlock, queueing, finishing, consu
 use Rattle.lard_journal.specs.declared.rec.Rec.{Rec}
 use Rattle.lard_journal.specs.declared.rec.Rec.TheVariants as rec
 use Rattle.lard_laws_bytes.specs.Agreement.{HasRead, SaysAnswers}
-use Rattle.lard_laws_bytes.specs.Keeping.{AreFrontNotes, is_front_note, resets, served_in}
+use Rattle.lard_laws_bytes.specs.Keeping.{AreNoted, resets}
 use Rattle.lard_laws_bytes.proofs.FrontEndpoint.{IsBetween, Onward, between-consumed, between-discarded, onward-queued, onward-finished}
 use Rattle.lard_laws_bytes.proofs.ReadingBytes.{IsJudged, place, cuts-more, begins-block, begins-long, next-verdict, read-judged}
-use Rattle.lard_machine.specs.Front.{FrontEnv, Service, code_of, closed_behind, queued, passed_over, answered, consumed, ended_at_fin, may_read, read_found, reads_on}
+use Rattle.lard_laws_bytes.proofs.Serving.{noted-reset, noted-served}
+use Rattle.lard_machine.specs.Front.{FrontEnv, Service, closed_behind, queued, passed_over, answered, consumed, ended_at_fin, may_read, read_found, reads_on}
 use Rattle.lard_request.specs.declared.verdict.Code.TheVariants as code
 use Rattle.lard_request.specs.declared.verdict.Verdict.{Verdict}
 use Rattle.lard_request.specs.declared.verdict.Verdict.TheVariants.{Fault}
 use Rattle.lard_request.specs.Verdict.{closes, verdict}
 use Rattle.lard_truth.specs.Truth.{Stream, GoesOn, Hears}
 use Rattle.lard_truth.proofs.Growth.{goes_on-same}
-
--- ---- records
-
-notes-more : (c : ℕ) (rs : List Rec) (r : Rec) → AreFrontNotes c rs → is_front_note c r → AreFrontNotes c (rs ++ r ∷ [])
-notes-more c [] r h k = (k, tt)
-notes-more c (q ∷ rs) r h k = (h.0, notes-more c rs r h.1 k)
-
-served-more : (rs : List Rec) (r : Rec) → served_in (rs ++ r ∷ []) ≡ served_in rs + served_in (r ∷ [])
-served-more [] r = omega arith
-served-more (rec.Served by c n code size via ∷ rs) r = let e = served-more rs r in omega arith
-served-more (other ∷ rs) r = served-more rs r
 
 pub or-last : (b c : Bool) → c ≡ true → (b || c) ≡ true
 or-last true c e = refl
@@ -90,9 +79,7 @@ pub record Serves (env : FrontEnv) (w out : Stream) (vs : List Verdict) (s : Ser
   pub says : SaysAnswers env.files w out_now vs_now
   pub counted : s.count ≡ length vs_now
   pub between : IsBetween w out_now s.block
-  pub notes : AreFrontNotes env.c s.notes
-  pub served : length vs_now ≡ length vs + served_in s.notes
-  pub unless_ended : (out.ended ≡ false) ⊎ (served_in s.notes ≡ 0)
+  pub noted : AreNoted env.files env.c w out vs vs_now out_now.bytes s.notes
 
 -- all that was read was answered, unless the connection is to be reset
 abbrev pub IsReading : Stream → List Verdict → ControlBlock → List Rec → Option ℕ → Type 0
@@ -154,11 +141,15 @@ closed-read w vs v b n = cond_both (closes v) (finishing (discarding_on b)) b (�
 
 -- ---- a verdict is answered
 module _ (env : FrontEnv) (w out : Stream) (vs : List Verdict) where
+  -- what comes next of all on what the client wrote so far
+  next-now : (us : List Verdict) (v : Verdict) (b : ControlBlock) → IsNext w us v b → IsFront (us ++ v ∷ []) (verdicts w.bytes)
+  next-now us v b n = subst (λ (q : List ℕ). IsFront (us ++ v ∷ []) (verdicts q)) (append-nil w.bytes) (n.fronts [])
+
   -- it would pass the stream limit
-  passed-goes : (total : ℕ) (s : Service) → Serves env w out vs s → Goes env w out vs (passed_over env total s)
-  passed-goes total s h =
-      let note : Rec = rec.Reset place_.Front env.c total in
-      let same : served_in (s.notes ++ note ∷ []) ≡ served_in s.notes = let e = served-more s.notes note in omega arith in (
+  passed-goes : (v : Verdict) (s : Service) (h : Serves env w out vs s) → IsNext w h.vs_now v s.block → Goes env w out vs (passed_over env (s.block.send.total + length (answer env.files v)) s)
+  passed-goes v s h n =
+      let total : ℕ = s.block.send.total + length (answer env.files v) in
+      let count : length h.out_now.bytes ≡ s.block.send.total = h.between.speaks.part.count in (
         record {
           out_now = h.out_now;
           vs_now = h.vs_now;
@@ -166,11 +157,9 @@ module _ (env : FrontEnv) (w out : Stream) (vs : List Verdict) where
           says = h.says;
           counted = h.counted;
           between = h.between;
-          notes = notes-more env.c s.notes note h.notes refl;
-          served = h.served ∙ ap (λ n. length vs + n) (sym same);
-          unless_ended = ⊎_elim (λ e. inl e) (λ e. inr (same ∙ e)) h.unless_ended;
+          noted = noted-reset env.files env.c w out vs h.vs_now h.out_now.bytes s.notes h.noted place_.Front total v (next-now h.vs_now v s.block n) (omega (arith, count));
         },
-        list_any-append resets s.notes (note ∷ []) ∙ or-last (list_any resets s.notes) true refl,
+        list_any-append resets s.notes (rec.Reset place_.Front env.c total ∷ []) ∙ or-last (list_any resets s.notes) true refl,
       )
 
   -- a response is queued
@@ -178,25 +167,23 @@ module _ (env : FrontEnv) (w out : Stream) (vs : List Verdict) where
       → Goes env w out vs (queued env v (answer env.files v) s)
   queued-goes v s h n le =
       let bytes = answer env.files v in
-      let note : Rec = rec.Served place_.Front env.c (s.count + 1) (code_of env.files v) (length bytes) Own in
-      let more = served-more s.notes note in
       let size : length (h.vs_now ++ v ∷ []) ≡ length h.vs_now + 1 = length-append h.vs_now (v ∷ []) in
       let count : length h.out_now.bytes ≡ s.block.send.total = h.between.speaks.part.count in
       let first : Onward w h.out_now (h.out_now.bytes ++ bytes) (queueing s.block bytes) = onward-queued w h.out_now s.block h.between bytes n.unfinished (omega arith) in
       let second = onward-closed w first.next v (queueing s.block bytes) first.between in
       let longer = goes_on-trans h.out_now first.next second.next first.longer second.longer in
+      let said : second.next.bytes ≡ h.out_now.bytes ++ bytes = second.bytes_are ∙ first.bytes_are in
       let counted = h.counted in
-      let served = h.served in (
+      let open_ : out.ended ≡ false = still-open out h.out_now h.longer (ap (λ x. x.ended) h.between.out_is ∙ n.unfinished) in (
         record {
           out_now = second.next;
           vs_now = h.vs_now ++ v ∷ [];
           longer = goes_on-trans out h.out_now second.next h.longer longer;
-          says = says-more env.files w h.out_now second.next h.vs_now v h.says longer (second.bytes_are ∙ first.bytes_are) (omega arith) n.fronts;
+          says = says-more env.files w h.out_now second.next h.vs_now v h.says longer said (omega arith) n.fronts;
           counted = omega arith;
           between = second.between;
-          notes = notes-more env.c s.notes note h.notes refl;
-          served = omega arith;
-          unless_ended = inl (still-open out h.out_now h.longer (ap (λ x. x.ended) h.between.out_is ∙ n.unfinished));
+          noted = noted-served env.files env.c w out vs h.vs_now h.out_now.bytes s.notes h.noted place_.Front (s.count + 1) v second.next.bytes (next-now h.vs_now v s.block n)
+              (ap (λ (k : ℕ). k + 1) counted) open_ said;
         },
         closed-read w h.vs_now v (queueing s.block bytes) (record { fronts = n.fronts; cut = n.cut; open_ = n.open_; unfinished = n.unfinished; keeps = n.keeps }),
       )
@@ -205,7 +192,7 @@ module _ (env : FrontEnv) (w out : Stream) (vs : List Verdict) where
   answered-goes most v s h n =
       let total = s.block.send.total + length (answer env.files v) in
       cond_both (nat_lt env.stream total) (passed_over env total s) (queued env v (answer env.files v) s) (Goes env w out vs)
-      (λ _. passed-goes total s h)
+      (λ _. passed-goes v s h n)
       (λ t. let le : total ≤ env.stream = ltb-false env.stream total t in queued-goes v s h n (omega arith))
 
   -- ---- what is found is read
@@ -218,9 +205,7 @@ module _ (env : FrontEnv) (w out : Stream) (vs : List Verdict) where
     says = h.says;
     counted = h.counted;
     between = between-consumed w h.out_now s.block h.between n;
-    notes = h.notes;
-    served = h.served;
-    unless_ended = h.unless_ended;
+    noted = h.noted;
   }
 
   -- behind the client's FIN the cluster's follows
@@ -234,9 +219,7 @@ module _ (env : FrontEnv) (w out : Stream) (vs : List Verdict) where
           says = says-same env.files w h.out_now next.next h.vs_now h.says next.longer next.bytes_are;
           counted = h.counted;
           between = next.between;
-          notes = h.notes;
-          served = h.served;
-          unless_ended = h.unless_ended;
+          noted = subst (λ (said : List ℕ). AreNoted env.files env.c w out vs h.vs_now said s.notes) (sym next.bytes_are) h.noted;
         },
         subst (λ (o : Option ℕ). IsReading w h.vs_now (finishing s.block) s.notes o) (sym none) (record { cut = read.cut; goes_on = read.goes_on; stops = λ _. refl }),
       )

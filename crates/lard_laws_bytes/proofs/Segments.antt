@@ -67,6 +67,7 @@ pub record Moment (w out : Stream) (vs : List Verdict) (reset : Bool) (t : Tale)
   pub numbers : t.numbers ≡ Some (record { isn = w.first; iss = out.first })
   pub wrote : t.wrote ≡ w.bytes
   pub served : t.served ≡ length vs
+  pub served_bytes : t.served_bytes ≡ length out.bytes
   pub was_reset : t.was_reset ≡ reset
   pub fin : t.fin_sent ≡ true → out.ended ≡ true
 
@@ -89,6 +90,7 @@ moment-on c k w out vs reset t s bytes is r m = record {
   numbers = m.numbers;
   wrote = m.wrote;
   served = m.served;
+  served_bytes = m.served_bytes;
   was_reset = m.was_reset;
   fin = λ e. ⊎_elim m.fin (λ f. fin-ended out s r.true_of (sym (ap said_fin (ap (λ l. decoded l c ToClient) is ∙ again c ToClient s r.sendable)) ∙ and-right (nat_eq c c) (said_fin (decoded bytes c ToClient)) f))
       (or-either t.fin_sent (nat_eq c c && said_fin (decoded bytes c ToClient)) e);

@@ -21,7 +21,7 @@ use Rattle.lard_seq.specs.Seq.{seq_add}
 use Rattle.lard_truth.specs.Truth.{GoesOn, Stream}
 use Rattle.lard_truth.proofs.Growth.{accepted-grown, front-length, front-take, heard-grown}
 use Rattle.lard_laws_bytes.specs.Agreement.{Agrees, FrontAgrees, HasRead}
-use Rattle.lard_laws_bytes.specs.Keeping.{AreClientNotes, AreFrontNotes, ClientTurned, FrontTurned, accepted_in, resets, served_in, written_in}
+use Rattle.lard_laws_bytes.specs.Keeping.{AreClientNotes, AreFrontNotes, ClientTurned, FrontTurned, accepted_in, resets, served_in, size_in, written_in}
 use Rattle.lard_laws_bytes.proofs.Notes.{Adds}
 use Rattle.lard_laws_bytes.proofs.Segments.{Moment}
 
@@ -70,7 +70,7 @@ or-false false = refl
 module _ (files : FilesAt) (c : ℕ) (w out : Stream) (vs : List Verdict) (x : Station) (f : Option FrontConn) (t : Tale) (a : Agrees files c w out vs x f t) where
   -- after a client's turn
   pub client-agrees : (given : ClientBlock × Turn) (u : Tale) (k : ClientTurned c w out x.client given)
-      → Adds t (written_in given.1.notes) (accepted_in given.1.notes) 0 false u → Agrees files c k.w_after out vs (record { client = given.0; iss = x.iss }) f u
+      → Adds t (written_in given.1.notes) (accepted_in given.1.notes) 0 0 false u → Agrees files c k.w_after out vs (record { client = given.0; iss = x.iss }) f u
   client-agrees given u k adds = record {
     begins = a.begins;
     says = record {
@@ -87,17 +87,19 @@ module _ (files : FilesAt) (c : ℕ) (w out : Stream) (vs : List Verdict) (x : S
       wrote = adds.wrote ∙ ap (λ (l : List ℕ). l ++ written_in given.1.notes) a.tale.wrote ∙ sym k.wrote;
       accepted = adds.accepted ∙ ap (λ (l : List ℕ). l ++ accepted_in given.1.notes) a.tale.accepted ∙ sym k.accepted;
       served = plus-zero u.served t.served adds.served ∙ a.tale.served;
+      served_bytes = plus-zero u.served_bytes t.served_bytes adds.served_bytes ∙ a.tale.served_bytes;
       fin = λ e. a.tale.fin (sym adds.fin_sent ∙ e);
     };
   }
 
   -- at the end of the notes of the front end's turn
   pub front-moment : (given : Option FrontConn × Turn) (u : Tale) (k : FrontTurned files c w out vs t.was_reset given)
-      → Adds t [] [] (served_in given.1.notes) (list_any resets given.1.notes) u → Moment w k.out_after k.vs_after (t.was_reset || list_any resets given.1.notes) u
+      → Adds t [] [] (served_in given.1.notes) (size_in given.1.notes) (list_any resets given.1.notes) u → Moment w k.out_after k.vs_after (t.was_reset || list_any resets given.1.notes) u
   front-moment given u k adds = record {
     numbers = adds.numbers ∙ a.tale.numbers ∙ ap (λ (n : ℕ). Some (record { isn = w.first; iss = n })) (sym k.longer.first);
     wrote = adds.wrote ∙ append-nil t.wrote ∙ a.tale.wrote;
-    served = adds.served ∙ ap (λ (n : ℕ). n + served_in given.1.notes) a.tale.served ∙ sym k.served;
+    served = adds.served ∙ ap (λ (n : ℕ). n + served_in given.1.notes) a.tale.served ∙ sym k.noted.served;
+    served_bytes = adds.served_bytes ∙ ap (λ (n : ℕ). n + size_in given.1.notes) a.tale.served_bytes ∙ sym k.noted.size;
     was_reset = adds.was_reset;
     fin = λ e. (let ended : out.ended ≡ true = a.tale.fin (sym adds.fin_sent ∙ e) in ap (λ (y : Stream). y.ended) (k.longer.ended ended) ∙ ended);
   }
@@ -122,6 +124,7 @@ module _ (files : FilesAt) (c : ℕ) (w out : Stream) (vs : List Verdict) (x : S
       wrote = m.wrote;
       accepted = same ∙ a.tale.accepted ∙ sym (front-take x.client.accepted out.bytes k.out_after.bytes k.longer.bytes a.client.accepts.within);
       served = m.served;
+      served_bytes = m.served_bytes;
       fin = m.fin;
     };
   }

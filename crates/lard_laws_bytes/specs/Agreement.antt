@@ -104,6 +104,7 @@ pub record TaleAgrees (w out : Stream) (vs : List Verdict) (x : ClientBlock) (t 
   pub wrote : t.wrote ≡ w.bytes
   pub accepted : t.accepted ≡ take x.accepted out.bytes
   pub served : t.served ≡ length vs
+  pub served_bytes : t.served_bytes ≡ length out.bytes
   pub fin : t.fin_sent ≡ true → out.ended ≡ true
 
 -- ---- all of one connection

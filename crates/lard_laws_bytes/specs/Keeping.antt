@@ -3,6 +3,8 @@ use Rattle.std.specs.Prelude.{◌≡◌, ◌⊎◌, ℕ, ◌+◌, ◌^◌, ◌�
 use Rattle.std.specs.List.{list_any}
 use Rattle.lard_answers.specs.Answers.{FilesAt}
 use Rattle.lard_client.specs.Control.{ClientBlock, written_len}
+use Rattle.lard_history.specs.Journal.{Tale, tale}
+use Rattle.lard_history.specs.Laws.{EachMay, MayServe}
 use Rattle.lard_journal.specs.declared.rec.Rec.{Rec}
 use Rattle.lard_journal.specs.declared.rec.Rec.TheVariants as rec
 use Rattle.lard_machine.specs.declared.places.FrontConn.{FrontConn}
@@ -16,15 +18,12 @@ use Rattle.lard_laws_bytes.specs.Agreement.{AreReplies, AreWords, ClientAgrees, 
 
 -- ---- the front end's turn
 
--- its notes: it took the connection, served, or reset it
-abbrev pub is_served : Rec → Bool
-is_served (rec.Served place c r code size via) = true
-is_served _ = false
-
+-- the record resets its connection at the stream limit
 abbrev pub resets : Rec → Bool
 resets (rec.Reset place c total) = true
 resets _ = false
 
+-- its notes: it took the connection, served, or reset it
 abbrev pub is_front_note : ℕ → Rec → Type 0
 is_front_note c (rec.Took place d epoch) = d ≡ c
 is_front_note c (rec.Served place d r code size via) = d ≡ c
@@ -41,17 +40,37 @@ served_in [] = 0
 served_in (rec.Served place c r code size via ∷ rs) = 1 + served_in rs
 served_in (_ ∷ rs) = served_in rs
 
+-- and how many bytes these have
+abbrev pub size_in : List Rec → ℕ
+size_in [] = 0
+size_in (rec.Served place c r code size via ∷ rs) = size + size_in rs
+size_in (_ ∷ rs) = size_in rs
+
+-- So much is told of a connection: its client wrote w, and was answered vs by the bytes `said`.
+pub record TellsOf (w said : List ℕ) (vs : List Verdict) (t : Tale) : Type 0 where
+  pub wrote : t.wrote ≡ w
+  pub served : t.served ≡ length vs
+  pub served_bytes : t.served_bytes ≡ length said
+
+-- The notes of a turn that answered on from vs to vs_after, and said on to the bytes said_after: they count the
+-- responses and their bytes, queue none once the stream ended, and may stand behind any journal that tells what was
+-- said before the turn.
+pub record AreNoted (files : FilesAt) (c : ℕ) (w out : Stream) (vs vs_after : List Verdict) (said_after : List ℕ) (notes : List Rec) : Type 0 where
+  pub front : AreFrontNotes c notes
+  pub served : length vs_after ≡ length vs + served_in notes
+  pub size : length said_after ≡ length out.bytes + size_in notes
+  pub unless_ended : (out.ended ≡ false) ⊎ (served_in notes ≡ 0)
+  pub serve : (past : List Rec) → TellsOf w.bytes out.bytes vs (tale past c) → EachMay (MayServe files) past notes
+
 -- Between the front end's states before and after a turn: the cluster's stream goes on by the answers to more verdicts,
--- and all that was sent is true of it. A response is queued only while the stream goes on.
+-- as its notes say, and all that was sent is true of it.
 pub record FrontTurned (files : FilesAt) (c : ℕ) (w out : Stream) (vs : List Verdict) (was_reset : Bool) (given : Option FrontConn × Turn) : Type 0 where
   pub out_after : Stream
   pub vs_after : List Verdict
   pub longer : GoesOn out out_after
   pub says : SaysAnswers files w out_after vs_after
   pub agrees : FrontAgrees w out_after vs_after (was_reset || list_any resets given.1.notes) given.0
-  pub notes : AreFrontNotes c given.1.notes
-  pub served : length vs_after ≡ length vs + served_in given.1.notes
-  pub unless_ended : (out.ended ≡ false) ⊎ (served_in given.1.notes ≡ 0)
+  pub noted : AreNoted files c w out vs vs_after out_after.bytes given.1.notes
   pub sent : AreReplies c w out_after (was_reset || list_any resets given.1.notes) given.1.segments
 
 -- the connection's own numbers and limits in the rules' surroundings

@@ -2,7 +2,7 @@
 use Rattle.std.specs.Prelude.{ℕ, ◌≤◌, ◌^◌, List}
 use Rattle.lard_base.specs.declared.config.Config.{Config}
 use Rattle.lard_files.specs.Files.{file_at}
-use Rattle.lard_history.specs.Laws.{AcceptsOnlyAnswers, TellsTheTruth}
+use Rattle.lard_history.specs.Laws.{AcceptsOnlyAnswers, ServesTheAnswers, TellsTheTruth}
 use Rattle.lard_machine.specs.declared.machine.Machine.{Machine}
 use Rattle.lard_machine.specs.Machine.{IsReached}
 use Rattle.lard_laws_bytes.specs.Truthful.{IsTruthful}
@@ -22,3 +22,7 @@ JournalsTellTheTruth = Always (λ files m. TellsTheTruth (file_at files) m.journ
 -- At every moment, what a client accepted is a front of the responses to what it wrote.
 abbrev pub ClientsAcceptAnswers : Type 0
 ClientsAcceptAnswers = Always (λ files m. AcceptsOnlyAnswers (file_at files) m.journal)
+
+-- Each response answers the next request, and a reset stands where the next one would be.
+abbrev pub JournalsServeTheAnswers : Type 0
+JournalsServeTheAnswers = Always (λ files m. ServesTheAnswers (file_at files) m.journal)

@@ -5,7 +5,7 @@ use Rattle.lard_answers.specs.Answers.{FilesAt, IsFront, answer_bytes}
 use Rattle.lard_base.specs.declared.place.Place.{Place}
 use Rattle.lard_base.specs.declared.place.Place.TheVariants.{Front, Client}
 use Rattle.lard_history.specs.Journal.{Tale, accepted, tale, untold, wrote}
-use Rattle.lard_history.specs.Laws.{EachMay, TellsTheTruth}
+use Rattle.lard_history.specs.Laws.{EachMay, ServesTheAnswers, TellsTheTruth}
 use Rattle.lard_journal.specs.declared.rec.Rec.{Rec}
 use Rattle.lard_journal.specs.declared.rec.Rec.TheVariants as rec
 use Rattle.lard_machine.specs.declared.machine.Machine.{Machine}
@@ -51,3 +51,4 @@ pub record IsTruthful (files : FilesAt) (m : Machine) : Type 0 where
   pub packets : AreFair talks (λ c. table.get m.clients c) m.net
   pub tells : TellsTheTruth files m.journal
   pub accepts : EachMay (MayAccept files) [] m.journal
+  pub serves : ServesTheAnswers files m.journal

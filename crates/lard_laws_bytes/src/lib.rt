@@ -6,7 +6,7 @@
 
 ghost use Rattle.lard_laws_bytes.specs.Keeping.{ClientHearsTruth, ClientKeeps, ClientOpens, ClientWritesTruth, FrontHearsTruth, FrontTimerIsTrue};
 ghost use Rattle.lard_laws_bytes.specs.Prefix.{AcceptedAreAnswers, SaidAreAnswers};
-ghost use Rattle.lard_laws_bytes.specs.Runs.{ClientsAcceptAnswers, JournalsTellTheTruth, StatesAreTruthful};
+ghost use Rattle.lard_laws_bytes.specs.Runs.{ClientsAcceptAnswers, JournalsServeTheAnswers, JournalsTellTheTruth, StatesAreTruthful};
 ghost use Rattle.lard_machine.specs.Client.{client_aborts, client_holds, client_shuts, client_takes, client_timer};
 
 use lard_block::laws::what_is_taken_is_cut;
@@ -38,11 +38,13 @@ pub fn the_agreement_gives_the_prefix()
 {}
 
 /// In every run, whatever is lost, repeated or comes out of order, all that was ever sent is true, and what a client
-/// accepts is at every moment a front of the responses to what it wrote.
+/// accepts is at every moment a front of the responses to what it wrote. Each response answers the next request, and a
+/// reset stands where the next response would be.
 pub fn every_run_is_true()
     ensures states { StatesAreTruthful }
     ensures told { JournalsTellTheTruth }
     ensures prefix { ClientsAcceptAnswers }
+    ensures service { JournalsServeTheAnswers }
 {
     the_front_end_keeps_the_agreement();
 }

@@ -17,7 +17,7 @@ use Rattle.lard_endpoint.specs.Arriving.{on_segment}
 use Rattle.lard_endpoint.specs.Control.{ControlBlock, consuming, discarding_on, finishing, listening, queueing}
 use Rattle.lard_endpoint.specs.Leaving.{after_timer, timed}
 use Rattle.lard_endpoint.specs.Moving.{end_reason, final_of, may_end}
-use Rattle.lard_history.specs.Journal.{Tale, answered_step, tale_step, told_on}
+use Rattle.lard_history.specs.Journal.{Tale, answered_step, code_of, tale_step, told_on}
 use Rattle.lard_history.proofs.Each.{Each, Each-append}
 use Rattle.lard_history.proofs.Tales.{told_on-append}
 use Rattle.lard_journal.specs.declared.rec.Rec.{Rec}
@@ -29,7 +29,7 @@ use Rattle.lard_machine.specs.declared.places.FrontConn.{FrontConn}
 use Rattle.lard_machine.specs.declared.places.FrontConn.TheVariants.{Held, Lent, Closed}
 use Rattle.lard_machine.specs.declared.places.Turn.{Turn}
 use Rattle.lard_machine.specs.Client.{silent}
-use Rattle.lard_machine.specs.Front.{FrontEnv, Service, answered, begun, closed_behind, code_of, consumed, cut_off, front_gets, front_hears, front_timer, is_plain_syn, last_words, limit_said, may_read, met, passed_over, queued, read_found, reads_on, ready_of, replied, rested, settled, spoken, told, tombstone}
+use Rattle.lard_machine.specs.Front.{FrontEnv, Service, answered, begun, closed_behind, consumed, cut_off, front_gets, front_hears, front_timer, is_plain_syn, last_words, limit_said, may_read, met, passed_over, queued, read_found, reads_on, ready_of, replied, rested, settled, spoken, told, tombstone}
 use Rattle.lard_machine.specs.Speaking.{speaks, speaks_symbols}
 use Rattle.lard_request.specs.declared.verdict.Code.{Code}
 use Rattle.lard_request.specs.declared.verdict.Code.TheVariants as code

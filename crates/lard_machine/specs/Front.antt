@@ -14,6 +14,7 @@ use Rattle.lard_endpoint.specs.Arriving.{on_segment}
 use Rattle.lard_endpoint.specs.Control.{ControlBlock, listening, queueing, finishing, consuming, discarding_on}
 use Rattle.lard_endpoint.specs.Leaving.{timed, after_timer}
 use Rattle.lard_endpoint.specs.Moving.{may_end, end_reason, final_of}
+use Rattle.lard_history.specs.Journal.{code_of}
 use Rattle.lard_journal.specs.declared.rec.Rec.{Rec}
 use Rattle.lard_journal.specs.declared.rec.Rec.TheVariants as rec
 use Rattle.lard_machine.specs.declared.places.FrontConn.{FrontConn}
@@ -21,12 +22,10 @@ use Rattle.lard_machine.specs.declared.places.FrontConn.TheVariants.{Held, Lent,
 use Rattle.lard_machine.specs.declared.places.Turn.{Turn}
 use Rattle.lard_machine.specs.Client.{silent}
 use Rattle.lard_machine.specs.Speaking.{to_client, speaks, speaks_symbols}
-use Rattle.lard_request.specs.declared.verdict.Code.{Code}
 use Rattle.lard_request.specs.declared.verdict.Code.TheVariants as code
 use Rattle.lard_request.specs.declared.verdict.Verdict.{Verdict}
-use Rattle.lard_request.specs.declared.verdict.Verdict.TheVariants.{Serve, Fault}
+use Rattle.lard_request.specs.declared.verdict.Verdict.TheVariants.{Fault}
 use Rattle.lard_request.specs.Verdict.{closes, verdict}
-use Rattle.lard_response.specs.Response.{number}
 use Rattle.lard_segment.specs.declared.fault.SegFault.{SegFault}
 use Rattle.lard_segment.specs.declared.segment.Dir.TheVariants.{ToClient}
 use Rattle.lard_segment.specs.declared.segment.Ready.{Ready}
@@ -49,15 +48,6 @@ pub record Service : Type 0 where
   pub notes : List Rec
   pub answered : ℕ
   pub over : Option ℕ
-
--- the code of the answer to a verdict
-abbrev pub found_code : Option (List ℕ) → Code
-found_code None = code.NotFound
-found_code (Some body) = code.Ok
-
-abbrev pub code_of : FilesAt → Verdict → ℕ
-code_of files (Serve path head close) = number (found_code (files path))
-code_of files (Fault fault) = number fault
 
 -- behind an answer that closes, what comes is discarded, and the FIN follows (RFC 9112, 9.6)
 abbrev pub closed_behind : Verdict → ControlBlock → ControlBlock

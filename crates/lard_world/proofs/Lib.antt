@@ -1,0 +1,4 @@
+pub mod Lent
+pub mod Loops
+pub mod Responses
+pub mod Turns

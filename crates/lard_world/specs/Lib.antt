@@ -1,0 +1,5 @@
+pub mod Acting
+pub mod Front
+pub mod Lent
+pub mod Turns
+pub mod World

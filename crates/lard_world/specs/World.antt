@@ -1,0 +1,12 @@
+-- The whole, as it is seen from outside.
+use Rattle.std.specs.Prelude.{Bool, refl}
+use Rattle.std.specs.Coded.{Coded, code_by, coded×, coded_bool}
+use Rattle.lard_machine.specs.contracts.machine.Machine as machine
+use Rattle.lard_machine.specs.declared.machine.Machine.{Machine}
+
+pub record Standing : Type 0 where
+  pub machine : Machine
+  pub spoiled : Bool  -- memory ran out in a step: no further step is possible
+
+abbrev pub coded_standing : Coded Standing
+coded_standing = code_by _ (coded× machine.the_row.coded coded_bool) (λ s. (s.machine, s.spoiled)) (λ p. record { machine = p.0; spoiled = p.1 }) (λ _. refl)

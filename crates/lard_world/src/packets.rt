@@ -1,0 +1,178 @@
+//! The steps of packets and timers.
+
+ghost use Rattle.std.specs.Prelude.{◌≡◌, ◌^◌, ◌≤◌, ◌∷◌, [], length, false, OnOk, OnErr};
+ghost use Rattle.std.specs.FinMap as table;
+ghost use Rattle.lard_net.specs.Net.{packet_at};
+ghost use Rattle.lard_machine.specs.Bounds.{HasTimer};
+ghost use Rattle.lard_machine.specs.Machine.{Steps, delivered, from_place, lost, timer, to_client, to_front, to_place};
+ghost use Rattle.lard_world.specs.Turns.{HasCounts, HasRoom};
+
+use crate::acting::pass;
+use crate::stations::{put_back, take_out};
+use crate::{clients, conns};
+use lard_base::{ConnId, Event, NoMemory, Place};
+use lard_journal::Rec;
+use lard_machine::{Machine, StepFault};
+use std::alloc::Global;
+
+/// A packet comes to its place.
+#[tactic(auto, unfolding(lard_machine::specs::Machine::delivered))]
+pub fn deliver(machine: &mut Machine, alloc: Global, k: u32) -> Result<(), StepFault>
+    requires room { HasRoom machine.old }
+    requires counts { HasCounts machine.old }
+    requires stream { machine.old.config.stream ≤ 2 ^ 30 }
+    ensures { Steps (delivered machine.old k (packet_at machine.old.net k)) machine.old machine.new result }
+{
+    let Some(packet) = machine.net.get(k) else {
+        let sent = machine.net.sent();
+        return Err(StepFault::NotSent { k, sent });
+    };
+    if packet.lost {
+        return Err(StepFault::WasLost(k));
+    }
+    let from = packet.from;
+    let to = packet.to;
+    let bytes = packet.bytes.copy(alloc)?;
+    bring(machine, alloc, k, from, to, bytes.as_slice())?;
+    Ok(())
+}
+
+/// A packet that was sent and not lost comes to its place.
+fn bring(
+    machine: &mut Machine,
+    alloc: Global,
+    k: u32,
+    from: Place,
+    to: Place,
+    bytes: &[u8],
+) -> Result<(), NoMemory>
+    requires short { length bytes.now ≤ 1520 }
+    requires room { HasRoom machine.old }
+    requires counts { HasCounts machine.old }
+    requires stream { machine.old.config.stream ≤ 2 ^ 30 }
+    ensures ok { OnOk result (machine.new ≡ to_place machine.old k (record { from = from; to = to; bytes = bytes.now; lost = false }) to) }
+    ensures err { OnErr result (machine.new.journal ≡ machine.old.journal) }
+{
+    match (to, from) {
+        (Place::Front, Place::Client(c)) => return to_front(machine, alloc, k, c, bytes),
+        (Place::Client(c), _) => return to_client(machine, alloc, k, c, bytes),
+        _ => return pass(machine, alloc, Event::Deliver(k), Rec::Got(k)),
+    }
+}
+
+/// A packet of client `c` comes to the front end.
+fn to_front(
+    machine: &mut Machine,
+    alloc: Global,
+    k: u32,
+    c: ConnId,
+    bytes: &[u8],
+) -> Result<(), NoMemory>
+    requires short { length bytes.now ≤ 1520 }
+    requires room { HasRoom machine.old }
+    requires counts { HasCounts machine.old }
+    requires stream { machine.old.config.stream ≤ 2 ^ 30 }
+    ensures ok { OnOk result (machine.new ≡ to_front machine.old k bytes.now c (table.get machine.old.clients c)) }
+    ensures err { OnErr result (machine.new.journal ≡ machine.old.journal) }
+{
+    let Some(station) = machine.clients.get(c.number()) else {
+        return pass(machine, alloc, Event::Deliver(k), Rec::Got(k));
+    };
+    let iss = station.iss;
+    conns::get(machine, alloc, k, c, iss, bytes)
+}
+
+/// A packet comes to client `c`.
+#[tactic(auto, using(crate::proofs::Lent::client_back))]
+fn to_client(
+    machine: &mut Machine,
+    alloc: Global,
+    k: u32,
+    c: ConnId,
+    bytes: &[u8],
+) -> Result<(), NoMemory>
+    requires short { length bytes.now ≤ 1520 }
+    requires room { HasRoom machine.old }
+    ensures ok { OnOk result (machine.new ≡ to_client machine.old k bytes.now c (table.get machine.old.clients c)) }
+    ensures err { OnErr result (machine.new.journal ≡ machine.old.journal) }
+{
+    let Some(mut acting) = take_out(machine, alloc, c) else {
+        return pass(machine, alloc, Event::Deliver(k), Rec::Got(k));
+    };
+    let turn = clients::get(alloc, c, &mut acting.station.client, bytes)?;
+    put_back(
+        machine,
+        alloc,
+        Event::Deliver(k),
+        Some(Rec::Got(k)),
+        acting,
+        turn,
+    )
+}
+
+/// A packet arrives no more from now on.
+#[tactic(auto, using(crate::proofs::Lent::lost_len), unfolding(lard_machine::specs::Machine::lost))]
+pub fn lose(machine: &mut Machine, alloc: Global, k: u32) -> Result<(), StepFault>
+    requires { HasRoom machine.old }
+    ensures { Steps (lost machine.old k (packet_at machine.old.net k)) machine.old machine.new result }
+{
+    let Some(packet) = machine.net.get(k) else {
+        let sent = machine.net.sent();
+        return Err(StepFault::NotSent { k, sent });
+    };
+    if packet.lost {
+        return Err(StepFault::WasLost(k));
+    }
+    machine.net.lose(k);
+    pass(machine, alloc, Event::Lose(k), Rec::Lost(k))?;
+    Ok(())
+}
+
+/// The timers of a connection at a place fire.
+pub fn fire(
+    machine: &mut Machine,
+    alloc: Global,
+    place: Place,
+    c: ConnId,
+) -> Result<(), StepFault>
+    requires room { HasRoom machine.old }
+    requires counts { HasCounts machine.old }
+    requires timers { HasTimer place c }
+    ensures { Steps (timer machine.old place c (table.get machine.old.clients c)) machine.old machine.new result }
+{
+    match place {
+        Place::Front => return fire_front(machine, alloc, c),
+        Place::Client(_) => return fire_client(machine, alloc, c),
+        Place::Node(_) => unreachable!(),
+    }
+}
+
+/// The front end's timer for a connection fires.
+#[tactic(auto, unfolding(lard_machine::specs::Machine::timer))]
+fn fire_front(machine: &mut Machine, alloc: Global, c: ConnId) -> Result<(), StepFault>
+    requires room { HasRoom machine.old }
+    requires counts { HasCounts machine.old }
+    ensures { Steps (timer machine.old Place.Front c (table.get machine.old.clients c)) machine.old machine.new result }
+{
+    let Some(station) = machine.clients.get(c.number()) else {
+        return Err(StepFault::NoClient(c.number()));
+    };
+    let iss = station.iss;
+    conns::fire(machine, alloc, c, iss)?;
+    Ok(())
+}
+
+/// A client's timer fires.
+#[tactic(auto, using(crate::proofs::Lent::client_back), unfolding(lard_machine::specs::Machine::timer))]
+fn fire_client(machine: &mut Machine, alloc: Global, c: ConnId) -> Result<(), StepFault>
+    requires { HasRoom machine.old }
+    ensures { Steps (timer machine.old (Place.Client c) c (table.get machine.old.clients c)) machine.old machine.new result }
+{
+    let Some(mut acting) = take_out(machine, alloc, c) else {
+        return Err(StepFault::NoClient(c.number()));
+    };
+    let turn = clients::fire(alloc, &mut acting.station.client)?;
+    let place = Place::Client(c);
+    put_back(machine, alloc, Event::Timer { place, c }, None, acting, turn)?;
+    Ok(())
+}

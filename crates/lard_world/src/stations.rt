@@ -1,0 +1,271 @@
+//! The steps of clients: each takes its station out, lets its client act, and puts it back.
+
+ghost use Rattle.std.specs.Prelude.{◌≡◌, ◌+◌, ◌^◌, ◌≤◌, [], ◌∷◌, ◌<◌, false, None, Some, IfOk, IfNone, IfSome, IsSome, OnOk, OnErr};
+ghost use Rattle.std.specs.FinMap as table;
+ghost use Rattle.lard_client.specs.Control.{is_armed, written_len};
+ghost use Rattle.lard_history.specs.Journal.{request};
+ghost use Rattle.lard_machine.specs.Client.{speaking};
+ghost use Rattle.lard_machine.specs.Machine.{Steps, aborts, client_acted, holds, opened, shut, takes, wrote};
+ghost use Rattle.lard_machine.specs.Speaking.{listed};
+ghost use Rattle.lard_world.specs.Lent.{without_client};
+ghost use Rattle.lard_world.specs.Turns.{HasRoom, IsTurn};
+
+use crate::acting::{Act, conclude};
+use crate::clients;
+use lard_base::{Bytes, ConnId, Event, NoMemory, Path, Place};
+use lard_client::Client;
+use lard_journal::Rec;
+use lard_machine::{Machine, Station, StepFault, Turn, What};
+use lard_seq::Seq;
+use std::alloc::Global;
+
+/// A client that acts: its number, its station, and whether its timer ran before.
+#[derive(Drop)]
+pub struct Acting {
+    pub c: ConnId,
+    pub station: Station,
+    pub was_armed: bool,
+}
+
+// ---- a client acts
+
+/// Takes the client's station out, where there is one. Another stands in for it until it is put back.
+pub fn take_out(machine: &mut Machine, alloc: Global, c: ConnId) -> Option<Acting>
+    ensures none { IfNone result ((table.get machine.old.clients c ≡ None) × (machine.new ≡ machine.old)) }
+    ensures found { IfSome result (λ acting. table.get machine.old.clients c ≡ Some acting.station) }
+    ensures same { IfSome result (λ acting. acting.c ≡ c) }
+    ensures armed { IfSome result (λ acting. acting.was_armed ≡ is_armed acting.station.client) }
+    ensures after { IfSome result (λ _. machine.new ≡ without_client machine.old c) }
+{
+    if machine.clients.get(c.number()).is_none() {
+        return None;
+    }
+    let client = Client::open(alloc, c, Seq(0), 1, 1);
+    let station = machine
+        .clients
+        .replace(c.number(), Station { client, iss: 0 });
+    let was_armed = station.client.armed();
+    Some(Acting {
+        c,
+        station,
+        was_armed,
+    })
+}
+
+/// Puts a station back whose client acted, and ends the step.
+pub fn put_back(
+    machine: &mut Machine,
+    alloc: Global,
+    event: Event,
+    own: Option<Rec>,
+    acting: Acting,
+    turn: Turn,
+) -> Result<(), NoMemory>
+    requires room { HasRoom machine.old }
+    requires there { IsSome (table.get machine.old.clients acting.c) }
+    requires turn { IsTurn turn }
+    ensures ok { OnOk result (machine.new ≡ client_acted machine.old event (listed own) acting.c acting.station.iss acting.was_armed (acting.station.client, turn)) }
+    ensures err { OnErr result (machine.new.journal ≡ machine.old.journal) }
+{
+    let Acting {
+        c,
+        station,
+        was_armed,
+    } = acting;
+    let is_armed = station.client.armed();
+    let _stand_in = machine.clients.replace(c.number(), station);
+    let done = Act {
+        place: Place::Client(c),
+        c,
+        turn,
+        was_armed,
+        is_armed,
+    };
+    conclude(machine, alloc, event, own, done)
+}
+
+// ---- the events
+
+/// The client opens.
+#[tactic(auto, unfolding(lard_machine::specs::Machine::opened))]
+pub fn open(
+    machine: &mut Machine,
+    alloc: Global,
+    c: ConnId,
+    isn: u32,
+    iss: u32,
+    wnd: u16,
+    mss: u16,
+) -> Result<(), StepFault>
+    requires room { HasRoom machine.old }
+    requires range { (1 ≤ wnd) × (1 ≤ mss) × (mss ≤ 1460) }
+    ensures { Steps (opened machine.old c isn iss wnd mss (table.get machine.old.clients c)) machine.old machine.new result }
+{
+    if machine.clients.get(c.number()).is_some() {
+        return Err(StepFault::Used(c.number()));
+    }
+    let client = Client::open(alloc, c, Seq(isn), wnd, mss);
+    let event = Event::Open {
+        c,
+        isn,
+        iss,
+        wnd,
+        mss,
+    };
+    let own = Rec::Opened {
+        c,
+        isn,
+        iss,
+        wnd: u32::from(wnd),
+        mss: u32::from(mss),
+    };
+    begin(machine, alloc, event, own, c, Station { client, iss })?;
+    Ok(())
+}
+
+/// A new station is kept, and its client speaks.
+fn begin(
+    machine: &mut Machine,
+    alloc: Global,
+    event: Event,
+    own: Rec,
+    c: ConnId,
+    mut station: Station,
+) -> Result<(), NoMemory>
+    requires room { HasRoom machine.old }
+    ensures ok { OnOk result (machine.new ≡ client_acted machine.old event (own ∷ []) c station.iss false (speaking [] [] station.client)) }
+    ensures err { OnErr result (machine.new.journal ≡ machine.old.journal) }
+{
+    let turn = clients::open(alloc, &mut station.client)?;
+    let is_armed = station.client.armed();
+    machine.clients.insert(c.number(), station)?;
+    let done = Act {
+        place: Place::Client(c),
+        c,
+        turn,
+        was_armed: false,
+        is_armed,
+    };
+    conclude(machine, alloc, event, Some(own), done)
+}
+
+/// The client writes a plain request for a path.
+pub fn get(machine: &mut Machine, alloc: Global, c: ConnId, path: Path) -> Result<(), StepFault>
+    requires room { HasRoom machine.old }
+    requires stream { machine.old.config.stream ≤ 2 ^ 30 }
+    ensures { Steps (wrote machine.old (Event.Get c path) c (request path) (table.get machine.old.clients c)) machine.old machine.new result }
+{
+    let bytes = request(alloc, &path)?;
+    write(machine, alloc, Event::Get { c, path }, c, bytes)
+}
+
+/// What a plain request for a path says (RFC 9112, 3).
+fn request(alloc: Global, path: &Path) -> Result<Bytes, NoMemory>
+    ensures { IfOk result (λ bytes. bytes ≡ request path.now) }
+{
+    let mut text = Vec::from_slice(alloc, b"GET ")?;
+    text.extend_from_slice(path.as_slice())?;
+    text.extend_from_slice(b" HTTP/1.1\r\nHost: lard\r\n\r\n")?;
+    Ok(Bytes::from_vec(text))
+}
+
+/// The client writes these bytes.
+pub fn put(machine: &mut Machine, alloc: Global, c: ConnId, bytes: Bytes) -> Result<(), StepFault>
+    requires room { HasRoom machine.old }
+    requires stream { machine.old.config.stream ≤ 2 ^ 30 }
+    ensures { Steps (wrote machine.old (Event.Write c bytes) c bytes (table.get machine.old.clients c)) machine.old machine.new result }
+{
+    let copy = bytes.copy(alloc)?;
+    write(machine, alloc, Event::Write { c, bytes }, c, copy)
+}
+
+/// The client writes bytes, unless they pass the stream limit.
+#[tactic(auto, using(crate::proofs::Lent::client_back), unfolding(lard_machine::specs::Machine::wrote))]
+fn write(
+    machine: &mut Machine,
+    alloc: Global,
+    event: Event,
+    c: ConnId,
+    bytes: Bytes,
+) -> Result<(), StepFault>
+    requires room { HasRoom machine.old }
+    requires stream { machine.old.config.stream ≤ 2 ^ 30 }
+    ensures { Steps (wrote machine.old event c bytes (table.get machine.old.clients c)) machine.old machine.new result }
+{
+    let Some(station) = machine.clients.get(c.number()) else {
+        return Err(StepFault::NoClient(c.number()));
+    };
+    if u64::from(machine.config.stream) < written_len(&station.client, bytes.as_slice()) {
+        return Err(StepFault::Limit(What::Stream));
+    }
+    let Some(mut acting) = take_out(machine, alloc, c) else {
+        unreachable!()
+    };
+    let turn = clients::write(alloc, &mut acting.station.client, bytes)?;
+    put_back(machine, alloc, event, None, acting, turn)?;
+    Ok(())
+}
+
+/// A client's bytes in all, once it wrote these.
+fn written_len(client: &Client, bytes: &[u8]) -> u64
+    ensures { result ≡ written_len client.now bytes.now }
+{
+    let more = if client.writes() { bytes.len() } else { 0 };
+    u64::from(client.written()) + more as u64
+}
+
+/// The client closes its side.
+#[tactic(auto, using(crate::proofs::Lent::client_back), unfolding(lard_machine::specs::Machine::shut))]
+pub fn shut(machine: &mut Machine, alloc: Global, c: ConnId) -> Result<(), StepFault>
+    requires room { HasRoom machine.old }
+    ensures { Steps (shut machine.old c (table.get machine.old.clients c)) machine.old machine.new result }
+{
+    let Some(mut acting) = take_out(machine, alloc, c) else {
+        return Err(StepFault::NoClient(c.number()));
+    };
+    let turn = clients::shut(alloc, &mut acting.station.client)?;
+    put_back(machine, alloc, Event::Shut(c), None, acting, turn)?;
+    Ok(())
+}
+
+/// The client resets its connection.
+#[tactic(auto, using(crate::proofs::Lent::client_back), unfolding(lard_machine::specs::Machine::aborts))]
+pub fn abort(machine: &mut Machine, alloc: Global, c: ConnId) -> Result<(), StepFault>
+    requires room { HasRoom machine.old }
+    ensures { Steps (aborts machine.old c (table.get machine.old.clients c)) machine.old machine.new result }
+{
+    let Some(mut acting) = take_out(machine, alloc, c) else {
+        return Err(StepFault::NoClient(c.number()));
+    };
+    let turn = clients::abort(alloc, &mut acting.station.client)?;
+    put_back(machine, alloc, Event::Abort(c), None, acting, turn)?;
+    Ok(())
+}
+
+/// The client leaves accepted bytes in its window from now on.
+#[tactic(auto, using(crate::proofs::Lent::client_back), unfolding(lard_machine::specs::Machine::holds))]
+pub fn hold(machine: &mut Machine, alloc: Global, c: ConnId) -> Result<(), StepFault>
+    requires room { HasRoom machine.old }
+    ensures { Steps (holds machine.old c (table.get machine.old.clients c)) machine.old machine.new result }
+{
+    let Some(mut acting) = take_out(machine, alloc, c) else {
+        return Err(StepFault::NoClient(c.number()));
+    };
+    let turn = clients::hold(alloc, &mut acting.station.client)?;
+    put_back(machine, alloc, Event::Hold(c), None, acting, turn)?;
+    Ok(())
+}
+
+/// The client reads all that lies in its window.
+#[tactic(auto, using(crate::proofs::Lent::client_back), unfolding(lard_machine::specs::Machine::takes))]
+pub fn take(machine: &mut Machine, alloc: Global, c: ConnId) -> Result<(), StepFault>
+    requires room { HasRoom machine.old }
+    ensures { Steps (takes machine.old c (table.get machine.old.clients c)) machine.old machine.new result }
+{
+    let Some(mut acting) = take_out(machine, alloc, c) else {
+        return Err(StepFault::NoClient(c.number()));
+    };
+    let turn = clients::take(alloc, &mut acting.station.client)?;
+    put_back(machine, alloc, Event::Take(c), None, acting, turn)?;
+    Ok(())
+}

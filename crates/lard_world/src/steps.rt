@@ -1,0 +1,85 @@
+//! One step: no limit was reached, and the event has its rule.
+
+ghost use Rattle.std.specs.Prelude.{◌≡◌, ◌^◌, ◌≤◌, None, IfNone, length};
+ghost use Rattle.lard_machine.specs.Bounds.{HasRule, IsBounded};
+ghost use Rattle.lard_machine.specs.Machine.{Steps, happens, limit_reached, machine_step};
+ghost use Rattle.lard_world.specs.Turns.{HasCounts, HasRoom};
+
+use crate::{packets, stations};
+use lard_base::Event;
+use lard_machine::{Machine, StepFault, What};
+use std::alloc::Global;
+
+/// The most packets, bytes of packets, records, and bytes of responses of a run.
+const PACKETS: u32 = 1_000_000;
+
+const PACKET_BYTES: u64 = 1 << 29;
+
+const RECORDS: u64 = 4_000_000;
+
+const ANSWERS: u64 = 1 << 29;
+
+/// Does the step of an event. After a fault but want of memory everything is as it was; after want of memory the journal
+/// is.
+#[tactic(auto, unfolding(lard_machine::specs::Machine::machine_step))]
+pub fn step(machine: &mut Machine, alloc: Global, event: Event) -> Result<(), StepFault>
+    requires ruled { HasRule event }
+    requires bounded { IsBounded machine.old }
+    requires stream { machine.old.config.stream ≤ 2 ^ 30 }
+    ensures { Steps (machine_step machine.old event) machine.old machine.new result }
+{
+    if let Some(what) = limit_reached(machine) {
+        return Err(StepFault::Limit(what));
+    }
+    happen(machine, alloc, event)
+}
+
+/// The first limit that was reached.
+fn limit_reached(machine: &Machine) -> Option<What>
+    ensures { result ≡ limit_reached machine.now }
+{
+    if machine.net.sent() >= PACKETS {
+        return Some(What::Packets);
+    }
+    if machine.net.bytes() >= PACKET_BYTES {
+        return Some(What::PacketBytes);
+    }
+    if machine.journal.len() >= RECORDS {
+        return Some(What::Records);
+    }
+    if machine.answered >= ANSWERS {
+        return Some(What::Answers);
+    }
+    None
+}
+
+/// Follows the rule of the event.
+fn happen(machine: &mut Machine, alloc: Global, event: Event) -> Result<(), StepFault>
+    requires ruled { HasRule event }
+    requires room { HasRoom machine.old }
+    requires counts { HasCounts machine.old }
+    requires stream { machine.old.config.stream ≤ 2 ^ 30 }
+    ensures { Steps (happens machine.old event) machine.old machine.new result }
+{
+    match event {
+        Event::Open {
+            c,
+            isn,
+            iss,
+            wnd,
+            mss,
+        } => return stations::open(machine, alloc, c, isn, iss, wnd, mss),
+        Event::Get { c, path } => return stations::get(machine, alloc, c, path),
+        Event::Write { c, bytes } => return stations::put(machine, alloc, c, bytes),
+        Event::Shut(c) => return stations::shut(machine, alloc, c),
+        Event::Abort(c) => return stations::abort(machine, alloc, c),
+        Event::Hold(c) => return stations::hold(machine, alloc, c),
+        Event::Take(c) => return stations::take(machine, alloc, c),
+        Event::Deliver(k) => return packets::deliver(machine, alloc, k),
+        Event::Lose(k) => return packets::lose(machine, alloc, k),
+        Event::Timer { place, c } => return packets::fire(machine, alloc, place, c),
+        Event::Disk { .. } | Event::Clock(_) | Event::Settle(_) | Event::Inject { .. } => {
+            unreachable!()
+        }
+    }
+}
