@@ -1,8 +1,8 @@
 -- The journal of a text's replay is that of the machine, and obeys its laws.
 use Rattle.std.proofs.Common.{ℕ, List, []}
 use Rattle.lard_answers.specs.Answers.{no_files}
-use Rattle.lard_history.specs.Laws.{AcceptsOnlyAnswers, Follows, IsNetwork, IsOwnership, IsSoleSender, MayOwn, MayReset, MaySend, MayWrite, ResetsAtTheLimit, TellsTheTruth, WritesWhileOpen}
-use Rattle.lard_laws_bytes.specs.Runs.{ClientsAcceptAnswers, JournalsTellTheTruth}
+use Rattle.lard_history.specs.Laws.{AcceptsOnlyAnswers, Follows, IsNetwork, IsOwnership, IsSoleSender, MayOwn, MayReset, MaySend, MayWrite, ResetsAtTheLimit, ServesTheAnswers, TellsTheTruth, WritesWhileOpen}
+use Rattle.lard_laws_bytes.specs.Runs.{ClientsAcceptAnswers, JournalsServeTheAnswers, JournalsTellTheTruth}
 use Rattle.lard_laws_places.proofs.Reached.{journals-follow, reached-holds, reached-may}
 use Rattle.lard_machine.specs.Machine.{IsReached, Passes, start}
 use Rattle.lard_app.specs.Replay.{config_of, events_of, journal_of, machine_of}
@@ -40,3 +40,6 @@ module _ (text : List ℕ) where
 
   pub prefix : ClientsAcceptAnswers → AcceptsOnlyAnswers no_files (journal_of text)
   prefix law = law (config_of text) [] (machine_of text) (whole-keeps text).stream (events_of text, (whole-keeps text).runs)
+
+  pub service : JournalsServeTheAnswers → ServesTheAnswers no_files (journal_of text)
+  service law = law (config_of text) [] (machine_of text) (whole-keeps text).stream (events_of text, (whole-keeps text).runs)

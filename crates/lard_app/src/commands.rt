@@ -5,7 +5,7 @@ ghost use Rattle.std.specs.Io.KnownBytes.{Keeps};
 ghost use Rattle.std.specs.List.{position};
 ghost use Rattle.lard_base.specs.Causes.{Rose};
 ghost use Rattle.lard_answers.specs.Answers.{no_files};
-ghost use Rattle.lard_history.specs.Laws.{AcceptsOnlyAnswers, Follows, IsNetwork, IsOwnership, IsSoleSender, ResetsAtTheLimit, TellsTheTruth, WritesWhileOpen};
+ghost use Rattle.lard_history.specs.Laws.{AcceptsOnlyAnswers, Follows, IsNetwork, IsOwnership, IsSoleSender, ResetsAtTheLimit, ServesTheAnswers, TellsTheTruth, WritesWhileOpen};
 ghost use Rattle.lard_machine.specs.Machine.{Passes, start};
 ghost use Rattle.lard_app.specs.Causes.{Ends};
 ghost use Rattle.lard_app.specs.declared.status.Status.{Status};
@@ -55,6 +55,7 @@ pub fn run<S: Source, K: Sink>(
     ensures writers { (text : List ℕ) → WritesWhileOpen (journal_of text) }
     ensures tells { (text : List ℕ) → TellsTheTruth no_files (journal_of text) }
     ensures prefix { (text : List ℕ) → AcceptsOnlyAnswers no_files (journal_of text) }
+    ensures service { (text : List ℕ) → ServesTheAnswers no_files (journal_of text) }
     ensures resets { (text : List ℕ) → ResetsAtTheLimit (config_of text).stream (journal_of text) }
 {
     every_run_is_true();

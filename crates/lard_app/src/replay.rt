@@ -124,7 +124,6 @@ impl Replay {
 
     /// The world begins, if the configuration can be used, and the heading is written.
     fn go<K: Sink>(&mut self, alloc: Global, sink: &mut K) -> Result<(), Status>
-        requires usable { self.old.world.spoiled ≡ false }
         ensures taken { Passes (taken (seen self.old) Item.Go) (item_gain (seen self.old) Item.Go) (K.written sink.old) (K.written sink.new) (seen self.new) result }
         ensures usable { OnOk result (self.new.world.spoiled ≡ false) }
         ensures later { K.faults sink.old ≤ K.faults sink.new }

@@ -1,5 +1,5 @@
 use Rattle.lard_app.proofs.Endings.{caused}
-use Rattle.lard_app.proofs.Lawful.{lawful, prefix, tells}
+use Rattle.lard_app.proofs.Lawful.{lawful, prefix, service, tells}
 use Rattle.lard_app.proofs.Settled.{settled}
 use Rattle.lard_app.proofs.commands.run.Goals as goal
 
@@ -30,6 +30,9 @@ returns-then-not-asks_replay-clause-tells g c = λ text. tells text c.every_run_
 pub returns-then-not-asks_replay-clause-prefix : goal.returns-then-not-asks_replay-clause-prefix
 returns-then-not-asks_replay-clause-prefix g c = λ text. prefix text c.every_run_is_true.ensures.prefix
 
+pub returns-then-not-asks_replay-clause-service : goal.returns-then-not-asks_replay-clause-service
+returns-then-not-asks_replay-clause-service g c = λ text. service text c.every_run_is_true.ensures.service
+
 pub returns-then-not-asks_replay-clause-resets : goal.returns-then-not-asks_replay-clause-resets
 returns-then-not-asks_replay-clause-resets g c = λ text. (lawful text).resets
 
@@ -59,6 +62,9 @@ returns-clause-tells g c = λ text. tells text c.every_run_is_true.ensures.told
 
 pub returns-clause-prefix : goal.returns-clause-prefix
 returns-clause-prefix g c = λ text. prefix text c.every_run_is_true.ensures.prefix
+
+pub returns-clause-service : goal.returns-clause-service
+returns-clause-service g c = λ text. service text c.every_run_is_true.ensures.service
 
 pub returns-clause-resets : goal.returns-clause-resets
 returns-clause-resets g c = λ text. (lawful text).resets
