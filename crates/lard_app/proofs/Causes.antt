@@ -1,174 +1,194 @@
--- A replay ends with a status exactly where its cause is there.
-use Rattle.std.proofs.Common.{◌≡◌, ◌⊎◌, ℕ, zero, suc, ◌+◌, ◌-◌, ◌≤◌, ◌<◌, List, [], ◌∷◌, length, Bool, true, false, cond, Option, Some, None, Result, Ok, Err, refl, sym, ap, ◌∙◌, subst, inl, inr, ⊎_elim, arith, nat_eq}
+-- A line ends a replay with a status exactly where it gives its cause.
+use Rattle.std.proofs.Common.{◌≡◌, ℕ, ◌+◌, ◌^◌, ◌≤◌, ◌<◌, List, length, Bool, true, false, cond, Option, Some, None, Result, Ok, Err, refl, sym, ap, ◌∙◌, subst, inl, inr, ⊎_elim, arith}
 use Rattle.std.proofs.lemmas.Bool.Decides.{nat_tests}
-use Rattle.std.proofs.lemmas.Slice.Eq.{bytes_eq-Decides}
-use Rattle.std.proofs.lemmas.Option.{slice_get_past}
-use Rattle.std.specs.Prelude.{bytes_eq, codes, nat_lt, slice_get, ◌||◌}
+use Rattle.std.specs.Prelude.{nat_le, nat_lt}
+use Rattle.lard_base.specs.Config.{config_check, range_check}
+use Rattle.lard_base.specs.declared.config.ConfigFault.{ConfigFault}
+use Rattle.lard_base.specs.declared.config.Key.{Key}
 use Rattle.lard_base.specs.declared.event.Event.{Event}
-use Rattle.lard_base.specs.declared.event.Event.TheVariants as event
-use Rattle.lard_journal.specs.declared.rec.Rec.{Rec}
-use Rattle.lard_app.specs.declared.lines.Item.{Item}
-use Rattle.lard_app.specs.declared.lines.Item.TheVariants as item
-use Rattle.lard_app.specs.declared.lines.Stage.{Stage}
-use Rattle.lard_app.specs.declared.lines.Stage.TheVariants.{Start, Heading, Running}
-use Rattle.lard_app.specs.declared.net.Packet.{Packet}
-use Rattle.lard_app.specs.declared.replay.Replay.{Replay}
+use Rattle.lard_history.specs.Journal.{answered_bytes, packet_bytes, sent_count}
+use Rattle.lard_machine.specs.Machine.{limit_of, machine_step}
+use Rattle.lard_machine.specs.declared.fault.StepFault.{StepFault}
+use Rattle.lard_machine.specs.declared.fault.StepFault.TheVariants as fault
+use Rattle.lard_machine.specs.declared.fault.What.{What}
+use Rattle.lard_machine.specs.declared.fault.What.TheVariants as what
+use Rattle.lard_machine.specs.declared.machine.Machine.{Machine}
+use Rattle.lard_schedule.specs.declared.item.Item.{Item}
+use Rattle.lard_schedule.specs.declared.item.Item.TheVariants as item
+use Rattle.lard_schedule.specs.Reader.{item_of}
+use Rattle.lard_schedule.proofs.Lines.{line_read, line_spelled, none_is}
 use Rattle.lard_app.specs.declared.status.Form.{Form}
 use Rattle.lard_app.specs.declared.status.Form.TheVariants as form
+use Rattle.lard_app.specs.declared.status.Status.{Status}
+use Rattle.lard_app.specs.declared.status.Status.TheVariants.{Done, Usage, Refused, ReadFault, WriteFault, NoMemory, Limit}
 use Rattle.lard_app.specs.declared.status.Why.{Why}
 use Rattle.lard_app.specs.declared.status.Why.TheVariants as why
-use Rattle.lard_app.specs.declared.world.World.{World}
-use Rattle.lard_app.specs.Causes.{IsLine, Refuses, Spells}
-use Rattle.lard_app.specs.Journal.{sent_count}
-use Rattle.lard_app.specs.Lines.{event_item, event_of, first_word, item_of, judged, unbuilt, words_of}
-use Rattle.lard_app.specs.Replay.{item_taken, moved, stepped}
-use Rattle.lard_app.specs.World.{delivered, is_built_deliver, missing, packet_at, unless, world_step}
-use Rattle.lard_app.proofs.Accounts.{Accounts}
-use Rattle.lard_app.proofs.Growth.{Fits}
-use Rattle.lard_app.proofs.Sentences.{line_read, line_spelled, syntax_is}
-use Rattle.lard_app.proofs.Steps.{Holds, numbered_in}
-use Rattle.lard_app.proofs.Uses.{missing-use, sent}
+use Rattle.lard_app.specs.Causes.{EndsLine, IsUnbuilt, IsUnfit, Reaches, Refuses, StandsFor, Tries, limit_at}
+use Rattle.lard_app.specs.Forms.{missing, unbuilt}
+use Rattle.lard_app.specs.Replay.{Progress, begun, config_set, counted, ended_by, followed, found, input_limit, is_past, item_taken, moved, passed, stepped, taken, unless_unbuilt}
+use Rattle.lard_app.proofs.Failures.{IsFault, fault-step, limit-step, step-fault}
+use Rattle.lard_app.proofs.Knows.{Knows}
+use Rattle.lard_app.proofs.Passing.{judged_by, passed_by}
+use Rattle.lard_app.proofs.Reached.{Told, reached-told}
 
--- ---- what a line is judged to be
+-- ---- numbers
 
-judged_form : (stage : Stage) (line : List ℕ) (f : Form) → unbuilt (first_word line) ≡ Some f → judged stage line ≡ Err (why.FormNotBuilt f)
-unfolding judged
-judged_form stage line f e = rw (e, judged) refl
+is_over : (r b n : ℕ) → r ≡ b → nat_lt input_limit (r + n + 1) ≡ true → input_limit < b + (n + 1)
+is_over r b n e o = grind (arith, nat_tests, e, o)
 
-judged_item : (stage : Stage) (line : List ℕ) → unbuilt (first_word line) ≡ None → judged stage line ≡ item_of stage line
-unfolding judged
-judged_item stage line e = rw (e, judged) refl
+over : (r b n : ℕ) → r ≡ b → input_limit < b + (n + 1) → nat_lt input_limit (r + n + 1) ≡ true
+over r b n e o = grind (arith, nat_tests, e, o)
 
--- a line that is to be one text
-module _ (line text : List ℕ) (what : Item) where
-  exact_err : (cause : Why) → cond {A = Result Item Why} (bytes_eq line text) (Ok what) (Err why.Syntax) ≡ Err cause → (why.Syntax ≡ cause) × (¬ (line ≡ text))
-  exact_err cause e = go (bytes_eq line text) refl e where
-    go : (b : Bool) → bytes_eq line text ≡ b → cond {A = Result Item Why} b (Ok what) (Err why.Syntax) ≡ Err cause → (why.Syntax ≡ cause) × (¬ (line ≡ text))
-    go true t f = cc
-    go false t f = (let same : ◌≡◌ {A = Result Item Why} (Err why.Syntax) (Err cause) = f in cc, λ is. let both : true ≡ false = sym ((bytes_eq-Decides line text).1 is) ∙ t in cc)
+is_within : (r b n : ℕ) → r ≡ b → nat_lt input_limit (r + n + 1) ≡ false → b + (n + 1) ≤ input_limit
+is_within r b n e o = grind (arith, nat_tests, e, o)
 
-  err_exact : ¬ (line ≡ text) → cond {A = Result Item Why} (bytes_eq line text) (Ok what) (Err why.Syntax) ≡ Err why.Syntax
-  err_exact n = go (bytes_eq line text) refl where
-    go : (b : Bool) → bytes_eq line text ≡ b → cond {A = Result Item Why} b (Ok what) (Err why.Syntax) ≡ Err why.Syntax
-    go true t = absurd (n ((bytes_eq-Decides line text).0 t))
-    go false t = refl
+within : (r b n : ℕ) → r ≡ b → b + (n + 1) ≤ input_limit → nat_lt input_limit (r + n + 1) ≡ false
+within r b n e o = grind (arith, nat_tests, e, o)
 
-no_event : (cause : Why) (o : Option Event) → event_item o ≡ Err cause → why.Syntax ≡ cause
-no_event cause None e = let same : ◌≡◌ {A = Result Item Why} (Err why.Syntax) (Err cause) = e in cc
-no_event cause (Some event) e = cc
+-- ---- limits
 
--- ---- a line that is refused for what it is
+-- no step reaches the limit on the input
+no_input : (packets bytes records answered : ℕ) → ¬ (limit_of packets bytes records answered ≡ Some what.Input)
+no_input packets bytes records answered e = go (nat_le 1000000 packets) (nat_le (2 ^ 29) bytes) (nat_le 4000000 records) (nat_le (2 ^ 29) answered) e where
+  go : (p q r t : Bool) → ¬ (cond p (Some what.Packets) (cond q (Some what.PacketBytes) (cond r (Some what.Records) (cond t (Some what.Answers) None))) ≡ Some what.Input)
+  go true q r t h = cc
+  go false true r t h = cc
+  go false false true t h = cc
+  go false false false true h = cc
+  go false false false false h = cc
 
-module _ (J : List Rec) where
-  refuses_by : (stage : Stage) (line : List ℕ) (cause : Why) (o : Option Form) → unbuilt (first_word line) ≡ o → judged stage line ≡ Err cause → Refuses J stage line cause
-  refuses_by stage line cause (Some f) u e = let same : ◌≡◌ {A = Result Item Why} (Err (why.FormNotBuilt f)) (Err cause) = sym (judged_form stage line f u) ∙ e in
-      let named : why.FormNotBuilt f ≡ cause = cc in subst (Refuses J stage line) named (inl u)
-  refuses_by Start line cause None u e =
-      let found = exact_err line (codes "lard 1") item.Header cause (sym (judged_item Start line u) ∙ e) in subst (Refuses J Start line) found.0 (u, found.1)
-  refuses_by Heading line cause None u e =
-      let found = exact_err line (codes "go") item.Go cause (sym (judged_item Heading line u) ∙ e) in subst (Refuses J Heading line) found.0 (u, found.1)
-  refuses_by Running line cause None u e =
-      let named : why.Syntax ≡ cause = no_event cause (event_of (words_of line)) (sym (judged_item Running line u) ∙ e) in
-      let none = (syntax_is line).0 (e ∙ ap Err (sym named)) in
-      subst (Refuses J Running line) named (u, λ l. none.1 l.0 l.1)
+unreached : (m : Machine) (e : Event) → ¬ (Reaches m e what.Input)
+unreached m e (inl l) = no_input (sent_count m.journal) (packet_bytes m.journal) (length m.journal) (answered_bytes m.journal) l
+unreached m e (inr h) = let both : what.Input ≡ what.Stream = h.1 in cc
 
--- ---- a step that is refused
+err_status : (x y : Status) → ◌≡◌ {A = Result Progress Status} (Err x) (Err y) → x ≡ y
+err_status x y e = cc
 
-step_err : (w : World) (e : Event) (cause : Why) → world_step w e ≡ Err cause → (k : ℕ) × (e ≡ event.Deliver k) × (packet_at w k ≡ None) × (why.NotSent k (length w.net) ≡ cause)
-unfolding world_step delivered
-step_err w (event.Open c isn iss wnd mss) cause e = cc
-step_err w (event.Get c path) cause e = cc
-step_err w (event.Deliver k) cause e = go (packet_at w k) refl e where
-  go : (o : Option Packet) → packet_at w k ≡ o → delivered w k o ≡ Err cause → (j : ℕ) × (event.Deliver k ≡ event.Deliver j) × (packet_at w j ≡ None) × (why.NotSent j (length w.net) ≡ cause)
-  go None p f = (k, refl, p, let same : ◌≡◌ {A = Result World Why} (Err (why.NotSent k (length w.net))) (Err cause) = f in cc)
-  go (Some packet) p f = cc
-step_err w _ cause e = cc
+module _ (n bytes : ℕ) (s : Progress) (k : Knows n bytes s) (line : List ℕ) where
+  told : Told s.machine
+  told = reached-told s.machine.config s.machine (k.events, k.keeps.runs)
 
-true_or : (a b : Bool) → ((a || true) || b) ≡ true
-true_or true b = refl
-true_or false b = refl
+  pub next_number : s.lines + 1 ≡ n + 1
+  next_number = ap (λ m. m + 1) k.lines
 
--- a packet that was not sent, as the journal counts
-none_past : (net : List Packet) (i : ℕ) → slice_get net i ≡ None → length net ≤ i
-none_past [] i e = omega arith
-none_past (p ∷ ps) zero e = cc
-none_past (p ∷ ps) (suc i) e = omega (arith, none_past ps i e)
+  -- ---- why the line ended the run
 
-not_there : (net : List Packet) (k : ℕ) → numbered_in net k ≡ None → (k ≡ 0) ⊎ (length net < k)
-not_there net k e = go (nat_eq k 0) refl e where
-  go : (b : Bool) → nat_eq k 0 ≡ b → cond b None (slice_get net (k - 1)) ≡ None → (k ≡ 0) ⊎ (length net < k)
-  go true z f = inl (grind (arith, nat_tests, z))
-  go false z f = let past = none_past net (k - 1) f in inr (grind (arith, nat_tests, z, past))
+  module _ (short : bytes + (length line + 1) ≤ input_limit) (status : Status) where
+    refused_here : (cause : Why) → Refuses s line cause → ◌≡◌ {A = Result Progress Status} (Err (Refused (s.lines + 1) cause)) (Err status) → EndsLine s n bytes line status
+    refused_here cause r e = subst (EndsLine s n bytes line) (err_status (Refused (s.lines + 1) cause) status e) (next_number, short, r)
 
-none_there : (net : List Packet) (k : ℕ) → (k ≡ 0) ⊎ (length net < k) → numbered_in net k ≡ None
-none_there net k (inl z) = subst (λ n. numbered_in net n ≡ None) (sym z) refl
-none_there net k (inr l) = go (nat_eq k 0) where
-  go : (b : Bool) → cond b None (slice_get net (k - 1)) ≡ None
-  go true = refl
-  go false = slice_get_past net (k - 1) (omega (arith, l))
+    limited : (w : What) (e : Event) → Tries s line e → Reaches s.machine e w → EndsLine s n bytes line (Limit (s.lines + 1) w)
+    limited what.Input e t r = absurd (unreached s.machine e r)
+    limited what.Packets e t r = (next_number, short, (e, t, r))
+    limited what.PacketBytes e t r = (next_number, short, (e, t, r))
+    limited what.Records e t r = (next_number, short, (e, t, r))
+    limited what.Answers e t r = (next_number, short, (e, t, r))
+    limited what.Stream e t r = (next_number, short, (e, t, r))
 
-may_deliver : (w : World) (k : ℕ) → (k ≡ 0) ⊎ (length w.net < k) → missing w (event.Deliver k) ≡ None
-may_deliver w k past = ap (λ b. unless b form.Deliver) (built past) where
-  built : (k ≡ 0) ⊎ (length w.net < k) → is_built_deliver w k ≡ true
-  built (inl z) = let first : nat_eq k 0 ≡ true = grind (arith, nat_tests, z) in rw first refl
-  built (inr l) = let last : nat_lt (length w.net) k ≡ true = grind (arith, nat_tests, l) in rw last (true_or (nat_eq k 0) (nat_eq k (w.delivered + 1)))
+    limited_here : (w : What) (e : Event) → Tries s line e → Reaches s.machine e w → ◌≡◌ {A = Result Progress Status} (Err (Limit (s.lines + 1) w)) (Err status) → EndsLine s n bytes line status
+    limited_here w e t r h = subst (EndsLine s n bytes line) (err_status (Limit (s.lines + 1) w) status h) (limited w e t r)
 
-step_none : (w : World) (k : ℕ) → numbered_in w.net k ≡ None → world_step w (event.Deliver k) ≡ Err (why.NotSent k (length w.net))
-unfolding world_step delivered
-step_none w k e = ap (delivered w k) e
+    fault-ends : (e : Event) (f : StepFault) → Tries s line e → limit_at s.machine.journal ≡ None → IsFault s.machine e f → ◌≡◌ {A = Result Progress Status} (Err (ended_by (s.lines + 1) f)) (Err status) → EndsLine s n bytes line status
+    fault-ends e (fault.NotSent j sent) t l h is = refused_here (why.NotSent j sent) (e, t, l, h) is
+    fault-ends e (fault.WasLost j) t l h is = refused_here (why.WasLost j) (e, t, l, h) is
+    fault-ends e (fault.NoClient c) t l h is = refused_here (why.NoClient c) (e, t, l, h) is
+    fault-ends e (fault.Used c) t l h is = refused_here (why.Used c) (e, t, l, h) is
+    fault-ends e (fault.Limit w) t l h is = limited_here w e t (inr (l, h.0, h.1)) is
+    fault-ends e fault.NoMemory t l h is = absurd h
 
--- ---- a line in its place
+    moved-ends : (e : Event) (r : Result Machine StepFault) → Tries s line e → machine_step s.machine e ≡ r → moved (followed (counted s line) (item.Event e)) r ≡ Err status → EndsLine s n bytes line status
+    moved-ends e (Ok m) t is h = cc
+    moved-ends e (Err f) t is h = ⊎_elim
+        (λ (l : (w : What) × (limit_at s.machine.journal ≡ Some w) × (fault.Limit w ≡ f)). limited_here l.0 e t (inl l.1) (ap (λ g. Err (ended_by (s.lines + 1) g)) l.2 ∙ h))
+        (λ (l : (limit_at s.machine.journal ≡ None) × IsFault s.machine e f). fault-ends e f t l.0 l.1 h)
+        (step-fault s.machine told e f is)
 
-module _ (lines read : ℕ) (w : World) (h : Holds w) (a : Accounts w) (line : List ℕ) where
-  abbrev pub at : Stage → Replay
-  at stage = record { stage = stage; lines = lines; read = read; world = w }
+    event-ends : (e : Event) (o : Option Form) → StandsFor s line (item.Event e) → missing e ≡ o → stepped (followed (counted s line) (item.Event e)) e o ≡ Err status → EndsLine s n bytes line status
+    event-ends e (Some f) stands m h = refused_here (why.FormNotBuilt f) (inr (item.Event e, stands, m)) h
+    event-ends e None stands m h = moved-ends e (machine_step s.machine e) (stands, m) refl h
 
-  event_refuses : (e : Event) (cause : Why) (o : Option Form) → Spells line e → missing w e ≡ o → stepped (at Running) e o ≡ Err cause → Refuses w.journal Running line cause
-  event_refuses e cause (Some f) s m r =
-      let named : why.FormNotBuilt f ≡ cause = let same : ◌≡◌ {A = Result Replay Why} (Err (why.FormNotBuilt f)) (Err cause) = r in cc in
-      subst (Refuses w.journal Running line) named (inr (refl, (e, s, (missing-use w h a e f s.1).0 m)))
-  event_refuses e cause None s m r = go (world_step w e) refl r where
-    go : (t : Result World Why) → world_step w e ≡ t → moved (at Running) t ≡ Err cause → Refuses w.journal Running line cause
-    go (Ok v) is q = cc
-    go (Err other) is q =
-        let same : other ≡ cause = let both : ◌≡◌ {A = Result Replay Why} (Err other) (Err cause) = q in cc in
-        let found = step_err w e other is in
-        subst (Refuses w.journal Running line) (found.3 ∙ same)
-        (refl, subst (Spells line) found.1 s, sym (sent w h a), not_there w.net found.0 found.2)
+    set-ends : (key : Key) (value : ℕ) (r : Result (Unit {0}) ConfigFault) → StandsFor s line (item.Set key value) → range_check key value ≡ r
+        → config_set (followed (counted s line) (item.Set key value)) key value r ≡ Err status → EndsLine s n bytes line status
+    set-ends key value (Ok u) stands c h = cc
+    set-ends key value (Err fault) stands c h = refused_here (why.Config fault) (item.Set key value, stands, c) h
 
-  pub refuses : (stage : Stage) (cause : Why) (j : Result Item Why) → Fits stage j → judged stage line ≡ j → item_taken (at stage) j ≡ Err cause → Refuses w.journal stage line cause
-  refuses stage cause (Err other) f is r = let same : other ≡ cause = let both : ◌≡◌ {A = Result Replay Why} (Err other) (Err cause) = r in cc in refuses_by w.journal stage line cause (unbuilt (first_word line)) refl (is ∙ ap Err same)
-  refuses Running cause (Ok (item.Event e)) f is r = event_refuses e cause (missing w e) (line_spelled line e is) refl r
-  refuses Start cause (Ok item.Header) f is r = cc
-  refuses Heading cause (Ok item.Go) f is r = cc
-  refuses Start cause (Ok item.Go) f is r = absurd f
-  refuses Start cause (Ok (item.Event e)) f is r = absurd f
-  refuses Heading cause (Ok item.Header) f is r = absurd f
-  refuses Heading cause (Ok (item.Event e)) f is r = absurd f
-  refuses Running cause (Ok item.Header) f is r = absurd f
-  refuses Running cause (Ok item.Go) f is r = absurd f
+    begun-ends : (r : Result (Unit {0}) ConfigFault) → StandsFor s line item.Go → config_check s.config ≡ r → begun (followed (counted s line) item.Go) r ≡ Err status → EndsLine s n bytes line status
+    begun-ends (Ok u) stands c h = cc
+    begun-ends (Err fault) stands c h = refused_here (why.Config fault) (item.Go, stands, c) h
 
-  -- a line that spells an event stands for it
-  stands : (e : Event) → Spells line e → judged Running line ≡ Ok (item.Event e)
-  stands e s = subst (λ (text : List ℕ). judged Running text ≡ Ok (item.Event e)) (sym s.0) (line_read e s.1)
+    item-ends : (x : Item) → StandsFor s line x → taken (followed (counted s line) x) x ≡ Err status → EndsLine s n bytes line status
+    item-ends item.Header stands h = cc
+    item-ends (item.Set key value) stands h = set-ends key value (range_check key value) stands refl h
+    item-ends (item.File path bytes) stands h = refused_here (why.FormNotBuilt form.File) (inr (item.File path bytes, stands, refl)) h
+    item-ends item.Go stands h = begun-ends (config_check s.config) stands refl h
+    item-ends (item.Event e) stands h = event-ends e (missing e) stands refl h
 
-  syntax_refused : (stage : Stage) → unbuilt (first_word line) ≡ None → ¬ (IsLine stage line) → judged stage line ≡ Err why.Syntax
-  syntax_refused Start u n = judged_item Start line u ∙ err_exact line (codes "lard 1") item.Header n
-  syntax_refused Heading u n = judged_item Heading line u ∙ err_exact line (codes "go") item.Go n
-  syntax_refused Running u n = (syntax_is line).1 (u, λ e s. n (e, s))
+    judged-ends : (f : Option Form) (x : Option Item) → unbuilt line ≡ f → item_of s.reader line ≡ x → item_taken (counted s line) (unless_unbuilt f (found x)) ≡ Err status → EndsLine s n bytes line status
+    judged-ends (Some f) x u i h = refused_here (why.FormNotBuilt f) (inl u) h
+    judged-ends None None u i h = refused_here why.Syntax (u, (none_is s.reader line).0 i) h
+    judged-ends None (Some x) u i h = item-ends x (u, line_spelled s.reader line x i) h
 
-  not_sent : (k n : ℕ) → Spells line (event.Deliver k) → n ≡ sent_count w.journal → (k ≡ 0) ⊎ (n < k) → item_taken (at Running) (judged Running line) ≡ Err (why.NotSent k n)
-  not_sent k n s is past =
-      let there : n ≡ length w.net = is ∙ sent w h a in
-      let none : numbered_in w.net k ≡ None = none_there w.net k (⊎_elim (λ z. inl z) (λ l. inr (subst (λ m. m < k) there l)) past) in
-      ap (item_taken (at Running)) (stands (event.Deliver k) s)
-      ∙ ap (stepped (at Running) (event.Deliver k)) (may_deliver w k (⊎_elim (λ z. inl z) (λ l. inr (subst (λ m. m < k) there l)) past))
-      ∙ ap (moved (at Running)) (step_none w k none)
-      ∙ ap (λ m. Err (why.NotSent k m)) (sym there)
+  pub line-ends : (status : Status) → passed s line ≡ Err status → EndsLine s n bytes line status
+  line-ends status e = go (is_past s line) refl where
+    go : (b : Bool) → is_past s line ≡ b → EndsLine s n bytes line status
+    go true p = subst (EndsLine s n bytes line) (err_status (Limit (s.lines + 1) what.Input) status (sym (passed_by s line true p) ∙ e)) (next_number, is_over s.read bytes (length line) k.read p)
+    go false p = judged-ends (is_within s.read bytes (length line) k.read p) status (unbuilt line) (item_of s.reader line) refl refl
+        (ap (item_taken (counted s line)) (sym (judged_by s.reader line (unbuilt line) (item_of s.reader line) refl refl)) ∙ sym (passed_by s line false p) ∙ e)
 
-  pub refused : (stage : Stage) (cause : Why) → Refuses w.journal stage line cause → item_taken (at stage) (judged stage line) ≡ Err cause
-  refused stage (why.FormNotBuilt f) (inl u) = ap (item_taken (at stage)) (judged_form stage line f u)
-  refused stage (why.FormNotBuilt f) (inr u) = subst (λ st. item_taken (at st) (judged st line) ≡ Err (why.FormNotBuilt f)) (sym u.0)
-      (ap (item_taken (at Running)) (stands u.1.0 u.1.1) ∙ ap (stepped (at Running) u.1.0) ((missing-use w h a u.1.0 f u.1.1.1).1 u.1.2))
-  refused stage why.Syntax u = ap (item_taken (at stage)) (syntax_refused stage u.0 u.1)
-  refused stage (why.NotSent k n) u = subst (λ st. item_taken (at st) (judged st line) ≡ Err (why.NotSent k n)) (sym u.0) (not_sent k n u.1 u.2 u.3)
+  -- ---- and back
+
+  module _ (short : bytes + (length line + 1) ≤ input_limit) where
+    -- what a line leads to that is read as something
+    read_by : (f : Option Form) (x : Option Item) → unbuilt line ≡ f → item_of s.reader line ≡ x → passed s line ≡ item_taken (counted s line) (unless_unbuilt f (found x))
+    read_by f x u i = passed_by s line false (within s.read bytes (length line) k.read short) ∙ ap (item_taken (counted s line)) (judged_by s.reader line f x u i)
+
+    stands_by : (x : Item) → StandsFor s line x → passed s line ≡ taken (followed (counted s line) x) x
+    stands_by x t = read_by None (Some x) t.0 (line_read s.reader line x t.1.0 t.1.1 t.1.2)
+
+    tried_by : (e : Event) (f : StepFault) → Tries s line e → machine_step s.machine e ≡ Err f → passed s line ≡ Err (ended_by (s.lines + 1) f)
+    tried_by e f t is = stands_by (item.Event e) t.0 ∙ ap (stepped (followed (counted s line) (item.Event e)) e) t.1 ∙ ap (moved (followed (counted s line) (item.Event e))) is
+
+    unbuilt-refused : (x : Item) (f : Form) → StandsFor s line x → IsUnbuilt x f → passed s line ≡ Err (Refused (s.lines + 1) (why.FormNotBuilt f))
+    unbuilt-refused item.Header f t u = absurd u
+    unbuilt-refused (item.Set key value) f t u = absurd u
+    unbuilt-refused (item.File path bytes) f t u = stands_by (item.File path bytes) t ∙ ap (λ g. Err (Refused (s.lines + 1) (why.FormNotBuilt g))) (sym u)
+    unbuilt-refused item.Go f t u = absurd u
+    unbuilt-refused (item.Event e) f t u = stands_by (item.Event e) t ∙ ap (stepped (followed (counted s line) (item.Event e)) e) u
+
+    unfit-refused : (x : Item) (fault : ConfigFault) → StandsFor s line x → IsUnfit s.config x fault → passed s line ≡ Err (Refused (s.lines + 1) (why.Config fault))
+    unfit-refused item.Header fault t u = absurd u
+    unfit-refused (item.Set key value) fault t u = stands_by (item.Set key value) t ∙ ap (config_set (followed (counted s line) (item.Set key value)) key value) u
+    unfit-refused (item.File path bytes) fault t u = absurd u
+    unfit-refused item.Go fault t u = stands_by item.Go t ∙ ap (begun (followed (counted s line) item.Go)) u
+    unfit-refused (item.Event e) fault t u = absurd u
+
+    refused : (cause : Why) → Refuses s line cause → passed s line ≡ Err (Refused (s.lines + 1) cause)
+    refused (why.FormNotBuilt f) (inl u) = read_by (Some f) (item_of s.reader line) u refl
+    refused (why.FormNotBuilt f) (inr u) = unbuilt-refused u.0 f u.1 u.2
+    refused why.Syntax u = read_by None None u.0 ((none_is s.reader line).1 u.1)
+    refused (why.Config fault) u = unfit-refused u.0 fault u.1 u.2
+    refused (why.NotSent j sent) u = tried_by u.0 (fault.NotSent j sent) u.1 (fault-step s.machine told u.0 (fault.NotSent j sent) u.2 u.3)
+    refused (why.WasLost j) u = tried_by u.0 (fault.WasLost j) u.1 (fault-step s.machine told u.0 (fault.WasLost j) u.2 u.3)
+    refused (why.NoClient c) u = tried_by u.0 (fault.NoClient c) u.1 (fault-step s.machine told u.0 (fault.NoClient c) u.2 u.3)
+    refused (why.Used c) u = tried_by u.0 (fault.Used c) u.1 (fault-step s.machine told u.0 (fault.Used c) u.2 u.3)
+
+    reached : (w : What) (e : Event) → Tries s line e → Reaches s.machine e w → passed s line ≡ Err (Limit (s.lines + 1) w)
+    reached w e t (inl l) = tried_by e (fault.Limit w) t (limit-step s.machine told e w l)
+    reached w e t (inr h) = tried_by e (fault.Limit w) t (fault-step s.machine told e (fault.Limit w) h.0 (h.1, h.2))
+
+  numbered : (cause : ℕ → Status) (number : ℕ) → number ≡ n + 1 → passed s line ≡ Err (cause (s.lines + 1)) → passed s line ≡ Err (cause number)
+  numbered cause number is e = e ∙ ap (λ m. Err (cause m)) (next_number ∙ sym is)
+
+  pub ends-line : (status : Status) → EndsLine s n bytes line status → passed s line ≡ Err status
+  ends-line (Limit number what.Input) u = numbered (λ m. Limit m what.Input) number u.0 (passed_by s line true (over s.read bytes (length line) k.read u.1))
+  ends-line (Limit number what.Packets) u = numbered (λ m. Limit m what.Packets) number u.0 (reached u.1 what.Packets u.2.0 u.2.1 u.2.2)
+  ends-line (Limit number what.PacketBytes) u = numbered (λ m. Limit m what.PacketBytes) number u.0 (reached u.1 what.PacketBytes u.2.0 u.2.1 u.2.2)
+  ends-line (Limit number what.Records) u = numbered (λ m. Limit m what.Records) number u.0 (reached u.1 what.Records u.2.0 u.2.1 u.2.2)
+  ends-line (Limit number what.Answers) u = numbered (λ m. Limit m what.Answers) number u.0 (reached u.1 what.Answers u.2.0 u.2.1 u.2.2)
+  ends-line (Limit number what.Stream) u = numbered (λ m. Limit m what.Stream) number u.0 (reached u.1 what.Stream u.2.0 u.2.1 u.2.2)
+  ends-line (Refused number cause) u = numbered (λ m. Refused m cause) number u.0 (refused u.1 cause u.2)
+  ends-line Done u = absurd u
+  ends-line Usage u = absurd u
+  ends-line ReadFault u = absurd u
+  ends-line WriteFault u = absurd u
+  ends-line NoMemory u = absurd u

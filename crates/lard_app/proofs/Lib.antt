@@ -1,23 +1,12 @@
-pub mod Accounts
-pub mod Causes
-pub mod Decimals
-pub mod Endings
-pub mod Following
-pub mod Going
-pub mod Growth
-pub mod Kept
-pub mod Knows
-pub mod Lawful
-pub mod Packets
-pub mod Paid
-pub mod Plain
-pub mod Readings
-pub mod Records
-pub mod Sentences
-pub mod Settled
-pub mod Spoken
-pub mod Steps
-pub mod Tally
-pub mod Turns
-pub mod Uses
-pub mod Words
+mod Causes
+mod Endings
+mod Failures
+mod Going
+mod Growth
+mod Keeping
+mod Knows
+mod Lawful
+mod Passing
+mod Reached
+mod Settled
+mod Steps

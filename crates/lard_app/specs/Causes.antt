@@ -1,25 +1,32 @@
 -- Why a replay ends as it does, in words of the text's lines, and of the journal before the line that ends it.
-use Rattle.std.specs.Prelude.{◌≡◌, ◌≢◌, ◌⊎◌, ℕ, zero, suc, ◌+◌, ◌<◌, ◌≤◌, true, false, List, [], ◌∷◌, ◌++◌, length, codes, Some, None, Ok}
-use Rattle.std.specs.List.{list_all}
-use Rattle.lard_base.specs.Spelling.{event_words, sentence}
+use Rattle.std.specs.Prelude.{◌≡◌, ◌≢◌, ◌⊎◌, ℕ, ◌+◌, ◌<◌, ◌≤◌, true, List, [], ◌∷◌, ◌++◌, length, Option, Some, None, IsSome, Ok, Err}
+use Rattle.std.specs.FinMap as table
+use Rattle.lard_base.specs.Config.{config_check, range_check}
+use Rattle.lard_base.specs.declared.config.Config.{Config}
+use Rattle.lard_base.specs.declared.config.ConfigFault.{ConfigFault}
 use Rattle.lard_base.specs.declared.event.Event.{Event}
 use Rattle.lard_base.specs.declared.event.Event.TheVariants as event
+use Rattle.lard_client.specs.Control.{written_len}
+use Rattle.lard_history.specs.Journal.{answered_bytes, is_lost, numbers_of, packet_bytes, request, sent_count}
 use Rattle.lard_journal.specs.declared.rec.Rec.{Rec}
-use Rattle.lard_app.specs.declared.lines.Stage.{Stage}
-use Rattle.lard_app.specs.declared.lines.Stage.TheVariants.{Start, Heading, Running}
-use Rattle.lard_app.specs.declared.replay.Replay.{Replay}
+use Rattle.lard_machine.specs.Machine.{limit_of}
+use Rattle.lard_machine.specs.declared.fault.What.{What}
+use Rattle.lard_machine.specs.declared.fault.What.TheVariants as what
+use Rattle.lard_machine.specs.declared.machine.Machine.{Machine}
+use Rattle.lard_machine.specs.declared.places.Station.{Station}
+use Rattle.lard_schedule.specs.declared.item.Item.{Item}
+use Rattle.lard_schedule.specs.declared.item.Item.TheVariants as item
+use Rattle.lard_schedule.specs.declared.reader.Stage.TheVariants.{Running}
+use Rattle.lard_schedule.specs.Laws.{IsLineOf, MayStand}
+use Rattle.lard_schedule.specs.Reader.{HasRange}
 use Rattle.lard_app.specs.declared.status.Form.{Form}
 use Rattle.lard_app.specs.declared.status.Form.TheVariants as form
 use Rattle.lard_app.specs.declared.status.Status.{Status}
 use Rattle.lard_app.specs.declared.status.Status.TheVariants.{Done, Refused, Limit}
-use Rattle.lard_app.specs.declared.status.What.TheVariants.{Input}
 use Rattle.lard_app.specs.declared.status.Why.{Why}
 use Rattle.lard_app.specs.declared.status.Why.TheVariants as why
-use Rattle.lard_app.specs.Built.{IsBuilt}
-use Rattle.lard_app.specs.Journal.{has_opened, last_got, sent_count, wrote}
-use Rattle.lard_app.specs.Lines.{first_word, unbuilt}
-use Rattle.lard_app.specs.Replay.{begin, input_limit, passed}
-use Rattle.lard_app.specs.World.{is_plain_byte}
+use Rattle.lard_app.specs.Forms.{missing, unbuilt}
+use Rattle.lard_app.specs.Replay.{Progress, begin, input_limit, passed}
 
 -- ---- lines
 
@@ -28,79 +35,126 @@ abbrev pub bytes_in : List (List ℕ) → ℕ
 bytes_in [] = 0
 bytes_in (line ∷ lines) = (length line + 1) + bytes_in lines
 
--- what a line is to be, after so many: the header, `go`, an event
-abbrev pub place_of : ℕ → Stage
-place_of zero = Start
-place_of (suc zero) = Heading
-place_of (suc (suc n)) = Running
+-- The line spells the item, the item may stand behind the lines before, and it is in range.
+abbrev pub Stands : Progress → List ℕ → Item → Type 0
+Stands s line x = IsLineOf line x × MayStand s.reader x × HasRange x
 
--- the line spells the event
-abbrev pub Spells : List ℕ → Event → Type 0
-Spells line e = (line ≡ sentence (event_words e)) × IsBuilt e
+-- its first word is not that of a form that is not built
+abbrev pub StandsFor : Progress → List ℕ → Item → Type 0
+StandsFor s line x = (unbuilt line ≡ None) × Stands s line x
 
--- the line is one that may stand in its place
-abbrev pub IsLine : Stage → List ℕ → Type 0
-IsLine Start line = line ≡ codes "lard 1"
-IsLine Heading line = line ≡ codes "go"
-IsLine Running line = (e : Event) × Spells line e
+-- it is an event whose use is built, so that its step is tried
+abbrev pub Tries : Progress → List ℕ → Event → Type 0
+Tries s line e = StandsFor s line (item.Event e) × (missing e ≡ None)
 
--- ---- what a use is not built for, after the records of J
+-- ---- why an item is refused
 
--- one client may open, numbered 1, with a window and segments that hold the response
-abbrev pub IsUnbuiltOpen : List Rec → ℕ → ℕ → ℕ → Type 0
-IsUnbuiltOpen J c wnd mss = (has_opened J ≡ true) ⊎ ((c ≢ 1) ⊎ ((wnd < 45) ⊎ (mss < 45)))
+-- a number out of its range, or `go` behind numbers that do not go together
+abbrev pub IsUnfit : Config → Item → ConfigFault → Type 0
+IsUnfit config item.Header fault = ⊥
+IsUnfit config (item.Set key value) fault = range_check key value ≡ Err fault
+IsUnfit config (item.File path bytes) fault = ⊥
+IsUnfit config item.Go fault = config_check config ≡ Err fault
+IsUnfit config (item.Event e) fault = ⊥
 
--- it may ask once, after it opened, for a path of letters, digits, and / . - _
-abbrev pub IsUnbuiltGet : List Rec → ℕ → List ℕ → Type 0
-IsUnbuiltGet J c path = (has_opened J ≡ false) ⊎ ((wrote J 1 ≢ []) ⊎ ((c ≢ 1) ⊎ (list_all is_plain_byte path ≡ false)))
+-- it or this use of it is not built
+abbrev pub IsUnbuilt : Item → Form → Type 0
+IsUnbuilt item.Header f = ⊥
+IsUnbuilt (item.Set key value) f = ⊥
+IsUnbuilt (item.File path bytes) f = f ≡ form.File
+IsUnbuilt item.Go f = ⊥
+IsUnbuilt (item.Event e) f = missing e ≡ Some f
 
--- packets that were sent are delivered in their order
-abbrev pub IsUnbuiltDeliver : List Rec → ℕ → Type 0
-IsUnbuiltDeliver J k = (1 ≤ k) × (k ≤ sent_count J) × (k ≢ last_got J + 1)
+-- ---- why a step is not done, after the records of J
 
-abbrev pub IsUnbuiltUse : List Rec → Event → Form → Type 0
-IsUnbuiltUse J (event.Open c isn iss wnd mss) f = (f ≡ form.Open) × IsUnbuiltOpen J c wnd mss
-IsUnbuiltUse J (event.Get c path) f = (f ≡ form.Get) × IsUnbuiltGet J c path
-IsUnbuiltUse J (event.Deliver k) f = (f ≡ form.Deliver) × IsUnbuiltDeliver J k
-IsUnbuiltUse J _ f = ⊥
+-- the limit that was reached before the step
+abbrev pub limit_at : List Rec → Option What
+limit_at J = limit_of (sent_count J) (packet_bytes J) (length J) (answered_bytes J)
+
+-- an event of packet k
+abbrev pub IsOfPacket : Event → ℕ → Type 0
+IsOfPacket (event.Deliver j) k = j ≡ k
+IsOfPacket (event.Lose j) k = j ≡ k
+IsOfPacket _ k = ⊥
+
+-- an event of client c, which opened before
+abbrev pub IsOfClient : Event → ℕ → Type 0
+IsOfClient (event.Get d path) c = d ≡ c
+IsOfClient (event.Write d bytes) c = d ≡ c
+IsOfClient (event.Shut d) c = d ≡ c
+IsOfClient (event.Abort d) c = d ≡ c
+IsOfClient (event.Hold d) c = d ≡ c
+IsOfClient (event.Take d) c = d ≡ c
+IsOfClient (event.Timer place d) c = d ≡ c
+IsOfClient _ c = ⊥
+
+abbrev pub Opens : Event → ℕ → Type 0
+Opens (event.Open d isn iss wnd mss) c = d ≡ c
+Opens _ c = ⊥
+
+-- client c would have written more than the stream limit allows
+abbrev pub WouldPass : Machine → ℕ → List ℕ → Type 0
+WouldPass m c bytes = (x : Station) × (table.get m.clients c ≡ Some x) × (m.config.stream < written_len x.client bytes)
+
+abbrev pub WritesTooMuch : Machine → Event → Type 0
+WritesTooMuch m (event.Get c path) = WouldPass m c (request path)
+WritesTooMuch m (event.Write c bytes) = WouldPass m c bytes
+WritesTooMuch m _ = ⊥
+
+-- the event is not one that may come now
+abbrev pub IsUntimely : List Rec → Event → Why → Type 0
+IsUntimely J e (why.NotSent k sent) = IsOfPacket e k × (sent ≡ sent_count J) × ((k ≡ 0) ⊎ (sent < k))
+IsUntimely J e (why.WasLost k) = IsOfPacket e k × (1 ≤ k) × (k ≤ sent_count J) × (is_lost J k ≡ true)
+IsUntimely J e (why.NoClient c) = IsOfClient e c × (numbers_of J c ≡ None)
+IsUntimely J e (why.Used c) = Opens e c × IsSome (numbers_of J c)
+IsUntimely J e why.Syntax = ⊥
+IsUntimely J e (why.Config fault) = ⊥
+IsUntimely J e (why.FormNotBuilt f) = ⊥
+
+-- a limit was reached before the step, or the event would pass that on what a client writes
+abbrev pub Reaches : Machine → Event → What → Type 0
+Reaches m e w = (limit_at m.journal ≡ Some w) ⊎ ((limit_at m.journal ≡ None) × (w ≡ what.Stream) × WritesTooMuch m e)
 
 -- ---- causes
 
--- why a line is refused in its place, after the records of J
-abbrev pub Refuses : List Rec → Stage → List ℕ → Why → Type 0
-Refuses J place line (why.FormNotBuilt f) = (unbuilt (first_word line) ≡ Some f) ⊎ ((place ≡ Running) × ((e : Event) × Spells line e × IsUnbuiltUse J e f))
-Refuses J place line why.Syntax = (unbuilt (first_word line) ≡ None) × (¬ (IsLine place line))
-Refuses J place line (why.NotSent k sent) = (place ≡ Running) × Spells line (event.Deliver k) × (sent ≡ sent_count J) × ((k ≡ 0) ⊎ (sent < k))
+-- why a line is refused in its place
+abbrev pub Refuses : Progress → List ℕ → Why → Type 0
+Refuses s line (why.FormNotBuilt f) = (unbuilt line ≡ Some f) ⊎ ((x : Item) × StandsFor s line x × IsUnbuilt x f)
+Refuses s line why.Syntax = (unbuilt line ≡ None) × ((x : Item) → ¬ (Stands s line x))
+Refuses s line (why.Config fault) = (x : Item) × StandsFor s line x × IsUnfit s.config x fault
+Refuses s line cause = (e : Event) × Tries s line e × (limit_at s.machine.journal ≡ None) × IsUntimely s.machine.journal e cause
+
+-- how a line ends the run, after n lines of so many bytes: it holds the byte after the limit, or it is refused, or a
+-- limit is reached
+abbrev pub EndsLine : Progress → ℕ → ℕ → List ℕ → Status → Type 0
+EndsLine s n bytes line (Limit number what.Input) = (number ≡ n + 1) × (input_limit < bytes + (length line + 1))
+EndsLine s n bytes line (Limit number w) = (number ≡ n + 1) × (bytes + (length line + 1) ≤ input_limit) × ((e : Event) × Tries s line e × Reaches s.machine e w)
+EndsLine s n bytes line (Refused number cause) = (number ≡ n + 1) × (bytes + (length line + 1) ≤ input_limit) × Refuses s line cause
+EndsLine s n bytes line _ = ⊥
 
 -- how the text behind the line feed of the last line ends it: it is to be empty, and `go` is to have passed
-abbrev pub EndsText : ℕ → ℕ → List ℕ → Status → Type 0
-EndsText n bytes last Done = (last ≡ []) × (place_of n ≡ Running)
-EndsText n bytes last (Refused line why.Syntax) = (line ≡ n + 1) × (bytes + length last ≤ input_limit) × ((last ≢ []) ⊎ (place_of n ≢ Running))
-EndsText n bytes last (Limit line Input) = (line ≡ n + 1) × (input_limit < bytes + length last)
-EndsText n bytes last _ = ⊥
-
--- how a line ends the run: it holds the byte after the limit, or it is refused
-abbrev pub EndsLine : List Rec → ℕ → ℕ → List ℕ → Status → Type 0
-EndsLine J n bytes line (Limit number Input) = (number ≡ n + 1) × (input_limit < bytes + (length line + 1))
-EndsLine J n bytes line (Refused number cause) = (number ≡ n + 1) × (bytes + (length line + 1) ≤ input_limit) × Refuses J (place_of n) line cause
-EndsLine J n bytes line _ = ⊥
+abbrev pub EndsText : Progress → ℕ → ℕ → List ℕ → Status → Type 0
+EndsText s n bytes last Done = (last ≡ []) × (s.reader.stage ≡ Running)
+EndsText s n bytes last (Refused line why.Syntax) = (line ≡ n + 1) × (bytes + length last ≤ input_limit) × ((last ≢ []) ⊎ (s.reader.stage ≢ Running))
+EndsText s n bytes last (Limit line what.Input) = (line ≡ n + 1) × (input_limit < bytes + length last)
+EndsText s n bytes last _ = ⊥
 
 -- the lines pass, one after another, and lead from one state to another
-abbrev pub Leads : Replay → List (List ℕ) → Replay → Type 0
+abbrev pub Leads : Progress → List (List ℕ) → Progress → Type 0
 Leads s [] t = s ≡ t
-Leads s (line ∷ lines) t = (u : Replay) × (passed s line ≡ Ok u) × Leads u lines t
+Leads s (line ∷ lines) t = (u : Progress) × (passed s line ≡ Ok u) × Leads u lines t
 
 -- what is left behind the lines that passed ends the run
-abbrev pub EndsRest : List Rec → ℕ → ℕ → List (List ℕ) → Status → Type 0
-EndsRest J n bytes [] status = ⊥
-EndsRest J n bytes (last ∷ []) status = EndsText n bytes last status
-EndsRest J n bytes (line ∷ next ∷ more) status = EndsLine J n bytes line status
+abbrev pub EndsRest : Progress → ℕ → ℕ → List (List ℕ) → Status → Type 0
+EndsRest s n bytes [] status = ⊥
+EndsRest s n bytes (last ∷ []) status = EndsText s n bytes last status
+EndsRest s n bytes (line ∷ next ∷ more) status = EndsLine s n bytes line status
 
 -- Some lines pass, and the next ends the run.
 pub record Ends (lines : List (List ℕ)) (status : Status) : Type 0 where
   pub before : List (List ℕ)
   pub rest : List (List ℕ)
   pub are : lines ≡ before ++ rest
-  pub state : Replay
+  pub state : Progress
   pub leads : Leads begin before state
-  pub ends : EndsRest state.world.journal (length before) (bytes_in before) rest status
+  pub ends : EndsRest state (length before) (bytes_in before) rest status

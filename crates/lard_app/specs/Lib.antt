@@ -1,14 +1,6 @@
-pub mod Built
 pub mod Causes
-pub mod Client
-pub mod Front
-pub mod Journal
-pub mod Laws
-pub mod Lines
-pub mod Net
+pub mod Forms
 pub mod Replay
 pub mod Run
+pub mod Seen
 pub mod Status
-pub mod Tcp
-pub mod Turn
-pub mod World

@@ -1,88 +1,138 @@
 -- What a schedule stands for, line by line: how far a replay comes, and what its report gains.
-use Rattle.std.specs.Prelude.{◌≡◌, ℕ, ◌+◌, ◌≤◌, ◌^◌, Bool, List, [], ◌∷◌, ◌++◌, length, drop, Option, Some, None, Result, Ok, Err, nat_eq, nat_lt, false, if◌then◌else◌}
+use Rattle.std.specs.Prelude.{◌≡◌, ℕ, ◌+◌, ◌≤◌, ◌^◌, Bool, List, [], ◌∷◌, ◌++◌, length, drop, Option, Some, None, Result, Ok, Err, nat_eq, nat_lt, if◌then◌else◌}
 use Rattle.std.specs.List.{slice_split, flat_map}
 use Rattle.std.specs.Io.KnownBytes.{Appends}
-use Rattle.lard_base.specs.Config.{standard}
+use Rattle.lard_base.specs.Config.{config_check, range_check, set_key, standard}
+use Rattle.lard_base.specs.declared.config.Config.{Config}
+use Rattle.lard_base.specs.declared.config.ConfigFault.{ConfigFault}
+use Rattle.lard_base.specs.declared.config.Key.{Key}
 use Rattle.lard_base.specs.Outside.{Front}
 use Rattle.lard_base.specs.declared.event.Event.{Event}
 use Rattle.lard_journal.specs.declared.rec.Rec.{Rec}
 use Rattle.lard_journal.specs.Report.{heading_line, rec_line, report}
-use Rattle.lard_app.specs.declared.lines.Item.{Item}
-use Rattle.lard_app.specs.declared.lines.Item.TheVariants as item
-use Rattle.lard_app.specs.declared.lines.Stage.{Stage}
-use Rattle.lard_app.specs.declared.lines.Stage.TheVariants.{Start, Heading, Running}
-use Rattle.lard_app.specs.declared.replay.Replay.{Replay}
+use Rattle.lard_machine.specs.Bounds.{IsBounded}
+use Rattle.lard_machine.specs.Machine.{machine_step}
+use Rattle.lard_machine.specs.Machine as machine
+use Rattle.lard_machine.specs.declared.fault.StepFault.{StepFault}
+use Rattle.lard_machine.specs.declared.fault.StepFault.TheVariants as fault
+use Rattle.lard_machine.specs.declared.fault.What.TheVariants.{Input}
+use Rattle.lard_machine.specs.declared.machine.Machine.{Machine}
+use Rattle.lard_schedule.specs.declared.item.Item.{Item}
+use Rattle.lard_schedule.specs.declared.item.Item.TheVariants as item
+use Rattle.lard_schedule.specs.declared.reader.Reader.{Reader}
+use Rattle.lard_schedule.specs.declared.reader.Stage.{Stage}
+use Rattle.lard_schedule.specs.declared.reader.Stage.TheVariants.{Start, Settings, Files, Running}
+use Rattle.lard_schedule.specs.Reader.{after, item_of}
+use Rattle.lard_schedule.specs.Reader as reader
 use Rattle.lard_app.specs.declared.status.Form.{Form}
+use Rattle.lard_app.specs.declared.status.Form.TheVariants as form
 use Rattle.lard_app.specs.declared.status.Status.{Status}
 use Rattle.lard_app.specs.declared.status.Status.TheVariants.{Done, Usage, Refused, ReadFault, WriteFault, NoMemory, Limit}
-use Rattle.lard_app.specs.declared.status.What.TheVariants.{Input}
 use Rattle.lard_app.specs.declared.status.Why.{Why}
-use Rattle.lard_app.specs.declared.status.Why.TheVariants.{Syntax, FormNotBuilt}
-use Rattle.lard_app.specs.declared.world.World.{World}
-use Rattle.lard_app.specs.Lines.{judged}
-use Rattle.lard_app.specs.World.{missing, start, world_step}
+use Rattle.lard_app.specs.declared.status.Why.TheVariants as why
+use Rattle.lard_app.specs.Forms.{missing, unbuilt}
 
 -- an input has at most 2^26 bytes
 abbrev pub input_limit : ℕ
 input_limit = 2 ^ 26
 
+-- What was read of a schedule so far, and what it led to.
+pub record Progress : Type 0 where
+  pub reader : Reader  -- what may follow
+  pub config : Config  -- the numbers that the lines have set so far
+  pub lines : ℕ  -- how many lines were passed
+  pub read : ℕ  -- how many bytes these lines have, with their line feeds
+  pub machine : Machine  -- it begins when `go` has passed; before, it is one that nobody sees
+
 -- before the first line
-abbrev pub begin : Replay
-begin = record { stage = Start; lines = 0; read = 0; world = start }
+abbrev pub begin : Progress
+begin = record { reader = reader.start; config = standard; lines = 0; read = 0; machine = machine.start standard [] }
+
+-- ---- what an item does, on the line that was counted last
+
+-- a number of the configuration is kept, if it is in its key's range
+abbrev pub config_set : Progress → Key → ℕ → Result (Unit {0}) ConfigFault → Result Progress Status
+config_set s key value (Ok _) = Ok (record s { config = set_key s.config key value })
+config_set s key value (Err fault) = Err (Refused s.lines (why.Config fault))
+
+-- the machine begins, if the configuration can be used
+abbrev pub begun : Progress → Result (Unit {0}) ConfigFault → Result Progress Status
+begun s (Ok _) = Ok (record s { machine = machine.start s.config [] })
+begun s (Err fault) = Err (Refused s.lines (why.Config fault))
+
+-- how a fault of a step ends the run at a line
+abbrev pub ended_by : ℕ → StepFault → Status
+ended_by line (fault.NotSent k sent) = Refused line (why.NotSent k sent)
+ended_by line (fault.WasLost k) = Refused line (why.WasLost k)
+ended_by line (fault.NoClient c) = Refused line (why.NoClient c)
+ended_by line (fault.Used c) = Refused line (why.Used c)
+ended_by line (fault.Limit what) = Limit line what
+ended_by line fault.NoMemory = NoMemory
+
+abbrev pub moved : Progress → Result Machine StepFault → Result Progress Status
+moved s (Ok m) = Ok (record s { machine = m })
+moved s (Err fault) = Err (ended_by s.lines fault)
+
+-- an event is refused before its step where it or this use of it is not built
+abbrev pub stepped : Progress → Event → Option Form → Result Progress Status
+stepped s e (Some form) = Err (Refused s.lines (why.FormNotBuilt form))
+stepped s e None = moved s (machine_step s.machine e)
+
+abbrev pub taken : Progress → Item → Result Progress Status
+taken s item.Header = Ok s
+taken s (item.Set key value) = config_set s key value (range_check key value)
+taken s (item.File path bytes) = Err (Refused s.lines (why.FormNotBuilt form.File))
+taken s item.Go = begun s (config_check s.config)
+taken s (item.Event e) = stepped s e (missing e)
 
 -- ---- what a line does
 
--- the rules' answer to an event
-abbrev pub moved : Replay → Result World Why → Result Replay Why
-moved s (Err why) = Err why
-moved s (Ok w) = Ok (record s { world = w })
+abbrev pub found : Option Item → Result Item Why
+found None = Err why.Syntax
+found (Some x) = Ok x
 
--- an event of a form, or of a use of one, that is not built is refused before its step
-abbrev pub stepped : Replay → Event → Option Form → Result Replay Why
-stepped s e (Some form) = Err (FormNotBuilt form)
-stepped s e None = moved s (world_step s.world e)
+abbrev pub unless_unbuilt : Option Form → Result Item Why → Result Item Why
+unless_unbuilt None given = given
+unless_unbuilt (Some form) given = Err (why.FormNotBuilt form)
 
--- the world begins when `go` has passed
-abbrev pub taken : Replay → Item → Result Replay Why
-taken s item.Header = Ok (record s { stage = Heading })
-taken s item.Go = Ok (record s { stage = Running; world = start })
-taken s (item.Event e) = stepped s e (missing s.world e)
-
-abbrev pub item_taken : Replay → Result Item Why → Result Replay Why
-item_taken s (Err why) = Err why
-item_taken s (Ok x) = taken s x
+-- what a line stands for in its place; its first word alone decides where its form is not built
+unfoldable pub judged : Reader → List ℕ → Result Item Why
+judged r line = unless_unbuilt (unbuilt line) (found (item_of r line))
 
 -- the line and its line feed are read
-abbrev pub counted : Replay → List ℕ → Replay
+abbrev pub counted : Progress → List ℕ → Progress
 counted s line = record s { lines = s.lines + 1; read = s.read + length line + 1 }
 
--- a refusal names the line's number
-abbrev pub refused_at : ℕ → Result Replay Why → Result Replay Status
-refused_at number (Ok t) = Ok t
-refused_at number (Err why) = Err (Refused number why)
+abbrev pub followed : Progress → Item → Progress
+followed s x = record s { reader = after s.reader x }
+
+abbrev pub item_taken : Progress → Result Item Why → Result Progress Status
+item_taken s (Err why) = Err (Refused s.lines why)
+item_taken s (Ok x) = taken (followed s x) x
 
 -- a line that goes past the limit is not read as anything
-abbrev pub is_past : Replay → List ℕ → Bool
+abbrev pub is_past : Progress → List ℕ → Bool
 is_past s line = nat_lt input_limit (s.read + length line + 1)
 
 -- what a line leads to: it is passed, or it ends the run
-unfoldable pub passed : Replay → List ℕ → Result Replay Status
+unfoldable pub passed : Progress → List ℕ → Result Progress Status
 passed s line =
     if is_past s line then Err (Limit (s.lines + 1) Input)
-    else refused_at (s.lines + 1) (item_taken (counted s line) (judged s.stage line))
+    else item_taken (counted s line) (judged s.reader line)
 
 -- ---- how a text ends
 
 -- nothing comes after the last line feed: the schedule is whole where `go` has passed
 abbrev pub ended_at : ℕ → Stage → Status
 ended_at lines Running = Done
-ended_at lines Start = Refused (lines + 1) Syntax
-ended_at lines Heading = Refused (lines + 1) Syntax
+ended_at lines Start = Refused (lines + 1) why.Syntax
+ended_at lines Settings = Refused (lines + 1) why.Syntax
+ended_at lines Files = Refused (lines + 1) why.Syntax
 
 -- what comes after the last line feed: nothing, or a line without its end
-abbrev pub ending : Replay → List ℕ → Status
-ending s [] = ended_at s.lines s.stage
-ending s (b ∷ bs) = if nat_lt input_limit (s.read + length (b ∷ bs)) then Limit (s.lines + 1) Input else Refused (s.lines + 1) Syntax
+abbrev pub ending : Progress → List ℕ → Status
+ending s [] = ended_at s.lines s.reader.stage
+ending s (b ∷ bs) = if nat_lt input_limit (s.read + length (b ∷ bs)) then Limit (s.lines + 1) Input else Refused (s.lines + 1) why.Syntax
 
 -- ---- the whole text
 
@@ -94,7 +144,7 @@ abbrev pub lines_of : List ℕ → List (List ℕ)
 lines_of text = slice_split is_feed text
 
 -- how far a replay comes from a state on, and its status
-abbrev pub replayed : Replay → List (List ℕ) → Replay × Status
+abbrev pub replayed : Progress → List (List ℕ) → Progress × Status
 replayed s [] = (s, Done)
 replayed s (last ∷ []) = (s, ending s last)
 replayed s (line ∷ next ∷ more) = elim (passed s line) [ Err status ↦ (s, status) | Ok t ↦ replayed t (next ∷ more) ]
@@ -103,66 +153,77 @@ replayed s (line ∷ next ∷ more) = elim (passed s line) [ Err status ↦ (s, 
 abbrev pub event_listed : Result Item Why → List Event
 event_listed (Err why) = []
 event_listed (Ok item.Header) = []
+event_listed (Ok (item.Set key value)) = []
+event_listed (Ok (item.File path bytes)) = []
 event_listed (Ok item.Go) = []
 event_listed (Ok (item.Event e)) = e ∷ []
 
 -- the events of the lines that are passed from a state on
-abbrev pub events_from : Replay → List (List ℕ) → List Event
+abbrev pub events_from : Progress → List (List ℕ) → List Event
 events_from s [] = []
 events_from s (last ∷ []) = []
-events_from s (line ∷ next ∷ more) = elim (passed s line) [ Err status ↦ [] | Ok t ↦ event_listed (judged s.stage line) ++ events_from t (next ∷ more) ]
+events_from s (line ∷ next ∷ more) = elim (passed s line) [ Err status ↦ [] | Ok t ↦ event_listed (judged s.reader line) ++ events_from t (next ∷ more) ]
 
 -- the events that a text's lines passed
 unfoldable pub events_of : List ℕ → List Event
 events_of text = events_from begin (lines_of text)
 
 -- a whole text
-unfoldable pub whole : List ℕ → Replay × Status
+unfoldable pub whole : List ℕ → Progress × Status
 whole text = replayed begin (lines_of text)
 
--- the journal that a text leads to
+-- the machine that a text leads to, its configuration, which is the standard one until `go` has passed, and its journal
+abbrev pub machine_of : List ℕ → Machine
+machine_of text = (whole text).0.machine
+
+abbrev pub config_of : List ℕ → Config
+config_of text = (machine_of text).config
+
 abbrev pub journal_of : List ℕ → List Rec
-journal_of text = (whole text).0.world.journal
+journal_of text = (machine_of text).journal
 
 -- ---- the report
 
--- what is written of a replay: nothing before `go` has passed, then the report of the world's journal
-abbrev pub report_of : Replay → List ℕ
-report_of s = elim s.stage [ Start ↦ [] | Heading ↦ [] | Running ↦ report standard [] s.world.journal ]
+abbrev pub report_at : Stage → Machine → List ℕ
+report_at Start m = []
+report_at Settings m = []
+report_at Files m = []
+report_at Running m = report m.config [] m.journal
+
+-- what is written of a replay: nothing before `go` has passed, then the report of the machine's journal
+abbrev pub report_of : Progress → List ℕ
+report_of s = report_at s.reader.stage s.machine
 
 -- the records that a step added
-abbrev pub step_gain : Replay → Result Replay Why → List ℕ
-step_gain s (Err why) = []
-step_gain s (Ok t) = flat_map rec_line (drop (length s.world.journal) t.world.journal)
+abbrev pub step_gain : Progress → Result Progress Status → List ℕ
+step_gain s (Err status) = []
+step_gain s (Ok t) = flat_map rec_line (drop (length s.machine.journal) t.machine.journal)
 
-abbrev pub item_gain : Replay → Item → List ℕ
+abbrev pub go_gain : Config → Result (Unit {0}) ConfigFault → List ℕ
+go_gain config (Ok _) = heading_line config
+go_gain config (Err fault) = []
+
+abbrev pub item_gain : Progress → Item → List ℕ
 item_gain s item.Header = []
-item_gain s item.Go = heading_line standard
-item_gain s (item.Event e) = step_gain s (stepped s e (missing s.world e))
+item_gain s (item.Set key value) = []
+item_gain s (item.File path bytes) = []
+item_gain s item.Go = go_gain s.config (config_check s.config)
+item_gain s (item.Event e) = step_gain s (stepped s e (missing e))
 
-abbrev pub judged_gain : Replay → Result Item Why → List ℕ
+abbrev pub judged_gain : Progress → Result Item Why → List ℕ
 judged_gain s (Err why) = []
-judged_gain s (Ok x) = item_gain s x
+judged_gain s (Ok x) = item_gain (followed s x) x
 
 -- what the report gains by a line
-unfoldable pub gain : Replay → List ℕ → List ℕ
-gain s line = if is_past s line then [] else judged_gain (counted s line) (judged s.stage line)
+unfoldable pub gain : Progress → List ℕ → List ℕ
+gain s line = if is_past s line then [] else judged_gain (counted s line) (judged s.reader line)
 
--- ---- what a replay keeps
+-- ---- what a line's call relies on, and does
 
--- the world can go on, and has sent no more packets and passed no more events than lines were read
-pub record IsSound (s : Replay) : Type 0 where
-  pub usable : s.world.spoiled ≡ false
-  pub packets : length s.world.net ≤ s.lines
-  pub events : s.world.events ≤ s.lines
-  pub lines : s.lines ≤ s.read
-  pub read : s.read ≤ input_limit
-
--- the same, once a line is counted that the world did not take yet
-pub record IsReady (s : Replay) : Type 0 where
-  pub usable : s.world.spoiled ≡ false
-  pub packets : length s.world.net + 1 ≤ s.lines
-  pub events : s.world.events + 1 ≤ s.lines
+-- the machine's numbers are bounded, and there are no more lines than bytes
+pub record IsSound (s : Progress) : Type 0 where
+  pub bounded : IsBounded s.machine
+  pub stream : s.machine.config.stream ≤ 2 ^ 30
   pub lines : s.lines ≤ s.read
   pub read : s.read ≤ input_limit
 
@@ -175,7 +236,7 @@ Writes text old new (Err _) = ⊥
 
 -- What a call did that passed a line: the state and the text are those that the rules give, or the line ended the
 -- run; a write that failed and want of memory leave a front of the text.
-abbrev pub Passes : Result Replay Status → List ℕ → Option (List ℕ) → Option (List ℕ) → Replay → Result (Unit {0}) Status → Type 0
+abbrev pub Passes : Result Progress Status → List ℕ → Option (List ℕ) → Option (List ℕ) → Progress → Result (Unit {0}) Status → Type 0
 Passes given text old new t (Ok _) = (given ≡ Ok t) × Appends old new text
 Passes given text old new t (Err WriteFault) = Front old new text
 Passes given text old new t (Err NoMemory) = Front old new text

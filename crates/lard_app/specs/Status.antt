@@ -1,12 +1,14 @@
 -- The exit codes of the program, and what it says of a status.
 use Rattle.std.specs.Prelude.{ℕ, List, [], ◌++◌, codes, decimal}
 use Rattle.lard_base.specs.Spelling.{key_word}
+use Rattle.lard_base.specs.declared.config.ConfigFault.{ConfigFault}
+use Rattle.lard_base.specs.declared.config.ConfigFault.TheVariants.{Range, LowHigh, NoRoom}
+use Rattle.lard_machine.specs.declared.fault.What.{What}
+use Rattle.lard_machine.specs.declared.fault.What.TheVariants.{Input, Packets, PacketBytes, Records, Answers, Stream}
 use Rattle.lard_app.specs.declared.status.Form.{Form}
 use Rattle.lard_app.specs.declared.status.Form.TheVariants.{File, Fill, Open, Get, Write, Shut, Abort, Hold, Take, Deliver, Lose, Timer, Disk, Clock, Settle, Inject, Key}
 use Rattle.lard_app.specs.declared.status.Why.{Why}
-use Rattle.lard_app.specs.declared.status.Why.TheVariants.{Syntax, NotSent, FormNotBuilt}
-use Rattle.lard_app.specs.declared.status.What.{What}
-use Rattle.lard_app.specs.declared.status.What.TheVariants.{Input}
+use Rattle.lard_app.specs.declared.status.Why.TheVariants.{Syntax, Config, NotSent, WasLost, NoClient, Used, FormNotBuilt}
 use Rattle.lard_app.specs.declared.status.Status.{Status}
 use Rattle.lard_app.specs.declared.status.Status.TheVariants.{Done, Usage, Refused, ReadFault, WriteFault, NoMemory, Limit}
 
@@ -43,13 +45,28 @@ form_word (Key key) = key_word key
 abbrev pub line_prefix : ℕ → List ℕ
 line_prefix line = codes "line " ++ decimal line ++ codes ": "
 
+-- what is wrong with a configuration, behind a text
+abbrev pub with_fault : List ℕ → ConfigFault → List ℕ
+with_fault text (Range key value) = text ++ key_word key ++ codes " out of range: " ++ decimal value
+with_fault text (LowHigh low high) = text ++ codes "low " ++ decimal low ++ codes " above high " ++ decimal high
+with_fault text NoRoom = text ++ codes "no connection can be admitted"
+
 abbrev pub why_text : ℕ → Why → List ℕ
 why_text line Syntax = line_prefix line ++ codes "not a line of the schedule"
+why_text line (Config fault) = with_fault (line_prefix line) fault
 why_text line (NotSent k sent) = line_prefix line ++ codes "packet " ++ decimal k ++ codes " of " ++ decimal sent ++ codes " sent"
+why_text line (WasLost k) = line_prefix line ++ codes "packet " ++ decimal k ++ codes " was lost"
+why_text line (NoClient c) = line_prefix line ++ codes "client " ++ decimal c ++ codes " not opened"
+why_text line (Used c) = line_prefix line ++ codes "client " ++ decimal c ++ codes " opened before"
 why_text line (FormNotBuilt form) = line_prefix line ++ codes "not built yet: " ++ form_word form
 
 abbrev pub what_word : What → List ℕ
 what_word Input = codes "input"
+what_word Packets = codes "packets"
+what_word PacketBytes = codes "packet-bytes"
+what_word Records = codes "records"
+what_word Answers = codes "answers"
+what_word Stream = codes "stream"
 
 -- what is printed to standard error, without the line feed
 abbrev pub line_text : Status → List ℕ

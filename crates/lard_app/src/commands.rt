@@ -1,19 +1,22 @@
 //! The top call.
 
-ghost use Rattle.std.specs.Prelude.{◌≡◌, ◌≤◌, ◌+◌, ◌↔◌, ℕ, List, length, codes, IsTrue};
+ghost use Rattle.std.specs.Prelude.{◌≡◌, ◌≤◌, ◌+◌, ◌↔◌, ℕ, false, List, [], length, codes, IsTrue};
 ghost use Rattle.std.specs.Io.KnownBytes.{Keeps};
 ghost use Rattle.std.specs.List.{position};
 ghost use Rattle.lard_base.specs.Causes.{Rose};
 ghost use Rattle.lard_answers.specs.Answers.{no_files};
+ghost use Rattle.lard_history.specs.Laws.{AcceptsOnlyAnswers, Follows, IsNetwork, IsOwnership, IsSoleSender, ResetsAtTheLimit, ServesTheAnswers, TellsTheTruth, WritesWhileOpen};
+ghost use Rattle.lard_machine.specs.Machine.{Passes, start};
 ghost use Rattle.lard_app.specs.Causes.{Ends};
 ghost use Rattle.lard_app.specs.declared.status.Status.{Status};
-ghost use Rattle.lard_app.specs.Laws.{AcceptsOnlyAnswers, Follows, IsNetwork, IsOwnership, IsSoleSender};
-ghost use Rattle.lard_app.specs.Replay.{events_of, input_limit, is_feed, journal_of, lines_of, whole};
+ghost use Rattle.lard_app.specs.Replay.{begin, config_of, events_of, input_limit, is_feed, journal_of, lines_of, machine_of, whole};
 ghost use Rattle.lard_app.specs.Run.{IsReplay, IsSettled, Ran, Replays};
+ghost use Rattle.lard_app.specs.Seen.{seen};
 
 use crate::replay::{INPUT_LIMIT, Replay};
 use crate::status::Status;
 use lard_base::{InputFault, Sink, Source, read_up_to};
+use lard_laws_bytes::every_run_is_true;
 use std::alloc::Global;
 
 /// Does all that the program does for these words, which are those after its name. `replay` reads a schedule of at
@@ -41,13 +44,21 @@ pub fn run<S: Source, K: Sink>(
     // A text's replay ends with a status exactly where a line, or the text's end, gives its cause.
     ensures causes { (text : List ℕ) (status : Status) → ((whole text).1 ≡ status) ↔ Ends (lines_of text) status }
 
-    // Whatever text it is, the journal of its replay obeys these laws.
+    // Whatever text it is, its journal is that of the machine after the events of the lines that were passed.
+    ensures machine { (text : List ℕ) → Passes (start (config_of text) []) (events_of text) (machine_of text) }
+
+    // And it obeys these laws.
     ensures follows { (text : List ℕ) → Follows 1 (events_of text) (journal_of text) }
     ensures network { (text : List ℕ) → IsNetwork (journal_of text) }
     ensures ownership { (text : List ℕ) → IsOwnership (journal_of text) }
     ensures sole_sender { (text : List ℕ) → IsSoleSender (journal_of text) }
+    ensures writers { (text : List ℕ) → WritesWhileOpen (journal_of text) }
+    ensures tells { (text : List ℕ) → TellsTheTruth no_files (journal_of text) }
     ensures prefix { (text : List ℕ) → AcceptsOnlyAnswers no_files (journal_of text) }
+    ensures service { (text : List ℕ) → ServesTheAnswers no_files (journal_of text) }
+    ensures resets { (text : List ℕ) → ResetsAtTheLimit (config_of text).stream (journal_of text) }
 {
+    every_run_is_true();
     if !asks_replay(words) {
         return Status::Usage;
     }
@@ -83,7 +94,7 @@ fn replay<S: Source, K: Sink>(alloc: Global, source: &mut S, sink: &mut K) -> St
     }
 }
 
-/// Replays a text, line by line, and writes its report.
+/// Replays a text, and writes its report.
 fn replay_text<K: Sink>(alloc: Global, sink: &mut K, text: &[u8]) -> Status
     requires { length text.now ≤ input_limit + 1 }
     ensures replayed { Replays result text.now (K.written sink.old) (K.written sink.new) }
@@ -91,6 +102,20 @@ fn replay_text<K: Sink>(alloc: Global, sink: &mut K, text: &[u8]) -> Status
     ensures write_fault { result ≡ Status.WriteFault → Rose (K.faults sink.old) (K.faults sink.new) }
 {
     let mut replay = Replay::new(alloc);
+    let status = replay_lines(&mut replay, alloc, sink, text);
+    replay.finish();
+    status
+}
+
+/// Passes the lines of a text, one after another, to a replay that has read nothing.
+fn replay_lines<K: Sink>(replay: &mut Replay, alloc: Global, sink: &mut K, text: &[u8]) -> Status
+    requires begins { seen replay.old ≡ begin }
+    requires usable { replay.old.world.spoiled ≡ false }
+    requires short { length text.now ≤ input_limit + 1 }
+    ensures replayed { Replays result text.now (K.written sink.old) (K.written sink.new) }
+    ensures later { K.faults sink.old ≤ K.faults sink.new }
+    ensures write_fault { result ≡ Status.WriteFault → Rose (K.faults sink.old) (K.faults sink.new) }
+{
     let mut rest = text;
     while let Some(at) = feed_in(rest) {
         match replay.pass(alloc, sink, &rest[..at]) {

@@ -1,21 +1,16 @@
 //! The top call `run`: it reads a schedule, replays it through the core, and writes the report.
 //!
-//! It stands at the top of the path. `run` reads its words and the input, `lines` makes an event of each
-//! line, `world` does the step (`client`, `front`, `net`), and the step's records go to the sink as lines.
+//! It stands at the top of the path. `run` reads its words and the input, the reader of `lard_schedule` makes an item
+//! of each line, the world of `lard_world` does the step of an event, and the step's records go to the sink as lines.
 #![tactic(auto)]
 
-mod client;
 mod commands;
-mod front;
-mod lines;
-mod net;
+mod forms;
 mod replay;
 mod status;
-mod tcp;
 #[cfg(test)]
 mod tests;
-mod turn;
-mod world;
 
 pub use commands::run;
-pub use status::{Form, Status, What, Why};
+pub use lard_machine::What;
+pub use status::{Form, Status, Why};

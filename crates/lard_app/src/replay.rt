@@ -1,26 +1,37 @@
 //! A replay: what was read of a schedule so far, and the world that its events have led to.
 
-ghost use Rattle.std.specs.Prelude.{◌≡◌, ◌+◌, ◌≤◌, ◌<◌, ◌^◌, length, drop, IfOk, OnOk, IsErrOf};
+ghost use Rattle.std.specs.Prelude.{◌≡◌, ◌+◌, ◌≤◌, ◌<◌, ◌^◌, false, length, drop, IfOk, OnOk, IsErrOf};
 ghost use Rattle.std.specs.List.{flat_map};
 ghost use Rattle.lard_base.specs.Causes.{Rose};
+ghost use Rattle.lard_base.specs.Config.{range_check};
 ghost use Rattle.lard_journal.specs.Report.{rec_line};
-ghost use Rattle.lard_app.specs.Lines.{HasRange, IsInRange};
-ghost use Rattle.lard_app.specs.Replay.{IsReady, IsSound, Passes, Writes, begin, ending, gain, item_gain, passed, refused_at, taken};
+ghost use Rattle.lard_machine.specs.Bounds.{IsBounded};
+ghost use Rattle.lard_schedule.specs.Events.{IsInRange};
+ghost use Rattle.lard_schedule.specs.Reader.{HasRange};
+ghost use Rattle.lard_app.specs.Forms.{missing};
+ghost use Rattle.lard_app.specs.Replay.{IsSound, Passes, Writes, begin, config_set, ending, gain, item_gain, passed, stepped, taken};
+ghost use Rattle.lard_app.specs.Seen.{Sets, seen};
 
-use crate::lines::{Item, LineFault, Stage, read_line};
-use crate::status::{Status, What, Why};
-use crate::world::{StepFault, World};
-use lard_base::{Config, Event, Failed, NoMemory, Sink, write_all};
+use crate::forms::{missing, unbuilt};
+use crate::status::{Form, Status, Why};
+use lard_base::{Config, Event, Failed, Key, NoMemory, Sink, write_all};
+use lard_files::Files;
 use lard_journal::{Journal, Rec, heading, push_line};
+use lard_machine::{StepFault, What};
+use lard_schedule::{Item, LineFault, Reader, Stage};
+use lard_world::World;
 use std::alloc::Global;
+use std::mem;
 
 /// The most bytes of an input.
 pub const INPUT_LIMIT: usize = 1 << 26;
 
-/// What was read so far, and what it led to.
-#[derive(Debug, Drop)]
+/// What was read so far, and what it led to. It holds a world, and so has to be spent, by `finish`.
 pub struct Replay {
-    pub stage: Stage,
+    /// What may follow.
+    pub reader: Reader,
+    /// The numbers that the lines have set so far.
+    pub config: Config,
     /// How many lines were passed.
     pub lines: u64,
     /// How many bytes these lines have, with their line feeds.
@@ -32,25 +43,27 @@ pub struct Replay {
 impl Replay {
     /// Nothing was read.
     pub fn new(alloc: Global) -> Replay
-        ensures begin { result ≡ begin }
-        ensures sound { IsSound result }
+        ensures begin { seen result ≡ begin }
+        ensures usable { result.world.spoiled ≡ false }
     {
+        let config = Config::standard();
         Replay {
-            stage: Stage::Start,
+            reader: Reader::new(),
+            config,
             lines: 0,
             read: 0,
-            world: World::new(alloc),
+            world: World::new(alloc, config, Files::new(alloc)),
         }
     }
 
     /// Takes a line, which is given without its line feed, and writes what the report gains.
-    #[tactic(auto, unfolding(crate::specs::Replay::passed, crate::specs::Replay::gain))]
+    #[tactic(auto, unfolding(crate::specs::Replay::passed, crate::specs::Replay::gain, crate::specs::Replay::judged))]
     pub fn pass<K: Sink>(&mut self, alloc: Global, sink: &mut K, line: &[u8]) -> Result<(), Status>
-        requires sound { IsSound self.old }
+        requires usable { self.old.world.spoiled ≡ false }
+        requires sound { IsSound (seen self.old) }
         requires small { length line.now < 2 ^ 32 }
-        ensures passed { Passes (passed self.old line.now) (gain self.old line.now) (K.written sink.old) (K.written sink.new) self.new result }
-        ensures sound { OnOk result (IsSound self.new) }
-        ensures read { OnOk result (self.new.read ≡ self.old.read + length line.now + 1) }
+        ensures passed { Passes (passed (seen self.old) line.now) (gain (seen self.old) line.now) (K.written sink.old) (K.written sink.new) (seen self.new) result }
+        ensures usable { OnOk result (self.new.world.spoiled ≡ false) }
         ensures later { K.faults sink.old ≤ K.faults sink.new }
         ensures cause { IsErrOf result Status.WriteFault → Rose (K.faults sink.old) (K.faults sink.new) }
     {
@@ -62,52 +75,69 @@ impl Replay {
                 what: What::Input,
             });
         }
-        match read_line(alloc, self.stage, line) {
+        if let Some(form) = unbuilt(line) {
+            return Err(refused(number, Why::FormNotBuilt(form)));
+        }
+        match self.reader.feed_line(alloc, line) {
             Ok(item) => {
                 self.lines = number;
                 self.read = read;
                 return self.take(alloc, sink, item);
             }
             Err(LineFault::Syntax) => return Err(refused(number, Why::Syntax)),
-            Err(LineFault::NotBuilt(form)) => {
-                return Err(refused(number, Why::FormNotBuilt(form)));
-            }
             Err(LineFault::NoMemory) => return Err(Status::NoMemory),
         }
     }
 
-    /// Takes what a line stands for, once the line is counted.
+    /// Takes what a line stands for, once the line is counted and the reader has passed it.
     fn take<K: Sink>(&mut self, alloc: Global, sink: &mut K, item: Item) -> Result<(), Status>
-        requires ready { IsReady self.old }
+        requires usable { self.old.world.spoiled ≡ false }
+        requires bounded { IsBounded self.old.world.machine }
+        requires stream { self.old.world.machine.config.stream ≤ 2 ^ 30 }
         requires range { HasRange item }
-        ensures taken { Passes (refused_at self.old.lines (taken self.old item)) (item_gain self.old item) (K.written sink.old) (K.written sink.new) self.new result }
-        ensures sound { OnOk result (IsSound self.new) }
-        ensures read { OnOk result (self.new.read ≡ self.old.read) }
+        ensures taken { Passes (taken (seen self.old) item) (item_gain (seen self.old) item) (K.written sink.old) (K.written sink.new) (seen self.new) result }
+        ensures usable { OnOk result (self.new.world.spoiled ≡ false) }
         ensures later { K.faults sink.old ≤ K.faults sink.new }
         ensures cause { IsErrOf result Status.WriteFault → Rose (K.faults sink.old) (K.faults sink.new) }
     {
         match item {
-            Item::Header => {
-                self.stage = Stage::Heading;
-                return Ok(());
+            Item::Header => return Ok(()),
+            Item::Set(key, value) => return self.set(key, value),
+            Item::File { path: _, bytes: _ } => {
+                return Err(refused(self.lines, Why::FormNotBuilt(Form::File)));
             }
             Item::Go => return self.go(alloc, sink),
             Item::Event(event) => return self.step(alloc, sink, event),
         }
     }
 
-    /// The world begins, and the heading is written.
+    /// Keeps a number of the configuration, if it is in its range.
+    fn set(&mut self, key: Key, value: u64) -> Result<(), Status>
+        ensures set { Sets (config_set (seen self.old) key value (range_check key value)) (seen self.new) result }
+        ensures world { self.new.world ≡ self.old.world }
+    {
+        if let Err(fault) = self.config.set(key, value) {
+            return Err(refused(self.lines, Why::Config(fault)));
+        }
+        Ok(())
+    }
+
+    /// The world begins, if the configuration can be used, and the heading is written.
     fn go<K: Sink>(&mut self, alloc: Global, sink: &mut K) -> Result<(), Status>
-        requires ready { IsReady self.old }
-        ensures taken { Passes (refused_at self.old.lines (taken self.old Item.Go)) (item_gain self.old Item.Go) (K.written sink.old) (K.written sink.new) self.new result }
-        ensures sound { OnOk result (IsSound self.new) }
-        ensures read { OnOk result (self.new.read ≡ self.old.read) }
+        ensures taken { Passes (taken (seen self.old) Item.Go) (item_gain (seen self.old) Item.Go) (K.written sink.old) (K.written sink.new) (seen self.new) result }
+        ensures usable { OnOk result (self.new.world.spoiled ≡ false) }
         ensures later { K.faults sink.old ≤ K.faults sink.new }
         ensures cause { IsErrOf result Status.WriteFault → Rose (K.faults sink.old) (K.faults sink.new) }
     {
-        self.stage = Stage::Running;
-        self.world = World::new(alloc);
-        match heading(alloc, &Config::standard()) {
+        if let Err(fault) = self.config.check() {
+            return Err(refused(self.lines, Why::Config(fault)));
+        }
+        let before = mem::replace(
+            &mut self.world,
+            World::new(alloc, self.config, Files::new(alloc)),
+        );
+        let _empty = before.finish();
+        match heading(alloc, &self.config) {
             Ok(text) => return write(sink, text.as_slice()),
             Err(NoMemory) => return Err(Status::NoMemory),
         }
@@ -115,22 +145,32 @@ impl Replay {
 
     /// Does the step of an event, and writes its records.
     fn step<K: Sink>(&mut self, alloc: Global, sink: &mut K, event: Event) -> Result<(), Status>
-        requires ready { IsReady self.old }
+        requires usable { self.old.world.spoiled ≡ false }
+        requires bounded { IsBounded self.old.world.machine }
+        requires stream { self.old.world.machine.config.stream ≤ 2 ^ 30 }
         requires range { IsInRange event }
-        ensures taken { Passes (refused_at self.old.lines (taken self.old (Item.Event event))) (item_gain self.old (Item.Event event)) (K.written sink.old) (K.written sink.new) self.new result }
-        ensures sound { OnOk result (IsSound self.new) }
-        ensures read { OnOk result (self.new.read ≡ self.old.read) }
+        ensures taken { Passes (stepped (seen self.old) event (missing event)) (item_gain (seen self.old) (Item.Event event)) (K.written sink.old) (K.written sink.new) (seen self.new) result }
+        ensures usable { OnOk result (self.new.world.spoiled ≡ false) }
         ensures later { K.faults sink.old ≤ K.faults sink.new }
         ensures cause { IsErrOf result Status.WriteFault → Rose (K.faults sink.old) (K.faults sink.new) }
     {
-        if let Some(form) = self.world.missing(&event) {
+        if let Some(form) = missing(&event) {
             return Err(refused(self.lines, Why::FormNotBuilt(form)));
         }
-        let before = self.world.journal.len() as usize;
+        let before = self.world.journal().len() as usize;
         match self.world.step(alloc, event) {
-            Ok(()) => return write_records(alloc, sink, &self.world.journal, before),
+            Ok(()) => return write_records(alloc, sink, self.world.journal(), before),
             Err(StepFault::NotSent { k, sent }) => {
                 return Err(refused(self.lines, Why::NotSent { k, sent }));
+            }
+            Err(StepFault::WasLost(k)) => return Err(refused(self.lines, Why::WasLost(k))),
+            Err(StepFault::NoClient(c)) => return Err(refused(self.lines, Why::NoClient(c))),
+            Err(StepFault::Used(c)) => return Err(refused(self.lines, Why::Used(c))),
+            Err(StepFault::Limit(what)) => {
+                return Err(Status::Limit {
+                    line: self.lines,
+                    what,
+                });
             }
             Err(StepFault::NoMemory) => return Err(Status::NoMemory),
         }
@@ -138,9 +178,9 @@ impl Replay {
 
     /// How a run ends whose input ends with these bytes, which no line feed follows.
     pub fn end(&self, rest: &[u8]) -> Status
-        requires sound { IsSound self.now }
+        requires sound { IsSound (seen self.now) }
         requires small { length rest.now < 2 ^ 32 }
-        ensures { result ≡ ending self.now rest.now }
+        ensures { result ≡ ending (seen self.now) rest.now }
     {
         let number = self.lines + 1;
         if self.read + rest.len() as u64 > INPUT_LIMIT as u64 && !rest.is_empty() {
@@ -149,10 +189,22 @@ impl Replay {
                 what: What::Input,
             };
         }
-        match (rest, self.stage) {
+        match (rest, self.reader.stage) {
             ([], Stage::Running) => Status::Done,
             _ => refused(number, Why::Syntax),
         }
+    }
+
+    /// Spends the replay.
+    pub fn finish(self) {
+        let Replay {
+            reader: _,
+            config: _,
+            lines: _,
+            read: _,
+            world,
+        } = self;
+        let _journal = world.finish();
     }
 }
 

@@ -1,11 +1,13 @@
 //! How a run ends, as a status, an exit code and a line for a person.
 
-ghost use Rattle.std.specs.Prelude.{◌≡◌, ◌++◌, IfOk, OnOk, decimal};
+ghost use Rattle.std.specs.Prelude.{◌≡◌, ◌++◌, IfOk, OnOk, codes, decimal};
 ghost use Rattle.std.specs.String.{string_bytes};
-ghost use Rattle.lard_app.specs.Status.{code_of, form_word, line_prefix, line_text, why_text};
+ghost use Rattle.lard_base.specs.Spelling.{key_word};
+ghost use Rattle.lard_app.specs.Status.{code_of, form_word, line_prefix, line_text, what_word, why_text, with_fault};
 
 use itoa::Buffer;
-use lard_base::{Key, NoMemory};
+use lard_base::{ConfigFault, Key, NoMemory};
+use lard_machine::What;
 use std::alloc::Global;
 
 /// The forms of line of a schedule, by their first words. `Key` stands for a configuration line.
@@ -35,17 +37,18 @@ pub enum Form {
 pub enum Why {
     /// It is no line of the schedule in its place.
     Syntax,
-    /// It delivers packet `k` where only `sent` were sent.
+    /// It gives a number that the configuration can't have, or `go` follows numbers that don't go together.
+    Config(ConfigFault),
+    /// It delivers or loses packet `k` where only `sent` were sent.
     NotSent { k: u32, sent: u32 },
+    /// It delivers or loses the packet with this number, which was lost.
+    WasLost(u32),
+    /// It is an event of the client with this number, which has not opened.
+    NoClient(u32),
+    /// It opens the client with this number, which opened before.
+    Used(u32),
     /// It is a line of the schedule whose form, or this use of it, is not built yet.
     FormNotBuilt(Form),
-}
-
-/// Which limit was reached.
-#[derive(Clone, Copy, Debug, PartialEq, Eq)]
-pub enum What {
-    /// The input has more than 2^26 bytes.
-    Input,
 }
 
 /// How a run ended. Lines are counted from 1.
@@ -95,7 +98,7 @@ impl Form {
 }
 
 fn key_word(key: Key) -> &'static str
-    ensures { result.now ≡ form_word (Form.Key key) }
+    ensures { result.now ≡ key_word key }
 {
     match key {
         Key::Nodes => "nodes",
@@ -160,12 +163,30 @@ fn refusal(alloc: Global, line: u64, why: Why) -> Result<String, NoMemory>
             text.push_str("not a line of the schedule")?;
             return Ok(text);
         }
+        Why::Config(fault) => {
+            push_fault(&mut text, fault)?;
+            return Ok(text);
+        }
         Why::NotSent { k, sent } => {
-            text.push_str("packet ")?;
-            push_number(&mut text, u64::from(k))?;
+            push_packet(&mut text, k)?;
             text.push_str(" of ")?;
             push_number(&mut text, u64::from(sent))?;
             text.push_str(" sent")?;
+            return Ok(text);
+        }
+        Why::WasLost(k) => {
+            push_packet(&mut text, k)?;
+            text.push_str(" was lost")?;
+            return Ok(text);
+        }
+        Why::NoClient(c) => {
+            push_client(&mut text, c)?;
+            text.push_str(" not opened")?;
+            return Ok(text);
+        }
+        Why::Used(c) => {
+            push_client(&mut text, c)?;
+            text.push_str(" opened before")?;
             return Ok(text);
         }
         Why::FormNotBuilt(form) => {
@@ -176,16 +197,63 @@ fn refusal(alloc: Global, line: u64, why: Why) -> Result<String, NoMemory>
     }
 }
 
+/// What is wrong with a configuration.
+fn push_fault(text: &mut String, fault: ConfigFault) -> Result<(), NoMemory>
+    ensures { OnOk result (string_bytes text.new ≡ with_fault (string_bytes text.old) fault) }
+{
+    match fault {
+        ConfigFault::Range { key, value } => {
+            text.push_str(key_word(key))?;
+            text.push_str(" out of range: ")?;
+            return push_number(text, value);
+        }
+        ConfigFault::LowHigh { low, high } => {
+            text.push_str("low ")?;
+            push_number(text, u64::from(low))?;
+            text.push_str(" above high ")?;
+            return push_number(text, u64::from(high));
+        }
+        ConfigFault::NoRoom => {
+            text.push_str("no connection can be admitted")?;
+            return Ok(());
+        }
+    }
+}
+
+fn push_packet(text: &mut String, k: u32) -> Result<(), NoMemory>
+    ensures { OnOk result (string_bytes text.new ≡ string_bytes text.old ++ codes "packet " ++ decimal k) }
+{
+    text.push_str("packet ")?;
+    push_number(text, u64::from(k))
+}
+
+fn push_client(text: &mut String, c: u32) -> Result<(), NoMemory>
+    ensures { OnOk result (string_bytes text.new ≡ string_bytes text.old ++ codes "client " ++ decimal c) }
+{
+    text.push_str("client ")?;
+    push_number(text, u64::from(c))
+}
+
 fn limit(alloc: Global, line: u64, what: What) -> Result<String, NoMemory>
     ensures { IfOk result (λ text. string_bytes text ≡ line_text (Status.Limit line what)) }
 {
     let mut text = at_line(alloc, line)?;
     text.push_str("limit ")?;
+    text.push_str(what_word(what))?;
+    Ok(text)
+}
+
+/// The word of a limit.
+fn what_word(what: What) -> &'static str
+    ensures { result.now ≡ what_word what }
+{
     match what {
-        What::Input => {
-            text.push_str("input")?;
-            return Ok(text);
-        }
+        What::Input => "input",
+        What::Packets => "packets",
+        What::PacketBytes => "packet-bytes",
+        What::Records => "records",
+        What::Answers => "answers",
+        What::Stream => "stream",
     }
 }
 

@@ -1,7 +1,7 @@
 //! Each public call once: what `run` writes for the shortest schedule, and the code and the line of each status.
 
 use crate::{Form, Status, What, Why, run};
-use lard_base::{Bytes, Calls, Key, MemSink, MemSource};
+use lard_base::{Bytes, Calls, ConfigFault, Key, MemSink, MemSource};
 use std::test::Fail;
 
 const HEADING: &[u8] =
@@ -23,10 +23,8 @@ fn the_shortest_schedule_has_the_heading_alone(rt: HostRuntime) -> Result<(), Fa
 #[test]
 fn each_status_has_its_code_and_line(rt: HostRuntime) -> Result<(), Fail> {
     let refused = |why| Status::Refused { line: 4, why };
-    let limit = Status::Limit {
-        line: 9,
-        what: What::Input,
-    };
+    let unfit = |fault| refused(Why::Config(fault));
+    let limit = |what| Status::Limit { line: 9, what };
     for (status, code, line) in [
         (Status::Done, 0, ""),
         (
@@ -40,10 +38,35 @@ fn each_status_has_its_code_and_line(rt: HostRuntime) -> Result<(), Fail> {
             "line 4: not a line of the schedule",
         ),
         (
+            unfit(ConfigFault::Range {
+                key: Key::Stream,
+                value: 0,
+            }),
+            2,
+            "line 4: stream out of range: 0",
+        ),
+        (
+            unfit(ConfigFault::LowHigh { low: 3, high: 2 }),
+            2,
+            "line 4: low 3 above high 2",
+        ),
+        (
+            unfit(ConfigFault::NoRoom),
+            2,
+            "line 4: no connection can be admitted",
+        ),
+        (
             refused(Why::NotSent { k: 7, sent: 2 }),
             2,
             "line 4: packet 7 of 2 sent",
         ),
+        (refused(Why::WasLost(7)), 2, "line 4: packet 7 was lost"),
+        (
+            refused(Why::NoClient(16_384)),
+            2,
+            "line 4: client 16384 not opened",
+        ),
+        (refused(Why::Used(1)), 2, "line 4: client 1 opened before"),
         (
             refused(Why::FormNotBuilt(Form::Disk)),
             2,
@@ -57,7 +80,12 @@ fn each_status_has_its_code_and_line(rt: HostRuntime) -> Result<(), Fail> {
         (Status::ReadFault, 3, "read fault"),
         (Status::WriteFault, 4, "write fault"),
         (Status::NoMemory, 5, "no memory"),
-        (limit, 6, "line 9: limit input"),
+        (limit(What::Input), 6, "line 9: limit input"),
+        (limit(What::Packets), 6, "line 9: limit packets"),
+        (limit(What::PacketBytes), 6, "line 9: limit packet-bytes"),
+        (limit(What::Records), 6, "line 9: limit records"),
+        (limit(What::Answers), 6, "line 9: limit answers"),
+        (limit(What::Stream), 6, "line 9: limit stream"),
     ] {
         assert_eq!(rt; status.code(), code);
         assert_eq!(rt; status.line(rt.alloc())?.as_str(), line);

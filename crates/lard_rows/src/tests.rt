@@ -114,42 +114,38 @@ fn packets_that_were_not_sent(rt: HostRuntime) -> Result<(), Fail> {
 }
 
 #[test]
-fn uses_that_are_not_built(rt: HostRuntime) -> Result<(), Fail> {
-    let open = |line| refused(line, Why::FormNotBuilt(Form::Open));
-    let get = |line| refused(line, Why::FormNotBuilt(Form::Get));
-    let deliver = |line| refused(line, Why::FormNotBuilt(Form::Deliver));
+fn clients_that_may_not(rt: HostRuntime) -> Result<(), Fail> {
     check(
         &rt,
         &[
             (
                 "lard 1\ngo\nopen 1 1000 5000 65535 1460\nopen 1 1 1 45 45\n",
-                open(4),
+                refused(4, Why::Used(1)),
                 2,
             ),
-            ("lard 1\ngo\nopen 2 1000 5000 65535 1460\n", open(3), 1),
-            ("lard 1\ngo\nopen 1 1000 5000 44 1460\n", open(3), 1),
-            ("lard 1\ngo\nopen 1 1000 5000 65535 44\n", open(3), 1),
-            ("lard 1\ngo\nget 1 /x\n", get(3), 1),
+            ("lard 1\ngo\nget 1 /x\n", refused(3, Why::NoClient(1)), 1),
             (
                 "lard 1\ngo\nopen 1 1000 5000 65535 1460\nget 2 /x\n",
-                get(4),
+                refused(4, Why::NoClient(2)),
                 2,
             ),
+        ],
+    )?;
+    Ok(())
+}
+
+#[test]
+fn uses_that_are_not_built(rt: HostRuntime) -> Result<(), Fail> {
+    let form = |line, form| refused(line, Why::FormNotBuilt(form));
+    check(
+        &rt,
+        &[
             (
                 "lard 1\ngo\nopen 1 1000 5000 65535 1460\nget 1 /x?y\n",
-                get(4),
+                form(4, Form::Get),
                 2,
             ),
-            (
-                "lard 1\ngo\nopen 1 1000 5000 65535 1460\nget 1 /x\nget 1 /x\n",
-                get(5),
-                3,
-            ),
-            (
-                "lard 1\ngo\nopen 1 1000 5000 65535 1460\nget 1 /x\ndeliver 1\ndeliver 1\n",
-                deliver(6),
-                4,
-            ),
+            ("lard 1\ngo\ntimer n1 1\n", form(3, Form::Timer), 1),
         ],
     )?;
     Ok(())
@@ -164,8 +160,8 @@ fn forms_that_are_not_built(rt: HostRuntime) -> Result<(), Fail> {
             ("file /a -\n", form(1, Form::File), 0),
             ("lard 1\nfill\n", form(2, Form::Fill), 0),
             ("lard 1\nnodes 3\n", form(2, Form::Key(Key::Nodes)), 0),
-            ("lard 1\nstream x y z\n", form(2, Form::Key(Key::Stream)), 0),
-            ("lard 1\ngo\nlose 1\n", form(3, Form::Lose), 1),
+            ("lard 1\ncache x y z\n", form(2, Form::Key(Key::Cache)), 0),
+            ("lard 1\ngo\nwrite 1 00\n", form(3, Form::Write), 1),
             ("lard 1\ngo\nsettle 10\n", form(3, Form::Settle), 1),
             ("lard 1\ngo\ndisk", refused(3, Why::Syntax), 1),
             ("lard 1\ngo\ndrain 1\n", refused(3, Why::Syntax), 1),

@@ -1,7 +1,13 @@
 use Rattle.lard_app.proofs.Endings.{caused}
-use Rattle.lard_app.proofs.Lawful.{lawful}
+use Rattle.lard_app.proofs.Lawful.{lawful, prefix, service, tells}
 use Rattle.lard_app.proofs.Settled.{settled}
 use Rattle.lard_app.proofs.commands.run.Goals as goal
+
+pub returns-then-not-asks_replay-clause-causes : goal.returns-then-not-asks_replay-clause-causes
+returns-then-not-asks_replay-clause-causes g c = λ text status. caused text status
+
+pub returns-then-not-asks_replay-clause-machine : goal.returns-then-not-asks_replay-clause-machine
+returns-then-not-asks_replay-clause-machine g c = λ text. (lawful text).machine
 
 pub returns-then-not-asks_replay-clause-follows : goal.returns-then-not-asks_replay-clause-follows
 returns-then-not-asks_replay-clause-follows g c = λ text. (lawful text).follows
@@ -15,14 +21,26 @@ returns-then-not-asks_replay-clause-ownership g c = λ text. (lawful text).owner
 pub returns-then-not-asks_replay-clause-sole_sender : goal.returns-then-not-asks_replay-clause-sole_sender
 returns-then-not-asks_replay-clause-sole_sender g c = λ text. (lawful text).sole_sender
 
-pub returns-then-not-asks_replay-clause-prefix : goal.returns-then-not-asks_replay-clause-prefix
-returns-then-not-asks_replay-clause-prefix g c = λ text. (lawful text).prefix
+pub returns-then-not-asks_replay-clause-writers : goal.returns-then-not-asks_replay-clause-writers
+returns-then-not-asks_replay-clause-writers g c = λ text. (lawful text).writers
 
-pub returns-then-not-asks_replay-clause-causes : goal.returns-then-not-asks_replay-clause-causes
-returns-then-not-asks_replay-clause-causes g c = λ text status. caused text status
+pub returns-then-not-asks_replay-clause-tells : goal.returns-then-not-asks_replay-clause-tells
+returns-then-not-asks_replay-clause-tells g c = λ text. tells text c.every_run_is_true.ensures.told
+
+pub returns-then-not-asks_replay-clause-prefix : goal.returns-then-not-asks_replay-clause-prefix
+returns-then-not-asks_replay-clause-prefix g c = λ text. prefix text c.every_run_is_true.ensures.prefix
+
+pub returns-then-not-asks_replay-clause-service : goal.returns-then-not-asks_replay-clause-service
+returns-then-not-asks_replay-clause-service g c = λ text. service text c.every_run_is_true.ensures.service
+
+pub returns-then-not-asks_replay-clause-resets : goal.returns-then-not-asks_replay-clause-resets
+returns-then-not-asks_replay-clause-resets g c = λ text. (lawful text).resets
 
 pub returns-clause-causes : goal.returns-clause-causes
 returns-clause-causes g c = λ text status. caused text status
+
+pub returns-clause-machine : goal.returns-clause-machine
+returns-clause-machine g c = λ text. (lawful text).machine
 
 pub returns-clause-follows : goal.returns-clause-follows
 returns-clause-follows g c = λ text. (lawful text).follows
@@ -36,8 +54,20 @@ returns-clause-ownership g c = λ text. (lawful text).ownership
 pub returns-clause-sole_sender : goal.returns-clause-sole_sender
 returns-clause-sole_sender g c = λ text. (lawful text).sole_sender
 
+pub returns-clause-writers : goal.returns-clause-writers
+returns-clause-writers g c = λ text. (lawful text).writers
+
+pub returns-clause-tells : goal.returns-clause-tells
+returns-clause-tells g c = λ text. tells text c.every_run_is_true.ensures.told
+
 pub returns-clause-prefix : goal.returns-clause-prefix
-returns-clause-prefix g c = λ text. (lawful text).prefix
+returns-clause-prefix g c = λ text. prefix text c.every_run_is_true.ensures.prefix
+
+pub returns-clause-service : goal.returns-clause-service
+returns-clause-service g c = λ text. service text c.every_run_is_true.ensures.service
+
+pub returns-clause-resets : goal.returns-clause-resets
+returns-clause-resets g c = λ text. (lawful text).resets
 
 pub returns-clause-complete : goal.returns-clause-complete
 returns-clause-complete g c = λ asked read written. settled c.replay.result _ _ _ _ c.replay.ensures.ran (λ e. read (c.replay.ensures.read_fault e)) (λ e. written (c.replay.ensures.write_fault e))

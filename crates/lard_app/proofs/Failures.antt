@@ -1,0 +1,257 @@
+-- A step is not done exactly where a limit was reached, or the event is not one that may come now.
+use Rattle.std.proofs.Common.{◌≡◌, ◌⊎◌, ℕ, zero, suc, ◌-◌, ◌≤◌, ◌<◌, List, [], ◌∷◌, length, Bool, true, false, cond, Option, Some, None, IsSome, Result, Ok, Err, refl, sym, ap, ◌∙◌, subst, inl, inr, ⊎_elim, arith, nat_eq}
+use Rattle.std.proofs.lemmas.Bool.Decides.{nat_tests}
+use Rattle.std.proofs.lemmas.Option.{slice_get_past, slice_get_within}
+use Rattle.std.specs.Prelude.{nat_lt, slice_get}
+use Rattle.std.specs.FinMap as table
+use Rattle.lard_base.specs.declared.event.Event.{Event}
+use Rattle.lard_base.specs.declared.event.Event.TheVariants as event
+use Rattle.lard_base.specs.declared.place.Place.{Place}
+use Rattle.lard_client.specs.Control.{written_len}
+use Rattle.lard_history.specs.Journal.{answered_bytes, numbers_of, packet_bytes, request}
+use Rattle.lard_journal.specs.declared.rec.Rec.TheVariants as rec
+use Rattle.lard_machine.specs.Client.{client_writes}
+use Rattle.lard_machine.specs.Machine.{aborts, client_goes_on, delivered, happens, holds, limit_of, limit_reached, lost, machine_step, opened, passed, shut, takes, timer, to_place, unless_limit, wrote}
+use Rattle.lard_machine.specs.declared.fault.StepFault.{StepFault}
+use Rattle.lard_machine.specs.declared.fault.StepFault.TheVariants as fault
+use Rattle.lard_machine.specs.declared.fault.What.{What}
+use Rattle.lard_machine.specs.declared.fault.What.TheVariants.{Stream}
+use Rattle.lard_machine.specs.declared.machine.Machine.{Machine}
+use Rattle.lard_machine.specs.declared.places.Station.{Station}
+use Rattle.lard_net.specs.declared.net.Packet.{Packet}
+use Rattle.lard_net.specs.Net.{bytes_in, lose_at, packet_at}
+use Rattle.lard_app.specs.declared.status.Why.TheVariants as why
+use Rattle.lard_app.specs.Causes.{IsOfClient, IsOfPacket, IsUntimely, Opens, WritesTooMuch, limit_at}
+use Rattle.lard_app.proofs.Reached.{Told}
+
+-- ---- packets by their numbers
+
+not_there : (net : List Packet) (k : ℕ) → packet_at net k ≡ None → (k ≡ 0) ⊎ (length net < k)
+not_there net k e = go (nat_eq k 0) refl e where
+  past : (ps : List Packet) (i : ℕ) → slice_get ps i ≡ None → length ps ≤ i
+  past [] i f = omega arith
+  past (p ∷ ps) zero f = cc
+  past (p ∷ ps) (suc i) f = omega (arith, past ps i f)
+
+  go : (b : Bool) → nat_eq k 0 ≡ b → cond b None (slice_get net (k - 1)) ≡ None → (k ≡ 0) ⊎ (length net < k)
+  go true z f = inl (grind (arith, nat_tests, z))
+  go false z f = let beyond = past net (k - 1) f in inr (grind (arith, nat_tests, z, beyond))
+
+none_there : (net : List Packet) (k : ℕ) → (k ≡ 0) ⊎ (length net < k) → packet_at net k ≡ None
+none_there net k (inl z) = subst (λ n. packet_at net n ≡ None) (sym z) refl
+none_there net k (inr l) = go (nat_eq k 0) where
+  go : (b : Bool) → cond b None (slice_get net (k - 1)) ≡ None
+  go true = refl
+  go false = slice_get_past net (k - 1) (omega (arith, l))
+
+is_there : (net : List Packet) (k : ℕ) (p : Packet) → packet_at net k ≡ Some p → (1 ≤ k) × (k ≤ length net)
+is_there net k p e = go (nat_eq k 0) refl e where
+  go : (b : Bool) → nat_eq k 0 ≡ b → cond b None (slice_get net (k - 1)) ≡ Some p → (1 ≤ k) × (k ≤ length net)
+  go true z f = cc
+  go false z f = let within = slice_get_within net (k - 1) p f in (grind (arith, nat_tests, z), grind (arith, nat_tests, z, within))
+
+some_there : (net : List Packet) (k : ℕ) → 1 ≤ k → k ≤ length net → (p : Packet) × (packet_at net k ≡ Some p)
+some_there net k first last = go (packet_at net k) refl where
+  go : (o : Option Packet) → packet_at net k ≡ o → (p : Packet) × (o ≡ Some p)
+  go (Some p) e = (p, refl)
+  go None e = absurd (⊎_elim (λ z. omega (arith, z, first)) (λ l. omega (arith, l, last)) (not_there net k e))
+
+-- ---- faults, in words of the journal
+
+-- no limit was reached, and the step is not done
+abbrev pub IsFault : Machine → Event → StepFault → Type 0
+IsFault m e (fault.NotSent k sent) = IsUntimely m.journal e (why.NotSent k sent)
+IsFault m e (fault.WasLost k) = IsUntimely m.journal e (why.WasLost k)
+IsFault m e (fault.NoClient c) = IsUntimely m.journal e (why.NoClient c)
+IsFault m e (fault.Used c) = IsUntimely m.journal e (why.Used c)
+IsFault m e (fault.Limit w) = (w ≡ Stream) × WritesTooMuch m e
+IsFault m e fault.NoMemory = ⊥
+
+err_is : {A E : Type 0} (x y : E) → ◌≡◌ {A = Result A E} (Err x) (Err y) → x ≡ y
+err_is x y e = cc
+
+passes_limit : (a b : ℕ) → nat_lt a b ≡ true → a < b
+passes_limit a b e = grind (arith, nat_tests, e)
+
+past_limit : (a b : ℕ) → a < b → nat_lt a b ≡ true
+past_limit a b l = grind (arith, nat_tests, l)
+
+module _ (m : Machine) (t : Told m) where
+  -- ---- what a fault means
+
+  fault_is : (e : Event) (known f : StepFault) → IsFault m e known → ◌≡◌ {A = Result Machine StepFault} (Err known) (Err f) → IsFault m e f
+  fault_is e known f h is = subst (IsFault m e) (err_is known f is) h
+
+  no_client : (e : Event) (c : ℕ) (f : StepFault) → IsOfClient e c → table.get m.clients c ≡ None → ◌≡◌ {A = Result Machine StepFault} (Err (fault.NoClient c)) (Err f) → IsFault m e f
+  no_client e c f of none is = fault_is e (fault.NoClient c) f (of, t.unopened c none) is
+
+  not_sent : (e : Event) (k : ℕ) (f : StepFault) → IsOfPacket e k → packet_at m.net k ≡ None → ◌≡◌ {A = Result Machine StepFault} (Err (fault.NotSent k (length m.net))) (Err f) → IsFault m e f
+  not_sent e k f of none is = fault_is e (fault.NotSent k (length m.net)) f (of, sym t.sent, not_there m.net k none) is
+
+  was_lost : (e : Event) (k : ℕ) (f : StepFault) (p : Packet) → IsOfPacket e k → packet_at m.net k ≡ Some p → p.lost ≡ true → ◌≡◌ {A = Result Machine StepFault} (Err (fault.WasLost k)) (Err f) → IsFault m e f
+  was_lost e k f p of at gone is =
+      let there = is_there m.net k p at in
+      fault_is e (fault.WasLost k) f (of, there.0, subst (λ n. k ≤ n) (sym t.sent) there.1, t.lost k p at ∙ gone) is
+
+  opened-fault : (c isn iss wnd mss : ℕ) (f : StepFault) (o : Option Station) → table.get m.clients c ≡ o → opened m c isn iss wnd mss o ≡ Err f → IsFault m (event.Open c isn iss wnd mss) f
+  unfolding opened
+  opened-fault c isn iss wnd mss f None at is = cc
+  opened-fault c isn iss wnd mss f (Some x) at is = fault_is (event.Open c isn iss wnd mss) (fault.Used c) f (refl, t.opened c x at) is
+
+  wrote-fault : (e : Event) (c : ℕ) (bytes : List ℕ) (f : StepFault) (o : Option Station) → IsOfClient e c → ((x : Station) → table.get m.clients c ≡ Some x → m.config.stream < written_len x.client bytes → WritesTooMuch m e)
+      → table.get m.clients c ≡ o → wrote m e c bytes o ≡ Err f → IsFault m e f
+  unfolding wrote
+  wrote-fault e c bytes f None of much at is = no_client e c f of at is
+  wrote-fault e c bytes f (Some x) of much at is = go (nat_lt m.config.stream (written_len x.client bytes)) refl is where
+    go : (b : Bool) → nat_lt m.config.stream (written_len x.client bytes) ≡ b → cond {A = Result Machine StepFault} b (Err (fault.Limit Stream)) (Ok (client_goes_on m e [] c x (client_writes x.client bytes))) ≡ Err f → IsFault m e f
+    go true l h = fault_is e (fault.Limit Stream) f (refl, much x at (passes_limit m.config.stream (written_len x.client bytes) l)) h
+    go false l h = cc
+
+  shut-fault : (c : ℕ) (f : StepFault) (o : Option Station) → table.get m.clients c ≡ o → shut m c o ≡ Err f → IsFault m (event.Shut c) f
+  unfolding shut
+  shut-fault c f None at is = no_client (event.Shut c) c f refl at is
+  shut-fault c f (Some x) at is = cc
+
+  aborts-fault : (c : ℕ) (f : StepFault) (o : Option Station) → table.get m.clients c ≡ o → aborts m c o ≡ Err f → IsFault m (event.Abort c) f
+  unfolding aborts
+  aborts-fault c f None at is = no_client (event.Abort c) c f refl at is
+  aborts-fault c f (Some x) at is = cc
+
+  holds-fault : (c : ℕ) (f : StepFault) (o : Option Station) → table.get m.clients c ≡ o → holds m c o ≡ Err f → IsFault m (event.Hold c) f
+  unfolding holds
+  holds-fault c f None at is = no_client (event.Hold c) c f refl at is
+  holds-fault c f (Some x) at is = cc
+
+  takes-fault : (c : ℕ) (f : StepFault) (o : Option Station) → table.get m.clients c ≡ o → takes m c o ≡ Err f → IsFault m (event.Take c) f
+  unfolding takes
+  takes-fault c f None at is = no_client (event.Take c) c f refl at is
+  takes-fault c f (Some x) at is = cc
+
+  timer-fault : (p : Place) (c : ℕ) (f : StepFault) (o : Option Station) → table.get m.clients c ≡ o → timer m p c o ≡ Err f → IsFault m (event.Timer p c) f
+  unfolding timer
+  timer-fault p c f None at is = no_client (event.Timer p c) c f refl at is
+  timer-fault p c f (Some x) at is = cc
+
+  delivered-fault : (k : ℕ) (f : StepFault) (o : Option Packet) → packet_at m.net k ≡ o → delivered m k o ≡ Err f → IsFault m (event.Deliver k) f
+  unfolding delivered
+  delivered-fault k f None at is = not_sent (event.Deliver k) k f refl at is
+  delivered-fault k f (Some p) at is = go p.lost refl is where
+    go : (b : Bool) → p.lost ≡ b → cond {A = Result Machine StepFault} b (Err (fault.WasLost k)) (Ok (to_place m k p p.to)) ≡ Err f → IsFault m (event.Deliver k) f
+    go true l h = was_lost (event.Deliver k) k f p refl at l h
+    go false l h = cc
+
+  lost-fault : (k : ℕ) (f : StepFault) (o : Option Packet) → packet_at m.net k ≡ o → lost m k o ≡ Err f → IsFault m (event.Lose k) f
+  unfolding lost
+  lost-fault k f None at is = not_sent (event.Lose k) k f refl at is
+  lost-fault k f (Some p) at is = go p.lost refl is where
+    go : (b : Bool) → p.lost ≡ b → cond {A = Result Machine StepFault} b (Err (fault.WasLost k)) (Ok (passed (record m { net = lose_at (k - 1) m.net }) (event.Lose k) (rec.Lost k ∷ []))) ≡ Err f → IsFault m (event.Lose k) f
+    go true l h = was_lost (event.Lose k) k f p refl at l h
+    go false l h = cc
+
+  happens-fault : (e : Event) (f : StepFault) → happens m e ≡ Err f → IsFault m e f
+  happens-fault (event.Open c isn iss wnd mss) f is = opened-fault c isn iss wnd mss f (table.get m.clients c) refl is
+  happens-fault (event.Get c path) f is = wrote-fault (event.Get c path) c (request path) f (table.get m.clients c) refl (λ x at much. (x, at, much)) refl is
+  happens-fault (event.Write c bytes) f is = wrote-fault (event.Write c bytes) c bytes f (table.get m.clients c) refl (λ x at much. (x, at, much)) refl is
+  happens-fault (event.Shut c) f is = shut-fault c f (table.get m.clients c) refl is
+  happens-fault (event.Abort c) f is = aborts-fault c f (table.get m.clients c) refl is
+  happens-fault (event.Hold c) f is = holds-fault c f (table.get m.clients c) refl is
+  happens-fault (event.Take c) f is = takes-fault c f (table.get m.clients c) refl is
+  happens-fault (event.Deliver k) f is = delivered-fault k f (packet_at m.net k) refl is
+  happens-fault (event.Lose k) f is = lost-fault k f (packet_at m.net k) refl is
+  happens-fault (event.Timer p c) f is = timer-fault p c f (table.get m.clients c) refl is
+  happens-fault (event.Disk n j) f is = cc
+  happens-fault (event.Clock ms) f is = cc
+  happens-fault (event.Settle rounds) f is = cc
+  happens-fault (event.Inject c bytes) f is = cc
+
+  -- ---- and back
+
+  fault-unsent : (e : Event) (k : ℕ) → IsOfPacket e k → packet_at m.net k ≡ None → happens m e ≡ Err (fault.NotSent k (length m.net))
+  unfolding delivered lost
+  fault-unsent (event.Deliver j) k same none = subst (λ i. happens m (event.Deliver i) ≡ Err (fault.NotSent k (length m.net))) (sym same) (ap (delivered m k) none)
+  fault-unsent (event.Lose j) k same none = subst (λ i. happens m (event.Lose i) ≡ Err (fault.NotSent k (length m.net))) (sym same) (ap (lost m k) none)
+  fault-unsent _ k same none = absurd same
+
+  fault-lost : (e : Event) (k : ℕ) (p : Packet) → IsOfPacket e k → packet_at m.net k ≡ Some p → p.lost ≡ true → happens m e ≡ Err (fault.WasLost k)
+  unfolding delivered lost
+  fault-lost (event.Deliver j) k p same at gone = subst (λ i. happens m (event.Deliver i) ≡ Err (fault.WasLost k)) (sym same)
+      (ap (delivered m k) at ∙ ap (λ b. cond {A = Result Machine StepFault} b (Err (fault.WasLost k)) (Ok (to_place m k p p.to))) gone)
+  fault-lost (event.Lose j) k p same at gone = subst (λ i. happens m (event.Lose i) ≡ Err (fault.WasLost k)) (sym same)
+      (ap (lost m k) at ∙ ap (λ b. cond {A = Result Machine StepFault} b (Err (fault.WasLost k)) (Ok (passed (record m { net = lose_at (k - 1) m.net }) (event.Lose k) (rec.Lost k ∷ [])))) gone)
+  fault-lost _ k p same at gone = absurd same
+
+  fault-client : (e : Event) (c : ℕ) → IsOfClient e c → table.get m.clients c ≡ None → happens m e ≡ Err (fault.NoClient c)
+  unfolding wrote shut aborts holds takes timer
+  fault-client (event.Get d path) c same none = subst (λ i. happens m (event.Get i path) ≡ Err (fault.NoClient c)) (sym same) (ap (wrote m (event.Get c path) c (request path)) none)
+  fault-client (event.Write d bytes) c same none = subst (λ i. happens m (event.Write i bytes) ≡ Err (fault.NoClient c)) (sym same) (ap (wrote m (event.Write c bytes) c bytes) none)
+  fault-client (event.Shut d) c same none = subst (λ i. happens m (event.Shut i) ≡ Err (fault.NoClient c)) (sym same) (ap (shut m c) none)
+  fault-client (event.Abort d) c same none = subst (λ i. happens m (event.Abort i) ≡ Err (fault.NoClient c)) (sym same) (ap (aborts m c) none)
+  fault-client (event.Hold d) c same none = subst (λ i. happens m (event.Hold i) ≡ Err (fault.NoClient c)) (sym same) (ap (holds m c) none)
+  fault-client (event.Take d) c same none = subst (λ i. happens m (event.Take i) ≡ Err (fault.NoClient c)) (sym same) (ap (takes m c) none)
+  fault-client (event.Timer p d) c same none = subst (λ i. happens m (event.Timer p i) ≡ Err (fault.NoClient c)) (sym same) (ap (timer m p c) none)
+  fault-client _ c same none = absurd same
+
+  fault-used : (e : Event) (c : ℕ) (x : Station) → Opens e c → table.get m.clients c ≡ Some x → happens m e ≡ Err (fault.Used c)
+  unfolding opened
+  fault-used (event.Open d isn iss wnd mss) c x same at = subst (λ i. happens m (event.Open i isn iss wnd mss) ≡ Err (fault.Used c)) (sym same) (ap (opened m c isn iss wnd mss) at)
+  fault-used _ c x same at = absurd same
+
+  wrote-much : (e : Event) (c : ℕ) (bytes : List ℕ) (x : Station) → table.get m.clients c ≡ Some x → m.config.stream < written_len x.client bytes → wrote m e c bytes (table.get m.clients c) ≡ Err (fault.Limit Stream)
+  unfolding wrote
+  wrote-much e c bytes x at much =
+      ap (wrote m e c bytes) at
+      ∙ ap (λ b. cond {A = Result Machine StepFault} b (Err (fault.Limit Stream)) (Ok (client_goes_on m e [] c x (client_writes x.client bytes)))) (past_limit m.config.stream (written_len x.client bytes) much)
+
+  fault-stream : (e : Event) → WritesTooMuch m e → happens m e ≡ Err (fault.Limit Stream)
+  fault-stream (event.Get c path) h = wrote-much (event.Get c path) c (request path) h.0 h.1 h.2
+  fault-stream (event.Write c bytes) h = wrote-much (event.Write c bytes) c bytes h.0 h.1 h.2
+  fault-stream _ h = absurd h
+
+  -- a client that the journal tells of
+  client_there : (c : ℕ) → IsSome (numbers_of m.journal c) → (x : Station) × (table.get m.clients c ≡ Some x)
+  client_there c some = go (table.get m.clients c) refl where
+    go : (o : Option Station) → table.get m.clients c ≡ o → (x : Station) × (o ≡ Some x)
+    go (Some x) e = (x, refl)
+    go None e = absurd (let both = subst (λ n. IsSome n) (t.unopened c e) some in cc)
+
+  client_none : (c : ℕ) → numbers_of m.journal c ≡ None → table.get m.clients c ≡ None
+  client_none c none = go (table.get m.clients c) refl where
+    go : (o : Option Station) → table.get m.clients c ≡ o → o ≡ None
+    go None e = refl
+    go (Some x) e = absurd (let both = subst (λ n. IsSome n) none (t.opened c x e) in cc)
+
+  fault-happens : (e : Event) (f : StepFault) → IsFault m e f → happens m e ≡ Err f
+  fault-happens e (fault.NotSent k n) h =
+      let there : n ≡ length m.net = h.1 ∙ t.sent in
+      subst (λ i. happens m e ≡ Err (fault.NotSent k i)) (sym there) (fault-unsent e k h.0 (none_there m.net k (⊎_elim (λ z. inl z) (λ l. inr (subst (λ i. i < k) there l)) h.2)))
+  fault-happens e (fault.WasLost k) h =
+      let p = some_there m.net k h.1 (subst (λ n. k ≤ n) t.sent h.2) in
+      fault-lost e k p.0 h.0 p.1 (sym (t.lost k p.0 p.1) ∙ h.3)
+  fault-happens e (fault.NoClient c) h = fault-client e c h.0 (client_none c h.1)
+  fault-happens e (fault.Used c) h = let x = client_there c h.1 in fault-used e c x.0 h.0 x.1
+  fault-happens e (fault.Limit w) h = subst (λ v. happens m e ≡ Err (fault.Limit v)) (sym h.0) (fault-stream e h.1)
+  fault-happens e fault.NoMemory h = absurd h
+
+  -- ---- the whole step
+
+  limit_same : limit_at m.journal ≡ limit_reached m
+  limit_same =
+      ap (λ n. limit_of n (packet_bytes m.journal) (length m.journal) (answered_bytes m.journal)) t.sent
+      ∙ ap (λ n. limit_of (length m.net) n (length m.journal) (answered_bytes m.journal)) t.bytes
+      ∙ ap (λ n. limit_of (length m.net) (bytes_in m.net) (length m.journal) n) t.answered
+
+  -- a limit ends the step, or the event does
+  pub step-fault : (e : Event) (f : StepFault) → machine_step m e ≡ Err f → ((w : What) × (limit_at m.journal ≡ Some w) × (fault.Limit w ≡ f)) ⊎ ((limit_at m.journal ≡ None) × IsFault m e f)
+  unfolding machine_step
+  step-fault e f is = go (limit_reached m) refl is where
+    go : (o : Option What) → limit_reached m ≡ o → unless_limit o (happens m e) ≡ Err f → ((w : What) × (limit_at m.journal ≡ Some w) × (fault.Limit w ≡ f)) ⊎ ((limit_at m.journal ≡ None) × IsFault m e f)
+    go (Some w) l h = inl (w, limit_same ∙ l, err_is (fault.Limit w) f h)
+    go None l h = inr (limit_same ∙ l, happens-fault e f h)
+
+  pub limit-step : (e : Event) (w : What) → limit_at m.journal ≡ Some w → machine_step m e ≡ Err (fault.Limit w)
+  unfolding machine_step
+  limit-step e w l = ap (λ o. unless_limit o (happens m e)) (sym limit_same ∙ l)
+
+  pub fault-step : (e : Event) (f : StepFault) → limit_at m.journal ≡ None → IsFault m e f → machine_step m e ≡ Err f
+  unfolding machine_step
+  fault-step e f l h = ap (λ o. unless_limit o (happens m e)) (sym limit_same ∙ l) ∙ fault-happens e f h

@@ -1,7 +1,0 @@
-use Rattle.std.proofs.Common.{◌≡◌, drop}
-use Rattle.lard_app.specs.Lines.{digits_on}
-use Rattle.lard_app.proofs.lines.digits.Given as goal
-
--- the number so far and the digits that are left give what all digits give
-abbrev pub invariant-loop-digit : goal.invariant-loop-digit
-invariant-loop-digit l = digits_on l.number (drop l.digit-index l.word) ≡ digits_on 0 l.word

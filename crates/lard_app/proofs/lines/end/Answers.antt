@@ -1,6 +1,0 @@
-use Rattle.std.proofs.Common.{sym}
-use Rattle.lard_app.proofs.Words.{some_word}
-use Rattle.lard_app.proofs.lines.end.Goals as goal
-
-pub returns-in-Some : goal.returns-in-Some
-returns-in-Some c = rw c.in-Some.is (sym (some_word c.in-Some.field-0.now))
