@@ -68,5 +68,5 @@ reached-more m n e r rule is =
     let same : HasSettings m n = step-set m n e rule is in
     let P : Config → List (List ℕ × List ℕ) → Type 0 = λ config files. IsReached config files n in
     subst (λ (config : Config). IsReached config n.files n) (sym same.0)
-      (subst (λ (files : List (List ℕ × List ℕ)). IsReached m.config files n) (sym same.1)
-        (r.0 ++ e ∷ [], passes-more r.0 (start m.config m.files) m n e r.1 rule is))
+    (subst (λ (files : List (List ℕ × List ℕ)). IsReached m.config files n) (sym same.1)
+    (r.0 ++ e ∷ [], passes-more r.0 (start m.config m.files) m n e r.1 rule is))

@@ -1,5 +1,5 @@
 -- A step leads from run to run, and what every run's journal obeys holds after each step, done or not.
-use Rattle.std.proofs.Common.{◌≡◌, ℕ, ◌≤◌, ◌^◌, List, [], ◌∷◌, IsTrue, true, false, arith, Result, Ok, Err, refl, sym, ap, subst}
+use Rattle.std.proofs.Common.{◌≡◌, ℕ, ◌≤◌, ◌^◌, List, [], IsTrue, true, false, arith, Result, Ok, Err, refl, sym, ap, subst}
 use Rattle.std.proofs.lemmas.Bool.{both_ways}
 use Rattle.std.proofs.lemmas.Bool.Decides.{nat_tests}
 use Rattle.std.specs.FinMap as table
@@ -60,5 +60,5 @@ pub begins : (config : Config) (files : List (List ℕ × List ℕ)) (clients : 
     → IsRun (record { config = config; files = files; clients = clients; conns = conns; net = net; answered = 0; events = 0; journal = journal })
 begins config files clients conns net journal a b c d range =
     let same : record { config = config; files = files; clients = clients; conns = conns; net = net; answered = 0; events = 0; journal = journal } ≡ start config files =
-      λ i. record { config = config; files = files; clients = a i; conns = b i; net = c i; answered = 0; events = 0; journal = d i } in
+    λ i. record { config = config; files = files; clients = a i; conns = b i; net = c i; answered = 0; events = 0; journal = d i } in
     subst IsRun (sym same) (record { reached = ([], refl); stream = stream-small config.stream (range Stream) })
