@@ -3,3 +3,4 @@ pub mod Front
 pub mod Lent
 pub mod Turns
 pub mod World
+pub mod Runs

@@ -1,8 +1,11 @@
-//! The whole: a machine that takes its steps as long as memory suffices.
+//! The whole: a machine that takes its steps as long as memory suffices, and whose journal obeys the laws.
 
-ghost use Rattle.std.specs.Prelude.{◌≡◌, ◌↔◌, ◌^◌, ◌≤◌, true, false, Ok, Err};
+ghost use Rattle.std.specs.Prelude.{◌≡◌, ◌↔◌, true, false, Ok, Err};
 ghost use Rattle.lard_machine.specs.declared.fault.StepFault.TheVariants.{NoMemory};
-ghost use Rattle.lard_machine.specs.Bounds.{HasRule, IsBounded};
+ghost use Rattle.lard_base.specs.Config.{IsInRange};
+ghost use Rattle.lard_files.specs.Files.{file_at};
+ghost use Rattle.lard_history.specs.Laws.{AcceptsOnlyAnswers, IsNetwork, IsOwnership, IsSoleSender, ResetsAtTheLimit, ServesTheAnswers, TellsTheTruth, WritesWhileOpen};
+ghost use Rattle.lard_machine.specs.Bounds.{HasRule};
 ghost use Rattle.lard_machine.specs.Machine.{Steps, machine_step, start};
 
 use crate::front::spend;
@@ -10,6 +13,8 @@ use crate::steps;
 use lard_base::{Config, Event};
 use lard_files::Files;
 use lard_journal::Journal;
+use lard_laws_bytes::every_run_is_true;
+use lard_laws_places::{journals_are_lawful, states_are_told};
 use lard_machine::{FrontConn, Machine, Station, StepFault};
 use lard_net::Net;
 use lard_table::Table;
@@ -23,6 +28,8 @@ pub struct World {
 }
 
 impl Model for World {
+    ghost use Rattle.std.specs.Prelude.{◌≡◌, false};
+    ghost use Rattle.lard_world.specs.Runs.{IsRun};
     ghost use Rattle.lard_world.specs.World.{Standing, coded_standing};
 
     ghost Value = { Standing };
@@ -30,11 +37,16 @@ impl Model for World {
     ghost coded = { coded_standing };
 
     ghost view = { λ w. record { machine = w.machine; spoiled = w.spoiled } };
+
+    // as long as memory sufficed, some events led to the machine
+    ghost invariant = { λ w. w.spoiled ≡ false → IsRun w.machine };
 }
 
 impl World {
-    /// Nobody has opened, and nothing was sent. It takes no memory yet.
+    /// Nobody has opened, and nothing was sent. It takes no memory yet. The numbers are in their ranges, as those are that
+    /// `Config::check` passes.
     pub fn new(alloc: Global, config: Config, files: Files) -> World
+        requires range { IsInRange config }
         ensures machine { result.machine ≡ start config files }
         ensures usable { result.spoiled ≡ false }
     {
@@ -58,11 +70,22 @@ impl World {
     pub fn step(&mut self, alloc: Global, event: Event) -> Result<(), StepFault>
         requires usable { self.old.spoiled ≡ false }
         requires ruled { HasRule event }
-        requires bounded { IsBounded self.old.machine }
-        requires stream { self.old.machine.config.stream ≤ 2 ^ 30 }
         ensures step { Steps (machine_step self.old.machine event) self.old.machine self.new.machine result }
         ensures spoiled { (self.new.spoiled ≡ true) ↔ (result ≡ Err NoMemory) }
+
+        // Done or not, what happened obeys these laws.
+        ensures network { IsNetwork self.new.machine.journal }
+        ensures ownership { IsOwnership self.new.machine.journal }
+        ensures sole_sender { IsSoleSender self.new.machine.journal }
+        ensures writers { WritesWhileOpen self.new.machine.journal }
+        ensures resets { ResetsAtTheLimit self.old.machine.config.stream self.new.machine.journal }
+        ensures tells { TellsTheTruth (file_at self.old.machine.files) self.new.machine.journal }
+        ensures serves { ServesTheAnswers (file_at self.old.machine.files) self.new.machine.journal }
+        ensures prefix { AcceptsOnlyAnswers (file_at self.old.machine.files) self.new.machine.journal }
     {
+        states_are_told();
+        journals_are_lawful();
+        every_run_is_true();
         let done = steps::step(&mut self.machine, alloc, event);
         self.spoiled = matches!(done, Err(StepFault::NoMemory));
         done
