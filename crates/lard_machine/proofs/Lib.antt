@@ -4,3 +4,4 @@ pub mod Packets
 pub mod Reading
 pub mod Runs
 pub mod Saying
+pub mod Totals

@@ -1,5 +1,5 @@
 -- The length of a response: at least a byte, and at most its body and a head.
-use Rattle.std.proofs.Common.{◌≡◌, ℕ, ◌+◌, ◌≤◌, ◌<◌, ◌^◌, List, [], ◌++◌, Bool, true, false, length, cond, sym, ap, subst, arith, lit≤, length-append}
+use Rattle.std.proofs.Common.{◌≡◌, ℕ, ◌≤◌, ◌^◌, List, ◌++◌, Bool, true, false, length, ap, arith, lit≤, length-append}
 use Rattle.std.specs.Prelude.{codes, decimal}
 use Rattle.std.proofs.lemmas.Fmt.{length-decimal-le}
 use Rattle.lard_request.specs.declared.verdict.Code.{Code}

@@ -1,15 +1,26 @@
 -- A step leads from run to run, and what every run's journal obeys holds after each step, done or not.
-use Rattle.std.proofs.Common.{◌≡◌, ℕ, ◌≤◌, ◌^◌, List, Result, Ok, Err, refl, sym, ap, subst}
+use Rattle.std.proofs.Common.{◌≡◌, ℕ, ◌≤◌, ◌^◌, List, [], ◌∷◌, IsTrue, true, false, arith, Result, Ok, Err, refl, sym, ap, subst}
+use Rattle.std.proofs.lemmas.Bool.{both_ways}
+use Rattle.std.proofs.lemmas.Bool.Decides.{nat_tests}
+use Rattle.std.specs.FinMap as table
+use Rattle.std.specs.FinMap.{FinMap}
+use Rattle.std.specs.Ordering.{nat_cmp}
+use Rattle.lard_base.specs.Config.{IsInRange, is_in_range}
 use Rattle.lard_base.specs.declared.config.Config.{Config}
+use Rattle.lard_base.specs.declared.config.Key.TheVariants.{Stream}
 use Rattle.lard_base.specs.declared.event.Event.{Event}
 use Rattle.lard_journal.specs.declared.rec.Rec.{Rec}
 use Rattle.lard_machine.specs.declared.fault.StepFault.{StepFault}
 use Rattle.lard_machine.specs.declared.fault.StepFault.TheVariants.{NotSent, WasLost, NoClient, Used, Limit, NoMemory}
 use Rattle.lard_machine.specs.declared.machine.Machine.{Machine}
+use Rattle.lard_machine.specs.declared.places.FrontConn.{FrontConn}
+use Rattle.lard_machine.specs.declared.places.Station.{Station}
 use Rattle.lard_machine.specs.Bounds.{HasRule}
-use Rattle.lard_machine.specs.Machine.{Steps, machine_step}
+use Rattle.lard_machine.specs.Machine.{Steps, machine_step, start}
+use Rattle.lard_net.specs.declared.net.Packet.{Packet}
 use Rattle.lard_machine.proofs.Runs.{reached-more, step-set}
 use Rattle.lard_world.specs.Runs.{IsRun}
+use Rattle.lard_world.specs.World.{is_short}
 
 pub step-run : (m n : Machine) (e : Event) → IsRun m → HasRule e → machine_step m e ≡ Ok n → IsRun n
 step-run m n e r rule is = record {
@@ -28,3 +39,26 @@ module _ (old new : Machine) (e : Event) (run : IsRun old) (rule : HasRule e) wh
   still P law (Err (NoClient c)) steps = subst P (ap (λ (m : Machine). m.journal) (sym steps.0)) (law old run refl refl)
   still P law (Err (Used c)) steps = subst P (ap (λ (m : Machine). m.journal) (sym steps.0)) (law old run refl refl)
   still P law (Err (Limit what)) steps = subst P (ap (λ (m : Machine). m.journal) (sym steps.0)) (law old run refl refl)
+
+  -- and a world whose memory sufficed has run
+  pub runs-on : (result : Result (Unit {0}) StepFault) → Steps (machine_step old e) old new result → is_short result ≡ false → IsRun new
+  runs-on (Ok done) steps some = step-run old new e run rule steps
+  runs-on (Err NoMemory) steps some = absurd (both_ways true some refl)
+  runs-on (Err (NotSent k sent)) steps some = subst IsRun (sym steps.0) run
+  runs-on (Err (WasLost k)) steps some = subst IsRun (sym steps.0) run
+  runs-on (Err (NoClient c)) steps some = subst IsRun (sym steps.0) run
+  runs-on (Err (Used c)) steps some = subst IsRun (sym steps.0) run
+  runs-on (Err (Limit what)) steps some = subst IsRun (sym steps.0) run
+
+-- ---- the beginning
+
+stream-small : (n : ℕ) → IsTrue (is_in_range Stream n) → n ≤ 2 ^ 30
+stream-small n h = grind (arith, nat_tests, h)
+
+pub begins : (config : Config) (files : List (List ℕ × List ℕ)) (clients : FinMap nat_cmp Station) (conns : FinMap nat_cmp FrontConn) (net : List Packet) (journal : List Rec)
+    → clients ≡ table.empty → conns ≡ table.empty → net ≡ [] → journal ≡ [] → IsInRange config
+    → IsRun (record { config = config; files = files; clients = clients; conns = conns; net = net; answered = 0; events = 0; journal = journal })
+begins config files clients conns net journal a b c d range =
+    let same : record { config = config; files = files; clients = clients; conns = conns; net = net; answered = 0; events = 0; journal = journal } ≡ start config files =
+      λ i. record { config = config; files = files; clients = a i; conns = b i; net = c i; answered = 0; events = 0; journal = d i } in
+    subst IsRun (sym same) (record { reached = ([], refl); stream = stream-small config.stream (range Stream) })

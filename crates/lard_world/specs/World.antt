@@ -1,8 +1,16 @@
 -- The whole, as it is seen from outside.
-use Rattle.std.specs.Prelude.{Bool, refl}
+use Rattle.std.specs.Prelude.{Bool, true, false, Result, Ok, Err, refl}
 use Rattle.std.specs.Coded.{Coded, code_by, coded×, coded_bool}
 use Rattle.lard_machine.specs.contracts.machine.Machine as machine
+use Rattle.lard_machine.specs.declared.fault.StepFault.{StepFault}
+use Rattle.lard_machine.specs.declared.fault.StepFault.TheVariants.{NoMemory}
 use Rattle.lard_machine.specs.declared.machine.Machine.{Machine}
+
+-- memory ran out in a call
+abbrev pub is_short : Result (Unit {0}) StepFault → Bool
+is_short (Ok done) = false
+is_short (Err NoMemory) = true
+is_short (Err _) = false
 
 pub record Standing : Type 0 where
   pub machine : Machine

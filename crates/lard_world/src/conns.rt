@@ -155,6 +155,7 @@ fn take_out(machine: &mut Machine, c: ConnId) -> Option<FrontConn>
     ensures none { IfNone result ((table.get machine.old.conns c ≡ None) × (machine.new ≡ machine.old)) }
     ensures found { IfSome result (λ conn. table.get machine.old.conns c ≡ Some conn) }
     ensures after { IfSome result (λ _. machine.new ≡ without_conn machine.old c) }
+    ensures there { IfSome result (λ _. IsSome (table.get machine.new.conns c)) }
 {
     if machine.conns.get(c.number()).is_none() {
         return None;

@@ -83,7 +83,6 @@ fn to_front(
 }
 
 /// A packet comes to client `c`.
-#[tactic(auto, using(crate::proofs::Lent::client_back))]
 fn to_client(
     machine: &mut Machine,
     alloc: Global,
@@ -107,7 +106,8 @@ fn to_client(
         Some(Rec::Got(k)),
         acting,
         turn,
-    )
+    )?;
+    Ok(())
 }
 
 /// A packet arrives no more from now on.
@@ -129,12 +129,7 @@ pub fn lose(machine: &mut Machine, alloc: Global, k: u32) -> Result<(), StepFaul
 }
 
 /// The timers of a connection at a place fire.
-pub fn fire(
-    machine: &mut Machine,
-    alloc: Global,
-    place: Place,
-    c: ConnId,
-) -> Result<(), StepFault>
+pub fn fire(machine: &mut Machine, alloc: Global, place: Place, c: ConnId) -> Result<(), StepFault>
     requires room { HasRoom machine.old }
     requires counts { HasCounts machine.old }
     requires timers { HasTimer place c }
@@ -163,7 +158,7 @@ fn fire_front(machine: &mut Machine, alloc: Global, c: ConnId) -> Result<(), Ste
 }
 
 /// A client's timer fires.
-#[tactic(auto, using(crate::proofs::Lent::client_back), unfolding(lard_machine::specs::Machine::timer))]
+#[tactic(auto, unfolding(lard_machine::specs::Machine::timer))]
 fn fire_client(machine: &mut Machine, alloc: Global, c: ConnId) -> Result<(), StepFault>
     requires { HasRoom machine.old }
     ensures { Steps (timer machine.old (Place.Client c) c (table.get machine.old.clients c)) machine.old machine.new result }
@@ -173,6 +168,13 @@ fn fire_client(machine: &mut Machine, alloc: Global, c: ConnId) -> Result<(), St
     };
     let turn = clients::fire(alloc, &mut acting.station.client)?;
     let place = Place::Client(c);
-    put_back(machine, alloc, Event::Timer { place, c }, None, acting, turn)?;
+    put_back(
+        machine,
+        alloc,
+        Event::Timer { place, c },
+        None,
+        acting,
+        turn,
+    )?;
     Ok(())
 }

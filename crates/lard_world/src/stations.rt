@@ -36,6 +36,7 @@ pub fn take_out(machine: &mut Machine, alloc: Global, c: ConnId) -> Option<Actin
     ensures same { IfSome result (λ acting. acting.c ≡ c) }
     ensures armed { IfSome result (λ acting. acting.was_armed ≡ is_armed acting.station.client) }
     ensures after { IfSome result (λ _. machine.new ≡ without_client machine.old c) }
+    ensures there { IfSome result (λ _. IsSome (table.get machine.new.clients c)) }
 {
     if machine.clients.get(c.number()).is_none() {
         return None;
@@ -180,7 +181,7 @@ pub fn put(machine: &mut Machine, alloc: Global, c: ConnId, bytes: Bytes) -> Res
 }
 
 /// The client writes bytes, unless they pass the stream limit.
-#[tactic(auto, using(crate::proofs::Lent::client_back), unfolding(lard_machine::specs::Machine::wrote))]
+#[tactic(auto, unfolding(lard_machine::specs::Machine::wrote))]
 fn write(
     machine: &mut Machine,
     alloc: Global,
@@ -215,7 +216,7 @@ fn written_len(client: &Client, bytes: &[u8]) -> u64
 }
 
 /// The client closes its side.
-#[tactic(auto, using(crate::proofs::Lent::client_back), unfolding(lard_machine::specs::Machine::shut))]
+#[tactic(auto, unfolding(lard_machine::specs::Machine::shut))]
 pub fn shut(machine: &mut Machine, alloc: Global, c: ConnId) -> Result<(), StepFault>
     requires room { HasRoom machine.old }
     ensures { Steps (shut machine.old c (table.get machine.old.clients c)) machine.old machine.new result }
@@ -229,7 +230,7 @@ pub fn shut(machine: &mut Machine, alloc: Global, c: ConnId) -> Result<(), StepF
 }
 
 /// The client resets its connection.
-#[tactic(auto, using(crate::proofs::Lent::client_back), unfolding(lard_machine::specs::Machine::aborts))]
+#[tactic(auto, unfolding(lard_machine::specs::Machine::aborts))]
 pub fn abort(machine: &mut Machine, alloc: Global, c: ConnId) -> Result<(), StepFault>
     requires room { HasRoom machine.old }
     ensures { Steps (aborts machine.old c (table.get machine.old.clients c)) machine.old machine.new result }
@@ -243,7 +244,7 @@ pub fn abort(machine: &mut Machine, alloc: Global, c: ConnId) -> Result<(), Step
 }
 
 /// The client leaves accepted bytes in its window from now on.
-#[tactic(auto, using(crate::proofs::Lent::client_back), unfolding(lard_machine::specs::Machine::holds))]
+#[tactic(auto, unfolding(lard_machine::specs::Machine::holds))]
 pub fn hold(machine: &mut Machine, alloc: Global, c: ConnId) -> Result<(), StepFault>
     requires room { HasRoom machine.old }
     ensures { Steps (holds machine.old c (table.get machine.old.clients c)) machine.old machine.new result }
@@ -257,7 +258,7 @@ pub fn hold(machine: &mut Machine, alloc: Global, c: ConnId) -> Result<(), StepF
 }
 
 /// The client reads all that lies in its window.
-#[tactic(auto, using(crate::proofs::Lent::client_back), unfolding(lard_machine::specs::Machine::takes))]
+#[tactic(auto, unfolding(lard_machine::specs::Machine::takes))]
 pub fn take(machine: &mut Machine, alloc: Global, c: ConnId) -> Result<(), StepFault>
     requires room { HasRoom machine.old }
     ensures { Steps (takes machine.old c (table.get machine.old.clients c)) machine.old machine.new result }

@@ -1,12 +1,12 @@
 //! The whole: a machine that takes its steps as long as memory suffices, and whose journal obeys the laws.
 
-ghost use Rattle.std.specs.Prelude.{◌≡◌, ◌↔◌, true, false, Ok, Err};
-ghost use Rattle.lard_machine.specs.declared.fault.StepFault.TheVariants.{NoMemory};
+ghost use Rattle.std.specs.Prelude.{◌≡◌, false};
 ghost use Rattle.lard_base.specs.Config.{IsInRange};
 ghost use Rattle.lard_files.specs.Files.{file_at};
 ghost use Rattle.lard_history.specs.Laws.{AcceptsOnlyAnswers, IsNetwork, IsOwnership, IsSoleSender, ResetsAtTheLimit, ServesTheAnswers, TellsTheTruth, WritesWhileOpen};
 ghost use Rattle.lard_machine.specs.Bounds.{HasRule};
 ghost use Rattle.lard_machine.specs.Machine.{Steps, machine_step, start};
+ghost use Rattle.lard_world.specs.World.{is_short};
 
 use crate::front::spend;
 use crate::steps;
@@ -71,7 +71,7 @@ impl World {
         requires usable { self.old.spoiled ≡ false }
         requires ruled { HasRule event }
         ensures step { Steps (machine_step self.old.machine event) self.old.machine self.new.machine result }
-        ensures spoiled { (self.new.spoiled ≡ true) ↔ (result ≡ Err NoMemory) }
+        ensures spoiled { self.new.spoiled ≡ is_short result }
 
         // Done or not, what happened obeys these laws.
         ensures network { IsNetwork self.new.machine.journal }
@@ -87,7 +87,7 @@ impl World {
         journals_are_lawful();
         every_run_is_true();
         let done = steps::step(&mut self.machine, alloc, event);
-        self.spoiled = matches!(done, Err(StepFault::NoMemory));
+        self.spoiled = is_short(done);
         done
     }
 
@@ -141,6 +141,13 @@ impl World {
         spend_conns(conns);
         journal
     }
+}
+
+/// Whether memory ran out.
+fn is_short(done: Result<(), StepFault>) -> bool
+    ensures { result ≡ is_short done }
+{
+    matches!(done, Err(StepFault::NoMemory))
 }
 
 fn spend_clients(mut clients: Table<Station>) {

@@ -1,6 +1,5 @@
 -- Each turn is one of the definition's, by what was found.
-use Rattle.std.proofs.Common.{◌≡◌, ◌+◌, ◌-◌, true, false, length, take, drop, sym, ap, ◌∙◌, arith}
-use Rattle.lard_machine.specs.Front.{may_read, reads}
+use Rattle.std.proofs.Common.{length, sym, ap, ◌∙◌}
 use Rattle.lard_machine.proofs.Reading.{reads-stop}
 use Rattle.lard_world.specs.Front.{env_seen, service_of}
 use Rattle.lard_world.proofs.Turns.{block_read, long_read, more_read}

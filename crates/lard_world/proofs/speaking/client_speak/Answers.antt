@@ -1,6 +1,5 @@
 -- Each turn sends the next segment, until none is left.
-use Rattle.std.proofs.Common.{◌≡◌, ◌+◌, ◌≤◌, ◌<◌, List, [], ◌∷◌, ◌++◌, Some, None, length, sym, ap, ◌∙◌, subst, arith, length-append, ℕ}
-use Rattle.lard_base.specs.declared.place.Place.{Place}
+use Rattle.std.proofs.Common.{◌≡◌, [], ◌∷◌, ◌++◌, None, length, sym, ap, ◌∙◌, subst, arith, length-append}
 use Rattle.lard_client.specs.Control.{ClientBlock}
 use Rattle.lard_client.specs.Leaving.{emitted, after_emit}
 use Rattle.lard_machine.specs.Speaking.{AreShort, client_speaks, to_front}
@@ -16,8 +15,8 @@ loop-ready-preserved c =
     let r = c.in-Some.ready in
     let packet = c.in_ok-to_front.field-0 in
     let more = sent_more (client_speaks) b new (after_emit b) c.loop-ready.sends c.push.new.self packet (to_front (after_emit b) r)
-        (client-more b r c.loop-ready.invariant.sound (sym c.in-Some.ensures.ready)) c.in-Some.ensures.after
-        (c.in_ok-to_front.ensures.packet ∙ ap (λ x. to_front x r) c.in-Some.ensures.after) c.in_ok-push.ensures.ok in
+    (client-more b r c.loop-ready.invariant.sound (sym c.in-Some.ensures.ready)) c.in-Some.ensures.after
+    (c.in_ok-to_front.ensures.packet ∙ ap (λ x. to_front x r) c.in-Some.ensures.after) c.in_ok-push.ensures.ok in
     record {
       said = more.0 ∙ c.loop-ready.invariant.said;
       after = more.1 ∙ c.loop-ready.invariant.after;

@@ -1,11 +1,10 @@
 -- Each turn sends the next segment, until none is left.
-use Rattle.std.proofs.Common.{◌≡◌, ◌+◌, ◌≤◌, ◌<◌, List, [], ◌∷◌, ◌++◌, Some, None, length, sym, ap, ◌∙◌, subst, arith, length-append, ℕ}
-use Rattle.lard_base.specs.declared.place.Place.{Place}
+use Rattle.std.proofs.Common.{◌≡◌, [], ◌∷◌, ◌++◌, None, length, sym, ap, ◌∙◌, subst, arith, length-append}
 use Rattle.lard_endpoint.specs.Control.{ControlBlock}
 use Rattle.lard_endpoint.specs.Leaving.{emitted, after_emit}
 use Rattle.lard_machine.specs.Speaking.{AreShort, speaks, to_client}
 use Rattle.lard_machine.proofs.Packets.{short_push}
-use Rattle.lard_machine.proofs.Saying.{speaks-more, speaks-done, emit-rests, left-most}
+use Rattle.lard_machine.proofs.Saying.{speaks-more, speaks-done, emit-rests}
 use Rattle.lard_world.proofs.Loops.{sent_more, sent_all}
 use Rattle.lard_world.proofs.speaking.speak.Goals as goal
 
@@ -16,8 +15,8 @@ loop-ready-preserved c =
     let r = c.in-Some.ready in
     let packet = c.in_ok-to_client.field-0 in
     let more = sent_more (speaks c.args.c) b new (after_emit b) c.loop-ready.sends c.push.new.self packet (to_client c.args.c (after_emit b) r)
-        (speaks-more c.args.c b r c.loop-ready.invariant.sound (sym c.in-Some.ensures.ready)) c.in-Some.ensures.after
-        (c.in_ok-to_client.ensures.packet ∙ ap (λ x. to_client c.args.c x r) c.in-Some.ensures.after) c.in_ok-push.ensures.ok in
+    (speaks-more c.args.c b r c.loop-ready.invariant.sound (sym c.in-Some.ensures.ready)) c.in-Some.ensures.after
+    (c.in_ok-to_client.ensures.packet ∙ ap (λ x. to_client c.args.c x r) c.in-Some.ensures.after) c.in_ok-push.ensures.ok in
     record {
       said = more.0 ∙ c.loop-ready.invariant.said;
       after = more.1 ∙ c.loop-ready.invariant.after;

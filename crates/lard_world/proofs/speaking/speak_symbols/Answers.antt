@@ -1,11 +1,11 @@
 -- Each turn sends the next segment, until none is left or a plain ACK comes.
-use Rattle.std.proofs.Common.{◌≡◌, Bool, true, false, cond, ◌+◌, ◌≤◌, ◌<◌, List, [], ◌∷◌, ◌++◌, Some, None, length, sym, ap, ◌∙◌, subst, arith, length-append, ℕ}
+use Rattle.std.proofs.Common.{◌≡◌, Bool, true, false, cond, List, [], ◌∷◌, None, length, sym, ap, ◌∙◌, subst, arith, length-append, ℕ}
 use Rattle.lard_base.specs.declared.place.Place.{Place}
 use Rattle.lard_endpoint.specs.Control.{ControlBlock}
 use Rattle.lard_endpoint.specs.Leaving.{emitted, after_emit}
 use Rattle.lard_machine.specs.Speaking.{AreShort, has_symbol, speaks_symbols, to_client}
 use Rattle.lard_machine.proofs.Packets.{short_push}
-use Rattle.lard_machine.proofs.Saying.{symbols-more, symbols-done, emit-rests, left-most}
+use Rattle.lard_machine.proofs.Saying.{symbols-more, symbols-done, emit-rests}
 use Rattle.lard_world.proofs.Loops.{sent_more, sent_all}
 use Rattle.lard_world.proofs.speaking.speak_symbols.Goals as goal
 
@@ -19,8 +19,8 @@ loop-ready-preserved c =
     let turn : speaks_symbols c.args.c b ≡ choice (has_symbol r) = symbols-more c.args.c b r c.loop-ready.invariant.sound (sym c.in-Some.ensures.ready) in
     let test : has_symbol r ≡ true = sym c.has_symbol.ensures ∙ c.if-not-has_symbol.false in
     let more = sent_more (speaks_symbols c.args.c) b new (after_emit b) c.loop-ready.sends c.push.new.self packet (to_client c.args.c (after_emit b) r)
-        (turn ∙ ap choice test) c.in-Some.ensures.after
-        (c.in_ok-to_client.ensures.packet ∙ ap (λ x. to_client c.args.c x r) c.in-Some.ensures.after) c.in_ok-push.ensures.ok in
+    (turn ∙ ap choice test) c.in-Some.ensures.after
+    (c.in_ok-to_client.ensures.packet ∙ ap (λ x. to_client c.args.c x r) c.in-Some.ensures.after) c.in_ok-push.ensures.ok in
     record {
       said = more.0 ∙ c.loop-ready.invariant.said;
       after = more.1 ∙ c.loop-ready.invariant.after;
