@@ -20,11 +20,10 @@ use Rattle.lard_app.specs.Run.{Completes, Replays}
 use Rattle.lard_app.proofs.Growth.{begins, passed-grown, passed-none, BeginsWith}
 use Rattle.lard_app.proofs.Keeping.{Keeps, begin-keeps, passed-keeps}
 use Rattle.lard_app.proofs.Passing.{passed-read}
-use Rattle.lard_laws_places.proofs.Reached.{reached-bounded}
 
 -- what a line's call relies on
 pub keeps-sound : (s : Progress) (es : List Event) → Keeps s es → IsSound s
-keeps-sound s es k = record { bounded = reached-bounded s.machine.config [] s.machine (es, k.runs); stream = k.stream; lines = k.lines; read = k.read }
+keeps-sound s es k = record { lines = k.lines; read = k.read }
 
 -- the state after some lines, with the text that is left
 pub record Going (text rest : List ℕ) (s : Progress) (old now : Option (List ℕ)) : Type 0 where

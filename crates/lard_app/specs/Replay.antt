@@ -10,7 +10,6 @@ use Rattle.lard_base.specs.Outside.{Front}
 use Rattle.lard_base.specs.declared.event.Event.{Event}
 use Rattle.lard_journal.specs.declared.rec.Rec.{Rec}
 use Rattle.lard_journal.specs.Report.{heading_line, rec_line, report}
-use Rattle.lard_machine.specs.Bounds.{IsBounded}
 use Rattle.lard_machine.specs.Machine.{machine_step}
 use Rattle.lard_machine.specs.Machine as machine
 use Rattle.lard_machine.specs.declared.fault.StepFault.{StepFault}
@@ -220,10 +219,8 @@ gain s line = if is_past s line then [] else judged_gain (counted s line) (judge
 
 -- ---- what a line's call relies on, and does
 
--- the machine's numbers are bounded, and there are no more lines than bytes
+-- there are no more lines than bytes, and no more bytes than an input may have
 pub record IsSound (s : Progress) : Type 0 where
-  pub bounded : IsBounded s.machine
-  pub stream : s.machine.config.stream ≤ 2 ^ 30
   pub lines : s.lines ≤ s.read
   pub read : s.read ≤ input_limit
 

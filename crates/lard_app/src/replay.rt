@@ -5,7 +5,6 @@ ghost use Rattle.std.specs.List.{flat_map};
 ghost use Rattle.lard_base.specs.Causes.{Rose};
 ghost use Rattle.lard_base.specs.Config.{range_check};
 ghost use Rattle.lard_journal.specs.Report.{rec_line};
-ghost use Rattle.lard_machine.specs.Bounds.{IsBounded};
 ghost use Rattle.lard_schedule.specs.Events.{IsInRange};
 ghost use Rattle.lard_schedule.specs.Reader.{HasRange};
 ghost use Rattle.lard_app.specs.Forms.{missing};
@@ -92,8 +91,6 @@ impl Replay {
     /// Takes what a line stands for, once the line is counted and the reader has passed it.
     fn take<K: Sink>(&mut self, alloc: Global, sink: &mut K, item: Item) -> Result<(), Status>
         requires usable { self.old.world.spoiled ≡ false }
-        requires bounded { IsBounded self.old.world.machine }
-        requires stream { self.old.world.machine.config.stream ≤ 2 ^ 30 }
         requires range { HasRange item }
         ensures taken { Passes (taken (seen self.old) item) (item_gain (seen self.old) item) (K.written sink.old) (K.written sink.new) (seen self.new) result }
         ensures usable { OnOk result (self.new.world.spoiled ≡ false) }
@@ -146,8 +143,6 @@ impl Replay {
     /// Does the step of an event, and writes its records.
     fn step<K: Sink>(&mut self, alloc: Global, sink: &mut K, event: Event) -> Result<(), Status>
         requires usable { self.old.world.spoiled ≡ false }
-        requires bounded { IsBounded self.old.world.machine }
-        requires stream { self.old.world.machine.config.stream ≤ 2 ^ 30 }
         requires range { IsInRange event }
         ensures taken { Passes (stepped (seen self.old) event (missing event)) (item_gain (seen self.old) (Item.Event event)) (K.written sink.old) (K.written sink.new) (seen self.new) result }
         ensures usable { OnOk result (self.new.world.spoiled ≡ false) }

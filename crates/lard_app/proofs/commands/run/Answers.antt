@@ -1,28 +1,28 @@
 use Rattle.lard_app.proofs.Endings.{caused}
-use Rattle.lard_app.proofs.Lawful.{lawful, prefix, service, tells}
+use Rattle.lard_app.proofs.Lawful.{follows, machine, network, ownership, prefix, resets, service, sole_sender, tells, writers}
 use Rattle.lard_app.proofs.Settled.{settled}
 use Rattle.lard_app.proofs.commands.run.Goals as goal
 
 pub returns-then-not-asks_replay-clause-causes : goal.returns-then-not-asks_replay-clause-causes
-returns-then-not-asks_replay-clause-causes g c = λ text status. caused text status
+returns-then-not-asks_replay-clause-causes g c = caused
 
 pub returns-then-not-asks_replay-clause-machine : goal.returns-then-not-asks_replay-clause-machine
-returns-then-not-asks_replay-clause-machine g c = λ text. (lawful text).machine
+returns-then-not-asks_replay-clause-machine g c = machine
 
 pub returns-then-not-asks_replay-clause-follows : goal.returns-then-not-asks_replay-clause-follows
-returns-then-not-asks_replay-clause-follows g c = λ text. (lawful text).follows
+returns-then-not-asks_replay-clause-follows g c = follows
 
 pub returns-then-not-asks_replay-clause-network : goal.returns-then-not-asks_replay-clause-network
-returns-then-not-asks_replay-clause-network g c = λ text. (lawful text).network
+returns-then-not-asks_replay-clause-network g c = network
 
 pub returns-then-not-asks_replay-clause-ownership : goal.returns-then-not-asks_replay-clause-ownership
-returns-then-not-asks_replay-clause-ownership g c = λ text. (lawful text).ownership
+returns-then-not-asks_replay-clause-ownership g c = ownership
 
 pub returns-then-not-asks_replay-clause-sole_sender : goal.returns-then-not-asks_replay-clause-sole_sender
-returns-then-not-asks_replay-clause-sole_sender g c = λ text. (lawful text).sole_sender
+returns-then-not-asks_replay-clause-sole_sender g c = sole_sender
 
 pub returns-then-not-asks_replay-clause-writers : goal.returns-then-not-asks_replay-clause-writers
-returns-then-not-asks_replay-clause-writers g c = λ text. (lawful text).writers
+returns-then-not-asks_replay-clause-writers g c = writers
 
 pub returns-then-not-asks_replay-clause-tells : goal.returns-then-not-asks_replay-clause-tells
 returns-then-not-asks_replay-clause-tells g c = λ text. tells text c.every_run_is_true.ensures.told
@@ -34,28 +34,28 @@ pub returns-then-not-asks_replay-clause-service : goal.returns-then-not-asks_rep
 returns-then-not-asks_replay-clause-service g c = λ text. service text c.every_run_is_true.ensures.service
 
 pub returns-then-not-asks_replay-clause-resets : goal.returns-then-not-asks_replay-clause-resets
-returns-then-not-asks_replay-clause-resets g c = λ text. (lawful text).resets
+returns-then-not-asks_replay-clause-resets g c = resets
 
 pub returns-clause-causes : goal.returns-clause-causes
-returns-clause-causes g c = λ text status. caused text status
+returns-clause-causes g c = caused
 
 pub returns-clause-machine : goal.returns-clause-machine
-returns-clause-machine g c = λ text. (lawful text).machine
+returns-clause-machine g c = machine
 
 pub returns-clause-follows : goal.returns-clause-follows
-returns-clause-follows g c = λ text. (lawful text).follows
+returns-clause-follows g c = follows
 
 pub returns-clause-network : goal.returns-clause-network
-returns-clause-network g c = λ text. (lawful text).network
+returns-clause-network g c = network
 
 pub returns-clause-ownership : goal.returns-clause-ownership
-returns-clause-ownership g c = λ text. (lawful text).ownership
+returns-clause-ownership g c = ownership
 
 pub returns-clause-sole_sender : goal.returns-clause-sole_sender
-returns-clause-sole_sender g c = λ text. (lawful text).sole_sender
+returns-clause-sole_sender g c = sole_sender
 
 pub returns-clause-writers : goal.returns-clause-writers
-returns-clause-writers g c = λ text. (lawful text).writers
+returns-clause-writers g c = writers
 
 pub returns-clause-tells : goal.returns-clause-tells
 returns-clause-tells g c = λ text. tells text c.every_run_is_true.ensures.told
@@ -67,7 +67,7 @@ pub returns-clause-service : goal.returns-clause-service
 returns-clause-service g c = λ text. service text c.every_run_is_true.ensures.service
 
 pub returns-clause-resets : goal.returns-clause-resets
-returns-clause-resets g c = λ text. (lawful text).resets
+returns-clause-resets g c = resets
 
 pub returns-clause-complete : goal.returns-clause-complete
 returns-clause-complete g c = λ asked read written. settled c.replay.result _ _ _ _ c.replay.ensures.ran (λ e. read (c.replay.ensures.read_fault e)) (λ e. written (c.replay.ensures.write_fault e))
