@@ -4,7 +4,7 @@ use crate::Arrival::{AckOwed, Fine, Reset};
 use crate::tests::words::Said::{Ack, Bare, Data, Fin, Push, Rst, RstAck, Syn, SynAck, Whole};
 use crate::tests::words::Step::{
     Again, Clear, Comes, Consumes, Discards, Finishes, Holds, Idle, PeerDone, Queues, Rests, Sends,
-    Unread,
+    Unread, WasReset,
 };
 use crate::tests::words::{Step, W, established, from_syn};
 use std::test::Fail;
@@ -155,7 +155,14 @@ fn four_cases_of_acceptability(rt: HostRuntime) -> Result<(), Fail> {
 const RESETS: &[(&str, &[Step])] = &[
     (
         "a RST at RCV.NXT resets, and nothing is sent any more",
-        &[Queues(b"abc"), Comes(Rst(1001), 0, Reset), Rests, Idle],
+        &[
+            Queues(b"abc"),
+            WasReset(false),
+            Comes(Rst(1001), 0, Reset),
+            WasReset(true),
+            Rests,
+            Idle,
+        ],
     ),
     (
         "elsewhere in the window it is challenged",

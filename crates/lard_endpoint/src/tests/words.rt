@@ -57,6 +57,8 @@ pub enum Step {
     Clear(bool),
     /// The peer's FIN was taken, or not.
     PeerDone(bool),
+    /// The peer reset the connection, or not.
+    WasReset(bool),
 }
 
 const ACK: Flags = Flags {
@@ -180,6 +182,7 @@ fn agrees(endpoint: &mut Endpoint, step: Step) -> bool {
         Step::Holds(n) => return endpoint.unread().len() == n,
         Step::Clear(clear) => return endpoint.clear() == clear,
         Step::PeerDone(done) => return endpoint.peer_done() == done,
+        Step::WasReset(reset) => return endpoint.was_reset() == reset,
         Step::Finishes => {
             endpoint.finish();
             return true;
