@@ -257,6 +257,9 @@ fn reported(
         stream,
         ..Config::standard()
     };
+    if config.check().is_err() {
+        return Err(Fail::new("a configuration that can be used"));
+    }
     let mut world = World::new(alloc, config, Files::new(alloc));
     let fault = run(alloc, &mut world, c, steps);
     let usable = !world.spoiled();
