@@ -3,6 +3,7 @@ use Rattle.std.proofs.Common.{ℕ, List, [], ◌≤◌, ◌^◌}
 use Rattle.lard_answers.specs.Answers.{no_files}
 use Rattle.lard_history.specs.Laws.{AcceptsOnlyAnswers, Follows, IsNetwork, IsOwnership, IsSoleSender, MayOwn, MayReset, MaySend, MayWrite, ResetsAtTheLimit, ServesTheAnswers, TellsTheTruth, WritesWhileOpen}
 use Rattle.lard_laws_bytes.specs.Runs.{ClientsAcceptAnswers, JournalsServeTheAnswers, JournalsTellTheTruth}
+use Rattle.lard_laws_clients.specs.Laws.{ClientsTakeInOrder, TakesInOrder}
 use Rattle.lard_laws_places.proofs.Reached.{journals-follow, reached-holds, reached-may}
 use Rattle.lard_machine.specs.Machine.{IsReached, Passes, start}
 use Rattle.lard_app.specs.Replay.{config_of, events_of, journal_of, machine_of}
@@ -39,6 +40,9 @@ module _ (text : List ℕ) where
 
   pub resets : ResetsAtTheLimit (config_of text).stream (journal_of text)
   resets = reached-may (config_of text) [] (machine_of text) reached (MayReset (config_of text).stream) (λ past x l. l.3)
+
+  pub takers : ClientsTakeInOrder → TakesInOrder (journal_of text)
+  takers law = law (config_of text) [] (machine_of text) small reached
 
   -- ---- laws of bytes, which a run without files has
 

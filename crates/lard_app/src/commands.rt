@@ -6,6 +6,7 @@ ghost use Rattle.std.specs.List.{position};
 ghost use Rattle.lard_base.specs.Causes.{Rose};
 ghost use Rattle.lard_answers.specs.Answers.{no_files};
 ghost use Rattle.lard_history.specs.Laws.{AcceptsOnlyAnswers, Follows, IsNetwork, IsOwnership, IsSoleSender, ResetsAtTheLimit, ServesTheAnswers, TellsTheTruth, WritesWhileOpen};
+ghost use Rattle.lard_laws_clients.specs.Laws.{TakesInOrder};
 ghost use Rattle.lard_machine.specs.Machine.{Passes, start};
 ghost use Rattle.lard_app.specs.Causes.{Ends};
 ghost use Rattle.lard_app.specs.declared.status.Status.{Status};
@@ -17,6 +18,7 @@ use crate::replay::{INPUT_LIMIT, Replay};
 use crate::status::Status;
 use lard_base::{InputFault, Sink, Source, read_up_to};
 use lard_laws_bytes::every_run_is_true;
+use lard_laws_clients::clients_take_what_comes_next;
 use std::alloc::Global;
 
 /// Does all that the program does for these words, which are those after its name. `replay` reads a schedule of at
@@ -53,12 +55,14 @@ pub fn run<S: Source, K: Sink>(
     ensures ownership { (text : List ℕ) → IsOwnership (journal_of text) }
     ensures sole_sender { (text : List ℕ) → IsSoleSender (journal_of text) }
     ensures writers { (text : List ℕ) → WritesWhileOpen (journal_of text) }
+    ensures takers { (text : List ℕ) → TakesInOrder (journal_of text) }
     ensures tells { (text : List ℕ) → TellsTheTruth no_files (journal_of text) }
     ensures prefix { (text : List ℕ) → AcceptsOnlyAnswers no_files (journal_of text) }
     ensures service { (text : List ℕ) → ServesTheAnswers no_files (journal_of text) }
     ensures resets { (text : List ℕ) → ResetsAtTheLimit (config_of text).stream (journal_of text) }
 {
     every_run_is_true();
+    clients_take_what_comes_next();
     if !asks_replay(words) {
         return Status::Usage;
     }

@@ -1,9 +1,8 @@
 -- Each event keeps what holds of the whole machine.
-use Rattle.std.proofs.Common.{◌≡◌, ◌≢◌, ℕ, zero, suc, ◌+◌, ◌-◌, ◌≤◌, ◌^◌, List, [], ◌∷◌, ◌++◌, length, take, Bool, true, false, cond, Option, Some, None, Result, Ok, refl, sym, ap, ◌∙◌, subst, is_some, arith, nat_eq, nat_lt}
+use Rattle.std.proofs.Common.{◌≡◌, ◌≢◌, ℕ, ◌+◌, ◌-◌, ◌≤◌, ◌^◌, List, [], ◌∷◌, ◌++◌, length, take, Bool, false, cond, Option, Some, None, Result, Ok, refl, sym, ap, ◌∙◌, subst, is_some, arith, nat_lt}
 use Rattle.std.proofs.lemmas.Bool.{both_ways}
 use Rattle.std.proofs.lemmas.Bool.Decides.{nat_tests}
 use Rattle.std.specs.FinMap as table
-use Rattle.std.specs.Prelude.{slice_get}
 use Rattle.lard_answers.specs.Answers.{FilesAt, verdicts}
 use Rattle.lard_base.specs.declared.event.Event.{Event}
 use Rattle.lard_base.specs.declared.event.Event.TheVariants as event
@@ -44,7 +43,7 @@ use Rattle.lard_laws_bytes.specs.Truthful.{AreFair, ConnAgrees, IsFair, IsTruthf
 use Rattle.lard_laws_bytes.proofs.Acting.{IsAside, agreed, client-moves, front-moves, got-aside, nothing-aside}
 use Rattle.lard_laws_bytes.proofs.ClientHearing.{hears-turned}
 use Rattle.lard_laws_bytes.proofs.ClientTurns.{aborts-turned, holds-turned, opens-agreeing, shuts-turned, takes-turned, timer-turned, writes-turned}
-use Rattle.lard_laws_bytes.proofs.Later.{fair-lost, put, put-same}
+use Rattle.lard_laws_bytes.proofs.Later.{fair-lost, fair-packet, put, put-same}
 use Rattle.lard_laws_bytes.proofs.Content.{ArePlain, IsOfContent, accept-content, notes-may, plain-may, serve-content}
 use Rattle.lard_laws_bytes.proofs.Moves.{Moves, moved}
 use Rattle.lard_laws_bytes.proofs.Notes.{other-number, same-number}
@@ -241,20 +240,8 @@ module _ (hears : FrontHearsTruth) (fires : FrontTimerIsTrue) (m : Machine) (T :
   -- ---- packets
 
   -- the packet that comes was fair
-  abbrev FairIf : Option Packet → Type 0
-  FairIf None = Unit {0}
-  FairIf (Some p) = IsFair T.talks (λ c. table.get m.clients c) p.from p.to p.bytes
-
-  fair-at : (ps : List Packet) (i : ℕ) (p : Packet) → AreFair T.talks (λ c. table.get m.clients c) ps → slice_get ps i ≡ Some p → IsFair T.talks (λ c. table.get m.clients c) p.from p.to p.bytes
-  fair-at [] i p f e = absurd cc
-  fair-at (q ∷ qs) zero p f e = subst FairIf e f.0
-  fair-at (q ∷ qs) (suc i) p f e = fair-at qs i p f.1 e
-
   packet-fair : (k : ℕ) (p : Packet) → packet_at m.net k ≡ Some p → IsFair T.talks (λ c. table.get m.clients c) p.from p.to p.bytes
-  packet-fair k p e = go (nat_eq k 0) e where
-    go : (b : Bool) → cond b None (slice_get m.net (k - 1)) ≡ Some p → IsFair T.talks (λ c. table.get m.clients c) p.from p.to p.bytes
-    go true e = absurd cc
-    go false e = fair-at m.net (k - 1) p T.packets e
+  packet-fair k p e = fair-packet T.talks (λ c. table.get m.clients c) m.net k p T.packets e
 
   -- true segments come to their places
   front-gets : (k c : ℕ) (p : Packet) (x : Station) → packet_at m.net k ≡ Some p → p.from ≡ place.Client c → p.to ≡ place.Front → table.get m.clients c ≡ Some x

@@ -1,10 +1,10 @@
 -- What was fair stays so as streams go on, and a change of one connection changes no other.
-use Rattle.std.proofs.Common.{◌≡◌, ◌≢◌, ℕ, zero, suc, ◌≤◌, List, [], ◌∷◌, ◌++◌, length, Bool, true, false, cond, Option, refl, sym, ap, ◌∙◌, arith, nat_eq, is_some}
+use Rattle.std.proofs.Common.{◌≡◌, ◌≢◌, ℕ, zero, suc, ◌≤◌, List, [], ◌∷◌, ◌++◌, length, Bool, true, false, cond, Option, Some, None, refl, sym, subst, ap, ◌∙◌, ◌-◌, arith, nat_eq, is_some, slice_get}
 use Rattle.lard_base.specs.declared.place.Place.{Place}
 use Rattle.lard_base.specs.declared.place.Place.TheVariants.{Front, Node, Client}
 use Rattle.lard_machine.specs.declared.places.Station.{Station}
 use Rattle.lard_net.specs.declared.net.Packet.{Packet}
-use Rattle.lard_net.specs.Net.{lose_at}
+use Rattle.lard_net.specs.Net.{lose_at, packet_at}
 use Rattle.lard_segment.specs.Segment.{Said}
 use Rattle.lard_seq.specs.Seq.{seq_add}
 use Rattle.lard_truth.specs.Truth.{GoesOn, Stream}
@@ -62,6 +62,22 @@ pub fair-lost : (k : ℕ → Talk) (xs : ℕ → Option Station) (n : ℕ) (ps :
 fair-lost k xs n [] f = f
 fair-lost k xs zero (p ∷ ps) f = f
 fair-lost k xs (suc n) (p ∷ ps) f = (f.0, fair-lost k xs n ps f.1)
+
+-- each packet that was sent is fair
+abbrev FairIf : (ℕ → Talk) → (ℕ → Option Station) → Option Packet → Type 0
+FairIf k xs None = Unit {0}
+FairIf k xs (Some p) = IsFair k xs p.from p.to p.bytes
+
+fair-at : (k : ℕ → Talk) (xs : ℕ → Option Station) (ps : List Packet) (i : ℕ) (p : Packet) → AreFair k xs ps → slice_get ps i ≡ Some p → IsFair k xs p.from p.to p.bytes
+fair-at k xs [] i p f e = absurd cc
+fair-at k xs (q ∷ qs) zero p f e = subst (FairIf k xs) e f.0
+fair-at k xs (q ∷ qs) (suc i) p f e = fair-at k xs qs i p f.1 e
+
+pub fair-packet : (k : ℕ → Talk) (xs : ℕ → Option Station) (ps : List Packet) (i : ℕ) (p : Packet) → AreFair k xs ps → packet_at ps i ≡ Some p → IsFair k xs p.from p.to p.bytes
+fair-packet k xs ps i p f e = go (nat_eq i 0) e where
+  go : (b : Bool) → cond b None (slice_get ps (i - 1)) ≡ Some p → IsFair k xs p.from p.to p.bytes
+  go true e = absurd cc
+  go false e = fair-at k xs ps (i - 1) p f e
 
 -- ---- one connection's talk is exchanged
 abbrev pub put : (ℕ → Talk) → ℕ → Talk → ℕ → Talk

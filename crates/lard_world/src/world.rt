@@ -4,6 +4,7 @@ ghost use Rattle.std.specs.Prelude.{◌≡◌, false};
 ghost use Rattle.lard_base.specs.Config.{IsInRange};
 ghost use Rattle.lard_files.specs.Files.{file_at};
 ghost use Rattle.lard_history.specs.Laws.{AcceptsOnlyAnswers, IsNetwork, IsOwnership, IsSoleSender, ResetsAtTheLimit, ServesTheAnswers, TellsTheTruth, WritesWhileOpen};
+ghost use Rattle.lard_laws_clients.specs.Laws.{TakesInOrder};
 ghost use Rattle.lard_machine.specs.Bounds.{HasRule};
 ghost use Rattle.lard_machine.specs.Machine.{Steps, machine_step, start};
 ghost use Rattle.lard_world.specs.World.{is_short};
@@ -14,6 +15,7 @@ use lard_base::{Config, Event};
 use lard_files::Files;
 use lard_journal::Journal;
 use lard_laws_bytes::every_run_is_true;
+use lard_laws_clients::clients_take_what_comes_next;
 use lard_laws_places::{journals_are_lawful, states_are_told};
 use lard_machine::{FrontConn, Machine, Station, StepFault};
 use lard_net::Net;
@@ -78,6 +80,7 @@ impl World {
         ensures ownership { IsOwnership self.new.machine.journal }
         ensures sole_sender { IsSoleSender self.new.machine.journal }
         ensures writers { WritesWhileOpen self.new.machine.journal }
+        ensures takers { TakesInOrder self.new.machine.journal }
         ensures resets { ResetsAtTheLimit self.old.machine.config.stream self.new.machine.journal }
         ensures tells { TellsTheTruth (file_at self.old.machine.files) self.new.machine.journal }
         ensures serves { ServesTheAnswers (file_at self.old.machine.files) self.new.machine.journal }
@@ -86,6 +89,7 @@ impl World {
         states_are_told();
         journals_are_lawful();
         every_run_is_true();
+        clients_take_what_comes_next();
         let done = steps::step(&mut self.machine, alloc, event);
         self.spoiled = is_short(done);
         done

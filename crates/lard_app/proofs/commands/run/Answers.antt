@@ -1,5 +1,5 @@
 use Rattle.lard_app.proofs.Endings.{caused}
-use Rattle.lard_app.proofs.Lawful.{follows, machine, network, ownership, prefix, resets, service, sole_sender, tells, writers}
+use Rattle.lard_app.proofs.Lawful.{follows, machine, network, ownership, prefix, resets, service, sole_sender, takers, tells, writers}
 use Rattle.lard_app.proofs.Settled.{settled}
 use Rattle.lard_app.proofs.commands.run.Goals as goal
 
@@ -23,6 +23,9 @@ returns-then-not-asks_replay-clause-sole_sender g c = sole_sender
 
 pub returns-then-not-asks_replay-clause-writers : goal.returns-then-not-asks_replay-clause-writers
 returns-then-not-asks_replay-clause-writers g c = writers
+
+pub returns-then-not-asks_replay-clause-takers : goal.returns-then-not-asks_replay-clause-takers
+returns-then-not-asks_replay-clause-takers g c = λ text. takers text c.clients_take_what_comes_next.ensures
 
 pub returns-then-not-asks_replay-clause-tells : goal.returns-then-not-asks_replay-clause-tells
 returns-then-not-asks_replay-clause-tells g c = λ text. tells text c.every_run_is_true.ensures.told
@@ -56,6 +59,9 @@ returns-clause-sole_sender g c = sole_sender
 
 pub returns-clause-writers : goal.returns-clause-writers
 returns-clause-writers g c = writers
+
+pub returns-clause-takers : goal.returns-clause-takers
+returns-clause-takers g c = λ text. takers text c.clients_take_what_comes_next.ensures
 
 pub returns-clause-tells : goal.returns-clause-tells
 returns-clause-tells g c = λ text. tells text c.every_run_is_true.ensures.told

@@ -3,6 +3,7 @@ use Rattle.std.proofs.Common.{◌∙◌, ap, sym, subst, ℕ, List}
 use Rattle.lard_base.specs.declared.config.Config.{Config}
 use Rattle.lard_files.specs.Files.{file_at}
 use Rattle.lard_history.specs.Laws.{AcceptsOnlyAnswers, IsNetwork, IsOwnership, IsSoleSender, ResetsAtTheLimit, ServesTheAnswers, TellsTheTruth, WritesWhileOpen}
+use Rattle.lard_laws_clients.specs.Laws.{TakesInOrder}
 use Rattle.lard_world.specs.World.{Standing}
 use Rattle.lard_world.proofs.Runs.{runs-on, still}
 use Rattle.lard_world.proofs.world.World.step.Goals as goal
@@ -40,6 +41,12 @@ returns-clause-writers c =
     let run = c.self.invariant (ap (λ w. w.spoiled) c.self.view_is ∙ c.requires.usable) in
     still c.self.inside.machine c.step-done.new.machine c.args.event run c.requires.ruled WritesWhileOpen
     (λ m r s f. c.journals_are_lawful.ensures.writers m.config m.files m r.reached) c.step-done.result c.step-done.ensures
+
+pub returns-clause-takers : goal.returns-clause-takers
+returns-clause-takers c =
+    let run = c.self.invariant (ap (λ w. w.spoiled) c.self.view_is ∙ c.requires.usable) in
+    still c.self.inside.machine c.step-done.new.machine c.args.event run c.requires.ruled TakesInOrder
+    (λ m r s f. c.clients_take_what_comes_next.ensures m.config m.files m r.stream r.reached) c.step-done.result c.step-done.ensures
 
 pub returns-clause-resets : goal.returns-clause-resets
 returns-clause-resets c =

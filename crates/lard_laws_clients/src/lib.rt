@@ -1,0 +1,17 @@
+//! What clients take is what comes next: the law of the machine that speaks of each record of a client.
+//!
+//! It stands above the laws of places and of bytes, and holds for every run. It has no code.
+#![tactic(auto)]
+
+ghost use Rattle.lard_laws_clients.specs.Laws.{ClientsTakeInOrder};
+
+use lard_laws_bytes::every_run_is_true;
+use lard_laws_places::states_are_told;
+
+/// In every run, a client accepts bytes exactly of the segment that it got, in order, and nothing twice.
+pub fn clients_take_what_comes_next()
+    ensures { ClientsTakeInOrder }
+{
+    states_are_told();
+    every_run_is_true();
+}
