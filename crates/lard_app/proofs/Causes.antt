@@ -1,11 +1,14 @@
 -- A line ends a replay with a status exactly where it gives its cause.
 use Rattle.std.proofs.Common.{◌≡◌, ℕ, ◌+◌, ◌^◌, ◌≤◌, ◌<◌, List, length, Bool, true, false, cond, Option, Some, None, Result, Ok, Err, refl, sym, ap, ◌∙◌, subst, inl, inr, ⊎_elim, arith}
 use Rattle.std.proofs.lemmas.Bool.Decides.{nat_tests}
-use Rattle.std.specs.Prelude.{nat_le, nat_lt}
+use Rattle.std.specs.Prelude.{is_some, nat_le, nat_lt}
 use Rattle.lard_base.specs.Config.{config_check, range_check}
 use Rattle.lard_base.specs.declared.config.ConfigFault.{ConfigFault}
 use Rattle.lard_base.specs.declared.config.Key.{Key}
 use Rattle.lard_base.specs.declared.event.Event.{Event}
+use Rattle.lard_files.specs.Files.{add_check, file_at, first_fault, total}
+use Rattle.lard_files.specs.declared.fault.FileFault.{FileFault}
+use Rattle.lard_files.specs.declared.fault.FileFault.TheVariants as file_fault
 use Rattle.lard_history.specs.Journal.{answered_bytes, packet_bytes, sent_count}
 use Rattle.lard_machine.specs.Machine.{limit_of, machine_step}
 use Rattle.lard_machine.specs.declared.fault.StepFault.{StepFault}
@@ -18,14 +21,13 @@ use Rattle.lard_schedule.specs.declared.item.Item.TheVariants as item
 use Rattle.lard_schedule.specs.Reader.{item_of}
 use Rattle.lard_schedule.proofs.Lines.{line_read, line_spelled, none_is}
 use Rattle.lard_app.specs.declared.status.Form.{Form}
-use Rattle.lard_app.specs.declared.status.Form.TheVariants as form
 use Rattle.lard_app.specs.declared.status.Status.{Status}
 use Rattle.lard_app.specs.declared.status.Status.TheVariants.{Done, Usage, Refused, ReadFault, WriteFault, NoMemory, Limit}
 use Rattle.lard_app.specs.declared.status.Why.{Why}
 use Rattle.lard_app.specs.declared.status.Why.TheVariants as why
-use Rattle.lard_app.specs.Causes.{EndsLine, IsUnbuilt, IsUnfit, Reaches, Refuses, StandsFor, Tries, limit_at}
+use Rattle.lard_app.specs.Causes.{AddsNone, EndsLine, IsUnbuilt, IsUnfit, Reaches, Refuses, StandsFor, Tries, limit_at}
 use Rattle.lard_app.specs.Forms.{missing, unbuilt}
-use Rattle.lard_app.specs.Replay.{Progress, begun, config_set, counted, ended_by, followed, found, input_limit, is_past, item_taken, moved, passed, stepped, taken, unless_unbuilt}
+use Rattle.lard_app.specs.Replay.{Progress, begun, config_set, counted, ended_by, file_ends, filed, followed, found, input_limit, is_past, item_taken, moved, passed, stepped, taken, unless_unbuilt}
 use Rattle.lard_app.proofs.Failures.{IsFault, fault-step, limit-step, step-fault}
 use Rattle.lard_app.proofs.Knows.{Knows}
 use Rattle.lard_app.proofs.Passing.{judged_by, passed_by}
@@ -44,6 +46,19 @@ is_within r b n e o = grind (arith, nat_tests, e, o)
 
 within : (r b n : ℕ) → r ≡ b → b + (n + 1) ≤ input_limit → nat_lt input_limit (r + n + 1) ≡ false
 within r b n e o = grind (arith, nat_tests, e, o)
+
+-- ---- files
+
+-- no check says that memory ran out
+no_memory : (there : Bool) (count sum len : ℕ) → ¬ (first_fault there count sum len ≡ Err file_fault.NoMemory)
+no_memory there count sum len e = go there (nat_lt (2 ^ 20) len) (nat_lt 65536 (count + 1)) (nat_lt (2 ^ 26) (sum + len)) e where
+  go : (p q r t : Bool) → ¬ (◌≡◌ {A = Result (Unit {0}) FileFault} (cond p (Err file_fault.Repeated) (cond q (Err (file_fault.TooLong len)) (cond r (Err (file_fault.TooMany (count + 1))) (cond t (Err (file_fault.TooMuch (sum + len))) (Ok tt)))))
+      (Err file_fault.NoMemory))
+  go true q r t h = cc
+  go false true r t h = cc
+  go false false true t h = cc
+  go false false false true h = cc
+  go false false false false h = cc
 
 -- ---- limits
 
@@ -66,7 +81,7 @@ err_status x y e = cc
 
 module _ (n bytes : ℕ) (s : Progress) (k : Knows n bytes s) (line : List ℕ) where
   told : Told s.machine
-  told = reached-told s.machine.config s.machine (k.events, k.keeps.runs)
+  told = reached-told s.machine.config s.machine.files s.machine (k.events, k.keeps.runs)
 
   pub next_number : s.lines + 1 ≡ n + 1
   next_number = ap (λ m. m + 1) k.lines
@@ -112,6 +127,19 @@ module _ (n bytes : ℕ) (s : Progress) (k : Knows n bytes s) (line : List ℕ) 
     set-ends key value (Ok u) stands c h = cc
     set-ends key value (Err fault) stands c h = refused_here (why.Config fault) (item.Set key value, stands, c) h
 
+    file-ends : (path b : List ℕ) (f : FileFault) → StandsFor s line (item.File path b) → add_check s.files path (length b) ≡ Err f
+        → ◌≡◌ {A = Result Progress Status} (Err (file_ends (s.lines + 1) f)) (Err status) → EndsLine s n bytes line status
+    file-ends path b file_fault.Repeated stands c h = refused_here why.Repeated (path, b, stands, c) h
+    file-ends path b (file_fault.TooLong m) stands c h = refused_here (why.TooLong m) (path, b, stands, c) h
+    file-ends path b (file_fault.TooMany m) stands c h = refused_here (why.TooMany m) (path, b, stands, c) h
+    file-ends path b (file_fault.TooMuch m) stands c h = refused_here (why.TooMuch m) (path, b, stands, c) h
+    file-ends path b file_fault.NoMemory stands c h = absurd (no_memory (is_some (file_at s.files path)) (length s.files) (total s.files) (length b) c)
+
+    filed-ends : (path b : List ℕ) (r : Result (Unit {0}) FileFault) → StandsFor s line (item.File path b) → add_check s.files path (length b) ≡ r
+        → filed (followed (counted s line) (item.File path b)) path b r ≡ Err status → EndsLine s n bytes line status
+    filed-ends path b (Ok u) stands c h = cc
+    filed-ends path b (Err f) stands c h = file-ends path b f stands c h
+
     begun-ends : (r : Result (Unit {0}) ConfigFault) → StandsFor s line item.Go → config_check s.config ≡ r → begun (followed (counted s line) item.Go) r ≡ Err status → EndsLine s n bytes line status
     begun-ends (Ok u) stands c h = cc
     begun-ends (Err fault) stands c h = refused_here (why.Config fault) (item.Go, stands, c) h
@@ -119,7 +147,7 @@ module _ (n bytes : ℕ) (s : Progress) (k : Knows n bytes s) (line : List ℕ) 
     item-ends : (x : Item) → StandsFor s line x → taken (followed (counted s line) x) x ≡ Err status → EndsLine s n bytes line status
     item-ends item.Header stands h = cc
     item-ends (item.Set key value) stands h = set-ends key value (range_check key value) stands refl h
-    item-ends (item.File path bytes) stands h = refused_here (why.FormNotBuilt form.File) (inr (item.File path bytes, stands, refl)) h
+    item-ends (item.File path b) stands h = filed-ends path b (add_check s.files path (length b)) stands refl h
     item-ends item.Go stands h = begun-ends (config_check s.config) stands refl h
     item-ends (item.Event e) stands h = event-ends e (missing e) stands refl h
 
@@ -151,7 +179,7 @@ module _ (n bytes : ℕ) (s : Progress) (k : Knows n bytes s) (line : List ℕ) 
     unbuilt-refused : (x : Item) (f : Form) → StandsFor s line x → IsUnbuilt x f → passed s line ≡ Err (Refused (s.lines + 1) (why.FormNotBuilt f))
     unbuilt-refused item.Header f t u = absurd u
     unbuilt-refused (item.Set key value) f t u = absurd u
-    unbuilt-refused (item.File path bytes) f t u = stands_by (item.File path bytes) t ∙ ap (λ g. Err (Refused (s.lines + 1) (why.FormNotBuilt g))) (sym u)
+    unbuilt-refused (item.File path bytes) f t u = absurd u
     unbuilt-refused item.Go f t u = absurd u
     unbuilt-refused (item.Event e) f t u = stands_by (item.Event e) t ∙ ap (stepped (followed (counted s line) (item.Event e)) e) u
 
@@ -162,11 +190,18 @@ module _ (n bytes : ℕ) (s : Progress) (k : Knows n bytes s) (line : List ℕ) 
     unfit-refused item.Go fault t u = stands_by item.Go t ∙ ap (begun (followed (counted s line) item.Go)) u
     unfit-refused (item.Event e) fault t u = absurd u
 
+    file-refused : (f : FileFault) → AddsNone s line f → passed s line ≡ Err (file_ends (s.lines + 1) f)
+    file-refused f u = stands_by (item.File u.0 u.1) u.2 ∙ ap (filed (followed (counted s line) (item.File u.0 u.1)) u.0 u.1) u.3
+
     refused : (cause : Why) → Refuses s line cause → passed s line ≡ Err (Refused (s.lines + 1) cause)
     refused (why.FormNotBuilt f) (inl u) = read_by (Some f) (item_of s.reader line) u refl
     refused (why.FormNotBuilt f) (inr u) = unbuilt-refused u.0 f u.1 u.2
     refused why.Syntax u = read_by None None u.0 ((none_is s.reader line).1 u.1)
     refused (why.Config fault) u = unfit-refused u.0 fault u.1 u.2
+    refused why.Repeated u = file-refused file_fault.Repeated u
+    refused (why.TooLong m) u = file-refused (file_fault.TooLong m) u
+    refused (why.TooMany m) u = file-refused (file_fault.TooMany m) u
+    refused (why.TooMuch m) u = file-refused (file_fault.TooMuch m) u
     refused (why.NotSent j sent) u = tried_by u.0 (fault.NotSent j sent) u.1 (fault-step s.machine told u.0 (fault.NotSent j sent) u.2 u.3)
     refused (why.WasLost j) u = tried_by u.0 (fault.WasLost j) u.1 (fault-step s.machine told u.0 (fault.WasLost j) u.2 u.3)
     refused (why.NoClient c) u = tried_by u.0 (fault.NoClient c) u.1 (fault-step s.machine told u.0 (fault.NoClient c) u.2 u.3)

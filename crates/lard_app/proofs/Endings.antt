@@ -8,7 +8,7 @@ use Rattle.lard_schedule.specs.declared.reader.Stage.TheVariants as stage
 use Rattle.lard_schedule.proofs.Cuts.{first_part}
 use Rattle.lard_app.specs.declared.status.Status.{Status}
 use Rattle.lard_app.specs.declared.status.Status.TheVariants.{Done, Usage, Refused, ReadFault, WriteFault, NoMemory, Limit}
-use Rattle.lard_app.specs.declared.status.Why.TheVariants.{Syntax, Config, NotSent, WasLost, NoClient, Used, FormNotBuilt}
+use Rattle.lard_app.specs.declared.status.Why.TheVariants.{Syntax, Config, Repeated, TooLong, TooMany, TooMuch, NotSent, WasLost, NoClient, Used, FormNotBuilt}
 use Rattle.lard_app.specs.Causes.{Ends, EndsRest, EndsText, Leads, bytes_in}
 use Rattle.lard_app.specs.Replay.{Progress, begin, ended_at, ending, input_limit, is_feed, lines_of, passed, replayed, whole}
 use Rattle.lard_app.proofs.Causes.{ends-line, line-ends, next_number}
@@ -70,6 +70,10 @@ module _ (n bytes : ℕ) (s : Progress) (k : Knows n bytes s) where
   ends-text last (Limit line Answers) u = absurd u
   ends-text last (Limit line Stream) u = absurd u
   ends-text last (Refused line (Config fault)) u = absurd u
+  ends-text last (Refused line Repeated) u = absurd u
+  ends-text last (Refused line (TooLong m)) u = absurd u
+  ends-text last (Refused line (TooMany m)) u = absurd u
+  ends-text last (Refused line (TooMuch m)) u = absurd u
   ends-text last (Refused line (NotSent j m)) u = absurd u
   ends-text last (Refused line (WasLost j)) u = absurd u
   ends-text last (Refused line (NoClient c)) u = absurd u

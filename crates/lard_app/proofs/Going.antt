@@ -89,7 +89,7 @@ module _ (text rest : List ℕ) (s : Progress) (old now : Option (List ℕ)) (g 
           let read = (passed-read s t (take at rest) h.0).1 in
           omega (arith, within.0, line, read, g.read, length-drop (at + 1) rest);
       same = sym (when_passed t h.0);
-      written = subst (Appends old next) (sym (passed-grown s t (take at rest) h.0)) (Appends-trans old now next _ _ g.written h.1);
+      written = subst (Appends old next) (sym (passed-grown s t (take at rest) g.keeps.listed h.0)) (Appends-trans old now next _ _ g.written h.1);
     }
 
     -- the whole report begins with what was written and what the line adds
@@ -98,8 +98,9 @@ module _ (text rest : List ℕ) (s : Progress) (old now : Option (List ℕ)) (g 
       go : (r : Result Progress Status) → passed s (take at rest) ≡ r → (zs : List ℕ) × (report_of (whole text).0 ≡ (report_of s ++ gain s (take at rest)) ++ zs)
       go (Err status) e = ([], ap (λ (p : Progress × Status). report_of p.0) (when_refused status e) ∙ sym (append-nil (report_of s)) ∙ ap (λ xs. report_of s ++ xs) (sym (passed-none s (take at rest) status e)) ∙ sym (append-nil _))
       go (Ok t) e =
-          let from : BeginsWith t (lines_of (drop (at + 1) rest)) (report_of t) = begins t (lines_of (drop (at + 1) rest)) in
-          (from.more, ap (λ (p : Progress × Status). report_of p.0) (when_passed t e) ∙ from.is ∙ ap (λ xs. xs ++ from.more) (passed-grown s t (take at rest) e))
+          let keeps = passed-keeps s t (take at rest) g.events g.keeps e in
+          let from : BeginsWith t (lines_of (drop (at + 1) rest)) (report_of t) = begins t (lines_of (drop (at + 1) rest)) (g.events ++ event_listed (judged s.reader (take at rest))) keeps in
+          (from.more, ap (λ (p : Progress × Status). report_of p.0) (when_passed t e) ∙ from.is ∙ ap (λ xs. xs ++ from.more) (passed-grown s t (take at rest) g.keeps.listed e))
 
     stops_within : (next : Option (List ℕ)) → Front now next (gain s (take at rest)) → Front old next (report_of (whole text).0)
     stops_within next f = let w = whole_begins in front_on old now next (report_of s) (gain s (take at rest)) w.0 (report_of (whole text).0) g.written f w.1

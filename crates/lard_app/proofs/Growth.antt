@@ -1,11 +1,14 @@
 -- The report of a replay grows by what each line adds.
 use Rattle.std.proofs.Common.{◌≡◌, ℕ, ◌+◌, List, [], ◌∷◌, ◌++◌, length, drop, Bool, true, false, cond, Option, Some, None, Result, Ok, Err, refl, sym, ap, ◌∙◌, append_assoc, append-nil}
+use Rattle.std.specs.List.{flat_map}
 use Rattle.lard_base.specs.Config.{config_check, range_check}
 use Rattle.lard_base.specs.declared.config.ConfigFault.{ConfigFault}
 use Rattle.lard_base.specs.declared.config.Key.{Key}
 use Rattle.lard_base.specs.declared.event.Event.{Event}
-use Rattle.lard_journal.specs.Report.{report, heading_line}
-use Rattle.lard_journal.proofs.Growth.{report-append, report-heading}
+use Rattle.lard_files.specs.Files.{add_check}
+use Rattle.lard_files.specs.declared.fault.FileFault.{FileFault}
+use Rattle.lard_journal.specs.Report.{file_text, report, heading_line}
+use Rattle.lard_journal.proofs.Growth.{report-append}
 use Rattle.lard_machine.proofs.Runs.{step-set}
 use Rattle.lard_machine.specs.Bounds.{HasRule}
 use Rattle.lard_machine.specs.Machine.{machine_step, start}
@@ -24,7 +27,8 @@ use Rattle.lard_app.specs.declared.status.Status.{Status}
 use Rattle.lard_app.specs.declared.status.Status.TheVariants.{Limit}
 use Rattle.lard_app.specs.declared.status.Why.{Why}
 use Rattle.lard_app.specs.Forms.{missing}
-use Rattle.lard_app.specs.Replay.{Progress, begun, config_set, counted, followed, gain, go_gain, is_past, item_gain, item_taken, judged, judged_gain, moved, passed, replayed, report_at, report_of, step_gain, stepped, taken}
+use Rattle.lard_app.specs.Replay.{Progress, begun, config_set, counted, event_listed, filed, followed, gain, go_gain, is_past, item_gain, item_taken, judged, judged_gain, moved, passed, replayed, report_at, report_of, sizes, step_gain, stepped, taken}
+use Rattle.lard_app.proofs.Keeping.{Keeps, passed-keeps}
 use Rattle.lard_app.proofs.Passing.{ok_is, passed-took, took-fits, took-gain}
 use Rattle.lard_app.proofs.Steps.{ruled, step-grows}
 
@@ -43,16 +47,22 @@ module _ (s t : Progress) where
   set-grown key value (Err fault) e = cc
 
   -- the reader has passed the line
-  begun-grown : (before : Stage) (r : Result (Unit {0}) ConfigFault) → s.reader.stage ≡ Running → IsBefore before → begun s r ≡ Ok t → report_of t ≡ report_at before s.machine ++ go_gain s.config r
-  begun-grown before (Ok u) running b e =
-      ap report_of (sym (ok_is _ t e)) ∙ ap (λ st. report_at st (start s.config [])) running ∙ report-heading s.config ∙ ap (λ xs. xs ++ heading_line s.config) (sym (before_none before s.machine b))
-  begun-grown before (Err fault) running b e = cc
+  filed-grown : (before : Stage) (path bytes : List ℕ) (r : Result (Unit {0}) FileFault) → s.reader.stage ≡ Files → IsBefore before → filed s path bytes r ≡ Ok t → report_of t ≡ report_at before s.machine ++ []
+  filed-grown before path bytes (Ok u) at b e = ap report_of (sym (ok_is _ t e)) ∙ ap (λ st. report_at st s.machine) at ∙ ap (λ xs. xs ++ []) (sym (before_none before s.machine b))
+  filed-grown before path bytes (Err fault) at b e = cc
+
+  begun-grown : (before : Stage) (r : Result (Unit {0}) ConfigFault) → s.reader.stage ≡ Running → IsBefore before → s.listed ≡ flat_map file_text (sizes s.files) → begun s r ≡ Ok t → report_of t ≡ report_at before s.machine ++ go_gain s r
+  begun-grown before (Ok u) running b listed e =
+      ap report_of (sym (ok_is _ t e)) ∙ ap (λ st. report_at st (start s.config s.files)) running ∙ append-nil (heading_line s.config ++ flat_map file_text (sizes s.files)) ∙ ap (λ xs. heading_line s.config ++ xs) (sym listed)
+      ∙ ap (λ xs. xs ++ (heading_line s.config ++ s.listed)) (sym (before_none before s.machine b))
+  begun-grown before (Err fault) running b listed e = cc
 
   moved-grown : (e : Event) (r : Result Machine StepFault) → s.reader.stage ≡ Running → HasRule e → machine_step s.machine e ≡ r → moved s r ≡ Ok t → report_of t ≡ report_of s ++ step_gain s (moved s r)
   moved-grown e (Err fault) running rule is h = cc
   moved-grown e (Ok m) running rule is h =
-      ap report_of (sym (ok_is _ t h)) ∙ ap (λ st. report_at st m) running ∙ ap (λ c. report c [] m.journal) (step-set s.machine m e rule is).0 ∙ ap (report s.machine.config []) (step-grows s.machine m e rule is)
-      ∙ report-append s.machine.config [] s.machine.journal (drop (length s.machine.journal) m.journal)
+      ap report_of (sym (ok_is _ t h)) ∙ ap (λ st. report_at st m) running ∙ ap (λ c. report c (sizes m.files) m.journal) (step-set s.machine m e rule is).0
+      ∙ ap (λ fs. report s.machine.config (sizes fs) m.journal) (step-set s.machine m e rule is).1 ∙ ap (report s.machine.config (sizes s.machine.files)) (step-grows s.machine m e rule is)
+      ∙ report-append s.machine.config (sizes s.machine.files) s.machine.journal (drop (length s.machine.journal) m.journal)
       ∙ ap (λ st. report_at st s.machine ++ step_gain s (moved s (Ok m))) (sym running)
 
   event-grown : (e : Event) (o : Option Form) → s.reader.stage ≡ Running → IsInRange e → missing e ≡ o → stepped s e o ≡ Ok t → report_of t ≡ report_of s ++ step_gain s (stepped s e o)
@@ -60,23 +70,23 @@ module _ (s t : Progress) where
   event-grown e None running range m h = moved-grown e (machine_step s.machine e) running (ruled e m range) refl h
 
 -- what an item adds, where it may stand
-item-grown : (s t : Progress) (x : Item) → MayStand s.reader x → HasRange x → taken (followed s x) x ≡ Ok t → report_of t ≡ report_of s ++ item_gain (followed s x) x
-item-grown s t item.Header stands range e = ap report_of (sym (ok_is _ t e)) ∙ ap (λ st. report_at st s.machine ++ []) (sym stands)
-item-grown s t (item.Set key value) stands range e = set-grown (followed s (item.Set key value)) t key value (range_check key value) e
-item-grown s t (item.File path bytes) stands range e = cc
-item-grown s t item.Go stands range e = begun-grown (followed s item.Go) t s.reader.stage (config_check s.config) refl stands e
-item-grown s t (item.Event d) stands range e = event-grown (followed s (item.Event d)) t d (missing d) stands range refl e
+item-grown : (s t : Progress) (x : Item) → s.listed ≡ flat_map file_text (sizes s.files) → MayStand s.reader x → HasRange x → taken (followed s x) x ≡ Ok t → report_of t ≡ report_of s ++ item_gain (followed s x) x
+item-grown s t item.Header listed stands range e = ap report_of (sym (ok_is _ t e)) ∙ ap (λ st. report_at st s.machine ++ []) (sym stands)
+item-grown s t (item.Set key value) listed stands range e = set-grown (followed s (item.Set key value)) t key value (range_check key value) e
+item-grown s t (item.File path bytes) listed stands range e = filed-grown (followed s (item.File path bytes)) t s.reader.stage path bytes (add_check s.files path (length bytes)) refl stands e
+item-grown s t item.Go listed stands range e = begun-grown (followed s item.Go) t s.reader.stage (config_check s.config) refl stands listed e
+item-grown s t (item.Event d) listed stands range e = event-grown (followed s (item.Event d)) t d (missing d) stands range refl e
 
 -- a line that is passed
-pub passed-grown : (s t : Progress) (line : List ℕ) → passed s line ≡ Ok t → report_of t ≡ report_of s ++ gain s line
-passed-grown s t line e =
+pub passed-grown : (s t : Progress) (line : List ℕ) → s.listed ≡ flat_map file_text (sizes s.files) → passed s line ≡ Ok t → report_of t ≡ report_of s ++ gain s line
+passed-grown s t line listed e =
     let k = passed-took s t line e in
-    item-grown (counted s line) t k.item (took-fits s t line k).1 (took-fits s t line k).2 k.is ∙ ap (λ xs. report_of s ++ xs) (sym (took-gain s t line k))
+    item-grown (counted s line) t k.item listed (took-fits s t line k).1 (took-fits s t line k).2 k.is ∙ ap (λ xs. report_of s ++ xs) (sym (took-gain s t line k))
 
 -- ---- a line that ends the run adds nothing
 
 module _ (s : Progress) (status : Status) where
-  go-none : (r : Result (Unit {0}) ConfigFault) → begun s r ≡ Err status → go_gain s.config r ≡ []
+  go-none : (r : Result (Unit {0}) ConfigFault) → begun s r ≡ Err status → go_gain s r ≡ []
   go-none (Ok u) h = cc
   go-none (Err fault) h = refl
 
@@ -109,14 +119,16 @@ pub record BeginsWith (s : Progress) (lines : List (List ℕ)) (text : List ℕ)
   pub more : List ℕ
   pub is : report_of (replayed s lines).0 ≡ text ++ more
 
-pub begins : (s : Progress) (lines : List (List ℕ)) → BeginsWith s lines (report_of s)
-begins s [] = record { more = []; is = sym (append-nil (report_of s)) }
-begins s (last ∷ []) = record { more = []; is = sym (append-nil (report_of s)) }
-begins s (line ∷ next ∷ more) = go (passed s line) refl (λ t. begins t (next ∷ more)) where
-  go : (r : Result Progress Status) → passed s line ≡ r → ((t : Progress) → BeginsWith t (next ∷ more) (report_of t))
+pub begins : (s : Progress) (lines : List (List ℕ)) (es : List Event) → Keeps s es → BeginsWith s lines (report_of s)
+begins s [] es k = record { more = []; is = sym (append-nil (report_of s)) }
+begins s (last ∷ []) es k = record { more = []; is = sym (append-nil (report_of s)) }
+begins s (line ∷ next ∷ more) es k = go (passed s line) refl (λ t ds j. begins t (next ∷ more) ds j) where
+  go : (r : Result Progress Status) → passed s line ≡ r → ((t : Progress) (ds : List Event) → Keeps t ds → BeginsWith t (next ∷ more) (report_of t))
       → BeginsWith s (line ∷ next ∷ more) (report_of s)
   go (Err status) e later = record { more = []; is = rw (e, replayed) (sym (append-nil (report_of s))) }
-  go (Ok t) e later = record {
-    more = gain s line ++ (later t).more;
-    is = rw (e, replayed) ((later t).is ∙ ap (λ xs. xs ++ (later t).more) (passed-grown s t line e) ∙ append_assoc (report_of s) (gain s line) (later t).more);
-  }
+  go (Ok t) e later =
+      let rest = later t (es ++ event_listed (judged s.reader line)) (passed-keeps s t line es k e) in
+      record {
+        more = gain s line ++ rest.more;
+        is = rw (e, replayed) (rest.is ∙ ap (λ xs. xs ++ rest.more) (passed-grown s t line k.listed e) ∙ append_assoc (report_of s) (gain s line) rest.more);
+      }

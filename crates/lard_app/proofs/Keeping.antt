@@ -1,6 +1,7 @@
 -- What a replay keeps: its machine is one that the events of its lines have led to, and its numbers are bounded.
-use Rattle.std.proofs.Common.{◌≡◌, ℕ, ◌+◌, ◌≤◌, ◌^◌, List, [], ◌∷◌, ◌++◌, length, Bool, true, false, cond, Option, Some, None, Result, Ok, Err, refl, sym, ◌∙◌, subst, append_assoc, append-nil, arith}
+use Rattle.std.proofs.Common.{◌≡◌, ℕ, ◌+◌, ◌≤◌, ◌^◌, List, [], ◌∷◌, ◌++◌, length, Bool, true, false, cond, Option, Some, None, Result, Ok, Err, refl, sym, ap, ◌∙◌, subst, append_assoc, append-nil, arith}
 use Rattle.std.proofs.lemmas.Bool.Decides.{nat_tests}
+use Rattle.std.specs.List.{flat_map}
 use Rattle.std.specs.Prelude.{nat_lt}
 use Rattle.lard_base.specs.Config.{checked_from, config_check, is_in_range, range_check, value_of}
 use Rattle.lard_base.specs.declared.config.Config.{Config}
@@ -9,6 +10,9 @@ use Rattle.lard_base.specs.declared.config.ConfigFault.TheVariants.{Range}
 use Rattle.lard_base.specs.declared.config.Key.{Key}
 use Rattle.lard_base.specs.declared.config.Key.TheVariants.{Nodes, Low, High, Age, Idle, Over, Miss, Cache, Stream}
 use Rattle.lard_base.specs.declared.event.Event.{Event}
+use Rattle.lard_files.specs.Files.{add_check}
+use Rattle.lard_files.specs.declared.fault.FileFault.{FileFault}
+use Rattle.lard_journal.specs.Report.{file_text}
 use Rattle.lard_machine.proofs.Runs.{passes-more, step-set}
 use Rattle.lard_machine.specs.Bounds.{HasRule}
 use Rattle.lard_machine.specs.Machine.{IsReached, machine_step, start}
@@ -25,7 +29,7 @@ use Rattle.lard_schedule.specs.Reader.{HasRange}
 use Rattle.lard_app.specs.declared.status.Form.{Form}
 use Rattle.lard_app.specs.declared.status.Status.{Status}
 use Rattle.lard_app.specs.Forms.{missing}
-use Rattle.lard_app.specs.Replay.{Progress, begin, begun, config_set, counted, event_listed, events_from, events_of, followed, input_limit, is_past, judged, lines_of, moved, passed, replayed, stepped, taken, whole}
+use Rattle.lard_app.specs.Replay.{Progress, begin, begun, config_set, counted, event_listed, events_from, events_of, filed, followed, input_limit, is_past, judged, lines_of, moved, passed, replayed, sizes, stepped, taken, whole}
 use Rattle.lard_app.proofs.Passing.{ok_is, passed-took, took-fits, took-judged}
 use Rattle.lard_app.proofs.Steps.{ruled}
 
@@ -68,15 +72,16 @@ idle_before Running es i b = absurd b
 -- what holds of a replay that has passed these events
 pub record Keeps (s : Progress) (es : List Event) : Type 0 where
   pub idle : IsIdle s.reader.stage es
-  pub runs : Passes (start s.machine.config []) es s.machine
+  pub runs : Passes (start s.machine.config s.machine.files) es s.machine
+  pub listed : s.listed ≡ flat_map file_text (sizes s.files)
   pub stream : s.machine.config.stream ≤ 2 ^ 30
   pub lines : s.lines ≤ s.read
   pub read : s.read ≤ input_limit
 
 pub begin-keeps : Keeps begin []
-begin-keeps = record { idle = refl; runs = refl; stream = omega arith; lines = omega arith; read = omega arith }
+begin-keeps = record { idle = refl; runs = refl; listed = refl; stream = omega arith; lines = omega arith; read = omega arith }
 
-pub keeps-reached : (s : Progress) (es : List Event) → Keeps s es → IsReached s.machine.config [] s.machine
+pub keeps-reached : (s : Progress) (es : List Event) → Keeps s es → IsReached s.machine.config s.machine.files s.machine
 keeps-reached s es k = (es, k.runs)
 
 within_limit : (m : ℕ) → nat_lt input_limit m ≡ false → m ≤ input_limit
@@ -86,20 +91,27 @@ counted-keeps : (s : Progress) (line : List ℕ) (es : List Event) → is_past s
 counted-keeps s line es p k = record {
   idle = k.idle;
   runs = k.runs;
+  listed = k.listed;
   stream = k.stream;
   lines = omega (arith, k.lines);
   read = within_limit (s.read + length line + 1) p;
 }
 
+-- one more file has one more line
+listed_more : (files : List (List ℕ × List ℕ)) (path bytes : List ℕ) → flat_map file_text (sizes files) ++ file_text (path, length bytes) ≡ flat_map file_text (sizes (files ++ (path, bytes) ∷ []))
+listed_more [] path bytes = sym (append-nil (file_text (path, length bytes)))
+listed_more (f ∷ fs) path bytes = append_assoc (file_text (f.0, length f.1)) (flat_map file_text (sizes fs)) (file_text (path, length bytes)) ∙ ap (λ l. file_text (f.0, length f.1) ++ l) (listed_more fs path bytes)
+
 module _ (s t : Progress) (es : List Event) (k : Keeps s es) where
-  same_events : Passes (start s.machine.config []) (es ++ []) s.machine
-  same_events = subst (λ ds. Passes (start s.machine.config []) ds s.machine) (sym (append-nil es)) k.runs
+  same_events : Passes (start s.machine.config s.machine.files) (es ++ []) s.machine
+  same_events = subst (λ ds. Passes (start s.machine.config s.machine.files) ds s.machine) (sym (append-nil es)) k.runs
 
   set-keeps : (key : Key) (value : ℕ) (r : Result (Unit {0}) ConfigFault) → config_set (followed s (item.Set key value)) key value r ≡ Ok t → Keeps t (es ++ [])
   set-keeps key value (Err fault) e = cc
   set-keeps key value (Ok u) e = subst (λ (v : Progress). Keeps v (es ++ [])) (ok_is _ t e) (record {
     idle = subst (IsIdle s.reader.stage) (sym (append-nil es)) k.idle;
     runs = same_events;
+    listed = k.listed;
     stream = k.stream;
     lines = k.lines;
     read = k.read;
@@ -109,8 +121,20 @@ module _ (s t : Progress) (es : List Event) (k : Keeps s es) where
   begun-keeps (Err fault) c b e = cc
   begun-keeps (Ok u) c b e = subst (λ (v : Progress). Keeps v (es ++ [])) (ok_is _ t e) (record {
     idle = tt;
-    runs = subst (λ ds. Passes (start s.config []) ds (start s.config [])) (sym (append-nil es ∙ idle_before s.reader.stage es k.idle b)) refl;
+    listed = refl;
+    runs = subst (λ ds. Passes (start s.config s.files) ds (start s.config s.files)) (sym (append-nil es ∙ idle_before s.reader.stage es k.idle b)) refl;
     stream = stream_checked s.config c;
+    lines = k.lines;
+    read = k.read;
+  })
+
+  filed-keeps : (path bytes : List ℕ) (r : Result (Unit {0}) FileFault) → IsBefore s.reader.stage → filed (followed s (item.File path bytes)) path bytes r ≡ Ok t → Keeps t (es ++ [])
+  filed-keeps path bytes (Err fault) b e = cc
+  filed-keeps path bytes (Ok u) b e = subst (λ (v : Progress). Keeps v (es ++ [])) (ok_is _ t e) (record {
+    idle = append-nil es ∙ idle_before s.reader.stage es k.idle b;
+    runs = same_events;
+    listed = ap (λ l. l ++ file_text (path, length bytes)) k.listed ∙ listed_more s.files path bytes;
+    stream = k.stream;
     lines = k.lines;
     read = k.read;
   })
@@ -118,11 +142,13 @@ module _ (s t : Progress) (es : List Event) (k : Keeps s es) where
   moved-keeps : (e : Event) (r : Result Machine StepFault) → s.reader.stage ≡ Running → HasRule e → machine_step s.machine e ≡ r → moved (followed s (item.Event e)) r ≡ Ok t → Keeps t (es ++ e ∷ [])
   moved-keeps e (Err fault) running rule is h = cc
   moved-keeps e (Ok m) running rule is h =
-      let kept = (step-set s.machine m e rule is).0 in
+      let kept = step-set s.machine m e rule is in
       subst (λ (v : Progress). Keeps v (es ++ e ∷ [])) (ok_is _ t h) (record {
         idle = subst (λ st. IsIdle st (es ++ e ∷ [])) (sym running) tt;
-        runs = subst (λ (c : Config). Passes (start c []) (es ++ e ∷ []) m) (sym kept) (passes-more es (start s.machine.config []) s.machine m e k.runs rule is);
-        stream = subst (λ (c : Config). c.stream ≤ 2 ^ 30) (sym kept) k.stream;
+        runs = subst (λ (c : Config). Passes (start c m.files) (es ++ e ∷ []) m) (sym kept.0)
+            (subst (λ (fs : List (List ℕ × List ℕ)). Passes (start s.machine.config fs) (es ++ e ∷ []) m) (sym kept.1) (passes-more es (start s.machine.config s.machine.files) s.machine m e k.runs rule is));
+        listed = k.listed;
+        stream = subst (λ (c : Config). c.stream ≤ 2 ^ 30) (sym kept.0) k.stream;
         lines = k.lines;
         read = k.read;
       })
@@ -135,12 +161,13 @@ module _ (s t : Progress) (es : List Event) (k : Keeps s es) where
   item-keeps item.Header stands range e = subst (λ (v : Progress). Keeps v (es ++ [])) (ok_is _ t e) (record {
     idle = append-nil es ∙ subst (λ st. IsIdle st es) stands k.idle;
     runs = same_events;
+    listed = k.listed;
     stream = k.stream;
     lines = k.lines;
     read = k.read;
   })
   item-keeps (item.Set key value) stands range e = set-keeps key value (range_check key value) e
-  item-keeps (item.File path bytes) stands range e = cc
+  item-keeps (item.File path bytes) stands range e = filed-keeps path bytes (add_check s.files path (length bytes)) stands e
   item-keeps item.Go stands range e = begun-keeps (config_check s.config) refl stands e
   item-keeps (item.Event d) stands range e = event-keeps d (missing d) refl stands range e
 

@@ -1,3 +1,4 @@
+pub mod Adding
 mod Causes
 mod Endings
 mod Failures

@@ -1,9 +1,11 @@
 -- What a line that passes was: it stood for an item, which was taken.
-use Rattle.std.proofs.Common.{◌≡◌, ℕ, ◌+◌, List, [], Bool, true, false, cond, Option, Some, None, Result, Ok, Err, refl, sym, ap, ◌∙◌, subst}
+use Rattle.std.proofs.Common.{◌≡◌, ℕ, ◌+◌, List, [], length, Bool, true, false, cond, Option, Some, None, Result, Ok, Err, refl, sym, ap, ◌∙◌, subst}
 use Rattle.lard_base.specs.Config.{config_check, range_check}
 use Rattle.lard_base.specs.declared.config.ConfigFault.{ConfigFault}
 use Rattle.lard_base.specs.declared.config.Key.{Key}
 use Rattle.lard_base.specs.declared.event.Event.{Event}
+use Rattle.lard_files.specs.Files.{add_check}
+use Rattle.lard_files.specs.declared.fault.FileFault.{FileFault}
 use Rattle.lard_machine.specs.Machine.{machine_step}
 use Rattle.lard_machine.specs.declared.fault.StepFault.{StepFault}
 use Rattle.lard_machine.specs.declared.machine.Machine.{Machine}
@@ -19,7 +21,7 @@ use Rattle.lard_app.specs.declared.status.Status.{Status}
 use Rattle.lard_app.specs.declared.status.Status.TheVariants.{Limit}
 use Rattle.lard_app.specs.declared.status.Why.TheVariants as why
 use Rattle.lard_app.specs.Forms.{missing, unbuilt}
-use Rattle.lard_app.specs.Replay.{Progress, begun, config_set, counted, followed, found, gain, is_past, item_gain, item_taken, judged, judged_gain, moved, passed, stepped, taken, unless_unbuilt}
+use Rattle.lard_app.specs.Replay.{Progress, begun, config_set, counted, filed, followed, found, gain, is_past, item_gain, item_taken, judged, judged_gain, moved, passed, stepped, taken, unless_unbuilt}
 
 -- what a line stands for, once its first word and its place were looked up
 pub judged_by : (r : Reader) (line : List ℕ) (f : Option Form) (x : Option Item) → unbuilt line ≡ f → item_of r line ≡ x → judged r line ≡ unless_unbuilt f (found x)
@@ -85,6 +87,10 @@ module _ (s t : Progress) where
   set-read key value (Ok u) e = read_as _ (refl, refl) e
   set-read key value (Err fault) e = cc
 
+  filed-read : (path bytes : List ℕ) (r : Result (Unit {0}) FileFault) → filed s path bytes r ≡ Ok t → HaveRead s t
+  filed-read path bytes (Ok u) e = read_as _ (refl, refl) e
+  filed-read path bytes (Err fault) e = cc
+
   begun-read : (r : Result (Unit {0}) ConfigFault) → begun s r ≡ Ok t → HaveRead s t
   begun-read (Ok u) e = read_as _ (refl, refl) e
   begun-read (Err fault) e = cc
@@ -100,7 +106,7 @@ module _ (s t : Progress) where
   taken-read : (x : Item) → taken s x ≡ Ok t → HaveRead s t
   taken-read item.Header e = read_as s (refl, refl) e
   taken-read (item.Set key value) e = set-read key value (range_check key value) e
-  taken-read (item.File path bytes) e = cc
+  taken-read (item.File path bytes) e = filed-read path bytes (add_check s.files path (length bytes)) e
   taken-read item.Go e = begun-read (config_check s.config) e
   taken-read (item.Event d) e = stepped-read d (missing d) e
 

@@ -1,5 +1,5 @@
 -- What the laws of the machine say of every state that a replay comes to.
-use Rattle.std.proofs.Common.{◌≡◌, ℕ, [], length, Some, None, IsSome, refl, sym, ap, ◌∙◌, subst}
+use Rattle.std.proofs.Common.{◌≡◌, ℕ, List, length, Some, None, IsSome, refl, sym, ap, ◌∙◌, subst}
 use Rattle.std.specs.FinMap as table
 use Rattle.lard_base.specs.declared.config.Config.{Config}
 use Rattle.lard_history.specs.Journal.{answered_bytes, is_lost, numbers_of, packet_bytes, sent_count, tale}
@@ -21,9 +21,9 @@ pub record Told (m : Machine) : Type 0 where
   pub opened : (c : ℕ) (x : Station) → table.get m.clients c ≡ Some x → IsSome (numbers_of m.journal c)
   pub unopened : (c : ℕ) → table.get m.clients c ≡ None → numbers_of m.journal c ≡ None
 
-pub reached-told : (config : Config) (m : Machine) → IsReached config [] m → Told m
-reached-told config m r =
-    let h = reached-holds config [] m r in
+pub reached-told : (config : Config) (files : List (List ℕ × List ℕ)) (m : Machine) → IsReached config files m → Told m
+reached-told config files m r =
+    let h = reached-holds config files m r in
     record {
       sent = h.linked.is.sent;
       bytes = h.linked.is.bytes;

@@ -20,7 +20,7 @@ use Rattle.lard_app.specs.Forms.{missing}
 pub ruled : (e : Event) → missing e ≡ None → IsInRange e → HasRule e
 ruled (event.Open c isn iss wnd mss) m r = (r.3.0, r.4.0, r.4.1, omega (arith, r.3.1), r.1, r.2)
 ruled (event.Get c path) m r = tt
-ruled (event.Write c bytes) m r = cc
+ruled (event.Write c bytes) m r = tt
 ruled (event.Shut c) m r = tt
 ruled (event.Abort c) m r = tt
 ruled (event.Hold c) m r = tt

@@ -7,6 +7,9 @@ use Rattle.lard_base.specs.declared.config.ConfigFault.{ConfigFault}
 use Rattle.lard_base.specs.declared.event.Event.{Event}
 use Rattle.lard_base.specs.declared.event.Event.TheVariants as event
 use Rattle.lard_client.specs.Control.{written_len}
+use Rattle.lard_files.specs.Files.{add_check}
+use Rattle.lard_files.specs.declared.fault.FileFault.{FileFault}
+use Rattle.lard_files.specs.declared.fault.FileFault.TheVariants as file_fault
 use Rattle.lard_history.specs.Journal.{answered_bytes, is_lost, numbers_of, packet_bytes, request, sent_count}
 use Rattle.lard_journal.specs.declared.rec.Rec.{Rec}
 use Rattle.lard_machine.specs.Machine.{limit_of}
@@ -20,7 +23,6 @@ use Rattle.lard_schedule.specs.declared.reader.Stage.TheVariants.{Running}
 use Rattle.lard_schedule.specs.Laws.{IsLineOf, MayStand}
 use Rattle.lard_schedule.specs.Reader.{HasRange}
 use Rattle.lard_app.specs.declared.status.Form.{Form}
-use Rattle.lard_app.specs.declared.status.Form.TheVariants as form
 use Rattle.lard_app.specs.declared.status.Status.{Status}
 use Rattle.lard_app.specs.declared.status.Status.TheVariants.{Done, Refused, Limit}
 use Rattle.lard_app.specs.declared.status.Why.{Why}
@@ -61,7 +63,7 @@ IsUnfit config (item.Event e) fault = ⊥
 abbrev pub IsUnbuilt : Item → Form → Type 0
 IsUnbuilt item.Header f = ⊥
 IsUnbuilt (item.Set key value) f = ⊥
-IsUnbuilt (item.File path bytes) f = f ≡ form.File
+IsUnbuilt (item.File path bytes) f = ⊥
 IsUnbuilt item.Go f = ⊥
 IsUnbuilt (item.Event e) f = missing e ≡ Some f
 
@@ -109,11 +111,21 @@ IsUntimely J e (why.NoClient c) = IsOfClient e c × (numbers_of J c ≡ None)
 IsUntimely J e (why.Used c) = Opens e c × IsSome (numbers_of J c)
 IsUntimely J e why.Syntax = ⊥
 IsUntimely J e (why.Config fault) = ⊥
+IsUntimely J e why.Repeated = ⊥
+IsUntimely J e (why.TooLong n) = ⊥
+IsUntimely J e (why.TooMany n) = ⊥
+IsUntimely J e (why.TooMuch n) = ⊥
 IsUntimely J e (why.FormNotBuilt f) = ⊥
 
 -- a limit was reached before the step, or the event would pass that on what a client writes
 abbrev pub Reaches : Machine → Event → What → Type 0
 Reaches m e w = (limit_at m.journal ≡ Some w) ⊎ ((limit_at m.journal ≡ None) × (w ≡ what.Stream) × WritesTooMuch m e)
+
+-- ---- files
+
+-- it is a file that may not be added to those before, for this reason
+abbrev pub AddsNone : Progress → List ℕ → FileFault → Type 0
+AddsNone s line fault = (path : List ℕ) × (bytes : List ℕ) × StandsFor s line (item.File path bytes) × (add_check s.files path (length bytes) ≡ Err fault)
 
 -- ---- causes
 
@@ -122,6 +134,10 @@ abbrev pub Refuses : Progress → List ℕ → Why → Type 0
 Refuses s line (why.FormNotBuilt f) = (unbuilt line ≡ Some f) ⊎ ((x : Item) × StandsFor s line x × IsUnbuilt x f)
 Refuses s line why.Syntax = (unbuilt line ≡ None) × ((x : Item) → ¬ (Stands s line x))
 Refuses s line (why.Config fault) = (x : Item) × StandsFor s line x × IsUnfit s.config x fault
+Refuses s line why.Repeated = AddsNone s line file_fault.Repeated
+Refuses s line (why.TooLong n) = AddsNone s line (file_fault.TooLong n)
+Refuses s line (why.TooMany n) = AddsNone s line (file_fault.TooMany n)
+Refuses s line (why.TooMuch n) = AddsNone s line (file_fault.TooMuch n)
 Refuses s line cause = (e : Event) × Tries s line e × (limit_at s.machine.journal ≡ None) × IsUntimely s.machine.journal e cause
 
 -- how a line ends the run, after n lines of so many bytes: it holds the byte after the limit, or it is refused, or a

@@ -1,7 +1,7 @@
 -- Which lines of a schedule are not built yet: those of some forms, whatever follows their first word, and some uses of
 -- the others.
-use Rattle.std.specs.Prelude.{ℕ, Bool, ◌&&◌, ◌||◌, nat_eq, nat_le, List, [], ◌∷◌, Option, Some, None, bytes_eq, if◌then◌else◌}
-use Rattle.std.specs.List.{find, list_all}
+use Rattle.std.specs.Prelude.{ℕ, List, [], ◌∷◌, Option, Some, None, bytes_eq}
+use Rattle.std.specs.List.{find}
 use Rattle.lard_base.specs.declared.config.Key.TheVariants as key
 use Rattle.lard_base.specs.declared.event.Event.{Event}
 use Rattle.lard_base.specs.declared.event.Event.TheVariants.{Open, Get, Write, Shut, Abort, Hold, Take, Deliver, Lose, Timer, Disk, Clock, Settle, Inject}
@@ -15,7 +15,7 @@ use Rattle.lard_app.specs.Status.{form_word}
 -- the forms of line that are not built
 abbrev pub unbuilt_forms : List Form
 unbuilt_forms =
-    form.File ∷ form.Fill ∷ form.Write ∷ form.Disk ∷ form.Clock ∷ form.Settle ∷ form.Inject ∷ form.Key key.Nodes ∷ form.Key key.Low
+    form.Disk ∷ form.Clock ∷ form.Settle ∷ form.Inject ∷ form.Key key.Nodes ∷ form.Key key.Low
     ∷ form.Key key.High ∷ form.Key key.Age ∷ form.Key key.Idle ∷ form.Key key.Over ∷ form.Key key.Miss ∷ form.Key key.Cache ∷ []
 
 -- the first of the forms whose lines begin with this word
@@ -26,15 +26,6 @@ form_in forms word = find (λ f. bytes_eq word (form_word f)) forms
 unfoldable pub unbuilt : List ℕ → Option Form
 unbuilt line = form_in unbuilt_forms (first_word line)
 
--- a letter, a digit, or one of / . - _
-abbrev pub is_plain_byte : ℕ → Bool
-is_plain_byte b =
-    (nat_le 97 b && nat_le b 122) || (nat_le 65 b && nat_le b 90) || (nat_le 45 b && nat_le b 57) || nat_eq b 95
-
--- a path of other bytes than plain ones
-abbrev pub missing_get : List ℕ → Option Form
-missing_get path = if list_all is_plain_byte path then None else Some form.Get
-
 -- a node has no timers yet
 abbrev pub missing_timer : Place → Option Form
 missing_timer Front = None
@@ -44,8 +35,8 @@ missing_timer (Client c) = None
 -- the form of an event, where it or this use of it is not built
 abbrev pub missing : Event → Option Form
 missing (Open c isn iss wnd mss) = None
-missing (Get c path) = missing_get path
-missing (Write c bytes) = Some form.Write
+missing (Get c path) = None
+missing (Write c bytes) = None
 missing (Shut c) = None
 missing (Abort c) = None
 missing (Hold c) = None

@@ -1,5 +1,5 @@
 -- What a schedule stands for, line by line: how far a replay comes, and what its report gains.
-use Rattle.std.specs.Prelude.{◌≡◌, ℕ, ◌+◌, ◌≤◌, ◌^◌, Bool, List, [], ◌∷◌, ◌++◌, length, drop, Option, Some, None, Result, Ok, Err, nat_eq, nat_lt, if◌then◌else◌}
+use Rattle.std.specs.Prelude.{◌≡◌, ℕ, ◌+◌, ◌≤◌, ◌^◌, Bool, List, [], ◌∷◌, ◌++◌, length, map, drop, Option, Some, None, Result, Ok, Err, nat_eq, nat_lt, if◌then◌else◌}
 use Rattle.std.specs.List.{slice_split, flat_map}
 use Rattle.std.specs.Io.KnownBytes.{Appends}
 use Rattle.lard_base.specs.Config.{config_check, range_check, set_key, standard}
@@ -8,8 +8,11 @@ use Rattle.lard_base.specs.declared.config.ConfigFault.{ConfigFault}
 use Rattle.lard_base.specs.declared.config.Key.{Key}
 use Rattle.lard_base.specs.Outside.{Front}
 use Rattle.lard_base.specs.declared.event.Event.{Event}
+use Rattle.lard_files.specs.Files.{add_check}
+use Rattle.lard_files.specs.declared.fault.FileFault.{FileFault}
+use Rattle.lard_files.specs.declared.fault.FileFault.TheVariants as file_fault
 use Rattle.lard_journal.specs.declared.rec.Rec.{Rec}
-use Rattle.lard_journal.specs.Report.{heading_line, rec_line, report}
+use Rattle.lard_journal.specs.Report.{file_text, heading_line, rec_line, report}
 use Rattle.lard_machine.specs.Machine.{machine_step}
 use Rattle.lard_machine.specs.Machine as machine
 use Rattle.lard_machine.specs.declared.fault.StepFault.{StepFault}
@@ -39,13 +42,15 @@ input_limit = 2 ^ 26
 pub record Progress : Type 0 where
   pub reader : Reader  -- what may follow
   pub config : Config  -- the numbers that the lines have set so far
+  pub files : List (List ℕ × List ℕ)  -- the files that the lines have added, each a path and its bytes, until `go` hands them over
+  pub listed : List ℕ  -- their lines in the report
   pub lines : ℕ  -- how many lines were passed
   pub read : ℕ  -- how many bytes these lines have, with their line feeds
   pub machine : Machine  -- it begins when `go` has passed; before, it is one that nobody sees
 
 -- before the first line
 abbrev pub begin : Progress
-begin = record { reader = reader.start; config = standard; lines = 0; read = 0; machine = machine.start standard [] }
+begin = record { reader = reader.start; config = standard; files = []; listed = []; lines = 0; read = 0; machine = machine.start standard [] }
 
 -- ---- what an item does, on the line that was counted last
 
@@ -54,9 +59,22 @@ abbrev pub config_set : Progress → Key → ℕ → Result (Unit {0}) ConfigFau
 config_set s key value (Ok _) = Ok (record s { config = set_key s.config key value })
 config_set s key value (Err fault) = Err (Refused s.lines (why.Config fault))
 
--- the machine begins, if the configuration can be used
+-- how a fault of a file ends the run at a line
+abbrev pub file_ends : ℕ → FileFault → Status
+file_ends line file_fault.Repeated = Refused line why.Repeated
+file_ends line (file_fault.TooLong n) = Refused line (why.TooLong n)
+file_ends line (file_fault.TooMany n) = Refused line (why.TooMany n)
+file_ends line (file_fault.TooMuch n) = Refused line (why.TooMuch n)
+file_ends line file_fault.NoMemory = NoMemory
+
+-- a file is added, if it may be
+abbrev pub filed : Progress → List ℕ → List ℕ → Result (Unit {0}) FileFault → Result Progress Status
+filed s path bytes (Ok _) = Ok (record s { files = s.files ++ (path, bytes) ∷ []; listed = s.listed ++ file_text (path, length bytes) })
+filed s path bytes (Err fault) = Err (file_ends s.lines fault)
+
+-- the machine begins with the files, if the configuration can be used
 abbrev pub begun : Progress → Result (Unit {0}) ConfigFault → Result Progress Status
-begun s (Ok _) = Ok (record s { machine = machine.start s.config [] })
+begun s (Ok _) = Ok (record s { files = []; listed = []; machine = machine.start s.config s.files })
 begun s (Err fault) = Err (Refused s.lines (why.Config fault))
 
 -- how a fault of a step ends the run at a line
@@ -80,7 +98,7 @@ stepped s e None = moved s (machine_step s.machine e)
 abbrev pub taken : Progress → Item → Result Progress Status
 taken s item.Header = Ok s
 taken s (item.Set key value) = config_set s key value (range_check key value)
-taken s (item.File path bytes) = Err (Refused s.lines (why.FormNotBuilt form.File))
+taken s (item.File path bytes) = filed s path bytes (add_check s.files path (length bytes))
 taken s item.Go = begun s (config_check s.config)
 taken s (item.Event e) = stepped s e (missing e)
 
@@ -171,23 +189,31 @@ events_of text = events_from begin (lines_of text)
 unfoldable pub whole : List ℕ → Progress × Status
 whole text = replayed begin (lines_of text)
 
--- the machine that a text leads to, its configuration, which is the standard one until `go` has passed, and its journal
+-- the machine that a text leads to, its configuration, which is the standard one until `go` has passed, its files, which
+-- are none until then, and its journal
 abbrev pub machine_of : List ℕ → Machine
 machine_of text = (whole text).0.machine
 
 abbrev pub config_of : List ℕ → Config
 config_of text = (machine_of text).config
 
+abbrev pub files_of : List ℕ → List (List ℕ × List ℕ)
+files_of text = (machine_of text).files
+
 abbrev pub journal_of : List ℕ → List Rec
 journal_of text = (machine_of text).journal
 
 -- ---- the report
 
+-- each file with its length
+abbrev pub sizes : List (List ℕ × List ℕ) → List (List ℕ × ℕ)
+sizes files = map (λ f. (f.0, length f.1)) files
+
 abbrev pub report_at : Stage → Machine → List ℕ
 report_at Start m = []
 report_at Settings m = []
 report_at Files m = []
-report_at Running m = report m.config [] m.journal
+report_at Running m = report m.config (sizes m.files) m.journal
 
 -- what is written of a replay: nothing before `go` has passed, then the report of the machine's journal
 abbrev pub report_of : Progress → List ℕ
@@ -198,15 +224,15 @@ abbrev pub step_gain : Progress → Result Progress Status → List ℕ
 step_gain s (Err status) = []
 step_gain s (Ok t) = flat_map rec_line (drop (length s.machine.journal) t.machine.journal)
 
-abbrev pub go_gain : Config → Result (Unit {0}) ConfigFault → List ℕ
-go_gain config (Ok _) = heading_line config
-go_gain config (Err fault) = []
+abbrev pub go_gain : Progress → Result (Unit {0}) ConfigFault → List ℕ
+go_gain s (Ok _) = heading_line s.config ++ s.listed
+go_gain s (Err fault) = []
 
 abbrev pub item_gain : Progress → Item → List ℕ
 item_gain s item.Header = []
 item_gain s (item.Set key value) = []
 item_gain s (item.File path bytes) = []
-item_gain s item.Go = go_gain s.config (config_check s.config)
+item_gain s item.Go = go_gain s (config_check s.config)
 item_gain s (item.Event e) = step_gain s (stepped s e (missing e))
 
 abbrev pub judged_gain : Progress → Result Item Why → List ℕ

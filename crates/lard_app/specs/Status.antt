@@ -8,7 +8,7 @@ use Rattle.lard_machine.specs.declared.fault.What.TheVariants.{Input, Packets, P
 use Rattle.lard_app.specs.declared.status.Form.{Form}
 use Rattle.lard_app.specs.declared.status.Form.TheVariants.{File, Fill, Open, Get, Write, Shut, Abort, Hold, Take, Deliver, Lose, Timer, Disk, Clock, Settle, Inject, Key}
 use Rattle.lard_app.specs.declared.status.Why.{Why}
-use Rattle.lard_app.specs.declared.status.Why.TheVariants.{Syntax, Config, NotSent, WasLost, NoClient, Used, FormNotBuilt}
+use Rattle.lard_app.specs.declared.status.Why.TheVariants.{Syntax, Config, Repeated, TooLong, TooMany, TooMuch, NotSent, WasLost, NoClient, Used, FormNotBuilt}
 use Rattle.lard_app.specs.declared.status.Status.{Status}
 use Rattle.lard_app.specs.declared.status.Status.TheVariants.{Done, Usage, Refused, ReadFault, WriteFault, NoMemory, Limit}
 
@@ -54,6 +54,10 @@ with_fault text NoRoom = text ++ codes "no connection can be admitted"
 abbrev pub why_text : ℕ → Why → List ℕ
 why_text line Syntax = line_prefix line ++ codes "not a line of the schedule"
 why_text line (Config fault) = with_fault (line_prefix line) fault
+why_text line Repeated = line_prefix line ++ codes "file repeated"
+why_text line (TooLong n) = line_prefix line ++ codes "file too long: " ++ decimal n
+why_text line (TooMany n) = line_prefix line ++ codes "too many files: " ++ decimal n
+why_text line (TooMuch n) = line_prefix line ++ codes "files too large: " ++ decimal n
 why_text line (NotSent k sent) = line_prefix line ++ codes "packet " ++ decimal k ++ codes " of " ++ decimal sent ++ codes " sent"
 why_text line (WasLost k) = line_prefix line ++ codes "packet " ++ decimal k ++ codes " was lost"
 why_text line (NoClient c) = line_prefix line ++ codes "client " ++ decimal c ++ codes " not opened"

@@ -4,13 +4,13 @@ ghost use Rattle.std.specs.Prelude.{◌≡◌, ◌≤◌, ◌+◌, ◌↔◌, �
 ghost use Rattle.std.specs.Io.KnownBytes.{Keeps};
 ghost use Rattle.std.specs.List.{position};
 ghost use Rattle.lard_base.specs.Causes.{Rose};
-ghost use Rattle.lard_answers.specs.Answers.{no_files};
+ghost use Rattle.lard_files.specs.Files.{file_at};
 ghost use Rattle.lard_history.specs.Laws.{AcceptsOnlyAnswers, Follows, IsNetwork, IsOwnership, IsSoleSender, ResetsAtTheLimit, ServesTheAnswers, TellsTheTruth, WritesWhileOpen};
 ghost use Rattle.lard_laws_clients.specs.Laws.{TakesInOrder};
 ghost use Rattle.lard_machine.specs.Machine.{Passes, start};
 ghost use Rattle.lard_app.specs.Causes.{Ends};
 ghost use Rattle.lard_app.specs.declared.status.Status.{Status};
-ghost use Rattle.lard_app.specs.Replay.{begin, config_of, events_of, input_limit, is_feed, journal_of, lines_of, machine_of, whole};
+ghost use Rattle.lard_app.specs.Replay.{begin, config_of, events_of, files_of, input_limit, is_feed, journal_of, lines_of, machine_of, whole};
 ghost use Rattle.lard_app.specs.Run.{IsReplay, IsSettled, Ran, Replays};
 ghost use Rattle.lard_app.specs.Seen.{seen};
 
@@ -47,7 +47,7 @@ pub fn run<S: Source, K: Sink>(
     ensures causes { (text : List ℕ) (status : Status) → ((whole text).1 ≡ status) ↔ Ends (lines_of text) status }
 
     // Whatever text it is, its journal is that of the machine after the events of the lines that were passed.
-    ensures machine { (text : List ℕ) → Passes (start (config_of text) []) (events_of text) (machine_of text) }
+    ensures machine { (text : List ℕ) → Passes (start (config_of text) (files_of text)) (events_of text) (machine_of text) }
 
     // And it obeys these laws.
     ensures follows { (text : List ℕ) → Follows 1 (events_of text) (journal_of text) }
@@ -56,9 +56,9 @@ pub fn run<S: Source, K: Sink>(
     ensures sole_sender { (text : List ℕ) → IsSoleSender (journal_of text) }
     ensures writers { (text : List ℕ) → WritesWhileOpen (journal_of text) }
     ensures takers { (text : List ℕ) → TakesInOrder (journal_of text) }
-    ensures tells { (text : List ℕ) → TellsTheTruth no_files (journal_of text) }
-    ensures prefix { (text : List ℕ) → AcceptsOnlyAnswers no_files (journal_of text) }
-    ensures service { (text : List ℕ) → ServesTheAnswers no_files (journal_of text) }
+    ensures tells { (text : List ℕ) → TellsTheTruth (file_at (files_of text)) (journal_of text) }
+    ensures prefix { (text : List ℕ) → AcceptsOnlyAnswers (file_at (files_of text)) (journal_of text) }
+    ensures service { (text : List ℕ) → ServesTheAnswers (file_at (files_of text)) (journal_of text) }
     ensures resets { (text : List ℕ) → ResetsAtTheLimit (config_of text).stream (journal_of text) }
 {
     every_run_is_true();

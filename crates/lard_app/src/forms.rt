@@ -1,18 +1,14 @@
 //! Which lines of a schedule are not built yet.
 
 ghost use Rattle.std.specs.Prelude.{◌≡◌, bytes_eq};
-ghost use Rattle.std.specs.List.{list_all};
-ghost use Rattle.lard_app.specs.Forms.{form_in, is_plain_byte, missing, missing_get, missing_timer, unbuilt};
+ghost use Rattle.lard_app.specs.Forms.{form_in, missing, missing_timer, unbuilt};
 
 use crate::status::Form;
 use lard_base::{Event, Key, Place};
 use lard_schedule::first_word;
 
 /// The forms of line that are not built.
-const UNBUILT: [Form; 15] = [
-    Form::File,
-    Form::Fill,
-    Form::Write,
+const UNBUILT: [Form; 12] = [
     Form::Disk,
     Form::Clock,
     Form::Settle,
@@ -53,8 +49,8 @@ pub fn missing(event: &Event) -> Option<Form>
 {
     match event {
         Event::Open { .. } => None,
-        Event::Get { path, .. } => missing_get(path.as_slice()),
-        Event::Write { .. } => Some(Form::Write),
+        Event::Get { .. } => None,
+        Event::Write { .. } => None,
         Event::Shut(_) => None,
         Event::Abort(_) => None,
         Event::Hold(_) => None,
@@ -69,16 +65,6 @@ pub fn missing(event: &Event) -> Option<Form>
     }
 }
 
-/// A path of other bytes than plain ones is not built.
-fn missing_get(path: &[u8]) -> Option<Form>
-    ensures { result ≡ missing_get path.now }
-{
-    if all_plain(path) {
-        return None;
-    }
-    Some(Form::Get)
-}
-
 /// A node has no timers yet.
 fn missing_timer(place: Place) -> Option<Form>
     ensures { result ≡ missing_timer place }
@@ -88,20 +74,4 @@ fn missing_timer(place: Place) -> Option<Form>
         Place::Node(_) => Some(Form::Timer),
         Place::Client(_) => None,
     }
-}
-
-/// Each byte is a letter, a digit, or one of `/`, `.`, `-` and `_`.
-fn all_plain(path: &[u8]) -> bool
-    ensures { result ≡ list_all is_plain_byte path.now }
-{
-    path.iter().all(|byte| is_plain(*byte))
-}
-
-fn is_plain(byte: u8) -> bool
-    ensures { result ≡ is_plain_byte byte }
-{
-    byte.is_ascii_lowercase()
-        || byte.is_ascii_uppercase()
-        || (b'-'..=b'9').contains(&byte)
-        || byte == b'_'
 }

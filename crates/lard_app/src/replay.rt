@@ -1,21 +1,23 @@
 //! A replay: what was read of a schedule so far, and the world that its events have led to.
 
-ghost use Rattle.std.specs.Prelude.{◌≡◌, ◌+◌, ◌≤◌, ◌<◌, ◌^◌, false, length, drop, IfOk, OnOk, IsErrOf};
+ghost use Rattle.std.specs.Prelude.{◌≡◌, ◌+◌, ◌++◌, ◌≤◌, ◌<◌, ◌^◌, true, false, length, drop, IfOk, OnOk, IsErrOf};
 ghost use Rattle.std.specs.List.{flat_map};
 ghost use Rattle.lard_base.specs.Causes.{Rose};
 ghost use Rattle.lard_base.specs.Config.{range_check};
-ghost use Rattle.lard_journal.specs.Report.{rec_line};
+ghost use Rattle.lard_files.specs.Files.{add_check};
+ghost use Rattle.lard_journal.specs.Report.{file_text, heading_line, rec_line};
 ghost use Rattle.lard_schedule.specs.Events.{IsInRange};
+ghost use Rattle.lard_schedule.specs.Files.{is_file_path};
 ghost use Rattle.lard_schedule.specs.Reader.{HasRange};
 ghost use Rattle.lard_app.specs.Forms.{missing};
-ghost use Rattle.lard_app.specs.Replay.{IsSound, Passes, Writes, begin, config_set, ending, gain, item_gain, passed, stepped, taken};
-ghost use Rattle.lard_app.specs.Seen.{Sets, seen};
+ghost use Rattle.lard_app.specs.Replay.{IsSound, Passes, Writes, begin, config_set, ending, filed, gain, item_gain, passed, stepped, taken};
+ghost use Rattle.lard_app.specs.Seen.{Adds, Sets, seen};
 
 use crate::forms::{missing, unbuilt};
-use crate::status::{Form, Status, Why};
-use lard_base::{Config, Event, Failed, Key, NoMemory, Sink, write_all};
-use lard_files::Files;
-use lard_journal::{Journal, Rec, heading, push_line};
+use crate::status::{Status, Why};
+use lard_base::{Bytes, Config, Event, Failed, Key, NoMemory, Path, Sink, write_all};
+use lard_files::{FileFault, Files};
+use lard_journal::{Journal, Rec, file_line, heading, push_line};
 use lard_machine::{StepFault, What};
 use lard_schedule::{Item, LineFault, Reader, Stage};
 use lard_world::World;
@@ -31,6 +33,10 @@ pub struct Replay {
     pub reader: Reader,
     /// The numbers that the lines have set so far.
     pub config: Config,
+    /// The files that the lines have added, until `go` hands them over.
+    pub files: Files,
+    /// Their lines in the report.
+    pub listed: Vec<u8>,
     /// How many lines were passed.
     pub lines: u64,
     /// How many bytes these lines have, with their line feeds.
@@ -49,6 +55,8 @@ impl Replay {
         Replay {
             reader: Reader::new(),
             config,
+            files: Files::new(alloc),
+            listed: Vec::new(alloc),
             lines: 0,
             read: 0,
             world: World::new(alloc, config, Files::new(alloc)),
@@ -100,9 +108,7 @@ impl Replay {
         match item {
             Item::Header => return Ok(()),
             Item::Set(key, value) => return self.set(key, value),
-            Item::File { path: _, bytes: _ } => {
-                return Err(refused(self.lines, Why::FormNotBuilt(Form::File)));
-            }
+            Item::File { path, bytes } => return self.file(alloc, path, bytes),
             Item::Go => return self.go(alloc, sink),
             Item::Event(event) => return self.step(alloc, sink, event),
         }
@@ -119,7 +125,27 @@ impl Replay {
         Ok(())
     }
 
-    /// The world begins, if the configuration can be used, and the heading is written.
+    /// Adds a file, if it may be added, and its line to those of the report.
+    fn file(&mut self, alloc: Global, path: Path, bytes: Bytes) -> Result<(), Status>
+        requires range { is_file_path path ≡ true }
+        ensures filed { Adds (filed (seen self.old) path bytes (add_check self.old.files path (length bytes))) (seen self.new) result }
+        ensures world { self.new.world ≡ self.old.world }
+    {
+        match self.files.add(path.as_slice(), bytes.as_slice()) {
+            Ok(()) => {}
+            Err(FileFault::Repeated) => return Err(refused(self.lines, Why::Repeated)),
+            Err(FileFault::TooLong(n)) => return Err(refused(self.lines, Why::TooLong(n))),
+            Err(FileFault::TooMany(n)) => return Err(refused(self.lines, Why::TooMany(n))),
+            Err(FileFault::TooMuch(n)) => return Err(refused(self.lines, Why::TooMuch(n))),
+            Err(FileFault::NoMemory) => return Err(Status::NoMemory),
+        }
+        match list(alloc, &mut self.listed, path.as_slice(), bytes.len() as u64) {
+            Ok(()) => return Ok(()),
+            Err(NoMemory) => return Err(Status::NoMemory),
+        }
+    }
+
+    /// The world begins with the files, if the configuration can be used, and the heading is written, and their lines.
     fn go<K: Sink>(&mut self, alloc: Global, sink: &mut K) -> Result<(), Status>
         ensures taken { Passes (taken (seen self.old) Item.Go) (item_gain (seen self.old) Item.Go) (K.written sink.old) (K.written sink.new) (seen self.new) result }
         ensures usable { OnOk result (self.new.world.spoiled ≡ false) }
@@ -129,12 +155,11 @@ impl Replay {
         if let Err(fault) = self.config.check() {
             return Err(refused(self.lines, Why::Config(fault)));
         }
-        let before = mem::replace(
-            &mut self.world,
-            World::new(alloc, self.config, Files::new(alloc)),
-        );
+        let files = mem::replace(&mut self.files, Files::new(alloc));
+        let listed = mem::replace(&mut self.listed, Vec::new(alloc));
+        let before = mem::replace(&mut self.world, World::new(alloc, self.config, files));
         let _empty = before.finish();
-        match heading(alloc, &self.config) {
+        match preface(alloc, &self.config, listed.as_slice()) {
             Ok(text) => return write(sink, text.as_slice()),
             Err(NoMemory) => return Err(Status::NoMemory),
         }
@@ -195,6 +220,8 @@ impl Replay {
         let Replay {
             reader: _,
             config: _,
+            files: _,
+            listed: _,
             lines: _,
             read: _,
             world,
@@ -207,6 +234,25 @@ fn refused(line: u64, why: Why) -> Status
     ensures { result ≡ Status.Refused line why }
 {
     Status::Refused { line, why }
+}
+
+/// Appends the line of a file.
+fn list(alloc: Global, listed: &mut Vec<u8>, path: &[u8], len: u64) -> Result<(), NoMemory>
+    ensures { OnOk result (listed.new.items ≡ listed.old.items ++ file_text (path.now, len)) }
+{
+    let line = file_line(alloc, path, len)?;
+    listed.extend_from_slice(line.as_slice())?;
+    Ok(())
+}
+
+/// What a report begins with: the heading, and the lines of the files.
+fn preface(alloc: Global, config: &Config, listed: &[u8]) -> Result<Vec<u8>, NoMemory>
+    ensures { IfOk result (λ text. text.items ≡ heading_line config.now ++ listed.now) }
+{
+    let first = heading(alloc, config)?;
+    let mut text = Vec::from_slice(alloc, first.as_slice())?;
+    text.extend_from_slice(listed)?;
+    Ok(text)
 }
 
 /// Writes the records of a journal from a place on, in one piece.

@@ -39,6 +39,14 @@ pub enum Why {
     Syntax,
     /// It gives a number that the configuration can't have, or `go` follows numbers that don't go together.
     Config(ConfigFault),
+    /// It adds a file whose path is there already.
+    Repeated,
+    /// It adds a file of so many bytes, above 2^20.
+    TooLong(u64),
+    /// There would be so many files with it, above 65,536.
+    TooMany(u64),
+    /// All files would have so many bytes with it, above 2^26.
+    TooMuch(u64),
     /// It delivers or loses packet `k` where only `sent` were sent.
     NotSent { k: u32, sent: u32 },
     /// It delivers or loses the packet with this number, which was lost.
@@ -167,6 +175,13 @@ fn refusal(alloc: Global, line: u64, why: Why) -> Result<String, NoMemory>
             push_fault(&mut text, fault)?;
             return Ok(text);
         }
+        Why::Repeated => {
+            text.push_str("file repeated")?;
+            return Ok(text);
+        }
+        Why::TooLong(n) => return counted(text, "file too long: ", n),
+        Why::TooMany(n) => return counted(text, "too many files: ", n),
+        Why::TooMuch(n) => return counted(text, "files too large: ", n),
         Why::NotSent { k, sent } => {
             push_packet(&mut text, k)?;
             text.push_str(" of ")?;
@@ -195,6 +210,15 @@ fn refusal(alloc: Global, line: u64, why: Why) -> Result<String, NoMemory>
             return Ok(text);
         }
     }
+}
+
+/// A text, and then words and a number.
+fn counted(mut text: String, words: &str, n: u64) -> Result<String, NoMemory>
+    ensures { IfOk result (λ longer. string_bytes longer ≡ string_bytes text ++ words.now ++ decimal n) }
+{
+    text.push_str(words)?;
+    push_number(&mut text, n)?;
+    Ok(text)
 }
 
 /// What is wrong with a configuration.
