@@ -1,5 +1,5 @@
 -- The journal of a text's replay is that of the machine, and obeys its laws.
-use Rattle.std.proofs.Common.{ℕ, List, [], ◌≤◌, ◌^◌}
+use Rattle.std.proofs.Common.{ℕ, List, ◌≤◌, ◌^◌}
 use Rattle.lard_files.specs.Files.{file_at}
 use Rattle.lard_history.specs.Laws.{AcceptsOnlyAnswers, Follows, IsNetwork, IsOwnership, IsSoleSender, MayOwn, MayReset, MaySend, MayWrite, ResetsAtTheLimit, ServesTheAnswers, TellsTheTruth, WritesWhileOpen}
 use Rattle.lard_laws_bytes.specs.Runs.{ClientsAcceptAnswers, JournalsServeTheAnswers, JournalsTellTheTruth}

@@ -27,7 +27,6 @@ use Rattle.lard_schedule.specs.declared.reader.Stage.TheVariants.{Start, Setting
 use Rattle.lard_schedule.specs.Reader.{after, item_of}
 use Rattle.lard_schedule.specs.Reader as reader
 use Rattle.lard_app.specs.declared.status.Form.{Form}
-use Rattle.lard_app.specs.declared.status.Form.TheVariants as form
 use Rattle.lard_app.specs.declared.status.Status.{Status}
 use Rattle.lard_app.specs.declared.status.Status.TheVariants.{Done, Usage, Refused, ReadFault, WriteFault, NoMemory, Limit}
 use Rattle.lard_app.specs.declared.status.Why.{Why}

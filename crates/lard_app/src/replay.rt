@@ -140,8 +140,8 @@ impl Replay {
             Err(FileFault::NoMemory) => return Err(Status::NoMemory),
         }
         match list(alloc, &mut self.listed, path.as_slice(), bytes.len() as u64) {
-            Ok(()) => return Ok(()),
-            Err(NoMemory) => return Err(Status::NoMemory),
+            Ok(()) => Ok(()),
+            Err(NoMemory) => Err(Status::NoMemory),
         }
     }
 

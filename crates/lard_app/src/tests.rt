@@ -55,6 +55,22 @@ fn each_status_has_its_code_and_line(rt: HostRuntime) -> Result<(), Fail> {
             2,
             "line 4: no connection can be admitted",
         ),
+        (refused(Why::Repeated), 2, "line 4: file repeated"),
+        (
+            refused(Why::TooLong(1_048_577)),
+            2,
+            "line 4: file too long: 1048577",
+        ),
+        (
+            refused(Why::TooMany(65_537)),
+            2,
+            "line 4: too many files: 65537",
+        ),
+        (
+            refused(Why::TooMuch(67_108_865)),
+            2,
+            "line 4: files too large: 67108865",
+        ),
         (
             refused(Why::NotSent { k: 7, sent: 2 }),
             2,

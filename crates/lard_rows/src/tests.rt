@@ -139,14 +139,7 @@ fn uses_that_are_not_built(rt: HostRuntime) -> Result<(), Fail> {
     let form = |line, form| refused(line, Why::FormNotBuilt(form));
     check(
         &rt,
-        &[
-            (
-                "lard 1\ngo\nopen 1 1000 5000 65535 1460\nget 1 /x?y\n",
-                form(4, Form::Get),
-                2,
-            ),
-            ("lard 1\ngo\ntimer n1 1\n", form(3, Form::Timer), 1),
-        ],
+        &[("lard 1\ngo\ntimer n1 1\n", form(3, Form::Timer), 1)],
     )?;
     Ok(())
 }
@@ -157,16 +150,54 @@ fn forms_that_are_not_built(rt: HostRuntime) -> Result<(), Fail> {
     check(
         &rt,
         &[
-            ("file /a -\n", form(1, Form::File), 0),
-            ("lard 1\nfill\n", form(2, Form::Fill), 0),
+            ("disk /a -\n", form(1, Form::Disk), 0),
+            ("lard 1\nclock\n", form(2, Form::Clock), 0),
             ("lard 1\nnodes 3\n", form(2, Form::Key(Key::Nodes)), 0),
             ("lard 1\ncache x y z\n", form(2, Form::Key(Key::Cache)), 0),
-            ("lard 1\ngo\nwrite 1 00\n", form(3, Form::Write), 1),
+            ("lard 1\ngo\ninject 1 00\n", form(3, Form::Inject), 1),
             ("lard 1\ngo\nsettle 10\n", form(3, Form::Settle), 1),
             ("lard 1\ngo\ndisk", refused(3, Why::Syntax), 1),
             ("lard 1\ngo\ndrain 1\n", refused(3, Why::Syntax), 1),
         ],
     )?;
+    Ok(())
+}
+
+#[test]
+fn files_that_may_not_be_added(rt: HostRuntime) -> Result<(), Fail> {
+    check(
+        &rt,
+        &[
+            (
+                "lard 1\nfile /a -\nfile /a 00\n",
+                refused(3, Why::Repeated),
+                0,
+            ),
+            (
+                "lard 1\nfill /a 1048577 00\n",
+                refused(2, Why::TooLong(1_048_577)),
+                0,
+            ),
+            ("lard 1\nfile /a 0\n", refused(2, Why::Syntax), 0),
+            ("lard 1\nfile /a?b -\n", refused(2, Why::Syntax), 0),
+            ("lard 1\ngo\nfile /a -\n", refused(3, Why::Syntax), 1),
+            ("lard 1\nfile /a -\nstream 5\n", refused(3, Why::Syntax), 0),
+        ],
+    )?;
+    Ok(())
+}
+
+#[test]
+fn files_stand_behind_the_heading(rt: HostRuntime) -> Result<(), Fail> {
+    let alloc = rt.alloc();
+    let (status, report) = replayed(
+        alloc,
+        b"lard 1\nfile /b 616263\nfill /a 5 00\nfile /empty -\ngo\n",
+        Calls::new(alloc),
+    )?;
+    let wanted = joined(alloc, HEADING, "file /b 3\nfile /a 5\nfile /empty 0\n")?;
+    assert_eq!(rt; status, Status::Done);
+    assert_eq!(rt; report.as_slice(), wanted.as_slice());
     Ok(())
 }
 
