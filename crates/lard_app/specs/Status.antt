@@ -6,7 +6,7 @@ use Rattle.lard_base.specs.declared.config.ConfigFault.TheVariants.{Range, LowHi
 use Rattle.lard_machine.specs.declared.fault.What.{What}
 use Rattle.lard_machine.specs.declared.fault.What.TheVariants.{Input, Packets, PacketBytes, Records, Answers, Stream}
 use Rattle.lard_app.specs.declared.status.Form.{Form}
-use Rattle.lard_app.specs.declared.status.Form.TheVariants.{File, Fill, Open, Get, Write, Shut, Abort, Hold, Take, Deliver, Lose, Timer, Disk, Clock, Settle, Inject, Key}
+use Rattle.lard_app.specs.declared.status.Form.TheVariants.{Timer, Disk, Clock, Settle, Inject, Key}
 use Rattle.lard_app.specs.declared.status.Why.{Why}
 use Rattle.lard_app.specs.declared.status.Why.TheVariants.{Syntax, Config, Repeated, TooLong, TooMany, TooMuch, NotSent, WasLost, NoClient, Used, FormNotBuilt}
 use Rattle.lard_app.specs.declared.status.Status.{Status}
@@ -23,17 +23,6 @@ code_of (Limit line what) = 6
 
 -- the first word of a form's lines
 abbrev pub form_word : Form → List ℕ
-form_word File = codes "file"
-form_word Fill = codes "fill"
-form_word Open = codes "open"
-form_word Get = codes "get"
-form_word Write = codes "write"
-form_word Shut = codes "shut"
-form_word Abort = codes "abort"
-form_word Hold = codes "hold"
-form_word Take = codes "take"
-form_word Deliver = codes "deliver"
-form_word Lose = codes "lose"
 form_word Timer = codes "timer"
 form_word Disk = codes "disk"
 form_word Clock = codes "clock"

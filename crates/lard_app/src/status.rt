@@ -2,28 +2,18 @@
 
 ghost use Rattle.std.specs.Prelude.{◌≡◌, ◌++◌, IfOk, OnOk, codes, decimal};
 ghost use Rattle.std.specs.String.{string_bytes};
-ghost use Rattle.lard_base.specs.Spelling.{key_word};
 ghost use Rattle.lard_app.specs.Status.{code_of, form_word, line_prefix, line_text, what_word, why_text, with_fault};
 
 use itoa::Buffer;
 use lard_base::{ConfigFault, Key, NoMemory};
 use lard_machine::What;
+use lard_schedule::key_word;
 use std::alloc::Global;
 
-/// The forms of line of a schedule, by their first words. `Key` stands for a configuration line.
+/// The forms of line of which all, or one use, is not built, by their first words. `Key` stands for a configuration
+/// line.
 #[derive(Clone, Copy, Debug, PartialEq, Eq)]
 pub enum Form {
-    File,
-    Fill,
-    Open,
-    Get,
-    Write,
-    Shut,
-    Abort,
-    Hold,
-    Take,
-    Deliver,
-    Lose,
     Timer,
     Disk,
     Clock,
@@ -84,17 +74,6 @@ impl Form {
         ensures { result.now ≡ form_word self }
     {
         match self {
-            Form::File => "file",
-            Form::Fill => "fill",
-            Form::Open => "open",
-            Form::Get => "get",
-            Form::Write => "write",
-            Form::Shut => "shut",
-            Form::Abort => "abort",
-            Form::Hold => "hold",
-            Form::Take => "take",
-            Form::Deliver => "deliver",
-            Form::Lose => "lose",
             Form::Timer => "timer",
             Form::Disk => "disk",
             Form::Clock => "clock",
@@ -102,22 +81,6 @@ impl Form {
             Form::Inject => "inject",
             Form::Key(key) => key_word(key),
         }
-    }
-}
-
-fn key_word(key: Key) -> &'static str
-    ensures { result.now ≡ key_word key }
-{
-    match key {
-        Key::Nodes => "nodes",
-        Key::Low => "low",
-        Key::High => "high",
-        Key::Age => "age",
-        Key::Idle => "idle",
-        Key::Over => "over",
-        Key::Miss => "miss",
-        Key::Cache => "cache",
-        Key::Stream => "stream",
     }
 }
 
@@ -165,51 +128,28 @@ fn owned(alloc: Global, text: &str) -> Result<String, NoMemory>
 fn refusal(alloc: Global, line: u64, why: Why) -> Result<String, NoMemory>
     ensures { IfOk result (λ text. string_bytes text ≡ why_text line why) }
 {
-    let mut text = at_line(alloc, line)?;
+    let text = at_line(alloc, line)?;
     match why {
-        Why::Syntax => {
-            text.push_str("not a line of the schedule")?;
-            return Ok(text);
-        }
-        Why::Config(fault) => {
-            push_fault(&mut text, fault)?;
-            return Ok(text);
-        }
-        Why::Repeated => {
-            text.push_str("file repeated")?;
-            return Ok(text);
-        }
+        Why::Syntax => return ended(text, "not a line of the schedule"),
+        Why::Config(fault) => return faulty(text, fault),
+        Why::Repeated => return ended(text, "file repeated"),
         Why::TooLong(n) => return counted(text, "file too long: ", n),
         Why::TooMany(n) => return counted(text, "too many files: ", n),
         Why::TooMuch(n) => return counted(text, "files too large: ", n),
-        Why::NotSent { k, sent } => {
-            push_packet(&mut text, k)?;
-            text.push_str(" of ")?;
-            push_number(&mut text, u64::from(sent))?;
-            text.push_str(" sent")?;
-            return Ok(text);
-        }
-        Why::WasLost(k) => {
-            push_packet(&mut text, k)?;
-            text.push_str(" was lost")?;
-            return Ok(text);
-        }
-        Why::NoClient(c) => {
-            push_client(&mut text, c)?;
-            text.push_str(" not opened")?;
-            return Ok(text);
-        }
-        Why::Used(c) => {
-            push_client(&mut text, c)?;
-            text.push_str(" opened before")?;
-            return Ok(text);
-        }
-        Why::FormNotBuilt(form) => {
-            text.push_str("not built yet: ")?;
-            text.push_str(form.word())?;
-            return Ok(text);
-        }
+        Why::NotSent { k, sent } => return not_sent(text, k, sent),
+        Why::WasLost(k) => return of_packet(text, k, " was lost"),
+        Why::NoClient(c) => return of_client(text, c, " not opened"),
+        Why::Used(c) => return of_client(text, c, " opened before"),
+        Why::FormNotBuilt(form) => return not_built(text, form),
     }
+}
+
+/// A text, and then the words that end it.
+fn ended(mut text: String, words: &str) -> Result<String, NoMemory>
+    ensures { IfOk result (λ longer. string_bytes longer ≡ string_bytes text ++ words.now) }
+{
+    text.push_str(words)?;
+    Ok(text)
 }
 
 /// A text, and then words and a number.
@@ -221,41 +161,59 @@ fn counted(mut text: String, words: &str, n: u64) -> Result<String, NoMemory>
     Ok(text)
 }
 
-/// What is wrong with a configuration.
-fn push_fault(text: &mut String, fault: ConfigFault) -> Result<(), NoMemory>
-    ensures { OnOk result (string_bytes text.new ≡ with_fault (string_bytes text.old) fault) }
+/// A text, and then what is wrong with a configuration.
+fn faulty(mut text: String, fault: ConfigFault) -> Result<String, NoMemory>
+    ensures { IfOk result (λ longer. string_bytes longer ≡ with_fault (string_bytes text) fault) }
 {
     match fault {
         ConfigFault::Range { key, value } => {
             text.push_str(key_word(key))?;
-            text.push_str(" out of range: ")?;
-            return push_number(text, value);
+            return counted(text, " out of range: ", value);
         }
         ConfigFault::LowHigh { low, high } => {
-            text.push_str("low ")?;
-            push_number(text, u64::from(low))?;
-            text.push_str(" above high ")?;
-            return push_number(text, u64::from(high));
+            let text = counted(text, "low ", u64::from(low))?;
+            return counted(text, " above high ", u64::from(high));
         }
-        ConfigFault::NoRoom => {
-            text.push_str("no connection can be admitted")?;
-            return Ok(());
-        }
+        ConfigFault::NoRoom => return ended(text, "no connection can be admitted"),
     }
 }
 
-fn push_packet(text: &mut String, k: u32) -> Result<(), NoMemory>
-    ensures { OnOk result (string_bytes text.new ≡ string_bytes text.old ++ codes "packet " ++ decimal k) }
+/// A text, and then that this packet is not among those that were sent.
+fn not_sent(text: String, k: u32, sent: u32) -> Result<String, NoMemory>
+    ensures { IfOk result (λ longer. string_bytes longer ≡ string_bytes text ++ codes "packet " ++ decimal k ++ codes " of " ++ decimal sent ++ codes " sent") }
 {
-    text.push_str("packet ")?;
-    push_number(text, u64::from(k))
+    let mut longer = of_packet(text, k, " of ")?;
+    push_number(&mut longer, u64::from(sent))?;
+    ended(longer, " sent")
 }
 
-fn push_client(text: &mut String, c: u32) -> Result<(), NoMemory>
-    ensures { OnOk result (string_bytes text.new ≡ string_bytes text.old ++ codes "client " ++ decimal c) }
+/// A text, and then a packet and what is said of it.
+fn of_packet(mut text: String, k: u32, words: &str) -> Result<String, NoMemory>
+    ensures { IfOk result (λ longer. string_bytes longer ≡ string_bytes text ++ codes "packet " ++ decimal k ++ words.now) }
+{
+    text.push_str("packet ")?;
+    push_number(&mut text, u64::from(k))?;
+    text.push_str(words)?;
+    Ok(text)
+}
+
+/// A text, and then a client and what is said of it.
+fn of_client(mut text: String, c: u32, words: &str) -> Result<String, NoMemory>
+    ensures { IfOk result (λ longer. string_bytes longer ≡ string_bytes text ++ codes "client " ++ decimal c ++ words.now) }
 {
     text.push_str("client ")?;
-    push_number(text, u64::from(c))
+    push_number(&mut text, u64::from(c))?;
+    text.push_str(words)?;
+    Ok(text)
+}
+
+/// A text, and then a form that is not built.
+fn not_built(mut text: String, form: Form) -> Result<String, NoMemory>
+    ensures { IfOk result (λ longer. string_bytes longer ≡ string_bytes text ++ codes "not built yet: " ++ form_word form) }
+{
+    text.push_str("not built yet: ")?;
+    text.push_str(form.word())?;
+    Ok(text)
 }
 
 fn limit(alloc: Global, line: u64, what: What) -> Result<String, NoMemory>

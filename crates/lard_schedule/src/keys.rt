@@ -106,7 +106,7 @@ fn key_among(keys: &[Key], word: &[u8]) -> Option<Key>
 }
 
 /// The word that names a key.
-fn key_word(key: Key) -> &'static str
+pub fn key_word(key: Key) -> &'static str
     ensures { result.now ≡ key_word key }
 {
     match key {

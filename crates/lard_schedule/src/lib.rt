@@ -17,6 +17,6 @@ mod verbs;
 mod words;
 
 pub use item::{Item, LineFault};
-pub use keys::Keys;
+pub use keys::{Keys, key_word};
 pub use reader::{Reader, Stage};
 pub use words::first_word;
