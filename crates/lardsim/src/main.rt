@@ -32,7 +32,8 @@ exit statuses, each with a line on standard error:
   5  memory ran out
   6  a limit was reached; the report of the steps before it stands
 
-The lines of a schedule and of a report are described in docs/FORMATS.md.
+The lines of a schedule are described in docs/SCHEDULE.md, and those of a
+report in docs/REPORT.md.
 ";
 
 fn main(rt: HostRuntime) -> ExitCode {
