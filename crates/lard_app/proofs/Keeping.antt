@@ -15,7 +15,7 @@ use Rattle.lard_files.specs.declared.fault.FileFault.{FileFault}
 use Rattle.lard_journal.specs.Report.{file_text}
 use Rattle.lard_machine.proofs.Runs.{passes-more, step-set}
 use Rattle.lard_machine.specs.Bounds.{HasRule}
-use Rattle.lard_machine.specs.Machine.{IsReached, machine_step, start}
+use Rattle.lard_machine.specs.Machine.{machine_step, start}
 use Rattle.lard_machine.specs.Machine.{Passes}
 use Rattle.lard_machine.specs.declared.fault.StepFault.{StepFault}
 use Rattle.lard_machine.specs.declared.machine.Machine.{Machine}
@@ -80,9 +80,6 @@ pub record Keeps (s : Progress) (es : List Event) : Type 0 where
 
 pub begin-keeps : Keeps begin []
 begin-keeps = record { idle = refl; runs = refl; listed = refl; stream = omega arith; lines = omega arith; read = omega arith }
-
-pub keeps-reached : (s : Progress) (es : List Event) → Keeps s es → IsReached s.machine.config s.machine.files s.machine
-keeps-reached s es k = (es, k.runs)
 
 within_limit : (m : ℕ) → nat_lt input_limit m ≡ false → m ≤ input_limit
 within_limit m e = grind (arith, nat_tests, e)

@@ -45,10 +45,6 @@ goal_cond : (b : Bool) (p : Packet) (o : Option Packet) → goal_in (cond b (Som
 goal_cond true p o = refl
 goal_cond false p o = refl
 
-lost_cond : (b : Bool) (p : Packet) (o : Option Packet) → p.lost ≡ lost_in o → lost_in (cond b (Some p) o) ≡ lost_in o
-lost_cond true p o e = e
-lost_cond false p o e = refl
-
 pub goal_push : (net : List Packet) (p : Packet) (k : ℕ) → goal_in (packet_at (net ++ p ∷ []) k) ≡ cond (nat_eq (length net + 1) k) (Some p.to) (goal_in (packet_at net k))
 goal_push net p k = ap goal_in (packet_push net p k) ∙ goal_cond (nat_eq (length net + 1) k) p (packet_at net k)
 

@@ -1,5 +1,5 @@
 -- What a sending half keeps as segments come and go: its first number, its bytes and its end.
-use Rattle.std.proofs.Common.{◌≡◌, ℕ, ◌+◌, ◌-◌, cond, max, nat_lt, ◌==◌, ◌&&◌, ◌||◌, drop, refl, ◌∙◌}
+use Rattle.std.proofs.Common.{◌≡◌, ℕ, ◌+◌, ◌-◌, cond, max, nat_lt, ◌==◌, ◌&&◌, ◌||◌, drop, refl}
 use Rattle.std.proofs.lemmas.Bool.{cond_both}
 use Rattle.lard_send.specs.Send.{Sending, symbols, one_if, moved_up, is_newer, windowed, after_ack, may_send, next_len, next_fin, after_next, after_resend}
 use Rattle.lard_seq.specs.Seq.{seq_offset}
@@ -11,9 +11,6 @@ pub record IsSameSide (s t : Sending) : Type 0 where
 
 pub same_side : (s : Sending) → IsSameSide s s
 same_side s = record { first = refl; total = refl; finished = refl }
-
-pub side-then : (s t u : Sending) → IsSameSide s t → IsSameSide t u → IsSameSide s u
-side-then s t u h k = record { first = k.first ∙ h.first; total = k.total ∙ h.total; finished = k.finished ∙ h.finished }
 
 pub next-side : (s : Sending) → IsSameSide s (after_next s)
 next-side s =

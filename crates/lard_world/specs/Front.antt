@@ -1,5 +1,5 @@
 -- What the code of the front end's rules has in hand, as the rules have it.
-use Rattle.std.specs.Prelude.{ℕ, ◌≤◌, Option, Some, None, []}
+use Rattle.std.specs.Prelude.{ℕ, ◌≤◌, Option, Some, None}
 use Rattle.lard_endpoint.specs.Control.{ControlBlock}
 use Rattle.lard_files.specs.Files.{file_at}
 use Rattle.lard_machine.specs.Front.{FrontEnv, Service}
@@ -17,10 +17,6 @@ env_seen env = record { c = env.c; iss = env.iss; files = file_at env.files.now;
 -- an endpoint and what was served of it
 abbrev pub service_of : ControlBlock → Served → Service
 service_of b w = record { block = b; count = w.count; notes = w.notes; answered = w.answered; over = w.over }
-
--- no response was queued in this turn yet
-abbrev pub nothing_served : ControlBlock → ℕ → Service
-nothing_served b count = record { block = b; count = count; notes = []; answered = 0; over = None }
 
 -- each response that was queued has a byte, and those of the turn are among all
 pub record IsCounted (b : ControlBlock) (w : Served) : Type 0 where
