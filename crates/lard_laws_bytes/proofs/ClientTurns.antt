@@ -132,17 +132,21 @@ module _ (c : ℕ) (w out : Stream) (x : ClientBlock) (most : length out.bytes �
       (λ t. wrote-turned bytes t fits) (λ t. silent-turned)
 
 -- ---- the beginning
-pub opens-agreeing : (c isn wnd mss : ℕ) (out : Stream) → isn < 2 ^ 32 → wnd < 2 ^ 16 → 1 ≤ mss → mss ≤ 1460 → ClientOpened c (unwritten isn) out (client_opens c isn wnd mss)
-opens-agreeing c isn wnd mss out n wide some small =
-    let x = opened c isn wnd mss in
+
+-- a client that opened agrees, whatever it is to be sent
+pub opened-agrees : (c isn wnd mss : ℕ) (out : Stream) → isn < 2 ^ 32 → wnd < 2 ^ 16 → 1 ≤ mss → mss ≤ 1460 → ClientAgrees c (unwritten isn) out (opened c isn wnd mss)
+opened-agrees c isn wnd mss out n wide some small =
     let begins = opening-begins out c isn wnd mss n in
-    let agrees : ClientAgrees c (unwritten isn) out x = record {
+    record {
       numbered = refl;
       sound = record { bounded = omega arith; held_within = omega arith; some_mss = some; small_mss = small };
       wide = wide;
       speaks = begins.1;
       w_is = refl;
       accepts = begins.0;
-    } in
-    let spoke = emits-spoke c (unwritten isn) out _ x agrees in
+    }
+
+pub opens-agreeing : (c isn wnd mss : ℕ) (out : Stream) → isn < 2 ^ 32 → wnd < 2 ^ 16 → 1 ≤ mss → mss ≤ 1460 → ClientOpened c (unwritten isn) out (client_opens c isn wnd mss)
+opens-agreeing c isn wnd mss out n wide some small =
+    let spoke = emits-spoke c (unwritten isn) out _ (opened c isn wnd mss) (opened-agrees c isn wnd mss out n wide some small) in
     record { agrees = spoke.agrees; accepted = spoke.accepted; notes = refl; sent = spoke.sent }

@@ -56,7 +56,7 @@ settled-some : (env : FrontEnv) (b : ControlBlock) (count answered : ℕ) (notes
 settled-some env b count answered notes None e = cc
 settled-some env b count answered notes (Some total) e = cc
 
-hears-some : (env : FrontEnv) (f : Option FrontConn) (s : Said) → (front_hears env f s).0 ≡ None → f ≡ None
+pub hears-some : (env : FrontEnv) (f : Option FrontConn) (s : Said) → (front_hears env f s).0 ≡ None → f ≡ None
 hears-some env None s e = refl
 hears-some env (Some (Held b count)) s e =
     let w : Service = reads env (record { block = (on_segment b s).1; count = count; notes = []; answered = 0; over = None }) in
@@ -64,7 +64,7 @@ hears-some env (Some (Held b count)) s e =
 hears-some env (Some Lent) s e = absurd cc
 hears-some env (Some (Closed last)) s e = absurd cc
 
-timer-some : (env : FrontEnv) (f : Option FrontConn) → (front_timer env f).0 ≡ None → f ≡ None
+pub timer-some : (env : FrontEnv) (f : Option FrontConn) → (front_timer env f).0 ≡ None → f ≡ None
 timer-some env None e = refl
 timer-some env (Some (Held b count)) e = absurd cc
 timer-some env (Some Lent) e = absurd cc

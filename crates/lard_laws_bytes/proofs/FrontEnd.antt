@@ -1,8 +1,8 @@
 -- A turn of the front end, by the state of the connection.
-use Rattle.std.proofs.Common.{◌≡◌, ◌≤◌, ◌<◌, ◌+◌, ◌^◌, ℕ, Bool, true, false, not, ◌&&◌, ◌||◌, List, [], ◌∷◌, ◌++◌, map, length, take, Option, Some, None, IfSome, arith, inr, refl, ap, ◌∙◌, sym, subst}
+use Rattle.std.proofs.Common.{◌≡◌, ◌≤◌, ◌<◌, ◌+◌, ◌^◌, ℕ, Bool, true, false, cond, not, ◌&&◌, ◌||◌, List, [], ◌∷◌, ◌++◌, map, length, take, Option, Some, None, IfSome, arith, inr, refl, ap, ◌∙◌, sym, subst}
 use Rattle.std.specs.List.{concat, list_any}
 use Rattle.std.specs.Prelude.{Ok}
-use Rattle.std.proofs.lemmas.Bool.{cond_both, and_parts}
+use Rattle.std.proofs.lemmas.Bool.{cond_both, and_parts, or_parts}
 use Rattle.lard_answers.specs.Answers.{FilesAt, answer}
 use Rattle.lard_base.specs.declared.place.Place.{Place}
 use Rattle.lard_base.specs.declared.place.Place.TheVariants as place_
@@ -13,14 +13,15 @@ use Rattle.lard_endpoint.specs.declared.control.moving.Final.{Final}
 use Rattle.lard_endpoint.specs.Arriving.{on_segment}
 use Rattle.lard_endpoint.specs.Control.{ControlBlock, listening}
 use Rattle.lard_endpoint.specs.Leaving.{emits_left, timed, after_timer, filled}
-use Rattle.lard_endpoint.specs.Moving.{may_end, end_reason, final_of}
+use Rattle.lard_endpoint.specs.Moving.{is_closed, may_end, end_reason, final_of}
 use Rattle.lard_journal.specs.declared.rec.Rec.TheVariants as rec
-use Rattle.lard_laws_bytes.specs.Agreement.{AreReplies, EndedIt, FrontAgrees, HasRead, HoldsIt, IsReply, SaysAnswers}
+use Rattle.lard_laws_bytes.specs.Agreement.{AreReplies, EndedAs, EndedIt, FrontAgrees, HasRead, HasStopped, HoldsIt, IsReply, SaysAnswers}
 use Rattle.lard_laws_bytes.specs.Keeping.{FrontTurned, FrontHearsTruth, FrontTimerIsTrue, IsEnv, resets}
-use Rattle.lard_laws_bytes.proofs.FrontEndpoint.{IsBetween, between-sound, between-timed, between-arrived, between-begun, read-same, read-arrived}
+use Rattle.lard_laws_bytes.proofs.FrontEndpoint.{IsBetween, between-sound, between-timed, between-arrived, between-begun, read-same, read-arrived, same-finished}
 use Rattle.lard_laws_bytes.proofs.FrontSpeaking.{Spoke, awaits-within, emits-spoke, emits_symbols-spoke, timed-reply}
 use Rattle.lard_laws_bytes.proofs.Reading.{Goes, IsReading, Serves, or-last, reads-goes}
 use Rattle.lard_laws_bytes.proofs.Serving.{noted-nothing}
+use Rattle.lard_laws_bytes.proofs.Stopping.{Stops, reads-stops, stopped-alike, stopped-arrived, stopped-begun}
 use Rattle.lard_machine.specs.declared.places.FrontConn.{FrontConn}
 use Rattle.lard_machine.specs.declared.places.FrontConn.TheVariants.{Held, Lent, Closed}
 use Rattle.lard_machine.specs.declared.places.Turn.{Turn}
@@ -48,6 +49,13 @@ replies-append c w out r (p ∷ ps) qs h k = (h.0, h.1, replies-append c w out r
 not_limit : (b : ControlBlock) → end_reason b ≡ reason.Limit → ⊥
 not_limit b = cond_both b.reset reason.Peer reason.Closed (λ (r : Reason). r ≡ reason.Limit → ⊥) (λ _ e. cc) (λ _ e. cc)
 
+-- one that ended since both sides closed was not reset
+closed-open : (b : ControlBlock) → end_reason b ≡ reason.Closed → b.reset ≡ false
+closed-open b = go b.reset refl where
+  go : (t : Bool) → b.reset ≡ t → cond t reason.Peer reason.Closed ≡ reason.Closed → b.reset ≡ false
+  go true e f = absurd (cc)
+  go false e f = e
+
 module _ (env : FrontEnv) (w out : Stream) (vs : List Verdict) (was_reset : Bool) where
   abbrev Turned : Option FrontConn × Turn → Type 0
   Turned given = FrontTurned env.files env.c w out vs was_reset given
@@ -55,15 +63,39 @@ module _ (env : FrontEnv) (w out : Stream) (vs : List Verdict) (was_reset : Bool
   abbrev reset_in : Service → Bool
   reset_in s = was_reset || list_any resets s.notes
 
-  ended-it : (now : Stream) (b : ControlBlock) (why : Reason) (r : Bool) → IsBetween w now b → (why ≡ reason.Limit → r ≡ true) → EndedIt w r (final_of b why)
-  ended-it now b why r h limit = record { snd_fits = omega arith; acks = awaits-within w now b h; limit = limit }
+  -- what is left of an endpoint that ended
+  ended-it : (now : Stream) (us : List Verdict) (b : ControlBlock) (why : Reason) (r : Bool) → IsBetween w now b → (why ≡ reason.Limit → r ≡ true)
+      → (why ≡ reason.Closed → EndedAs w now us (final_of b why)) → EndedIt w now us r (final_of b why)
+  ended-it now us b why r h limit closed = record { snd_fits = omega arith; acks = awaits-within w now b h; limit = limit; closed = closed }
 
-  spoken-turned : (s : Service) (g : Serves env w out vs s) (before : List (Place × List ℕ)) → HasRead w s.block g.vs_now → AreReplies env.c w g.out_now (reset_in s) before
-      → Turned (spoken env s before)
-  spoken-turned s g before read replies =
+  -- an endpoint that said what it may is held as it was, unless the client reset it
+  still-holds : (s : Service) (g : Serves env w out vs s) (r : Bool) (said : List (Place × List ℕ) × ControlBlock) → Spoke env.c w g.out_now r s.block said → HasRead w s.block g.vs_now
+      → (s.block.reset ≡ false → HasStopped s.block) → said.1.reset ≡ false → HoldsIt w g.out_now g.vs_now said.1 s.count
+  still-holds s g r said talk read stops e = record {
+    counted = g.counted;
+    sound = between-sound w g.out_now said.1 talk.between;
+    speaks = talk.between.speaks;
+    out_is = talk.between.out_is;
+    hears = talk.between.hears;
+    has_read = read-same w g.out_now s.block said.1 g.vs_now g.between talk.between talk.recv read;
+    stopped = stopped-alike s.block said.1 talk.recv (same-finished w g.out_now s.block said.1 g.between talk.between) (stops (sym talk.reset ∙ e));
+  }
+
+  -- one that may end, and was not reset, had both sides closed
+  ended-as : (now : Stream) (us : List Verdict) (b : ControlBlock) (count : ℕ) → (b.reset ≡ false → HoldsIt w now us b count) → may_end b ≡ true → end_reason b ≡ reason.Closed
+      → EndedAs w now us (final_of b (end_reason b))
+  ended-as now us b count holds may why =
+      let open_ : b.reset ≡ false = closed-open b why in
+      record { block = b; count = count; held = holds open_; both = sym (ap (λ r. r || is_closed b) open_) ∙ may; is = ap (final_of b) why }
+
+  -- what goes out at the end of a turn, and how the connection is left
+  spoken-turned : (s : Service) (g : Serves env w out vs s) (before : List (Place × List ℕ)) → HasRead w s.block g.vs_now → (s.block.reset ≡ false → HasStopped s.block)
+      → AreReplies env.c w g.out_now (reset_in s) before → Turned (spoken env s before)
+  spoken-turned s g before read stops replies =
       let r = reset_in s in
       let said = speaks env.c s.block in
       let talk : Spoke env.c w g.out_now r s.block said = emits-spoke env.c w g.out_now r (emits_left s.block) s.block g.between in
+      let holds = still-holds s g r said talk read stops in
       let P : FrontConn → Type 0 = λ f. FrontAgrees w g.out_now g.vs_now r (Some f) in
       record {
         out_after = g.out_now;
@@ -71,15 +103,9 @@ module _ (env : FrontEnv) (w out : Stream) (vs : List Verdict) (was_reset : Bool
         longer = g.longer;
         says = g.says;
         agrees = cond_both (may_end said.1) (Closed (final_of said.1 (end_reason said.1))) (Held said.1 s.count) P
-            (λ _. ended-it g.out_now said.1 (end_reason said.1) r talk.between (λ e. absurd (not_limit said.1 e)))
-            (λ _. record {
-              counted = g.counted;
-              sound = between-sound w g.out_now said.1 talk.between;
-              speaks = talk.between.speaks;
-              out_is = talk.between.out_is;
-              hears = talk.between.hears;
-              has_read = read-same w g.out_now s.block said.1 g.vs_now g.between talk.between talk.recv read;
-            });
+            (λ may. ended-it g.out_now g.vs_now said.1 (end_reason said.1) r talk.between (λ e. absurd (not_limit said.1 e))
+            (ended-as g.out_now g.vs_now said.1 s.count holds may))
+            (λ e. holds (or_parts said.1.reset (is_closed said.1) e).0);
         noted = g.noted;
         sent = replies-append env.c w g.out_now r before said.0 replies talk.sent;
       }
@@ -105,16 +131,17 @@ module _ (env : FrontEnv) (w out : Stream) (vs : List Verdict) (was_reset : Bool
         vs_after = g.vs_now;
         longer = g.longer;
         says = g.says;
-        agrees = ended-it g.out_now said.1 reason.Limit r talk.between (λ _. was);
+        agrees = ended-it g.out_now g.vs_now said.1 reason.Limit r talk.between (λ _. was) (λ e. absurd (cc));
         noted = g.noted;
         sent = replies-append env.c w g.out_now r said.0 (told env (limit_said last) ∷ []) talk.sent ((refl, (limit_said last, refl, limit-reply g.out_now said.1 r was), tt));
       }
 
-  settled-turned : (s : Service) → Goes env w out vs s → Turned (settled env s)
-  settled-turned s g = go s.over g.1 where
-    go : (o : Option ℕ) → IsReading w g.0.vs_now s.block s.notes o → Turned (elim o [ None ↦ spoken env s [] | Some total ↦ cut_off env s ])
-    go None read = spoken-turned s g.0 [] read tt
-    go (Some total) e = cut_off-turned s g.0 e
+  -- the end of a turn that read until it stopped
+  settled-turned : (s : Service) → Goes env w out vs s → Stops s → Turned (settled env s)
+  settled-turned s g stops = go s.over refl g.1 where
+    go : (o : Option ℕ) → s.over ≡ o → IsReading w g.0.vs_now s.block s.notes o → Turned (elim o [ None ↦ spoken env s [] | Some total ↦ cut_off env s ])
+    go None e read = spoken-turned s g.0 [] read (λ open_. stops open_ e) tt
+    go (Some total) e reset = cut_off-turned s g.0 reset
 
   -- nothing is noted, and the streams stay
   still-turned : (f : Option FrontConn) (segments : List (Place × List ℕ)) → SaysAnswers env.files w out vs → FrontAgrees w out vs was_reset f
@@ -159,7 +186,8 @@ module _ (env : FrontEnv) (w out : Stream) (vs : List Verdict) (was_reset : Bool
       let after = between-arrived w out b before s is t in
       let start = opening (on_segment b s).1 count in
       let first = turn-begins (on_segment b s).1 count says h.counted after (read-arrived w out b vs s before after h.has_read) in
-      settled-turned (reads env start) (reads-goes env w out vs pairs most (length (on_segment b s).1.recv.unread + 1) start first)
+      let stops = reads-stops pairs env start (λ _. stopped-arrived b s (same-finished w out b (on_segment b s).1 before after) h.stopped) in
+      settled-turned (reads env start) (reads-goes env w out vs pairs most (length (on_segment b s).1.recv.unread + 1) start first) stops
 
   timer-turned : (b : ControlBlock) (count : ℕ) → SaysAnswers env.files w out vs → HoldsIt w out vs b count → Turned (front_timer env (Some (Held b count)))
   unfolding turn-begins
@@ -168,7 +196,8 @@ module _ (env : FrontEnv) (w out : Stream) (vs : List Verdict) (was_reset : Bool
       let after = between-timed w out b before in
       let read = read-same w out b (after_timer b) vs before after (timer-left b out.bytes h.speaks).2 h.has_read in
       let first = turn-begins (after_timer b) count says h.counted after read in
-      spoken-turned (opening (after_timer b) count) first.0 (ready_of env (after_timer b) (timed b)) first.1 (replies (timed b) refl)
+      let stopped = stopped-alike b (after_timer b) (timer-left b out.bytes h.speaks).2 (same-finished w out b (after_timer b) before after) h.stopped in
+      spoken-turned (opening (after_timer b) count) first.0 (ready_of env (after_timer b) (timed b)) first.1 (λ _. stopped) (replies (timed b) refl)
     where
       replies : (o : Option Ready) → timed b ≡ o → AreReplies env.c w out (was_reset || false) (ready_of env (after_timer b) o)
       replies None e = tt
@@ -198,7 +227,7 @@ module _ (env : FrontEnv) (w out : Stream) (vs : List Verdict) (was_reset : Bool
         counted = sym (ap length none);
         between = between;
         noted = record { front = (refl, tt); served = omega arith; size = omega arith; unless_ended = inr refl; serve = λ past t. (tt, tt) };
-      }) [] (nothing-read s env.iss none) tt
+      }) [] (nothing-read s env.iss none) (λ _. stopped-begun s env.iss) tt
 
   met-turned : (s : Said) → env.iss ≡ out.first → SaysAnswers env.files w out vs → (vs ≡ []) × (out.ended ≡ false) → IsTrueOf w s → Turned (met env s)
   met-turned s begins says h t = cond_both (is_plain_syn s) (begun env s) (None, silent) Turned
@@ -207,7 +236,7 @@ module _ (env : FrontEnv) (w out : Stream) (vs : List Verdict) (was_reset : Bool
 
   -- ---- a connection that ended
 
-  words-reply : (why : Reason) (last : Final) (s : Said) → s.ack < 2 ^ 32 → last.reason ≡ why → EndedIt w was_reset last → IfSome (last_words why last s) (IsReply w out (was_reset || false))
+  words-reply : (why : Reason) (last : Final) (s : Said) → s.ack < 2 ^ 32 → last.reason ≡ why → EndedIt w out vs was_reset last → IfSome (last_words why last s) (IsReply w out (was_reset || false))
   words-reply reason.Closed last s fits e h =
       let P : Option Said → Type 0 = λ o. IfSome o (IsReply w out (was_reset || false)) in
       let ack = h.acks in
@@ -233,7 +262,7 @@ module _ (env : FrontEnv) (w out : Stream) (vs : List Verdict) (was_reset : Bool
       })
       (λ _. tt)
 
-  tombstone-turned : (last : Final) (o : Option Said) → SaysAnswers env.files w out vs → EndedIt w was_reset last → IfSome o (IsReply w out (was_reset || false))
+  tombstone-turned : (last : Final) (o : Option Said) → SaysAnswers env.files w out vs → EndedIt w out vs was_reset last → IfSome o (IsReply w out (was_reset || false))
       → Turned (Some (Closed last), tombstone env o)
   tombstone-turned last None says h k = still-turned (Some (Closed last)) [] says h tt
   tombstone-turned last (Some s) says h k = still-turned (Some (Closed last)) (told env s ∷ []) says h ((refl, (s, refl, k), tt))

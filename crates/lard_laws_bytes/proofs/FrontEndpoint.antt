@@ -152,16 +152,20 @@ segment-takes P s b h k =
 
 -- ---- what was read stays read
 
+-- two endpoints between the same streams have finished alike
+pub same-finished : (w out : Stream) (b d : ControlBlock) → IsBetween w out b → IsBetween w out d → d.send.finished ≡ b.send.finished
+same-finished w out b d h k = sym (ap (λ x. x.ended) k.out_is) ∙ ap (λ x. x.ended) h.out_is
+
 -- by another endpoint between the same streams, whose unread bytes begin at the same place
 read-carried : (w out : Stream) (b d : ControlBlock) (vs : List Verdict) → IsBetween w out b → IsBetween w out d → d.recv.discarding ≡ b.recv.discarding
     → (b.recv.discarding ≡ false → place d.recv ≡ place b.recv) → HasRead w b vs → HasRead w d vs
 read-carried w out b d vs h k same at read =
-    let finished : d.send.finished ≡ b.send.finished = sym (ap (λ x. x.ended) k.out_is) ∙ ap (λ x. x.ended) h.out_is in
+    let finished = same-finished w out b d h k in
     let P : ℕ → Type 0 = λ n. IsJudged (take n w.bytes) vs in
     record {
       cut = λ e. let f : b.recv.discarding ≡ false = sym same ∙ e in subst P (sym (at f)) (read.cut f);
       goes_on = λ e. read.goes_on (sym same ∙ e);
-      stops = λ e. finished ∙ read.stops (sym same ∙ e);
+      stops = λ e. let s = read.stops (sym same ∙ e) in (finished ∙ s.0, s.1);
     }
 
 pub read-same : (w out : Stream) (b d : ControlBlock) (vs : List Verdict) → IsBetween w out b → IsBetween w out d → d.recv ≡ b.recv → HasRead w b vs → HasRead w d vs

@@ -3,7 +3,7 @@ use Rattle.std.proofs.Common.{◌≡◌, ◌≤◌, ◌+◌, ℕ, zero, suc, Boo
 use Rattle.std.proofs.lemmas.Bool.{cond_both}
 use Rattle.lard_base.specs.declared.place.Place.{Place}
 use Rattle.lard_endpoint.specs.Control.{ControlBlock, rcv_nxt}
-use Rattle.lard_endpoint.specs.Leaving.{ack_ready, owes, owed_ready, ready_of, advanced, retried, emitted, after_emit, timed, after_timer, filled}
+use Rattle.lard_endpoint.specs.Leaving.{ack_ready, owes, owed_ready, ready_of, advanced, retried, emitted, after_emit, timed, after_timer, filled, after_piece, after_owed, told}
 use Rattle.lard_laws_bytes.specs.Agreement.{AreReplies, IsReply}
 use Rattle.lard_laws_bytes.proofs.FrontEndpoint.{IsBetween, between-emitted}
 use Rattle.lard_machine.specs.Speaking.{to_client, emits, has_symbol, emits_symbols}
@@ -70,18 +70,60 @@ module _ (c : ℕ) (w out : Stream) (was_reset : Bool) where
       (subst (λ (o : Option Ready). IfSome o (Acknowledges b)) e (timed-acks b))
       (subst (λ (x : Stream). Fair x (filled (after_timer b) r)) (sym h.out_is) (timed-fair b out.bytes h.speaks r e))
 
+-- ---- call by call
+
+-- What is so of what goes out, and of the endpoint after it, by what is so where nothing goes out, and where a segment goes
+-- out before the others. It may rest on what every call keeps.
+module _ (c : ℕ) (Sound : ControlBlock → Type 0) (Is : ControlBlock → List (Place × List ℕ) × ControlBlock → Type 0)
+    (keeps : (b : ControlBlock) → Sound b → Sound (after_emit b)) (silent : (b : ControlBlock) → Sound b → Is b ([], b))
+    (more : (b : ControlBlock) (r : Ready) (later : List (Place × List ℕ) × ControlBlock) → Sound b → emitted b ≡ Some r → Is (after_emit b) later
+    → Is b (to_client c (after_emit b) r ∷ later.0, later.1))
+    (cut : (b : ControlBlock) → Sound b → Is b ([], after_emit b)) where
+  pub emits-all : (n : ℕ) (b : ControlBlock) → Sound b → Is b (emits c n b)
+  unfolding emits
+  emits-all zero b h = silent b h
+  emits-all (suc n) b h = go (emits-all n (after_emit b) (keeps b h)) (emitted b) refl where
+    go : Is (after_emit b) (emits c n (after_emit b)) → (o : Option Ready) → emitted b ≡ o
+        → Is b (elim o [ None ↦ ([], b) | Some r ↦ (to_client c (after_emit b) r ∷ (emits c n (after_emit b)).0, (emits c n (after_emit b)).1) ])
+    go later None e = silent b h
+    go later (Some r) e = more b r (emits c n (after_emit b)) h e later
+
+  -- as long as each segment sends a symbol
+  pub emits_symbols-all : (n : ℕ) (b : ControlBlock) → Sound b → Is b (emits_symbols c n b)
+  unfolding emits_symbols
+  emits_symbols-all zero b h = silent b h
+  emits_symbols-all (suc n) b h = go (emits_symbols-all n (after_emit b) (keeps b h)) (emitted b) refl where
+    go : Is (after_emit b) (emits_symbols c n (after_emit b)) → (o : Option Ready) → emitted b ≡ o
+        → Is b (elim o [
+          | None ↦ ([], b)
+          | Some r ↦ cond (has_symbol r) (to_client c (after_emit b) r ∷ (emits_symbols c n (after_emit b)).0, (emits_symbols c n (after_emit b)).1) ([], after_emit b)
+        ])
+    go later None e = silent b h
+    go later (Some r) e =
+        cond_both (has_symbol r) (to_client c (after_emit b) r ∷ (emits_symbols c n (after_emit b)).0, (emits_symbols c n (after_emit b)).1) ([], after_emit b) (Is b)
+        (λ _. more b r (emits_symbols c n (after_emit b)) h e later)
+        (λ _. cut b h)
+
+-- what is sent does not reset the endpoint
+emit-reset : (b : ControlBlock) → (after_emit b).reset ≡ b.reset
+emit-reset b = cond_both b.reset b (after_piece (advanced b) (next_piece b.send) (after_owed (advanced b))) (λ (d : ControlBlock). d.reset ≡ b.reset) (λ _. refl) (λ _. go (next_piece b.send)) where
+  go : (o : Option Piece) → (after_piece (advanced b) o (after_owed (advanced b))).reset ≡ b.reset
+  go (Some p) = refl
+  go None = cond_both (owes (advanced b)) (told (advanced b)) (advanced b) (λ (d : ControlBlock). d.reset ≡ b.reset) (λ _. refl) (λ _. refl)
+
 -- what goes out are true replies, and the endpoint has read what it had
 pub record Spoke (c : ℕ) (w out : Stream) (was_reset : Bool) (b : ControlBlock) (given : List (Place × List ℕ) × ControlBlock) : Type 0 where
   pub sent : AreReplies c w out was_reset given.0
   pub between : IsBetween w out given.1
   pub recv : given.1.recv ≡ b.recv
+  pub reset : given.1.reset ≡ b.reset
 
 module _ (c : ℕ) (w out : Stream) (was_reset : Bool) where
   abbrev Speaks_on : ControlBlock → List (Place × List ℕ) × ControlBlock → Type 0
   Speaks_on b given = Spoke c w out was_reset b given
 
   silent-spoke : (b : ControlBlock) → IsBetween w out b → Speaks_on b ([], b)
-  silent-spoke b h = record { sent = tt; between = h; recv = refl }
+  silent-spoke b h = record { sent = tt; between = h; recv = refl; reset = refl }
 
   -- one segment, and those after it
   more-spoke : (b : ControlBlock) (r : Ready) (later : List (Place × List ℕ) × ControlBlock) → IsBetween w out b → emitted b ≡ Some r → Speaks_on (after_emit b) later
@@ -90,29 +132,15 @@ module _ (c : ℕ) (w out : Stream) (was_reset : Bool) where
     sent = (refl, (filled (after_emit b) r, refl, emitted-reply c w out was_reset b r h e), k.sent);
     between = k.between;
     recv = k.recv ∙ (emit-left b out.bytes h.speaks).2;
+    reset = k.reset ∙ emit-reset b;
   }
 
+  -- a plain ACK that is not sent
+  cut-spoke : (b : ControlBlock) → IsBetween w out b → Speaks_on b ([], after_emit b)
+  cut-spoke b h = record { sent = tt; between = between-emitted w out b h; recv = (emit-left b out.bytes h.speaks).2; reset = emit-reset b }
+
   pub emits-spoke : (n : ℕ) (b : ControlBlock) → IsBetween w out b → Speaks_on b (emits c n b)
-  unfolding emits
-  emits-spoke zero b h = silent-spoke b h
-  emits-spoke (suc n) b h = go (emits-spoke n (after_emit b) (between-emitted w out b h)) (emitted b) refl where
-    go : Speaks_on (after_emit b) (emits c n (after_emit b)) → (o : Option Ready) → emitted b ≡ o
-        → Speaks_on b (elim o [ None ↦ ([], b) | Some r ↦ (to_client c (after_emit b) r ∷ (emits c n (after_emit b)).0, (emits c n (after_emit b)).1) ])
-    go later None e = silent-spoke b h
-    go later (Some r) e = more-spoke b r (emits c n (after_emit b)) h e later
+  emits-spoke n b h = emits-all c (IsBetween w out) Speaks_on (between-emitted w out) silent-spoke more-spoke cut-spoke n b h
 
   pub emits_symbols-spoke : (n : ℕ) (b : ControlBlock) → IsBetween w out b → Speaks_on b (emits_symbols c n b)
-  unfolding emits_symbols
-  emits_symbols-spoke zero b h = silent-spoke b h
-  emits_symbols-spoke (suc n) b h = go (emits_symbols-spoke n (after_emit b) (between-emitted w out b h)) (emitted b) refl where
-    go : Speaks_on (after_emit b) (emits_symbols c n (after_emit b)) → (o : Option Ready) → emitted b ≡ o
-        → Speaks_on b (elim o [
-          | None ↦ ([], b)
-          | Some r ↦ cond (has_symbol r) (to_client c (after_emit b) r ∷ (emits_symbols c n (after_emit b)).0, (emits_symbols c n (after_emit b)).1) ([], after_emit b)
-        ])
-    go later None e = silent-spoke b h
-    go later (Some r) e =
-        let more : List (Place × List ℕ) × ControlBlock = (to_client c (after_emit b) r ∷ (emits_symbols c n (after_emit b)).0, (emits_symbols c n (after_emit b)).1) in
-        cond_both (has_symbol r) more ([], after_emit b) (Speaks_on b)
-        (λ _. more-spoke b r (emits_symbols c n (after_emit b)) h e later)
-        (λ _. record { sent = tt; between = between-emitted w out b h; recv = (emit-left b out.bytes h.speaks).2 })
+  emits_symbols-spoke n b h = emits_symbols-all c (IsBetween w out) Speaks_on (between-emitted w out) silent-spoke more-spoke cut-spoke n b h

@@ -5,6 +5,8 @@ pub mod Content
 pub mod Serving
 pub mod Reading
 pub mod ReadingBytes
+pub mod Stopping
+pub mod Answered
 pub mod ClientAlike
 pub mod ClientSpeaking
 pub mod ClientTurns

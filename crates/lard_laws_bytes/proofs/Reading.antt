@@ -119,9 +119,9 @@ can-read w vs s may reading =
     let keeps = keeps-still s.block.recv.discarding refl read.stops unfinished in
     record { read = read; within_limit = none; unfinished = unfinished; keeps = keeps; open_ = read.goes_on keeps }
   where
-    keeps-still : (b : Bool) → s.block.recv.discarding ≡ b → (s.block.recv.discarding ≡ true → s.block.send.finished ≡ true) → s.block.send.finished ≡ false
+    keeps-still : (b : Bool) → s.block.recv.discarding ≡ b → (s.block.recv.discarding ≡ true → (s.block.send.finished ≡ true) × (closes_any vs ≡ true)) → s.block.send.finished ≡ false
         → s.block.recv.discarding ≡ false
-    keeps-still true e stops f = absurd (let g = stops e in cc)
+    keeps-still true e stops f = absurd (let g = (stops e).0 in cc)
     keeps-still false e stops f = e
 
 -- ---- behind an answer that closes what comes is discarded, and the FIN follows
@@ -134,9 +134,13 @@ onward-closed w out v b h = cond_both (closes v) (finishing (discarding_on b)) b
 open-more : (vs : List Verdict) (v : Verdict) → closes_any vs ≡ false → closes v ≡ false → closes_any (vs ++ v ∷ []) ≡ false
 open-more vs v e f = list_any-append closes vs (v ∷ []) ∙ ap (λ b. b || (closes v || false)) e ∙ ap (λ b. b || false) f
 
+-- the verdicts with one that closes close
+closes-more : (vs : List Verdict) (v : Verdict) → closes v ≡ true → closes_any (vs ++ v ∷ []) ≡ true
+closes-more vs v e = list_any-append closes vs (v ∷ []) ∙ or-last (closes_any vs) (closes v || false) (ap (λ b. b || false) e)
+
 closed-read : (w : Stream) (vs : List Verdict) (v : Verdict) (b : ControlBlock) → IsNext w vs v b → HasRead w (closed_behind v b) (vs ++ v ∷ [])
 closed-read w vs v b n = cond_both (closes v) (finishing (discarding_on b)) b (λ (d : ControlBlock). HasRead w d (vs ++ v ∷ []))
-    (λ _. record { cut = λ e. absurd (cc); goes_on = λ e. absurd (cc); stops = λ _. refl })
+    (λ f. record { cut = λ e. absurd (cc); goes_on = λ e. absurd (cc); stops = λ _. (refl, closes-more vs v f) })
     (λ f. record { cut = λ _. n.cut f; goes_on = λ _. open-more vs v n.open_ f; stops = λ e. absurd (let kept = n.keeps in cc) })
 
 -- ---- a verdict is answered
@@ -221,7 +225,7 @@ module _ (env : FrontEnv) (w out : Stream) (vs : List Verdict) where
           between = next.between;
           noted = subst (λ (said : List ℕ). AreNoted env.files env.c w out vs h.vs_now said s.notes) (sym next.bytes_are) h.noted;
         },
-        subst (λ (o : Option ℕ). IsReading w h.vs_now (finishing s.block) s.notes o) (sym none) (record { cut = read.cut; goes_on = read.goes_on; stops = λ _. refl }),
+        subst (λ (o : Option ℕ). IsReading w h.vs_now (finishing s.block) s.notes o) (sym none) (record { cut = read.cut; goes_on = read.goes_on; stops = λ e. (refl, (read.stops e).1) }),
       )
 
   ended-goes : (s : Service) (h : Serves env w out vs s) → s.over ≡ None → HasRead w s.block h.vs_now → Goes env w out vs (ended_at_fin s)

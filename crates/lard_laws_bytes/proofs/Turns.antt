@@ -20,7 +20,7 @@ use Rattle.lard_endpoint.specs.declared.control.moving.Final.{Final}
 use Rattle.lard_seq.specs.Seq.{seq_add}
 use Rattle.lard_truth.specs.Truth.{GoesOn, Stream}
 use Rattle.lard_truth.proofs.Growth.{accepted-grown, front-length, front-take, heard-grown}
-use Rattle.lard_laws_bytes.specs.Agreement.{Agrees, FrontAgrees, HasRead}
+use Rattle.lard_laws_bytes.specs.Agreement.{Agrees, EndedAs, FrontAgrees, HasRead, HoldsIt}
 use Rattle.lard_laws_bytes.specs.Keeping.{AreClientNotes, AreFrontNotes, ClientTurned, FrontTurned, accepted_in, resets, served_in, size_in, written_in}
 use Rattle.lard_laws_bytes.proofs.Notes.{Adds}
 use Rattle.lard_laws_bytes.proofs.Segments.{Moment}
@@ -41,21 +41,31 @@ module _ (w v : Stream) (g : GoesOn w v) where
       let longer : length w.bytes ≤ length v.bytes = front-length w.bytes v.bytes g.bytes in
       (a.0, a.1 ∙ ap (λ (n : ℕ). seq_add n a.0) (sym g.first), (let b = a.2 in omega (arith, b, longer)))
 
-  pub front-grown : (out : Stream) (vs : List Verdict) (reset : Bool) (f : Option FrontConn) → FrontAgrees w out vs reset f → FrontAgrees v out vs reset f
-  front-grown out vs reset None h = h
-  front-grown out vs reset (Some (Held b count)) h = record {
+  -- the endpoint that is held
+  holds-grown : (out : Stream) (vs : List Verdict) (b : ControlBlock) (count : ℕ) → HoldsIt w out vs b count → HoldsIt v out vs b count
+  holds-grown out vs b count h = record {
     counted = h.counted;
     sound = h.sound;
     speaks = h.speaks;
     out_is = h.out_is;
     hears = heard-grown w v b.recv g h.hears;
     has_read = read-grown b vs h.hears.within h.has_read;
+    stopped = h.stopped;
   }
+
+  -- and the one that was held last
+  ended-grown : (out : Stream) (vs : List Verdict) (last : Final) → EndedAs w out vs last → EndedAs v out vs last
+  ended-grown out vs last h = record { block = h.block; count = h.count; held = holds-grown out vs h.block h.count h.held; both = h.both; is = h.is }
+
+  pub front-grown : (out : Stream) (vs : List Verdict) (reset : Bool) (f : Option FrontConn) → FrontAgrees w out vs reset f → FrontAgrees v out vs reset f
+  front-grown out vs reset None h = h
+  front-grown out vs reset (Some (Held b count)) h = holds-grown out vs b count h
   front-grown out vs reset (Some Lent) h = h
   front-grown out vs reset (Some (Closed last)) h = record {
     snd_fits = h.snd_fits;
     acks = acks-grown last h.acks;
     limit = h.limit;
+    closed = λ e. ended-grown out vs last (h.closed e);
   }
 
 -- ---- one connection

@@ -10,6 +10,7 @@ use Rattle.lard_block.specs.Blocks.{blocks}
 use Rattle.lard_client.specs.Control.{ClientBlock, IsClientBlock}
 use Rattle.lard_endpoint.specs.Control.{ControlBlock, IsControlBlock}
 use Rattle.lard_endpoint.specs.declared.control.moving.Final.{Final}
+use Rattle.lard_endpoint.specs.Moving.{is_closed, final_of}
 use Rattle.lard_history.specs.Journal.{Tale}
 use Rattle.lard_machine.specs.declared.places.FrontConn.{FrontConn}
 use Rattle.lard_machine.specs.declared.places.FrontConn.TheVariants.{Held, Lent, Closed}
@@ -52,11 +53,18 @@ pub record HasRead (w : Stream) (b : ControlBlock) (vs : List Verdict) : Type 0 
   pub cut : b.recv.discarding ≡ false → (z : List ℕ)
       → verdicts_on (blocks (take (b.recv.got - length b.recv.unread) w.bytes ++ z)) ≡ vs ++ verdicts_on (blocks z)
   pub goes_on : b.recv.discarding ≡ false → closes_any vs ≡ false
-  pub stops : b.recv.discarding ≡ true → b.send.finished ≡ true
+  pub stops : b.recv.discarding ≡ true → (b.send.finished ≡ true) × (closes_any vs ≡ true)
+
+-- No request is left unread, unless what comes is discarded. Behind the client's FIN the cluster's follows, and where
+-- nothing is discarded only there.
+pub record HasStopped (b : ControlBlock) : Type 0 where
+  pub none : b.recv.discarding ≡ false → blocks b.recv.unread ≡ []
+  pub finishes : b.recv.discarding ≡ false → b.recv.fin ≡ true → b.send.finished ≡ true
+  pub only_then : b.recv.discarding ≡ false → b.send.finished ≡ true → b.recv.fin ≡ true
 
 -- ---- the front end
 
--- It holds the endpoint, which answered these verdicts.
+-- It holds the endpoint, which answered these verdicts, and has read all that there was.
 pub record HoldsIt (w out : Stream) (vs : List Verdict) (b : ControlBlock) (count : ℕ) : Type 0 where
   pub counted : count ≡ length vs
   pub sound : IsControlBlock b
@@ -64,18 +72,28 @@ pub record HoldsIt (w out : Stream) (vs : List Verdict) (b : ControlBlock) (coun
   pub out_is : out ≡ stream_of b.send out.bytes
   pub hears : Hears w b.recv
   pub has_read : HasRead w b vs
+  pub stopped : HasStopped b
 
--- It ended: the last numbers, and a reset where that was for the stream limit.
-pub record EndedIt (w : Stream) (was_reset : Bool) (last : Final) : Type 0 where
+-- Both sides closed: it ended as this endpoint, which had read and said all.
+pub record EndedAs (w out : Stream) (vs : List Verdict) (last : Final) : Type 0 where
+  pub block : ControlBlock
+  pub count : ℕ
+  pub held : HoldsIt w out vs block count
+  pub both : is_closed block ≡ true
+  pub is : last ≡ final_of block reason.Closed
+
+-- It ended: the last numbers, a reset where that was for the stream limit, and else how it ended.
+pub record EndedIt (w out : Stream) (vs : List Verdict) (was_reset : Bool) (last : Final) : Type 0 where
   pub snd_fits : last.snd.0 < 2 ^ 32
   pub acks : (n : ℕ) × (last.rcv.0 ≡ seq_add w.first n) × (n ≤ 2 + length w.bytes)
   pub limit : last.reason ≡ reason.Limit → was_reset ≡ true
+  pub closed : last.reason ≡ reason.Closed → EndedAs w out vs last
 
 abbrev pub FrontAgrees : Stream → Stream → List Verdict → Bool → Option FrontConn → Type 0
 FrontAgrees w out vs was_reset None = (vs ≡ []) × (out.ended ≡ false)
 FrontAgrees w out vs was_reset (Some (Held b count)) = HoldsIt w out vs b count
 FrontAgrees w out vs was_reset (Some Lent) = ⊥
-FrontAgrees w out vs was_reset (Some (Closed last)) = EndedIt w was_reset last
+FrontAgrees w out vs was_reset (Some (Closed last)) = EndedIt w out vs was_reset last
 
 -- What was said to the client are the answers to these verdicts, which are the first on what the client wrote, however
 -- that goes on.
