@@ -4,6 +4,7 @@ use Rattle.lard_files.specs.Files.{file_at}
 use Rattle.lard_history.specs.Laws.{AcceptsOnlyAnswers, Follows, IsNetwork, IsOwnership, IsSoleSender, MayOwn, MayReset, MaySend, MayWrite, ResetsAtTheLimit, ServesTheAnswers, TellsTheTruth, WritesWhileOpen}
 use Rattle.lard_laws_bytes.specs.Runs.{ClientsAcceptAnswers, JournalsServeTheAnswers, JournalsTellTheTruth}
 use Rattle.lard_laws_clients.specs.Laws.{ClientsTakeInOrder, TakesInOrder}
+use Rattle.lard_laws_quiet.specs.Quiet.{IsCompleteWhenQuiet, JournalsAreComplete}
 use Rattle.lard_laws_places.proofs.Reached.{journals-follow, reached-holds, reached-may}
 use Rattle.lard_machine.specs.Machine.{IsReached, Passes, start}
 use Rattle.lard_app.specs.Replay.{config_of, events_of, files_of, journal_of, machine_of}
@@ -54,3 +55,6 @@ module _ (text : List ℕ) where
 
   pub service : JournalsServeTheAnswers → ServesTheAnswers (file_at (files_of text)) (journal_of text)
   service law = law (config_of text) (files_of text) (machine_of text) small reached
+
+  pub quiet : JournalsAreComplete → IsCompleteWhenQuiet (file_at (files_of text)) (journal_of text)
+  quiet law = law (config_of text) (files_of text) (machine_of text) small reached

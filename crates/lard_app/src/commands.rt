@@ -7,6 +7,7 @@ ghost use Rattle.lard_base.specs.Causes.{Rose};
 ghost use Rattle.lard_files.specs.Files.{file_at};
 ghost use Rattle.lard_history.specs.Laws.{AcceptsOnlyAnswers, Follows, IsNetwork, IsOwnership, IsSoleSender, ResetsAtTheLimit, ServesTheAnswers, TellsTheTruth, WritesWhileOpen};
 ghost use Rattle.lard_laws_clients.specs.Laws.{TakesInOrder};
+ghost use Rattle.lard_laws_quiet.specs.Quiet.{IsCompleteWhenQuiet};
 ghost use Rattle.lard_machine.specs.Machine.{Passes, start};
 ghost use Rattle.lard_app.specs.Causes.{Ends};
 ghost use Rattle.lard_app.specs.declared.status.Status.{Status};
@@ -19,6 +20,7 @@ use crate::status::Status;
 use lard_base::{InputFault, Sink, Source, read_up_to};
 use lard_laws_bytes::every_run_is_true;
 use lard_laws_clients::clients_take_what_comes_next;
+use lard_laws_quiet::quiet_connections_are_complete;
 use std::alloc::Global;
 
 /// Does all that the program does for these words, which are those after its name. `replay` reads a schedule of at
@@ -60,9 +62,11 @@ pub fn run<S: Source, K: Sink>(
     ensures prefix { (text : List ℕ) → AcceptsOnlyAnswers (file_at (files_of text)) (journal_of text) }
     ensures service { (text : List ℕ) → ServesTheAnswers (file_at (files_of text)) (journal_of text) }
     ensures resets { (text : List ℕ) → ResetsAtTheLimit (config_of text).stream (journal_of text) }
+    ensures quiet { (text : List ℕ) → IsCompleteWhenQuiet (file_at (files_of text)) (journal_of text) }
 {
     every_run_is_true();
     clients_take_what_comes_next();
+    quiet_connections_are_complete();
     if !asks_replay(words) {
         return Status::Usage;
     }

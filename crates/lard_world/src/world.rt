@@ -5,6 +5,7 @@ ghost use Rattle.lard_base.specs.Config.{IsInRange};
 ghost use Rattle.lard_files.specs.Files.{file_at};
 ghost use Rattle.lard_history.specs.Laws.{AcceptsOnlyAnswers, IsNetwork, IsOwnership, IsSoleSender, ResetsAtTheLimit, ServesTheAnswers, TellsTheTruth, WritesWhileOpen};
 ghost use Rattle.lard_laws_clients.specs.Laws.{TakesInOrder};
+ghost use Rattle.lard_laws_quiet.specs.Quiet.{IsCompleteWhenQuiet};
 ghost use Rattle.lard_machine.specs.Bounds.{HasRule};
 ghost use Rattle.lard_machine.specs.Machine.{Steps, machine_step, start};
 ghost use Rattle.lard_world.specs.World.{is_short};
@@ -17,6 +18,7 @@ use lard_journal::Journal;
 use lard_laws_bytes::every_run_is_true;
 use lard_laws_clients::clients_take_what_comes_next;
 use lard_laws_places::{journals_are_lawful, states_are_told};
+use lard_laws_quiet::quiet_connections_are_complete;
 use lard_machine::{FrontConn, Machine, Station, StepFault};
 use lard_net::Net;
 use lard_table::Table;
@@ -85,11 +87,13 @@ impl World {
         ensures tells { TellsTheTruth (file_at self.old.machine.files) self.new.machine.journal }
         ensures serves { ServesTheAnswers (file_at self.old.machine.files) self.new.machine.journal }
         ensures prefix { AcceptsOnlyAnswers (file_at self.old.machine.files) self.new.machine.journal }
+        ensures quiet { IsCompleteWhenQuiet (file_at self.old.machine.files) self.new.machine.journal }
     {
         states_are_told();
         journals_are_lawful();
         every_run_is_true();
         clients_take_what_comes_next();
+        quiet_connections_are_complete();
         let done = steps::step(&mut self.machine, alloc, event);
         self.spoiled = is_short(done);
         done

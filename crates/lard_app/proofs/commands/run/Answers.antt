@@ -1,5 +1,5 @@
 use Rattle.lard_app.proofs.Endings.{caused}
-use Rattle.lard_app.proofs.Lawful.{follows, machine, network, ownership, prefix, resets, service, sole_sender, takers, tells, writers}
+use Rattle.lard_app.proofs.Lawful.{follows, machine, network, ownership, prefix, quiet, resets, service, sole_sender, takers, tells, writers}
 use Rattle.lard_app.proofs.Settled.{settled}
 use Rattle.lard_app.proofs.commands.run.Goals as goal
 
@@ -39,6 +39,9 @@ returns-then-not-asks_replay-clause-service g c = λ text. service text c.every_
 pub returns-then-not-asks_replay-clause-resets : goal.returns-then-not-asks_replay-clause-resets
 returns-then-not-asks_replay-clause-resets g c = resets
 
+pub returns-then-not-asks_replay-clause-quiet : goal.returns-then-not-asks_replay-clause-quiet
+returns-then-not-asks_replay-clause-quiet g c = λ text. quiet text c.quiet_connections_are_complete.ensures
+
 pub returns-clause-causes : goal.returns-clause-causes
 returns-clause-causes g c = caused
 
@@ -74,6 +77,9 @@ returns-clause-service g c = λ text. service text c.every_run_is_true.ensures.s
 
 pub returns-clause-resets : goal.returns-clause-resets
 returns-clause-resets g c = resets
+
+pub returns-clause-quiet : goal.returns-clause-quiet
+returns-clause-quiet g c = λ text. quiet text c.quiet_connections_are_complete.ensures
 
 pub returns-clause-complete : goal.returns-clause-complete
 returns-clause-complete g c = λ asked read written. settled c.replay.result _ _ _ _ c.replay.ensures.ran (λ e. read (c.replay.ensures.read_fault e)) (λ e. written (c.replay.ensures.write_fault e))

@@ -4,6 +4,7 @@ use Rattle.lard_base.specs.declared.config.Config.{Config}
 use Rattle.lard_files.specs.Files.{file_at}
 use Rattle.lard_history.specs.Laws.{AcceptsOnlyAnswers, IsNetwork, IsOwnership, IsSoleSender, ResetsAtTheLimit, ServesTheAnswers, TellsTheTruth, WritesWhileOpen}
 use Rattle.lard_laws_clients.specs.Laws.{TakesInOrder}
+use Rattle.lard_laws_quiet.specs.Quiet.{IsCompleteWhenQuiet}
 use Rattle.lard_world.specs.World.{Standing}
 use Rattle.lard_world.proofs.Runs.{runs-on, still}
 use Rattle.lard_world.proofs.world.World.step.Goals as goal
@@ -75,3 +76,10 @@ returns-clause-prefix c =
     subst (λ (w : Standing). AcceptsOnlyAnswers (file_at w.machine.files) c.step-done.new.machine.journal) c.self.view_is
     (still c.self.inside.machine c.step-done.new.machine c.args.event run c.requires.ruled (AcceptsOnlyAnswers (file_at c.self.inside.machine.files))
     (λ m r s f. subst (λ (fs : List (List ℕ × List ℕ)). AcceptsOnlyAnswers (file_at fs) m.journal) f (c.every_run_is_true.ensures.prefix m.config m.files m r.stream r.reached)) c.step-done.result c.step-done.ensures)
+
+pub returns-clause-quiet : goal.returns-clause-quiet
+returns-clause-quiet c =
+    let run = c.self.invariant (ap (λ w. w.spoiled) c.self.view_is ∙ c.requires.usable) in
+    subst (λ (w : Standing). IsCompleteWhenQuiet (file_at w.machine.files) c.step-done.new.machine.journal) c.self.view_is
+    (still c.self.inside.machine c.step-done.new.machine c.args.event run c.requires.ruled (IsCompleteWhenQuiet (file_at c.self.inside.machine.files))
+    (λ m r s f. subst (λ (fs : List (List ℕ × List ℕ)). IsCompleteWhenQuiet (file_at fs) m.journal) f (c.quiet_connections_are_complete.ensures m.config m.files m r.stream r.reached)) c.step-done.result c.step-done.ensures)

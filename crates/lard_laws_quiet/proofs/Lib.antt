@@ -1,0 +1,16 @@
+pub mod Acked
+pub mod Acknowledging
+pub mod Acting
+pub mod ClientRules
+pub mod ClientSaying
+pub mod ClientStepping
+pub mod Complete
+pub mod Events
+pub mod FrontArriving
+pub mod FrontReading
+pub mod FrontRules
+pub mod FrontSaying
+pub mod Moves
+pub mod Reached
+pub mod Rules
+pub mod Story
