@@ -1,18 +1,19 @@
 -- What a replay keeps: its machine is one that the events of its lines have led to, and its numbers are bounded.
-use Rattle.std.proofs.Common.{◌≡◌, ℕ, ◌+◌, ◌≤◌, ◌^◌, List, [], ◌∷◌, ◌++◌, length, Bool, true, false, cond, Option, Some, None, Result, Ok, Err, refl, sym, ap, ◌∙◌, subst, append_assoc, append-nil, arith}
+use Rattle.std.proofs.Common.{◌≡◌, ℕ, ◌+◌, ◌≤◌, ◌^◌, List, [], ◌∷◌, ◌++◌, length, true, false, Option, Some, None, Result, Ok, Err, refl, sym, ap, ◌∙◌, subst, append_assoc, append-nil, arith}
 use Rattle.std.proofs.lemmas.Bool.Decides.{nat_tests}
 use Rattle.std.specs.List.{flat_map}
 use Rattle.std.specs.Prelude.{nat_lt}
-use Rattle.lard_base.specs.Config.{checked_from, config_check, is_in_range, range_check, value_of}
+use Rattle.lard_base.specs.Config.{config_check, range_check}
 use Rattle.lard_base.specs.declared.config.Config.{Config}
 use Rattle.lard_base.specs.declared.config.ConfigFault.{ConfigFault}
-use Rattle.lard_base.specs.declared.config.ConfigFault.TheVariants.{Range}
 use Rattle.lard_base.specs.declared.config.Key.{Key}
-use Rattle.lard_base.specs.declared.config.Key.TheVariants.{Nodes, Low, High, Age, Idle, Over, Miss, Cache, Stream}
 use Rattle.lard_base.specs.declared.event.Event.{Event}
 use Rattle.lard_files.specs.Files.{add_check}
 use Rattle.lard_files.specs.declared.fault.FileFault.{FileFault}
+use Rattle.lard_history.proofs.Each.{Each, Each-append}
+use Rattle.lard_journal.specs.Range.{IsConfigInRange}
 use Rattle.lard_journal.specs.Report.{file_text}
+use Rattle.lard_laws_records.specs.Records.{IsGiven}
 use Rattle.lard_machine.proofs.Runs.{passes-more, step-set}
 use Rattle.lard_machine.specs.Bounds.{HasRule}
 use Rattle.lard_machine.specs.Machine.{machine_step, start}
@@ -24,35 +25,16 @@ use Rattle.lard_schedule.specs.declared.item.Item.TheVariants as item
 use Rattle.lard_schedule.specs.declared.reader.Stage.{Stage}
 use Rattle.lard_schedule.specs.declared.reader.Stage.TheVariants.{Start, Settings, Files, Running}
 use Rattle.lard_schedule.specs.Events.{IsInRange}
-use Rattle.lard_schedule.specs.Laws.{IsBefore, MayStand}
+use Rattle.lard_schedule.specs.Files.{is_file_path}
+use Rattle.lard_schedule.specs.Laws.{IsBefore, MayStand, SpellsFile, SpellsItem}
 use Rattle.lard_schedule.specs.Reader.{HasRange}
 use Rattle.lard_app.specs.declared.status.Form.{Form}
 use Rattle.lard_app.specs.declared.status.Status.{Status}
 use Rattle.lard_app.specs.Forms.{missing}
 use Rattle.lard_app.specs.Replay.{Progress, begin, begun, config_set, counted, event_listed, events_from, events_of, filed, followed, input_limit, is_past, judged, lines_of, moved, passed, replayed, sizes, stepped, taken, whole}
+use Rattle.lard_app.proofs.Ranges.{HasRanges, IsGivenFile, config_checked, event-given, file-given}
 use Rattle.lard_app.proofs.Passing.{ok_is, passed-took, took-fits, took-judged}
 use Rattle.lard_app.proofs.Steps.{ruled}
-
--- ---- a configuration that was checked
-
-key_checked : (c : Config) (key : Key) (keys : List Key) → checked_from c (key ∷ keys) ≡ Ok tt → (is_in_range key (value_of c key) ≡ true) × (checked_from c keys ≡ Ok tt)
-key_checked c key keys e = go (is_in_range key (value_of c key)) refl e where
-  go : (b : Bool) → is_in_range key (value_of c key) ≡ b → cond b (checked_from c keys) (Err (Range key (value_of c key))) ≡ Ok tt → (is_in_range key (value_of c key) ≡ true) × (checked_from c keys ≡ Ok tt)
-  go true t h = (t, h)
-  go false t h = cc
-
-stream_checked : (c : Config) → config_check c ≡ Ok tt → c.stream ≤ 2 ^ 30
-stream_checked c e =
-    let first = key_checked c Nodes (Low ∷ High ∷ Age ∷ Idle ∷ Over ∷ Miss ∷ Cache ∷ Stream ∷ []) e in
-    let second = key_checked c Low (High ∷ Age ∷ Idle ∷ Over ∷ Miss ∷ Cache ∷ Stream ∷ []) first.1 in
-    let third = key_checked c High (Age ∷ Idle ∷ Over ∷ Miss ∷ Cache ∷ Stream ∷ []) second.1 in
-    let fourth = key_checked c Age (Idle ∷ Over ∷ Miss ∷ Cache ∷ Stream ∷ []) third.1 in
-    let fifth = key_checked c Idle (Over ∷ Miss ∷ Cache ∷ Stream ∷ []) fourth.1 in
-    let sixth = key_checked c Over (Miss ∷ Cache ∷ Stream ∷ []) fifth.1 in
-    let seventh = key_checked c Miss (Cache ∷ Stream ∷ []) sixth.1 in
-    let eighth = key_checked c Cache (Stream ∷ []) seventh.1 in
-    let ninth = (key_checked c Stream [] eighth.1).0 in
-    grind (arith, nat_tests, ninth)
 
 -- ---- what is kept
 
@@ -69,17 +51,41 @@ idle_before Settings es i b = i
 idle_before Files es i b = i
 idle_before Running es i b = absurd b
 
+-- before `go` the machine is the one that nobody sees
+abbrev pub IsUnseen : Stage → Machine → Type 0
+IsUnseen Start m = m ≡ begin.machine
+IsUnseen Settings m = m ≡ begin.machine
+IsUnseen Files m = m ≡ begin.machine
+IsUnseen Running m = Unit {0}
+
+unseen_before : (stage : Stage) (m : Machine) → IsUnseen stage m → IsBefore stage → m ≡ begin.machine
+unseen_before Start m u b = absurd b
+unseen_before Settings m u b = u
+unseen_before Files m u b = u
+unseen_before Running m u b = absurd b
+
 -- what holds of a replay that has passed these events
 pub record Keeps (s : Progress) (es : List Event) : Type 0 where
   pub idle : IsIdle s.reader.stage es
   pub runs : Passes (start s.machine.config s.machine.files) es s.machine
   pub listed : s.listed ≡ flat_map file_text (sizes s.files)
   pub stream : s.machine.config.stream ≤ 2 ^ 30
+  pub ranges : HasRanges s.files s.machine es
+  pub unseen : IsUnseen s.reader.stage s.machine
   pub lines : s.lines ≤ s.read
   pub read : s.read ≤ input_limit
 
 pub begin-keeps : Keeps begin []
-begin-keeps = record { idle = refl; runs = refl; listed = refl; stream = omega arith; lines = omega arith; read = omega arith }
+begin-keeps = record {
+  idle = refl;
+  runs = refl;
+  listed = refl;
+  stream = omega arith;
+  ranges = record { files = tt; config = (omega arith, omega arith, omega arith, omega arith, omega arith, omega arith, omega arith, omega arith, omega arith); taken = tt; events = tt };
+  unseen = refl;
+  lines = omega arith;
+  read = omega arith;
+}
 
 within_limit : (m : ℕ) → nat_lt input_limit m ≡ false → m ≤ input_limit
 within_limit m e = grind (arith, nat_tests, e)
@@ -90,6 +96,8 @@ counted-keeps s line es p k = record {
   runs = k.runs;
   listed = k.listed;
   stream = k.stream;
+  ranges = k.ranges;
+  unseen = k.unseen;
   lines = omega (arith, k.lines);
   read = within_limit (s.read + length line + 1) p;
 }
@@ -103,6 +111,9 @@ module _ (s t : Progress) (es : List Event) (k : Keeps s es) where
   same_events : Passes (start s.machine.config s.machine.files) (es ++ []) s.machine
   same_events = subst (λ ds. Passes (start s.machine.config s.machine.files) ds s.machine) (sym (append-nil es)) k.runs
 
+  same_ranges : HasRanges s.files s.machine (es ++ [])
+  same_ranges = subst (HasRanges s.files s.machine) (sym (append-nil es)) k.ranges
+
   set-keeps : (key : Key) (value : ℕ) (r : Result (Unit {0}) ConfigFault) → config_set (followed s (item.Set key value)) key value r ≡ Ok t → Keeps t (es ++ [])
   set-keeps key value (Err fault) e = cc
   set-keeps key value (Ok u) e = subst (λ (v : Progress). Keeps v (es ++ [])) (ok_is _ t e) (record {
@@ -110,6 +121,8 @@ module _ (s t : Progress) (es : List Event) (k : Keeps s es) where
     runs = same_events;
     listed = k.listed;
     stream = k.stream;
+    ranges = same_ranges;
+    unseen = k.unseen;
     lines = k.lines;
     read = k.read;
   })
@@ -120,25 +133,35 @@ module _ (s t : Progress) (es : List Event) (k : Keeps s es) where
     idle = tt;
     listed = refl;
     runs = subst (λ ds. Passes (start s.config s.files) ds (start s.config s.files)) (sym (append-nil es ∙ idle_before s.reader.stage es k.idle b)) refl;
-    stream = stream_checked s.config c;
+    stream = (config_checked s.config c).1;
+    ranges = record { files = tt; config = (config_checked s.config c).0; taken = k.ranges.files; events = same_ranges.events };
+    unseen = tt;
     lines = k.lines;
     read = k.read;
   })
 
-  filed-keeps : (path bytes : List ℕ) (r : Result (Unit {0}) FileFault) → IsBefore s.reader.stage → filed (followed s (item.File path bytes)) path bytes r ≡ Ok t → Keeps t (es ++ [])
-  filed-keeps path bytes (Err fault) b e = cc
-  filed-keeps path bytes (Ok u) b e = subst (λ (v : Progress). Keeps v (es ++ [])) (ok_is _ t e) (record {
+  filed-keeps : (words : List (List ℕ)) (path bytes : List ℕ) (r : Result (Unit {0}) FileFault) → SpellsFile words path bytes → is_file_path path ≡ true → add_check s.files path (length bytes) ≡ r
+      → IsBefore s.reader.stage → filed (followed s (item.File path bytes)) path bytes r ≡ Ok t → Keeps t (es ++ [])
+  filed-keeps words path bytes (Err fault) spelled fits c b e = cc
+  filed-keeps words path bytes (Ok u) spelled fits c b e = subst (λ (v : Progress). Keeps v (es ++ [])) (ok_is _ t e) (record {
     idle = append-nil es ∙ idle_before s.reader.stage es k.idle b;
     runs = same_events;
     listed = ap (λ l. l ++ file_text (path, length bytes)) k.listed ∙ listed_more s.files path bytes;
     stream = k.stream;
+    ranges = record {
+      files = Each-append IsGivenFile s.files ((path, bytes) ∷ []) k.ranges.files (file-given s.files words path bytes spelled fits c, tt);
+      config = k.ranges.config;
+      taken = k.ranges.taken;
+      events = same_ranges.events;
+    };
+    unseen = unseen_before s.reader.stage s.machine k.unseen b;
     lines = k.lines;
     read = k.read;
   })
 
-  moved-keeps : (e : Event) (r : Result Machine StepFault) → s.reader.stage ≡ Running → HasRule e → machine_step s.machine e ≡ r → moved (followed s (item.Event e)) r ≡ Ok t → Keeps t (es ++ e ∷ [])
-  moved-keeps e (Err fault) running rule is h = cc
-  moved-keeps e (Ok m) running rule is h =
+  moved-keeps : (e : Event) (r : Result Machine StepFault) → s.reader.stage ≡ Running → IsGiven e → HasRule e → machine_step s.machine e ≡ r → moved (followed s (item.Event e)) r ≡ Ok t → Keeps t (es ++ e ∷ [])
+  moved-keeps e (Err fault) running given rule is h = cc
+  moved-keeps e (Ok m) running given rule is h =
       let kept = step-set s.machine m e rule is in
       subst (λ (v : Progress). Keeps v (es ++ e ∷ [])) (ok_is _ t h) (record {
         idle = subst (λ st. IsIdle st (es ++ e ∷ [])) (sym running) tt;
@@ -146,34 +169,43 @@ module _ (s t : Progress) (es : List Event) (k : Keeps s es) where
             (subst (λ (fs : List (List ℕ × List ℕ)). Passes (start s.machine.config fs) (es ++ e ∷ []) m) (sym kept.1) (passes-more es (start s.machine.config s.machine.files) s.machine m e k.runs rule is));
         listed = k.listed;
         stream = subst (λ (c : Config). c.stream ≤ 2 ^ 30) (sym kept.0) k.stream;
+        ranges = record {
+          files = k.ranges.files;
+          config = subst IsConfigInRange (sym kept.0) k.ranges.config;
+          taken = subst (Each IsGivenFile) (sym kept.1) k.ranges.taken;
+          events = Each-append IsGiven es (e ∷ []) k.ranges.events (given, tt);
+        };
+        unseen = subst (λ st. IsUnseen st m) (sym running) tt;
         lines = k.lines;
         read = k.read;
       })
 
-  event-keeps : (e : Event) (o : Option Form) → missing e ≡ o → s.reader.stage ≡ Running → IsInRange e → stepped (followed s (item.Event e)) e o ≡ Ok t → Keeps t (es ++ e ∷ [])
-  event-keeps e (Some form) m running range h = cc
-  event-keeps e None m running range h = moved-keeps e (machine_step s.machine e) running (ruled e m range) refl h
+  event-keeps : (e : Event) (o : Option Form) → missing e ≡ o → s.reader.stage ≡ Running → IsGiven e → IsInRange e → stepped (followed s (item.Event e)) e o ≡ Ok t → Keeps t (es ++ e ∷ [])
+  event-keeps e (Some form) m running given range h = cc
+  event-keeps e None m running given range h = moved-keeps e (machine_step s.machine e) running given (ruled e m range) refl h
 
-  item-keeps : (x : Item) → MayStand s.reader x → HasRange x → taken (followed s x) x ≡ Ok t → Keeps t (es ++ event_listed (Ok x))
-  item-keeps item.Header stands range e = subst (λ (v : Progress). Keeps v (es ++ [])) (ok_is _ t e) (record {
+  item-keeps : (words : List (List ℕ)) (x : Item) → SpellsItem words x → MayStand s.reader x → HasRange x → taken (followed s x) x ≡ Ok t → Keeps t (es ++ event_listed (Ok x))
+  item-keeps words item.Header spelled stands range e = subst (λ (v : Progress). Keeps v (es ++ [])) (ok_is _ t e) (record {
     idle = append-nil es ∙ subst (λ st. IsIdle st es) stands k.idle;
     runs = same_events;
     listed = k.listed;
     stream = k.stream;
+    ranges = same_ranges;
+    unseen = subst (λ st. IsUnseen st s.machine) stands k.unseen;
     lines = k.lines;
     read = k.read;
   })
-  item-keeps (item.Set key value) stands range e = set-keeps key value (range_check key value) e
-  item-keeps (item.File path bytes) stands range e = filed-keeps path bytes (add_check s.files path (length bytes)) stands e
-  item-keeps item.Go stands range e = begun-keeps (config_check s.config) refl stands e
-  item-keeps (item.Event d) stands range e = event-keeps d (missing d) refl stands range e
+  item-keeps words (item.Set key value) spelled stands range e = set-keeps key value (range_check key value) e
+  item-keeps words (item.File path bytes) spelled stands range e = filed-keeps words path bytes (add_check s.files path (length bytes)) spelled range refl stands e
+  item-keeps words item.Go spelled stands range e = begun-keeps (config_check s.config) refl stands e
+  item-keeps words (item.Event d) spelled stands range e = event-keeps d (missing d) refl stands (event-given words d spelled range) range e
 
 pub passed-keeps : (s t : Progress) (line : List ℕ) (es : List Event) → Keeps s es → passed s line ≡ Ok t → Keeps t (es ++ event_listed (judged s.reader line))
 passed-keeps s t line es k e =
     let took = passed-took s t line e in
     let fits = took-fits s t line took in
     subst (λ j. Keeps t (es ++ event_listed j)) (sym (took-judged s t line took))
-    (item-keeps (counted s line) t es (counted-keeps s line es took.within k) took.item fits.1 fits.2 took.is)
+    (item-keeps (counted s line) t es (counted-keeps s line es took.within k) fits.0.0 took.item fits.0.2 fits.1 fits.2 took.is)
 
 pub replayed-keeps : (s : Progress) (lines : List (List ℕ)) (es : List Event) → Keeps s es → Keeps (replayed s lines).0 (es ++ events_from s lines)
 replayed-keeps s [] es k = subst (Keeps s) (sym (append-nil es)) k

@@ -8,6 +8,7 @@ mod Keeping
 mod Knows
 mod Lawful
 mod Passing
+mod Ranges
 mod Reached
 mod Settled
 mod Steps

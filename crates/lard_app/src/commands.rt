@@ -11,16 +11,18 @@ ghost use Rattle.lard_laws_quiet.specs.Quiet.{IsCompleteWhenQuiet};
 ghost use Rattle.lard_machine.specs.Machine.{Passes, start};
 ghost use Rattle.lard_app.specs.Causes.{Ends};
 ghost use Rattle.lard_app.specs.declared.status.Status.{Status};
-ghost use Rattle.lard_app.specs.Replay.{begin, config_of, events_of, files_of, input_limit, is_feed, journal_of, lines_of, machine_of, whole};
+ghost use Rattle.lard_app.specs.Replay.{begin, config_of, events_of, files_of, input_limit, is_feed, journal_of, lines_of, machine_of, report_of, sizes, whole};
 ghost use Rattle.lard_app.specs.Run.{IsReplay, IsSettled, Ran, Replays};
 ghost use Rattle.lard_app.specs.Seen.{seen};
 
 use crate::replay::{INPUT_LIMIT, Replay};
 use crate::status::Status;
 use lard_base::{InputFault, Sink, Source, read_up_to};
+use lard_journal::report_tells_all;
 use lard_laws_bytes::every_run_is_true;
 use lard_laws_clients::clients_take_what_comes_next;
 use lard_laws_quiet::quiet_connections_are_complete;
+use lard_laws_records::records_are_in_range;
 use std::alloc::Global;
 
 /// Does all that the program does for these words, which are those after its name. `replay` reads a schedule of at
@@ -63,10 +65,17 @@ pub fn run<S: Source, K: Sink>(
     ensures service { (text : List ℕ) → ServesTheAnswers (file_at (files_of text)) (journal_of text) }
     ensures resets { (text : List ℕ) → ResetsAtTheLimit (config_of text).stream (journal_of text) }
     ensures quiet { (text : List ℕ) → IsCompleteWhenQuiet (file_at (files_of text)) (journal_of text) }
+
+    // The report tells all of this: two texts with the same report have the same configuration, files with the same
+    // paths and lengths, and the same journal.
+    ensures tells_all { (text also : List ℕ) → report_of (whole text).0 ≡ report_of (whole also).0
+        → (config_of text ≡ config_of also) × (sizes (files_of text) ≡ sizes (files_of also)) × (journal_of text ≡ journal_of also) }
 {
     every_run_is_true();
     clients_take_what_comes_next();
     quiet_connections_are_complete();
+    records_are_in_range();
+    report_tells_all();
     if !asks_replay(words) {
         return Status::Usage;
     }

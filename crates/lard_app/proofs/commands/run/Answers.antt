@@ -1,5 +1,5 @@
 use Rattle.lard_app.proofs.Endings.{caused}
-use Rattle.lard_app.proofs.Lawful.{follows, machine, network, ownership, prefix, quiet, resets, service, sole_sender, takers, tells, writers}
+use Rattle.lard_app.proofs.Lawful.{follows, machine, network, ownership, prefix, quiet, resets, service, sole_sender, takers, tells, tells_all, writers}
 use Rattle.lard_app.proofs.Settled.{settled}
 use Rattle.lard_app.proofs.commands.run.Goals as goal
 
@@ -42,6 +42,9 @@ returns-then-not-asks_replay-clause-resets g c = resets
 pub returns-then-not-asks_replay-clause-quiet : goal.returns-then-not-asks_replay-clause-quiet
 returns-then-not-asks_replay-clause-quiet g c = λ text. quiet text c.quiet_connections_are_complete.ensures
 
+pub returns-then-not-asks_replay-clause-tells_all : goal.returns-then-not-asks_replay-clause-tells_all
+returns-then-not-asks_replay-clause-tells_all g c = tells_all c.records_are_in_range.ensures c.report_tells_all.ensures.whole
+
 pub returns-clause-causes : goal.returns-clause-causes
 returns-clause-causes g c = caused
 
@@ -80,6 +83,9 @@ returns-clause-resets g c = resets
 
 pub returns-clause-quiet : goal.returns-clause-quiet
 returns-clause-quiet g c = λ text. quiet text c.quiet_connections_are_complete.ensures
+
+pub returns-clause-tells_all : goal.returns-clause-tells_all
+returns-clause-tells_all g c = tells_all c.records_are_in_range.ensures c.report_tells_all.ensures.whole
 
 pub returns-clause-complete : goal.returns-clause-complete
 returns-clause-complete g c = λ asked read written. settled c.replay.result _ _ _ _ c.replay.ensures.ran (λ e. read (c.replay.ensures.read_fault e)) (λ e. written (c.replay.ensures.write_fault e))
