@@ -1,5 +1,5 @@
 -- A client's turn, and the front end's, as steps of the whole machine.
-use Rattle.std.proofs.Common.{◌≡◌, ◌≢◌, ℕ, ◌+◌, List, [], ◌∷◌, ◌++◌, length, take, drop, Bool, true, false, ◌||◌, Option, Some, None, refl, sym, ap, ◌∙◌, subst, append-nil, is_some, arith}
+use Rattle.std.proofs.Common.{◌≡◌, ◌≢◌, ℕ, ◌+◌, List, [], ◌∷◌, ◌++◌, length, take, drop, Bool, false, ◌||◌, Option, Some, None, refl, sym, ap, ◌∙◌, subst, append-nil, is_some, arith}
 use Rattle.std.specs.FinMap as table
 use Rattle.std.proofs.lemmas.List.{take-append-drop}
 use Rattle.std.specs.List.{list_any}
@@ -29,7 +29,7 @@ use Rattle.lard_laws_bytes.proofs.Moments.{client-accepts, front-accepts}
 use Rattle.lard_laws_bytes.proofs.Serving.{client-serves}
 use Rattle.lard_laws_bytes.proofs.Moves.{Moves, moved}
 use Rattle.lard_laws_bytes.proofs.Prefix.{said-front}
-use Rattle.lard_laws_bytes.proofs.Notes.{Adds, adds-both, adds-none, client-notes, client-others, front-notes, front-others}
+use Rattle.lard_laws_bytes.proofs.Notes.{Adds, adds-both, adds-none, client-notes, client-others, front-notes, front-others, or-false}
 use Rattle.lard_laws_bytes.proofs.Segments.{Moment, replies-fair, replies-may, replies-moment, replies-others, words-fair, words-may, words-others}
 use Rattle.lard_laws_bytes.proofs.Steps.{IsQuiet, notes-tale, own-tale, step-may, step-others, step-tale, step_records, timers-may, timers-quiet}
 use Rattle.lard_laws_bytes.proofs.Turns.{client-agrees, client-may, front-agrees, front-may, front-moment}
@@ -46,10 +46,6 @@ nothing-aside files e c n = record { quiet = λ q. tt; may = λ past. tt; others
 
 pub got-aside : (files : FilesAt) (e : Event) (c k : ℕ) → ((q : ℕ) → q ≢ c → event_shuts q e ≡ false) → IsAside files e c (rec.Got k ∷ [])
 got-aside files e c k n = record { quiet = λ q. (refl, tt); may = λ past. (tt, tt); others = n; plain = (refl, tt) }
-
-or-false : (b : Bool) → (b || false) ≡ b
-or-false true = refl
-or-false false = refl
 
 -- the event and its own records tell nothing of bytes
 aside-adds : (i c : ℕ) (e : Event) (t : Tale) → Adds t [] [] 0 0 false (tale_step c t (rec.Event i e))
@@ -124,7 +120,7 @@ module _ (files : FilesAt) (m : Machine) (T : IsTruthful files m) (e : Event) (o
       on = λ _. record { w = k.longer; out = goes_on-same (T.talks c).out; reset = λ b. b };
       agrees = (
         client-agrees files c (T.talks c).w (T.talks c).out (T.talks c).vs x (table.get m.conns c) (tale m.journal c) agreed given (tale (m.journal ++ rs) c) k adds,
-        adds.was_reset ∙ or-false (tale m.journal c).was_reset ∙ reset_is,
+        adds.was_reset ∙ sym (or-false (tale m.journal c).was_reset) ∙ reset_is,
       );
       others = λ q n. step-others (m.events + 1) e own notes sents timers q (aside.others q n) (aside.quiet q) (client-others c q notes n k.notes)
           (words-others q (length m.net + 1) c given.1.segments) (timers-quiet (place.Client c) c (is_armed x.client) (is_armed given.0) q);
@@ -202,10 +198,6 @@ module _ (files : FilesAt) (m : Machine) (T : IsTruthful files m) (e : Event) (o
     back_other : (g : Option FrontConn) (d : ℕ) → d ≢ c → table.get (front_put m c g).conns d ≡ table.get m.conns d
     back_other None d n = refl
     back_other (Some y) d n = get_other m.conns c d y n
-
-    same_clients : (g : Option FrontConn) → (front_put m c g).clients ≡ m.clients
-    same_clients None = refl
-    same_clients (Some y) = refl
 
     front_steps : Moves files m T c talk m.clients (front_put m c given.0).conns (packets_of place.Front given.1.segments) all_rs x given.0
     front_steps = record {

@@ -19,6 +19,7 @@ use Rattle.lard_laws_bytes.specs.Agreement.{AreReplies, EndedAs, EndedIt, FrontA
 use Rattle.lard_laws_bytes.specs.Keeping.{FrontTurned, FrontHearsTruth, FrontTimerIsTrue, IsEnv, resets}
 use Rattle.lard_laws_bytes.proofs.FrontEndpoint.{IsBetween, between-sound, between-timed, between-arrived, between-begun, read-same, read-arrived, same-finished}
 use Rattle.lard_laws_bytes.proofs.FrontSpeaking.{Spoke, awaits-within, emits-spoke, emits_symbols-spoke, timed-reply}
+use Rattle.lard_laws_bytes.proofs.Notes.{or-false}
 use Rattle.lard_laws_bytes.proofs.Reading.{Goes, IsReading, Serves, or-last, reads-goes}
 use Rattle.lard_laws_bytes.proofs.Serving.{noted-nothing}
 use Rattle.lard_laws_bytes.proofs.Stopping.{Stops, reads-stops, stopped-alike, stopped-arrived, stopped-begun}
@@ -35,10 +36,6 @@ use Rattle.lard_truth.specs.Truth.{Stream, IsStream, IsTrueOf}
 use Rattle.lard_truth.proofs.Endpoint.{timer-left}
 use Rattle.lard_truth.proofs.Growth.{goes_on-same}
 use Rattle.lard_truth.proofs.Pieces.{bare-true}
-
-or-false : (b : Bool) → b ≡ (b || false)
-or-false true = refl
-or-false false = refl
 
 replies-append : (c : ℕ) (w out : Stream) (r : Bool) (ps qs : List (Place × List ℕ)) → AreReplies c w out r ps → AreReplies c w out r qs → AreReplies c w out r (ps ++ qs)
 replies-append c w out r [] qs h k = k

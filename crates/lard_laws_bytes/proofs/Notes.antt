@@ -19,7 +19,8 @@ pub record Adds (t : Tale) (written accepted_ : List ℕ) (more size : ℕ) (res
   pub was_reset : u.was_reset ≡ (t.was_reset || reset)
   pub fin_sent : u.fin_sent ≡ t.fin_sent
 
-or-false : (b : Bool) → b ≡ (b || false)
+-- what nothing is added to stays
+pub or-false : (b : Bool) → b ≡ (b || false)
 or-false true = refl
 or-false false = refl
 

@@ -22,7 +22,7 @@ use Rattle.lard_truth.specs.Truth.{GoesOn, Stream}
 use Rattle.lard_truth.proofs.Growth.{accepted-grown, front-length, front-take, heard-grown}
 use Rattle.lard_laws_bytes.specs.Agreement.{Agrees, EndedAs, FrontAgrees, HasRead, HoldsIt}
 use Rattle.lard_laws_bytes.specs.Keeping.{AreClientNotes, AreFrontNotes, ClientTurned, FrontTurned, accepted_in, resets, served_in, size_in, written_in}
-use Rattle.lard_laws_bytes.proofs.Notes.{Adds}
+use Rattle.lard_laws_bytes.proofs.Notes.{Adds, or-false}
 use Rattle.lard_laws_bytes.proofs.Segments.{Moment}
 
 -- ---- while the client's stream goes on
@@ -73,10 +73,6 @@ module _ (w v : Stream) (g : GoesOn w v) where
 plus-zero : (n m : ℕ) → n ≡ m + 0 → n ≡ m
 plus-zero n m e = omega (arith, e)
 
-or-false : (b : Bool) → (b || false) ≡ b
-or-false true = refl
-or-false false = refl
-
 module _ (files : FilesAt) (c : ℕ) (w out : Stream) (vs : List Verdict) (x : Station) (f : Option FrontConn) (t : Tale) (a : Agrees files c w out vs x f t) where
   -- after a client's turn
   pub client-agrees : (given : ClientBlock × Turn) (u : Tale) (k : ClientTurned c w out x.client given)
@@ -91,7 +87,7 @@ module _ (files : FilesAt) (c : ℕ) (w out : Stream) (vs : List Verdict) (x : S
       most = a.says.most;
     };
     client = k.agrees;
-    front = subst (λ (b : Bool). FrontAgrees k.w_after out vs b f) (sym (adds.was_reset ∙ or-false t.was_reset)) (front-grown w k.w_after k.longer out vs t.was_reset f a.front);
+    front = subst (λ (b : Bool). FrontAgrees k.w_after out vs b f) (sym (adds.was_reset ∙ sym (or-false t.was_reset))) (front-grown w k.w_after k.longer out vs t.was_reset f a.front);
     tale = record {
       numbers = adds.numbers ∙ a.tale.numbers ∙ ap (λ (n : ℕ). Some (record { isn = n; iss = out.first })) (sym k.longer.first);
       wrote = adds.wrote ∙ ap (λ (l : List ℕ). l ++ written_in given.1.notes) a.tale.wrote ∙ sym k.wrote;

@@ -14,10 +14,11 @@ use Rattle.lard_journal.specs.declared.rec.Rec.TheVariants as rec
 use Rattle.lard_laws_bytes.specs.Agreement.{Agrees}
 use Rattle.lard_laws_bytes.specs.Keeping.{ClientTurned, FrontTurned}
 use Rattle.lard_laws_bytes.specs.Truthful.{ConnAgrees, IsTruthful}
+use Rattle.lard_laws_bytes.proofs.Notes.{or-false}
 use Rattle.lard_laws_bytes.proofs.Steps.{step_records}
 use Rattle.lard_laws_quiet.proofs.Acked.{ClientActed, ClientBegins, ClientHolds, FrontActed, FrontHolds, RepliesMay, WordsMay, ends_in, heard_of, taken_by}
 use Rattle.lard_laws_quiet.proofs.Moves.{Bounds, ConnHolds, ConnTells, Grows, AllHold, Shifts, acks-more, bounds_in, bounds_of, replies-packets, shifted, words-packets}
-use Rattle.lard_laws_quiet.proofs.Story.{Story, Tells, client-none, client-tells, client-timer, concerns, ends-told, front-none, front-tells, front-timer, not-shut, or-either, step-none, step-story, story, story_on, story_step, unheard}
+use Rattle.lard_laws_quiet.proofs.Story.{Story, Tells, client-none, client-tells, client-timer, concerns, ends-told, front-none, front-tells, front-timer, or-either, step-none, step-story, story, story_on, story_step, unheard}
 use Rattle.lard_machine.specs.declared.machine.Machine.{Machine}
 use Rattle.lard_machine.specs.declared.places.FrontConn.{FrontConn}
 use Rattle.lard_machine.specs.declared.places.FrontConn.TheVariants.{Held, Lent, Closed}
@@ -168,7 +169,7 @@ module _ (files : FilesAt) (m : Machine) (T : IsTruthful files m) (R : AllHold m
           ∙ front-timer c v2 (front_armed f) (front_armed given.0) (says.front_armed ∙ held_before.front_armed)
 
       shut_same : v2.shut ≡ y.shut
-      shut_same = says.shut ∙ ap (λ b. y.shut || b) no_shut ∙ not-shut y.shut
+      shut_same = says.shut ∙ ap (λ b. y.shut || b) no_shut ∙ sym (or-false y.shut)
 
       heard_grows : heard_of x.client.send.iss f ≤ heard_of x.client.send.iss given.0
       heard_grows = subst (λ (n : ℕ). heard_of n f ≤ heard_of n given.0) first_is act.grows

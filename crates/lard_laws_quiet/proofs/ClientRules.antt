@@ -142,8 +142,6 @@ module _ (c : ℕ) (w out : Stream) (x : ClientBlock) (heard : ℕ) (gone was_re
       (λ t. wrote-acted bytes t fits) (λ t. quiet-acted)
 
 -- ---- its rules
-pub silent-acts : ClientActs (λ x. (x, silent))
-silent-acts c w out x heard gone was_reset most h k = quiet-acted c w out x heard gone was_reset most h k
 
 pub shuts-acts : ClientActs client_shuts
 shuts-acts c w out x heard gone was_reset most h k = shuts-acted c w out x heard gone was_reset most h k

@@ -293,11 +293,3 @@ ends-told c y (_ ∷ rs) notes e = absurd notes.0
 -- and that a client aborted
 pub aborted-told : (c d : ℕ) (y : Story) → d ≡ c → (story_on c y (rec.Aborted d ∷ [])).aborted ≡ true
 aborted-told c d y e = or-second y.aborted (nat_eq d c) (same-number d c e)
-
--- an event that shuts a client
-pub event-story : (c i : ℕ) (y : Story) (e : Event) → story_step c y (rec.Event i e) ≡ record y { shut = y.shut || event_shuts c e }
-event-story c i y e = refl
-
-pub not-shut : (b : Bool) → (b || false) ≡ b
-not-shut true = refl
-not-shut false = refl
