@@ -1,5 +1,5 @@
 -- What the code of the front end's rules has in hand, as the rules have it.
-use Rattle.std.specs.Prelude.{ℕ, ◌≤◌, Option, Some, None}
+use Rattle.std.specs.Prelude.{◌≤◌, Option, Some, None}
 use Rattle.lard_endpoint.specs.Control.{ControlBlock}
 use Rattle.lard_files.specs.Files.{file_at}
 use Rattle.lard_machine.specs.Front.{FrontEnv, Service}
