@@ -1,9 +1,9 @@
 -- Flags as members: one is set or cleared, the set ones are counted, and the same members have the same flags.
-use Rattle.std.proofs.Common.{◌≡◌, ◌≢◌, ◌≤◌, ◌<◌, ◌+◌, ◌-◌, ◌*◌, ◌/◌, ◌%◌, ◌^◌, ◌||◌, ◌&&◌, ℕ, suc, zero, Bool, true, false, not, nat_eq, nat_le, sum_by, count_by, bit_or, bit_and, w64, refl, sym, ap, ◌∙◌, subst, arith, cond, pow-suc, add_comm}
+use Rattle.std.proofs.Common.{◌≡◌, ◌≢◌, ◌≤◌, ◌<◌, ◌+◌, ◌-◌, ◌*◌, ◌/◌, ◌%◌, ◌^◌, ◌||◌, ◌&&◌, ℕ, suc, zero, Bool, true, false, not, nat_eq, nat_le, sum_by, count_by, bit_or, bit_and, w64, refl, sym, ap, ◌∙◌, arith, cond, pow-suc, add_comm}
 use Rattle.std.proofs.lemmas.List.Sums.{sum_by-cons}
 use Rattle.std.proofs.lemmas.Bool.Decides.{nat_tests}
 use Rattle.std.proofs.lemmas.Nat.{ones_cat, ones-le, and_le_l}
-use Rattle.std.proofs.lemmas.Nat.Bits.{bit_at_set_same, bit_at_set_other, bit_at_clear_same, bit_at_clear_other, bit_at-suc, bit_at_lowest, bit_at-lt, bit_at_above, same_from_bits}
+use Rattle.std.proofs.lemmas.Nat.Bits.{bit_at_set_same, bit_at_set_other, bit_at_clear_same, bit_at_clear_other, bit_at-suc, bit_at_lowest, bit_at_above}
 use Rattle.std.specs.Int.{bit_at, bit_not}
 use Rattle.std.specs.Int.Count.{ones, ones_in}
 use Rattle.std.specs.List.{range_with_len}
@@ -34,15 +34,6 @@ clear_flag m n k fits some most h = go (nat_eq k n) refl where
         ap (λ bit. nat_eq bit 1) (bit_at_clear_other w64 m (n - 1) (omega (arith, some, most)) (k - 1) (omega (arith, low, h)) (apart k n h some e))
     near false f = let high : 64 ≤ k - 1 = grind (arith, nat_tests, f) in
         ap (λ bit. nat_eq bit 1) (bit_at_above (bit_and m off) 64 (k - 1) (omega (arith, and_le_l m off, fits)) high ∙ sym (bit_at_above m 64 (k - 1) fits high))
-
--- two bits that are one alike are the same
-same_bit : (x y : ℕ) → x < 2 → y < 2 → nat_eq x 1 ≡ nat_eq y 1 → x ≡ y
-same_bit x y f g e = grind (arith, nat_tests, e)
-
--- the same members have the same flags
-pub same_members : (a b : ℕ) → ((k : ℕ) → 1 ≤ k → has a k ≡ has b k) → a ≡ b
-same_members a b h = same_from_bits a b (λ i. let e : i + 1 - 1 ≡ i = omega arith in
-    same_bit (bit_at a i) (bit_at b i) (bit_at-lt a i) (bit_at-lt b i) (subst (λ j. nat_eq (bit_at a j) 1 ≡ nat_eq (bit_at b j) 1) e (h (i + 1) (omega arith))))
 
 -- a place above the lowest is a place of the half
 half_has : (a n : ℕ) → 1 ≤ a → has n (a + 1) ≡ has (n / 2) a

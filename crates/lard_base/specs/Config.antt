@@ -3,12 +3,13 @@ use Rattle.std.specs.Prelude.{ℕ, ◌+◌, ◌-◌, ◌*◌, ◌^◌, Bool, ◌
 use Rattle.lard_base.specs.declared.config.Config.{Config}
 use Rattle.lard_base.specs.declared.config.Key.{Key}
 use Rattle.lard_base.specs.declared.config.Key.TheVariants.{Nodes, Low, High, Age, Idle, Over, Miss, Cache, Stream}
+use Rattle.lard_base.specs.declared.limits.TheConstants.{MAX_STREAM_BYTES}
 use Rattle.lard_base.specs.declared.config.ConfigFault.{ConfigFault}
 use Rattle.lard_base.specs.declared.config.ConfigFault.TheVariants.{Range, LowHigh, NoRoom}
 
 -- the numbers that a run has where its schedule sets none
 abbrev pub standard : Config
-standard = record { nodes = 2; low = 25; high = 65; age = 20000; idle = 25; over = 130; miss = 50; cache = 1048576; stream = 2 ^ 30 }
+standard = record { nodes = 2; low = 25; high = 65; age = 20000; idle = 25; over = 130; miss = 50; cache = 1048576; stream = MAX_STREAM_BYTES }
 
 -- the least and the greatest value of a key
 abbrev pub range_of : Key → ℕ × ℕ
@@ -20,7 +21,7 @@ range_of Idle = (0, 1000000)
 range_of Over = (0, 1000000)
 range_of Miss = (0, 1000000)
 range_of Cache = (1, 2 ^ 30)
-range_of Stream = (1, 2 ^ 30)
+range_of Stream = (1, MAX_STREAM_BYTES)
 
 abbrev pub is_in_range : Key → ℕ → Bool
 is_in_range key value = nat_le (range_of key).0 value && nat_le value (range_of key).1

@@ -73,6 +73,13 @@ impl Model for Path {
 }
 
 impl Path {
+    /// The path with these bytes, without a copy.
+    pub fn from_vec(items: Vec<u8>) -> Path
+        ensures { result ≡ items.items }
+    {
+        Path { items }
+    }
+
     /// A copy of the slice.
     pub fn from_slice(alloc: Global, bytes: &[u8]) -> Result<Path, NoMemory>
         ensures { IfOk result (λ copy. copy ≡ bytes.now) }

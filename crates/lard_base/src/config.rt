@@ -2,6 +2,7 @@
 
 ghost use Rattle.std.specs.Prelude.{◌≡◌, ◌≤◌, ◌<◌, IsTrue, OnOk};
 
+use crate::limits::MAX_STREAM_BYTES;
 use thiserror::Error;
 
 /// The numbers of a run.
@@ -56,7 +57,7 @@ impl Key {
     ghost use Rattle.lard_base.specs.Config.{range_check, range_of};
 
     /// The keys, in their order.
-    const ALL: [Key; 9] = [
+    pub const ALL: [Key; 9] = [
         Key::Nodes,
         Key::Low,
         Key::High,
@@ -88,7 +89,8 @@ impl Key {
             Key::Low | Key::High => (1, 1000),
             Key::Age => (0, 0xffff_ffff),
             Key::Idle | Key::Over | Key::Miss => (0, 1_000_000),
-            Key::Cache | Key::Stream => (1, 1 << 30),
+            Key::Cache => (1, 1 << 30),
+            Key::Stream => (1, MAX_STREAM_BYTES as u64),
         }
     }
 }
@@ -110,7 +112,7 @@ impl Config {
             over: 130,
             miss: 50,
             cache: 1_048_576,
-            stream: 1 << 30,
+            stream: MAX_STREAM_BYTES,
         }
     }
 

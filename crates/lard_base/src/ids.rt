@@ -12,6 +12,7 @@ pub struct ConnId {
 
 impl Model for ConnId {
     ghost use Rattle.std.specs.Prelude.{ℕ, ◌≤◌};
+    ghost use Rattle.lard_base.specs.declared.ids.TheConstants.ConnId.{MAX};
 
     ghost Value = { ℕ };
 
@@ -19,7 +20,7 @@ impl Model for ConnId {
 
     ghost inverse = { λ n. record { number = n } };
 
-    ghost invariant = { λ c. (1 ≤ c.number) × (c.number ≤ 16384) };
+    ghost invariant = { λ c. (1 ≤ c.number) × (c.number ≤ MAX) };
 }
 
 impl ConnId {
@@ -28,7 +29,7 @@ impl ConnId {
 
     /// The connection with this number, where there is one: 1 to 16,384.
     pub fn new(n: u32) -> Option<ConnId>
-        ensures { SomeIff result ((1 ≤ n) × (n ≤ 16384)) n }
+        ensures { SomeIff result ((1 ≤ n) × (n ≤ Self.MAX)) n }
     {
         if n >= 1 && n <= ConnId::MAX {
             Some(ConnId { number: n })
@@ -40,7 +41,7 @@ impl ConnId {
     /// Its number, 1 to 16,384.
     pub fn number(self) -> u32
         ensures value { result ≡ self }
-        ensures range { (1 ≤ result) × (result ≤ 16384) }
+        ensures range { (1 ≤ result) × (result ≤ Self.MAX) }
     {
         self.number
     }
@@ -54,6 +55,7 @@ pub struct NodeId {
 
 impl Model for NodeId {
     ghost use Rattle.std.specs.Prelude.{ℕ, ◌≤◌};
+    ghost use Rattle.lard_base.specs.declared.ids.TheConstants.NodeId.{MAX};
 
     ghost Value = { ℕ };
 
@@ -61,7 +63,7 @@ impl Model for NodeId {
 
     ghost inverse = { λ n. record { number = n } };
 
-    ghost invariant = { λ n. (1 ≤ n.number) × (n.number ≤ 64) };
+    ghost invariant = { λ n. (1 ≤ n.number) × (n.number ≤ MAX) };
 }
 
 impl NodeId {
@@ -70,7 +72,7 @@ impl NodeId {
 
     /// The node with this number, where there is one: 1 to 64.
     pub fn new(n: u32) -> Option<NodeId>
-        ensures { SomeIff result ((1 ≤ n) × (n ≤ 64)) n }
+        ensures { SomeIff result ((1 ≤ n) × (n ≤ Self.MAX)) n }
     {
         if n >= 1 && n <= NodeId::MAX {
             Some(NodeId { number: n })
@@ -82,7 +84,7 @@ impl NodeId {
     /// Its number, 1 to 64.
     pub fn number(self) -> u32
         ensures value { result ≡ self }
-        ensures range { (1 ≤ result) × (result ≤ 64) }
+        ensures range { (1 ≤ result) × (result ≤ Self.MAX) }
     {
         self.number
     }

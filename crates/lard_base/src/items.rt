@@ -49,12 +49,30 @@ impl<T: Drop> Items<T> {
         }
     }
 
+    /// These items, without a copy.
+    pub fn from_vec(items: Vec<T>) -> Items<T>
+        ensures { result ≡ items.items }
+    {
+        Items { items }
+    }
+
     /// Adds an item at the end. Without memory the list is as it was.
     pub fn push(&mut self, item: T) -> Result<(), NoMemory>
         ensures ok { OnOk result (self.new ≡ self.old ++ item ∷ []) }
         ensures err { OnErr result (self.new ≡ self.old) }
     {
         self.items.push(item)?;
+        Ok(())
+    }
+
+    /// Adds all items of another list behind its own, which leaves the other one empty. Without memory both are as they were.
+    pub fn append(&mut self, other: &mut Items<T>) -> Result<(), NoMemory>
+        ensures ok { OnOk result (self.new ≡ self.old ++ other.old) }
+        ensures emptied { OnOk result (other.new ≡ []) }
+        ensures err { OnErr result (self.new ≡ self.old) }
+        ensures kept { OnErr result (other.new ≡ other.old) }
+    {
+        self.items.append(&mut other.items)?;
         Ok(())
     }
 

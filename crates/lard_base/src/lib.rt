@@ -11,6 +11,7 @@ pub mod event;
 pub mod ids;
 pub mod input;
 pub mod items;
+pub mod limits;
 pub mod members;
 pub mod memory;
 pub mod outside;

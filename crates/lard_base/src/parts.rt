@@ -3,6 +3,7 @@
 ghost use Rattle.std.specs.Prelude.{◌↔◌, IsTrue};
 
 use crate::bytes::Bytes;
+use crate::limits::{MAX_SEGMENT_DATA, MAX_STREAM_BYTES, RECEIVE_WINDOW};
 
 /// The numbers and bytes from which an endpoint goes on elsewhere.
 #[derive(Debug, Drop)]
@@ -40,10 +41,14 @@ impl EndpointParts {
     {
         let unread = self.unread.len();
         let got = self.got as usize;
-        if unread > 16_384 || unread > got || got > 1 << 30 {
+        if unread > RECEIVE_WINDOW as usize || unread > got || self.got > MAX_STREAM_BYTES {
             return false;
         }
-        if self.una < 1 || self.una > (1 << 30) + 1 || self.mss < 1 || self.mss > 1460 {
+        if self.una < 1
+            || self.una > MAX_STREAM_BYTES + 1
+            || self.mss < 1
+            || self.mss > MAX_SEGMENT_DATA
+        {
             return false;
         }
         self.served as usize <= got - unread

@@ -73,6 +73,18 @@ fn numbers_have_ranges(rt: HostRuntime) {
 }
 
 #[test]
+fn lists_are_joined(rt: HostRuntime) -> Result<(), Fail> {
+    let mut list = Calls::from_vec(Vec::from_slice(rt.alloc(), &[1, 2])?);
+    let mut more = calls(rt.alloc(), &[3, 4])?;
+    list.append(&mut more)?;
+    assert_eq!(rt; list.as_slice(), [1, 2, 3, 4].as_slice());
+    assert_eq!(rt; more.len(), 0);
+    let path = Path::from_vec(Vec::from_slice(rt.alloc(), b"/b")?);
+    assert_eq!(rt; path.as_slice(), b"/b".as_slice());
+    Ok(())
+}
+
+#[test]
 fn lists_keep_their_order(rt: HostRuntime) -> Result<(), Fail> {
     let bytes = Bytes::from_slice(rt.alloc(), b"abc")?;
     assert_eq!(rt; bytes.copy(rt.alloc())?.as_slice(), b"abc".as_slice());
