@@ -2,4 +2,4 @@ mod Ends
 mod Pairs
 pub mod Cutting
 pub mod Division
-mod Skips
+pub mod Skips
