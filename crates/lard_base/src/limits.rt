@@ -10,7 +10,7 @@ pub const MAX_SEGMENT_BYTES: usize = 1_520;
 pub const MAX_MESSAGE_BYTES: usize = 1 << 21;
 
 /// The receive window of the front end's and a node's endpoints, in bytes: how many wait to be read, at most.
-pub const RECEIVE_WINDOW: u32 = 16_384;
+pub const RECEIVE_WINDOW: u16 = 16_384;
 
 /// The most bytes of a request's head, with the empty line that ends it.
 pub const MAX_HEAD_BYTES: usize = 8_192;
@@ -28,7 +28,7 @@ pub const MAX_FILE_BYTES: usize = 1 << 20;
 pub const MAX_ALL_FILES_BYTES: usize = 1 << 26;
 
 /// The most files.
-pub const MAX_FILES: usize = 1_024;
+pub const MAX_FILES: usize = 65_536;
 
 /// The most bytes of a schedule.
 pub const MAX_INPUT_BYTES: usize = 1 << 26;
@@ -43,7 +43,7 @@ pub const MAX_PACKETS: u32 = 1_000_000;
 pub const MAX_PACKET_BYTES: u64 = 1 << 29;
 
 /// The most records of a journal.
-pub const MAX_RECORDS: u32 = 4_000_000;
+pub const MAX_RECORDS: u64 = 4_000_000;
 
 /// The most bytes of responses that the clients of a run are given.
 pub const MAX_RESPONSE_BYTES: u64 = 1 << 29;

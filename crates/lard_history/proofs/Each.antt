@@ -30,15 +30,6 @@ module _ (may : List Rec → Rec → Type 0) where
   each_front past [] ys e = tt
   each_front past (x ∷ xs) ys e = (e.0, each_front (past ++ x ∷ []) xs ys e.1)
 
-  -- and what stands behind it
-  pub each_behind : (past xs ys : List Rec) → EachMay may past (xs ++ ys) → EachMay may (past ++ xs) ys
-  each_behind past [] ys e = subst (λ (zs : List Rec). EachMay may zs ys) (sym (append-nil past)) e
-  each_behind past (x ∷ xs) ys e = subst (λ (zs : List Rec). EachMay may zs ys) (append_assoc past (x ∷ []) xs) (each_behind (past ++ x ∷ []) xs ys e.1)
-
-  -- what is said at some moment might be said
-  pub each_at : (J xs : List Rec) (r : Rec) (ys : List Rec) → J ≡ xs ++ r ∷ ys → EachMay may [] J → may xs r
-  each_at J xs r ys is e = (each_behind [] xs (r ∷ ys) (subst (EachMay may []) is e)).0
-
   -- at every moment a lawful journal is lawful
   pub each_then : (J past later : List Rec) → J ≡ past ++ later → EachMay may [] J → EachMay may [] past
   each_then J past later is e = each_front [] past later (subst (EachMay may []) is e)
@@ -46,7 +37,3 @@ module _ (may : List Rec → Rec → Type 0) where
 pub each_weaker : (may might : List Rec → Rec → Type 0) → ((past : List Rec) (r : Rec) → may past r → might past r) → (past rs : List Rec) → EachMay may past rs → EachMay might past rs
 each_weaker may might w past [] e = tt
 each_weaker may might w past (r ∷ rs) e = (w past r e.0, each_weaker may might w (past ++ r ∷ []) rs e.1)
-
-pub each_both : (may might : List Rec → Rec → Type 0) → (past rs : List Rec) → EachMay may past rs → EachMay might past rs → EachMay (λ past r. may past r × might past r) past rs
-each_both may might past [] e f = tt
-each_both may might past (r ∷ rs) e f = ((e.0, f.0), each_both may might (past ++ r ∷ []) rs e.1 f.1)

@@ -109,7 +109,8 @@ ServesTheAnswers files J = EachMay (MayServe files) [] J
 -- ---- the reset law
 
 -- The responses on a connection have at most `stream` bytes, and none follows a reset, which counts more. With the law
--- of service, which says what it counts, a reset stands exactly where the next response would pass the limit.
+-- of service, which says what it counts, a reset stands only where the next response would pass the limit. That it does
+-- stand there is said by the machine alone.
 abbrev pub MayReset : ℕ → List Rec → Rec → Type 0
 MayReset stream past (rec.Served place c r code size via) = (served_bytes past c + size ≤ stream) × (was_reset past c ≡ false)
 MayReset stream past (rec.Reset place c total) = (stream < total) × (was_reset past c ≡ false)
@@ -120,7 +121,7 @@ ResetsAtTheLimit stream J = EachMay (MayReset stream) [] J
 
 -- ---- the prefix law
 
--- At every moment, the bytes that a client accepted are a front of the responses to what it wrote until then, which
+-- At every moment, the bytes that a client accepted are a prefix of the responses to what it wrote until then, which
 -- are sent in the order of its requests (RFC 9112, 9.3.2).
 abbrev pub AcceptsOnlyAnswers : FilesAt → List Rec → Type 0
 AcceptsOnlyAnswers files J = (past later : List Rec) (c : ℕ) → J ≡ past ++ later → IsFront (accepted past c) (answer_bytes files (wrote past c))

@@ -38,10 +38,11 @@ use Rattle.lard_table.proofs.Map.{get_inserted, get_other}
 use Rattle.lard_truth.specs.Truth.{IsStream, Stream}
 use Rattle.lard_truth.proofs.Speaking.{speaks-stream}
 use Rattle.lard_laws_bytes.specs.Agreement.{Agrees, IsReply, IsWord}
-use Rattle.lard_laws_bytes.specs.Keeping.{ClientKeeps, ClientOpened, FrontHearsTruth, FrontTimerIsTrue, IsEnv, unwritten}
+use Rattle.lard_laws_bytes.specs.Keeping.{ClientKeeps, ClientOpened, IsEnv, unwritten}
 use Rattle.lard_laws_bytes.specs.Truthful.{AreFair, ConnAgrees, IsFair, IsTruthful, MayAccept, Talk}
 use Rattle.lard_laws_bytes.proofs.Acting.{IsAside, agreed, client-moves, front-moves, got-aside, nothing-aside}
 use Rattle.lard_laws_bytes.proofs.ClientHearing.{hears-turned}
+use Rattle.lard_laws_bytes.proofs.FrontEnd.{hears-truth, timer-true}
 use Rattle.lard_laws_bytes.proofs.ClientTurns.{aborts-turned, holds-turned, opens-agreeing, shuts-turned, takes-turned, timer-turned, writes-turned}
 use Rattle.lard_laws_bytes.proofs.Later.{fair-lost, fair-packet, put, put-same}
 use Rattle.lard_laws_bytes.proofs.Content.{ArePlain, IsOfContent, accept-content, notes-may, plain-may, serve-content}
@@ -187,7 +188,7 @@ module _ (files : FilesAt) (m : Machine) (T : IsTruthful files m) (c isn iss wnd
 
 -- ---- the rules of clients and of the front end
 
-module _ (hears : FrontHearsTruth) (fires : FrontTimerIsTrue) (m : Machine) (T : IsTruthful (file_at m.files) m) (small : m.config.stream ≤ 2 ^ 30) where
+module _ (m : Machine) (T : IsTruthful (file_at m.files) m) (small : m.config.stream ≤ 2 ^ 30) where
   abbrev files : FilesAt
   files = file_at m.files
 
@@ -228,13 +229,13 @@ module _ (hears : FrontHearsTruth) (fires : FrontTimerIsTrue) (m : Machine) (T :
         → IsTruthful files (front_acted m (event.Deliver k) (rec.Got k ∷ []) c (front_gets (env_of m c x.iss) (table.get m.conns c) (Ok s)))
     front-got k s r = front-moves files m T (event.Deliver k) (rec.Got k ∷ []) c x there (got-aside files (event.Deliver k) c k (λ q n. refl))
         (front_gets (env_of m c x.iss) (table.get m.conns c) (Ok s))
-        (hears files c (T.talks c).w (T.talks c).out (T.talks c).vs (tale m.journal c).was_reset (env_of m c x.iss) (table.get m.conns c) s env bounded agrees_there.says agrees_there.front r.sendable.ack_fits r.true_of)
+        (hears-truth files c (T.talks c).w (T.talks c).out (T.talks c).vs (tale m.journal c).was_reset (env_of m c x.iss) (table.get m.conns c) s env bounded agrees_there.says agrees_there.front r.sendable.ack_fits r.true_of)
         (hears-some (env_of m c x.iss) (table.get m.conns c) s)
 
     pub front-fires : IsTruthful files (front_acted m (event.Timer place.Front c) [] c (front_timer (env_of m c x.iss) (table.get m.conns c)))
     front-fires = front-moves files m T (event.Timer place.Front c) [] c x there (aside (event.Timer place.Front c) (λ q n. refl))
         (front_timer (env_of m c x.iss) (table.get m.conns c))
-        (fires files c (T.talks c).w (T.talks c).out (T.talks c).vs (tale m.journal c).was_reset (env_of m c x.iss) (table.get m.conns c) env agrees_there.says agrees_there.front)
+        (timer-true files c (T.talks c).w (T.talks c).out (T.talks c).vs (tale m.journal c).was_reset (env_of m c x.iss) (table.get m.conns c) env agrees_there.says agrees_there.front)
         (timer-some (env_of m c x.iss) (table.get m.conns c))
 
   -- ---- packets

@@ -176,15 +176,15 @@ module _ (env : FrontEnv) (w out : Stream) (vs : List Verdict) (was_reset : Bool
   held-between : (b : ControlBlock) (count : ℕ) → HoldsIt w out vs b count → IsBetween w out b
   held-between b count h = record { same_irs = h.sound.same_irs; speaks = h.speaks; out_is = h.out_is; hears = h.hears }
 
-  heard-turned : ((q : List ℕ) → Cuts (take (skipped q) q) []) → env.stream ≤ 2 ^ 30 → (b : ControlBlock) (count : ℕ) (s : Said) → IsStream w → SaysAnswers env.files w out vs → HoldsIt w out vs b count
+  heard-turned : env.stream ≤ 2 ^ 30 → (b : ControlBlock) (count : ℕ) (s : Said) → IsStream w → SaysAnswers env.files w out vs → HoldsIt w out vs b count
       → IsTrueOf w s → Turned (heard env (on_segment b s).1 count)
-  heard-turned pairs most b count s is says h t =
+  heard-turned most b count s is says h t =
       let before = held-between b count h in
       let after = between-arrived w out b before s is t in
       let start = opening (on_segment b s).1 count in
       let first = turn-begins (on_segment b s).1 count says h.counted after (read-arrived w out b vs s before after h.has_read) in
-      let stops = reads-stops pairs env start (λ _. stopped-arrived b s (same-finished w out b (on_segment b s).1 before after) h.stopped) in
-      settled-turned (reads env start) (reads-goes env w out vs pairs most (length (on_segment b s).1.recv.unread + 1) start first) stops
+      let stops = reads-stops env start (λ _. stopped-arrived b s (same-finished w out b (on_segment b s).1 before after) h.stopped) in
+      settled-turned (reads env start) (reads-goes env w out vs most (length (on_segment b s).1.recv.unread + 1) start first) stops
 
   timer-turned : (b : ControlBlock) (count : ℕ) → SaysAnswers env.files w out vs → HoldsIt w out vs b count → Turned (front_timer env (Some (Held b count)))
   unfolding turn-begins
@@ -266,12 +266,12 @@ module _ (env : FrontEnv) (w out : Stream) (vs : List Verdict) (was_reset : Bool
 
   -- ---- the two rules
 
-  gets-turned : ((q : List ℕ) → Cuts (take (skipped q) q) []) → env.stream ≤ 2 ^ 30 → env.iss ≡ out.first → (f : Option FrontConn) (s : Said) → IsStream w → SaysAnswers env.files w out vs
+  gets-turned : env.stream ≤ 2 ^ 30 → env.iss ≡ out.first → (f : Option FrontConn) (s : Said) → IsStream w → SaysAnswers env.files w out vs
       → FrontAgrees w out vs was_reset f → s.ack < 2 ^ 32 → IsTrueOf w s → Turned (front_gets env f (Ok s))
-  gets-turned pairs most begins None s is says h fits t = met-turned s begins says h t
-  gets-turned pairs most begins (Some (Held b count)) s is says h fits t = heard-turned pairs most b count s is says h t
-  gets-turned pairs most begins (Some Lent) s is says h fits t = absurd h
-  gets-turned pairs most begins (Some (Closed last)) s is says h fits t = tombstone-turned last (last_words last.reason last s) says h (words-reply last.reason last s fits refl h)
+  gets-turned most begins None s is says h fits t = met-turned s begins says h t
+  gets-turned most begins (Some (Held b count)) s is says h fits t = heard-turned most b count s is says h t
+  gets-turned most begins (Some Lent) s is says h fits t = absurd h
+  gets-turned most begins (Some (Closed last)) s is says h fits t = tombstone-turned last (last_words last.reason last s) says h (words-reply last.reason last s fits refl h)
 
   fires-turned : (f : Option FrontConn) → SaysAnswers env.files w out vs → FrontAgrees w out vs was_reset f → Turned (front_timer env f)
   fires-turned None says h = still-turned None [] says h tt
@@ -290,9 +290,9 @@ for-its-own files c w out vs was_reset env given i turned says =
     let Numbered : ℕ → Type 0 = λ n. FrontTurned env.files n w out vs was_reset given in
     subst Turns i.files_are (subst Numbered i.number (turned (subst Says (sym i.files_are) says)))
 
-pub hears-truth : ((q : List ℕ) → Cuts (take (skipped q) q) []) → FrontHearsTruth
-hears-truth pairs files c w out vs was_reset env f s i is says agrees fits t = for-its-own files c w out vs was_reset env (front_gets env f (Ok s)) i
-    (λ own. gets-turned env w out vs was_reset pairs i.most i.begins f s is own agrees fits t) says
+pub hears-truth : FrontHearsTruth
+hears-truth files c w out vs was_reset env f s i is says agrees fits t = for-its-own files c w out vs was_reset env (front_gets env f (Ok s)) i
+    (λ own. gets-turned env w out vs was_reset i.most i.begins f s is own agrees fits t) says
 
 pub timer-true : FrontTimerIsTrue
 timer-true files c w out vs was_reset env f i says agrees = for-its-own files c w out vs was_reset env (front_timer env f) i

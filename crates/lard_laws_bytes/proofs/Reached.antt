@@ -18,8 +18,6 @@ use Rattle.lard_truth.specs.Truth.{Stream}
 use Rattle.lard_laws_bytes.specs.Runs.{ClientsAcceptAnswers, JournalsServeTheAnswers, JournalsTellTheTruth, StatesAreTruthful}
 use Rattle.lard_laws_bytes.specs.Truthful.{ConnAgrees, IsTruthful, Talk}
 use Rattle.lard_laws_bytes.proofs.Events.{forms-kept}
-use Rattle.lard_laws_bytes.specs.Keeping.{FrontHearsTruth}
-use Rattle.lard_laws_bytes.proofs.FrontEnd.{timer-true}
 use Rattle.lard_laws_bytes.proofs.Moments.{at_every_moment}
 
 -- nobody speaks yet
@@ -44,26 +42,25 @@ pub record Truly (m : Machine) : Type 0 where
   pub truthful : IsTruthful (file_at m.files) m
   pub small : m.config.stream ≤ 2 ^ 30
 
-module _ (hears : FrontHearsTruth) where
-  step-truly : (m n : Machine) (e : Event) → Truly m → HasRule e → machine_step m e ≡ Ok n → Truly n
-  step-truly m n e t rule is =
-      let same : HasSettings m n = step-set m n e rule is in
-      record {
-        truthful = subst (λ (files : List (List ℕ × List ℕ)). IsTruthful (file_at files) n) (sym same.1)
-            (step_has m n e (λ d k. IsTruthful (file_at m.files) k) (forms-kept hears timer-true m t.truthful t.small) rule is);
-        small = subst (λ (c : Config). c.stream ≤ 2 ^ 30) (sym same.0) t.small;
-      }
+step-truly : (m n : Machine) (e : Event) → Truly m → HasRule e → machine_step m e ≡ Ok n → Truly n
+step-truly m n e t rule is =
+    let same : HasSettings m n = step-set m n e rule is in
+    record {
+      truthful = subst (λ (files : List (List ℕ × List ℕ)). IsTruthful (file_at files) n) (sym same.1)
+          (step_has m n e (λ d k. IsTruthful (file_at m.files) k) (forms-kept m t.truthful t.small) rule is);
+      small = subst (λ (c : Config). c.stream ≤ 2 ^ 30) (sym same.0) t.small;
+    }
 
-  pub states-truthful : StatesAreTruthful
-  states-truthful config files m small r =
-      subst (λ (fs : List (List ℕ × List ℕ)). IsTruthful (file_at fs) m) (reached-set config files m r).1
-      (passes-keep Truly step-truly r.0 (start config files) m r.1 (record { truthful = start-truthful config files (file_at files); small = small })).truthful
+pub states-truthful : StatesAreTruthful
+states-truthful config files m small r =
+    subst (λ (fs : List (List ℕ × List ℕ)). IsTruthful (file_at fs) m) (reached-set config files m r).1
+    (passes-keep Truly step-truly r.0 (start config files) m r.1 (record { truthful = start-truthful config files (file_at files); small = small })).truthful
 
-  pub journals-true : JournalsTellTheTruth
-  journals-true config files m small r = (states-truthful config files m small r).tells
+pub journals-true : JournalsTellTheTruth
+journals-true config files m small r = (states-truthful config files m small r).tells
 
-  pub clients-accept : ClientsAcceptAnswers
-  clients-accept config files m small r = at_every_moment (file_at files) m.journal (states-truthful config files m small r).accepts
+pub clients-accept : ClientsAcceptAnswers
+clients-accept config files m small r = at_every_moment (file_at files) m.journal (states-truthful config files m small r).accepts
 
-  pub journals-serve : JournalsServeTheAnswers
-  journals-serve config files m small r = (states-truthful config files m small r).serves
+pub journals-serve : JournalsServeTheAnswers
+journals-serve config files m small r = (states-truthful config files m small r).serves

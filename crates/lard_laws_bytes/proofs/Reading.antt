@@ -270,12 +270,12 @@ module _ (env : FrontEnv) (w out : Stream) (vs : List Verdict) where
           stops = λ e. absurd (let kept = can.keeps in cc);
         }
 
-  module _ (pairs : (q : List ℕ) → Cuts (take (skipped q) q) []) (most : env.stream ≤ 2 ^ 30) where
+  module _ (most : env.stream ≤ 2 ^ 30) where
     found-goes : (later : Service → Service) → ((s : Service) → Goes env w out vs s → Goes env w out vs (later s))
         → (s : Service) (h : Serves env w out vs s) → CanRead w h.vs_now s → (f : Found) → cut_of s.block.recv.unread ≡ f → Goes env w out vs (read_found env later s f)
     unfolding consumed-serves
     found-goes later goes s h can (More skip) e =
-        ended-goes (consumed skip s) (consumed-serves skip s h) can.within_limit (more-read s h can skip (cuts-more pairs s.block.recv.unread skip e))
+        ended-goes (consumed skip s) (consumed-serves skip s h) can.within_limit (more-read s h can skip (cuts-more s.block.recv.unread skip e))
     found-goes later goes s h can (Block skip len) e =
         let v = verdict (take len (drop skip s.block.recv.unread)) in
         goes (answered env v (consumed (skip + len) s)) (answered-goes most v (consumed (skip + len) s) (consumed-serves (skip + len) s h) (block-next s h can skip len e))

@@ -10,6 +10,7 @@ use Rattle.lard_block.specs.declared.block.Found.{Found}
 use Rattle.lard_block.specs.declared.block.Found.TheVariants.{Block, More, TooLong}
 use Rattle.lard_block.specs.Blocks.{skipped, head_end, found, cut_of, Piece, Head, moved, blocks, Cuts}
 use Rattle.lard_block.proofs.Division.{grows, long-last, cuts-block}
+use Rattle.lard_block.proofs.Skips.{cuts-pairs}
 use Rattle.lard_recv.specs.Recv.{Received, consumed}
 use Rattle.lard_request.specs.declared.verdict.Code.TheVariants.{FieldsTooLarge}
 use Rattle.lard_request.specs.declared.verdict.Verdict.{Verdict}
@@ -36,8 +37,8 @@ more-skips : (q : List ℕ) (skip : ℕ) → cut_of q ≡ More skip → skipped 
 unfolding cut_of
 more-skips q skip e = found-more (skipped q) (length (drop (skipped q) q)) skip (head_end (take 8192 (drop (skipped q) q))) e
 
-pub cuts-more : ((q : List ℕ) → Cuts (take (skipped q) q) []) → (q : List ℕ) (skip : ℕ) → cut_of q ≡ More skip → Cuts (take skip q) []
-cuts-more pairs q skip e = subst (λ n. Cuts (take n q) []) (more-skips q skip e) (pairs q)
+pub cuts-more : (q : List ℕ) (skip : ℕ) → cut_of q ≡ More skip → Cuts (take skip q) []
+cuts-more q skip e = subst (λ n. Cuts (take n q) []) (more-skips q skip e) (cuts-pairs q)
 
 -- the verdicts on bytes that are cut, and on those behind them
 cut-verdicts : (y z : List ℕ) (ps : List Piece) → Cuts y ps → verdicts_on (blocks (y ++ z)) ≡ verdicts_on ps ++ verdicts_on (blocks z)

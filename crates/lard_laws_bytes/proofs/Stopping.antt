@@ -31,9 +31,9 @@ nothing-mapped f [] e = refl
 nothing-mapped f (x ∷ xs) e = absurd (cc)
 
 -- behind the pairs that are skipped there is no block where there was none before them
-none-behind : ((q : List ℕ) → Cuts (take (skipped q) q) []) → (q : List ℕ) (skip : ℕ) → cut_of q ≡ More skip → blocks (drop skip q) ≡ []
-none-behind pairs q skip e = nothing-mapped (moved (length (take skip q))) (blocks (drop skip q))
-    (sym (cuts-more pairs q skip e (drop skip q)) ∙ ap blocks (take-append-drop skip q) ∙ none-yet q skip e)
+none-behind : (q : List ℕ) (skip : ℕ) → cut_of q ≡ More skip → blocks (drop skip q) ≡ []
+none-behind q skip e = nothing-mapped (moved (length (take skip q))) (blocks (drop skip q))
+    (sym (cuts-more q skip e (drop skip q)) ∙ ap blocks (take-append-drop skip q) ∙ none-yet q skip e)
 
 -- ---- endpoints that have stopped
 
@@ -117,11 +117,11 @@ ended-stops s open_ none = cond_both s.block.recv.fin (record s { block = finish
     (λ fin _ _. record { none = λ _. none; finishes = λ _ _. refl; only_then = λ _ _. fin })
     (λ fin _ _. record { none = λ _. none; finishes = λ _ i. absurd (cc); only_then = λ _ i. absurd (cc) })
 
-module _ (pairs : (q : List ℕ) → Cuts (take (skipped q) q) []) (env : FrontEnv) where
+module _ (env : FrontEnv) where
   -- what is found is read, where the rest is read that way
   found-stops : (later : Service → Service) (s : Service) → ((u : Service) → length (unread u) < length (unread s) → MayStop u → Stops (later u)) → s.block.send.finished ≡ false
       → (x : Found) → IsWithin x (length (unread s)) → cut_of (unread s) ≡ x → Stops (read_found env later s x)
-  found-stops later s rest open_ (More skip) h e = ended-stops (consumed skip s) open_ (none-behind pairs (unread s) skip e)
+  found-stops later s rest open_ (More skip) h e = ended-stops (consumed skip s) open_ (none-behind (unread s) skip e)
   found-stops later s rest open_ (Block skip len) h e =
       let v = verdict (take len (drop skip (unread s))) in
       let next = consumed (skip + len) s in

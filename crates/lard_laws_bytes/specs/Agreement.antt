@@ -3,6 +3,7 @@
 use Rattle.std.specs.Prelude.{◌≡◌, ℕ, ◌+◌, ◌-◌, ◌^◌, ◌<◌, ◌≤◌, Bool, true, false, List, [], ◌∷◌, ◌++◌, map, length, take, Option, Some, None}
 use Rattle.std.specs.List.{concat}
 use Rattle.lard_answers.specs.Answers.{FilesAt, IsFront, answer, closes_any, verdicts, verdicts_on}
+use Rattle.lard_base.specs.declared.limits.TheConstants.{MAX_STREAM_BYTES}
 use Rattle.lard_base.specs.declared.place.Place.{Place}
 use Rattle.lard_base.specs.declared.place.Place.TheVariants as place
 use Rattle.lard_base.specs.declared.place.Reason.TheVariants as reason
@@ -101,7 +102,7 @@ pub record SaysAnswers (files : FilesAt) (w out : Stream) (vs : List Verdict) : 
   pub spoken : out.bytes ≡ concat (map (answer files) vs)
   pub fronts : (z : List ℕ) → IsFront vs (verdicts (w.bytes ++ z))
   pub number : out.first < 2 ^ 32
-  pub most : length out.bytes ≤ 2 ^ 30
+  pub most : length out.bytes ≤ MAX_STREAM_BYTES
 
 -- ---- the client
 

@@ -2,6 +2,7 @@
 use Rattle.std.specs.Prelude.{◌≡◌, ◌⊎◌, ℕ, ◌+◌, ◌^◌, ◌≤◌, ◌<◌, ◌||◌, Bool, true, false, List, [], ◌∷◌, ◌++◌, length, take, Option, Ok}
 use Rattle.std.specs.List.{list_any}
 use Rattle.lard_answers.specs.Answers.{FilesAt}
+use Rattle.lard_base.specs.declared.limits.TheConstants.{MAX_SEGMENT_DATA, MAX_STREAM_BYTES}
 use Rattle.lard_client.specs.Control.{ClientBlock, written_len}
 use Rattle.lard_history.specs.Journal.{Tale, tale}
 use Rattle.lard_history.specs.Laws.{EachMay, MayServe}
@@ -78,7 +79,7 @@ pub record IsEnv (files : FilesAt) (c : ℕ) (out : Stream) (env : FrontEnv) : T
   pub number : env.c ≡ c
   pub begins : env.iss ≡ out.first
   pub files_are : env.files ≡ files
-  pub most : env.stream ≤ 2 ^ 30
+  pub most : env.stream ≤ MAX_STREAM_BYTES
 
 abbrev pub FrontHearsTruth : Type 0
 FrontHearsTruth = (files : FilesAt) (c : ℕ) (w out : Stream) (vs : List Verdict) (was_reset : Bool) (env : FrontEnv) (f : Option FrontConn) (s : Said)
@@ -125,14 +126,14 @@ pub record ClientTurned (c : ℕ) (w out : Stream) (x : ClientBlock) (given : Cl
   pub sent : AreWords c w_after given.1.segments
 
 abbrev pub ClientKeeps : (ClientBlock → ClientBlock × Turn) → Type 0
-ClientKeeps rule = (c : ℕ) (w out : Stream) (x : ClientBlock) → length out.bytes ≤ 2 ^ 30 → ClientAgrees c w out x → ClientTurned c w out x (rule x)
+ClientKeeps rule = (c : ℕ) (w out : Stream) (x : ClientBlock) → length out.bytes ≤ MAX_STREAM_BYTES → ClientAgrees c w out x → ClientTurned c w out x (rule x)
 
 abbrev pub ClientHearsTruth : Type 0
-ClientHearsTruth = (c : ℕ) (w out : Stream) (x : ClientBlock) (s : Said) → length out.bytes ≤ 2 ^ 30 → out.first < 2 ^ 32 → s.seq < 2 ^ 32 → s.ack < 2 ^ 32 → ClientAgrees c w out x → IsTrueOf out s
+ClientHearsTruth = (c : ℕ) (w out : Stream) (x : ClientBlock) (s : Said) → length out.bytes ≤ MAX_STREAM_BYTES → out.first < 2 ^ 32 → s.seq < 2 ^ 32 → s.ack < 2 ^ 32 → ClientAgrees c w out x → IsTrueOf out s
     → ClientTurned c w out x (client_gets x (Ok s))
 
 abbrev pub ClientWritesTruth : Type 0
-ClientWritesTruth = (c : ℕ) (w out : Stream) (x : ClientBlock) (bytes : List ℕ) → length out.bytes ≤ 2 ^ 30 → written_len x bytes ≤ 2 ^ 30 → ClientAgrees c w out x
+ClientWritesTruth = (c : ℕ) (w out : Stream) (x : ClientBlock) (bytes : List ℕ) → length out.bytes ≤ MAX_STREAM_BYTES → written_len x bytes ≤ MAX_STREAM_BYTES → ClientAgrees c w out x
     → ClientTurned c w out x (client_writes x bytes)
 
 -- the stream of a client that wrote nothing yet
@@ -147,5 +148,5 @@ pub record ClientOpened (c : ℕ) (w out : Stream) (given : ClientBlock × Turn)
   pub sent : AreWords c w given.1.segments
 
 abbrev pub ClientOpens : Type 0
-ClientOpens = (c isn wnd mss : ℕ) (out : Stream) → isn < 2 ^ 32 → wnd < 2 ^ 16 → 1 ≤ mss → mss ≤ 1460
+ClientOpens = (c isn wnd mss : ℕ) (out : Stream) → isn < 2 ^ 32 → wnd < 2 ^ 16 → 1 ≤ mss → mss ≤ MAX_SEGMENT_DATA
     → ClientOpened c (unwritten isn) out (client_opens c isn wnd mss)

@@ -1,6 +1,7 @@
 -- The laws of bytes, over every run of the machine.
 use Rattle.std.specs.Prelude.{ℕ, ◌≤◌, ◌^◌, List}
 use Rattle.lard_base.specs.declared.config.Config.{Config}
+use Rattle.lard_base.specs.declared.limits.TheConstants.{MAX_STREAM_BYTES}
 use Rattle.lard_files.specs.Files.{file_at}
 use Rattle.lard_history.specs.Laws.{AcceptsOnlyAnswers, ServesTheAnswers, TellsTheTruth}
 use Rattle.lard_machine.specs.declared.machine.Machine.{Machine}
@@ -9,7 +10,7 @@ use Rattle.lard_laws_bytes.specs.Truthful.{IsTruthful}
 
 -- Every state that events lead to, where the stream limit is within what one direction of a connection carries.
 abbrev pub Always : (List (List ℕ × List ℕ) → Machine → Type 0) → Type 0
-Always P = (config : Config) (files : List (List ℕ × List ℕ)) (m : Machine) → config.stream ≤ 2 ^ 30 → IsReached config files m → P files m
+Always P = (config : Config) (files : List (List ℕ × List ℕ)) (m : Machine) → config.stream ≤ MAX_STREAM_BYTES → IsReached config files m → P files m
 
 -- What clients, the front end, the journal and all packets say agrees.
 abbrev pub StatesAreTruthful : Type 0

@@ -9,15 +9,11 @@ ghost use Rattle.lard_laws_bytes.specs.Prefix.{AcceptedAreAnswers, SaidAreAnswer
 ghost use Rattle.lard_laws_bytes.specs.Runs.{ClientsAcceptAnswers, JournalsServeTheAnswers, JournalsTellTheTruth, StatesAreTruthful};
 ghost use Rattle.lard_machine.specs.Client.{client_aborts, client_holds, client_shuts, client_takes, client_timer};
 
-use lard_block::laws::what_is_taken_is_cut;
-
 /// The front end answers what its client wrote, and says nothing else.
 pub fn the_front_end_keeps_the_agreement()
     ensures segment { FrontHearsTruth }
     ensures timer { FrontTimerIsTrue }
-{
-    what_is_taken_is_cut();
-}
+{}
 
 /// A client writes its stream, and accepts the cluster's.
 pub fn a_client_keeps_the_agreement()
@@ -45,6 +41,4 @@ pub fn every_run_is_true()
     ensures told { JournalsTellTheTruth }
     ensures prefix { ClientsAcceptAnswers }
     ensures service { JournalsServeTheAnswers }
-{
-    the_front_end_keeps_the_agreement();
-}
+{}

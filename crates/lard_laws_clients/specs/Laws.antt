@@ -3,6 +3,7 @@ use Rattle.std.specs.Prelude.{◌≡◌, ℕ, ◌+◌, ◌<◌, ◌≤◌, ◌^�
 use Rattle.std.specs.List.{fold}
 use Rattle.lard_arrival.specs.Arrival.{IsPartAt}
 use Rattle.lard_base.specs.declared.config.Config.{Config}
+use Rattle.lard_base.specs.declared.limits.TheConstants.{MAX_STREAM_BYTES}
 use Rattle.lard_base.specs.declared.place.Place.TheVariants.{Client}
 use Rattle.lard_history.specs.Journal.{Numbers, accepted, numbers_of}
 use Rattle.lard_history.specs.Laws.{EachMay}
@@ -54,4 +55,4 @@ TakesInOrder J = EachMay MayTake [] J
 
 -- So it is in every run.
 abbrev pub ClientsTakeInOrder : Type 0
-ClientsTakeInOrder = (config : Config) (files : List (List ℕ × List ℕ)) (m : Machine) → config.stream ≤ 2 ^ 30 → IsReached config files m → TakesInOrder m.journal
+ClientsTakeInOrder = (config : Config) (files : List (List ℕ × List ℕ)) (m : Machine) → config.stream ≤ MAX_STREAM_BYTES → IsReached config files m → TakesInOrder m.journal

@@ -16,11 +16,12 @@ use Rattle.lard_history.proofs.Tales.{reset-tale}
 use Rattle.lard_journal.specs.declared.rec.Rec.{Rec}
 use Rattle.lard_journal.specs.declared.rec.Rec.TheVariants as rec
 use Rattle.lard_laws_bytes.specs.Agreement.{Agrees, IsReply, IsWord}
-use Rattle.lard_laws_bytes.specs.Keeping.{ClientKeeps, ClientTurned, FrontHearsTruth, FrontTimerIsTrue, IsEnv}
+use Rattle.lard_laws_bytes.specs.Keeping.{ClientKeeps, ClientTurned, IsEnv}
 use Rattle.lard_laws_bytes.specs.Truthful.{AreFair, ConnAgrees, IsFair, IsTruthful}
 use Rattle.lard_laws_bytes.proofs.ClientHearing.{hears-turned}
 use Rattle.lard_laws_bytes.proofs.ClientTurns.{aborts-turned, holds-turned, shuts-turned, takes-turned, timer-turned, writes-turned}
 use Rattle.lard_laws_bytes.proofs.Events.{hears-some, timer-some}
+use Rattle.lard_laws_bytes.proofs.FrontEnd.{hears-truth, timer-true}
 use Rattle.lard_laws_bytes.proofs.Later.{fair-lost, fair-packet}
 use Rattle.lard_laws_bytes.proofs.Notes.{other-number}
 use Rattle.lard_laws_quiet.proofs.Acked.{ClientActed, ClientActs, FrontHolds, ReplyMay, RulesAct, WordMay, heard_of, taken_by}
@@ -63,7 +64,7 @@ module _ (files : FilesAt) (m : Machine) (T : IsTruthful files m) (R : AllHold m
 
 -- ---- the rules of clients and of the front end
 
-module _ (rules : RulesAct) (hears : FrontHearsTruth) (fires : FrontTimerIsTrue) (m : Machine) (T : IsTruthful (file_at m.files) m) (R : AllHold m) (small : m.config.stream ≤ 2 ^ 30) where
+module _ (rules : RulesAct) (m : Machine) (T : IsTruthful (file_at m.files) m) (R : AllHold m) (small : m.config.stream ≤ 2 ^ 30) where
   abbrev files : FilesAt
   files = file_at m.files
 
@@ -144,7 +145,7 @@ module _ (rules : RulesAct) (hears : FrontHearsTruth) (fires : FrontTimerIsTrue)
     pub front-got : (k : ℕ) (s : Said) → IsWord (T.talks c).w s → WordMay x.iss (taken_by x.client) y.aborted s
         → AllHold (front_acted m (event.Deliver k) (rec.Got k ∷ []) c (front_gets (env_of m c x.iss) f (Ok s)))
     front-got k s r may = front-hold files m T R (event.Deliver k) (rec.Got k ∷ []) c (got-plain k) (λ q n. refl) x there (front_gets (env_of m c x.iss) f (Ok s))
-        (hears files c (T.talks c).w (T.talks c).out (T.talks c).vs (tale m.journal c).was_reset (env_of m c x.iss) f s env bounded its.says its.front r.sendable.ack_fits r.true_of)
+        (hears-truth files c (T.talks c).w (T.talks c).out (T.talks c).vs (tale m.journal c).was_reset (env_of m c x.iss) f s env bounded its.says its.front r.sendable.ack_fits r.true_of)
         (hears-some (env_of m c x.iss) f s)
         (rules.front_gets files c (T.talks c).w (T.talks c).out (T.talks c).vs (tale m.journal c).was_reset (env_of m c x.iss) f s (taken_by x.client) y.aborted env bounded its.says its.front r.sendable.ack_fits r.true_of
         held (subst (λ (n : ℕ). WordMay n (taken_by x.client) y.aborted s) (sym its.begins) may))
@@ -152,7 +153,7 @@ module _ (rules : RulesAct) (hears : FrontHearsTruth) (fires : FrontTimerIsTrue)
 
     pub front-fires : AllHold (front_acted m (event.Timer place.Front c) [] c (front_timer (env_of m c x.iss) f))
     front-fires = front-hold files m T R (event.Timer place.Front c) [] c (λ q. tt) (λ q n. refl) x there (front_timer (env_of m c x.iss) f)
-        (fires files c (T.talks c).w (T.talks c).out (T.talks c).vs (tale m.journal c).was_reset (env_of m c x.iss) f env its.says its.front)
+        (timer-true files c (T.talks c).w (T.talks c).out (T.talks c).vs (tale m.journal c).was_reset (env_of m c x.iss) f env its.says its.front)
         (timer-some (env_of m c x.iss) f)
         (rules.front_timer files c (T.talks c).w (T.talks c).out (T.talks c).vs (tale m.journal c).was_reset (env_of m c x.iss) f (taken_by x.client) y.aborted env bounded its.says its.front held)
         refl

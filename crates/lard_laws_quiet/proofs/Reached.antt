@@ -19,16 +19,15 @@ use Rattle.lard_history.proofs.Each.{Each, Each-append, each_append}
 use Rattle.lard_history.proofs.Tales.{accepted-tale, numbers-tale, reset-tale, wrote-tale}
 use Rattle.lard_journal.specs.declared.rec.Rec.{Rec}
 use Rattle.lard_journal.specs.declared.rec.Rec.TheVariants as rec
-use Rattle.lard_laws_bytes.specs.Keeping.{FrontHearsTruth, FrontTimerIsTrue}
-use Rattle.lard_laws_bytes.specs.Runs.{StatesAreTruthful}
 use Rattle.lard_laws_bytes.specs.Truthful.{ConnAgrees, IsTruthful}
+use Rattle.lard_laws_bytes.proofs.Reached.{states-truthful}
 use Rattle.lard_laws_places.proofs.Following.{Adds, forms-add}
 use Rattle.lard_laws_places.proofs.Reached.{reached-holds}
 use Rattle.lard_laws_quiet.specs.Quiet.{IsQuiet, IsComplete, JournalsAreComplete, MayGoOn, QuietIsComplete, IsCompleteWhenQuiet, has_aborted}
-use Rattle.lard_laws_quiet.proofs.Acked.{RulesAct}
 use Rattle.lard_laws_quiet.proofs.Complete.{accepted-all, closes-ended, shut-ended}
 use Rattle.lard_laws_quiet.proofs.Events.{forms-hold}
 use Rattle.lard_laws_quiet.proofs.Moves.{ConnTells, AllHold}
+use Rattle.lard_laws_quiet.proofs.Rules.{all-act}
 use Rattle.lard_laws_quiet.proofs.Story.{aborted-story, client-story, ended-story, front-story, reset-story, shut-story, story, story-nil}
 use Rattle.lard_machine.specs.declared.machine.Machine.{Machine}
 use Rattle.lard_machine.specs.declared.places.Station.{Station}
@@ -132,25 +131,24 @@ record Goes (m : Machine) : Type 0 where
   reached : IsReached m.config m.files m
   small : m.config.stream ≤ 2 ^ 30
 
-module _ (rules : RulesAct) (truthful : StatesAreTruthful) (hears : FrontHearsTruth) (fires : FrontTimerIsTrue) where
-  now-complete : (m : Machine) → Goes m → QuietIsComplete (file_at m.files) m.journal
-  now-complete m g = quiet-complete (file_at m.files) m (truthful m.config m.files m g.small g.reached) g.holds
+now-complete : (m : Machine) → Goes m → QuietIsComplete (file_at m.files) m.journal
+now-complete m g = quiet-complete (file_at m.files) m (states-truthful m.config m.files m g.small g.reached) g.holds
 
-  step-goes : (m n : Machine) (e : Event) → Goes m → HasRule e → machine_step m e ≡ Ok n → Goes n
-  step-goes m n e g rule is =
-      let T : IsTruthful (file_at m.files) m = truthful m.config m.files m g.small g.reached in
-      let adds : Adds m n e = step_has m n e (λ d k. Adds m k d) (forms-add m (reached-holds m.config m.files m g.reached)) rule is in
-      let same = step-set m n e rule is in
-      record {
-        holds = step_has m n e (λ d k. AllHold k) (forms-hold rules hears fires m T g.holds g.small) rule is;
-        before = subst (λ (files : List (List ℕ × List ℕ)). EachMay (MayGoOn (file_at files)) [] n.journal) (sym same.1)
-            (subst (λ (J : List Rec). EachMay (MayGoOn (file_at m.files)) [] J) (sym adds.journal)
-            (each_append (MayGoOn (file_at m.files)) [] m.journal adds.step g.before (step-goes-on (file_at m.files) m.journal adds.step (m.events + 1) e (now-complete m g) adds.is)));
-        reached = reached-more m n e g.reached rule is;
-        small = subst (λ (config : Config). config.stream ≤ 2 ^ 30) (sym same.0) g.small;
-      }
+step-goes : (m n : Machine) (e : Event) → Goes m → HasRule e → machine_step m e ≡ Ok n → Goes n
+step-goes m n e g rule is =
+    let T : IsTruthful (file_at m.files) m = states-truthful m.config m.files m g.small g.reached in
+    let adds : Adds m n e = step_has m n e (λ d k. Adds m k d) (forms-add m (reached-holds m.config m.files m g.reached)) rule is in
+    let same = step-set m n e rule is in
+    record {
+      holds = step_has m n e (λ d k. AllHold k) (forms-hold all-act m T g.holds g.small) rule is;
+      before = subst (λ (files : List (List ℕ × List ℕ)). EachMay (MayGoOn (file_at files)) [] n.journal) (sym same.1)
+          (subst (λ (J : List Rec). EachMay (MayGoOn (file_at m.files)) [] J) (sym adds.journal)
+          (each_append (MayGoOn (file_at m.files)) [] m.journal adds.step g.before (step-goes-on (file_at m.files) m.journal adds.step (m.events + 1) e (now-complete m g) adds.is)));
+      reached = reached-more m n e g.reached rule is;
+      small = subst (λ (config : Config). config.stream ≤ 2 ^ 30) (sym same.0) g.small;
+    }
 
-  pub journals-complete : JournalsAreComplete
-  journals-complete config files m small r =
-      let g : Goes m = passes-keep Goes step-goes r.0 (start config files) m r.1 (record { holds = start-hold config files; before = tt; reached = ([], refl); small = small }) in
-      subst (λ (fs : List (List ℕ × List ℕ)). IsCompleteWhenQuiet (file_at fs) m.journal) (reached-set config files m r).1 (record { before = g.before; last = now-complete m g })
+pub journals-complete : JournalsAreComplete
+journals-complete config files m small r =
+    let g : Goes m = passes-keep Goes step-goes r.0 (start config files) m r.1 (record { holds = start-hold config files; before = tt; reached = ([], refl); small = small }) in
+    subst (λ (fs : List (List ℕ × List ℕ)). IsCompleteWhenQuiet (file_at fs) m.journal) (reached-set config files m r).1 (record { before = g.before; last = now-complete m g })

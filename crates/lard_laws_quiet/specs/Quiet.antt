@@ -3,6 +3,7 @@ use Rattle.std.specs.Prelude.{◌≡◌, ℕ, ◌≤◌, ◌^◌, Bool, true, fa
 use Rattle.std.specs.List.{fold}
 use Rattle.lard_answers.specs.Answers.{FilesAt, answer_bytes, closes_any, verdicts}
 use Rattle.lard_base.specs.declared.config.Config.{Config}
+use Rattle.lard_base.specs.declared.limits.TheConstants.{MAX_STREAM_BYTES}
 use Rattle.lard_base.specs.declared.place.Place.{Place}
 use Rattle.lard_base.specs.declared.place.Place.TheVariants.{Front, Node, Client}
 use Rattle.lard_base.specs.declared.place.TimerKind.{TimerKind}
@@ -96,4 +97,4 @@ pub record IsCompleteWhenQuiet (files : FilesAt) (J : List Rec) : Type 0 where
 
 -- In every run, where the stream limit is within what one direction of a connection carries.
 abbrev pub JournalsAreComplete : Type 0
-JournalsAreComplete = (config : Config) (files : List (List ℕ × List ℕ)) (m : Machine) → config.stream ≤ 2 ^ 30 → IsReached config files m → IsCompleteWhenQuiet (file_at files) m.journal
+JournalsAreComplete = (config : Config) (files : List (List ℕ × List ℕ)) (m : Machine) → config.stream ≤ MAX_STREAM_BYTES → IsReached config files m → IsCompleteWhenQuiet (file_at files) m.journal

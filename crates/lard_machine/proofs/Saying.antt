@@ -65,9 +65,6 @@ emit-rests b e = go b.reset (next_piece b.send) refl (owes (advanced b)) e where
   go false None q true k = cc
   go false None q false k = ap (λ (s : Sending). record b { send = s }) (next-rests b.send (b.send.nxt == 0) (may_send b.send) q)
 
-pub left-most : (b : ControlBlock) → IsControlBlock b → emits_left b ≤ 2 ^ 30 + 3
-left-most b h = let most = h.sending.most in let f = one_if-most b.send.finished in let o = one_if-most (owes b) in omega arith
-
 -- ---- a client
 
 client-falls : (x : ClientBlock) (r : Ready) → IsSending x.send → client.emitted x ≡ Some r → client.unsaid (client.after_emit x) < client.unsaid x

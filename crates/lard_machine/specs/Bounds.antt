@@ -3,6 +3,7 @@ use Rattle.std.specs.Prelude.{◌≡◌, ℕ, ◌≤◌, ◌<◌, ◌^◌, lengt
 use Rattle.std.specs.FinMap as table
 use Rattle.lard_base.specs.declared.event.Event.{Event}
 use Rattle.lard_base.specs.declared.event.Event.TheVariants.{Open, Get, Write, Shut, Abort, Hold, Take, Deliver, Lose, Timer, Disk, Clock, Settle, Inject}
+use Rattle.lard_base.specs.declared.limits.TheConstants.{MAX_SEGMENT_DATA}
 use Rattle.lard_base.specs.declared.place.Place.{Place}
 use Rattle.lard_base.specs.declared.place.Place.TheVariants.{Front, Node, Client}
 use Rattle.lard_endpoint.specs.Control.{ControlBlock}
@@ -22,7 +23,7 @@ HasTimer (Node n) c = ⊥
 
 -- the event has a rule, and its numbers are ones that the rule can take
 abbrev pub HasRule : Event → Type 0
-HasRule (Open c isn iss wnd mss) = (1 ≤ wnd) × (1 ≤ mss) × (mss ≤ 1460) × (wnd < 2 ^ 16) × (isn < 2 ^ 32) × (iss < 2 ^ 32)
+HasRule (Open c isn iss wnd mss) = (1 ≤ wnd) × (1 ≤ mss) × (mss ≤ MAX_SEGMENT_DATA) × (wnd < 2 ^ 16) × (isn < 2 ^ 32) × (iss < 2 ^ 32)
 HasRule (Get c path) = Unit {0}
 HasRule (Write c bytes) = Unit {0}
 HasRule (Shut c) = Unit {0}

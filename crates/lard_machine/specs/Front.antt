@@ -1,6 +1,7 @@
 -- The rules of the front end, each over one connection: the connection after it, and the front end's turn.
 use Rattle.std.specs.Prelude.{ℕ, zero, suc, ◌+◌, nat_lt, ◌&&◌, ◌||◌, not, Bool, true, false, if◌then◌else◌, List, [], ◌∷◌, ◌++◌, length, take, drop, Option, Some, None, Result, Ok, Err}
 use Rattle.lard_answers.specs.Answers.{FilesAt, answer}
+use Rattle.lard_base.specs.declared.limits.TheConstants.{RECEIVE_WINDOW}
 use Rattle.lard_base.specs.declared.place.Place.{Place}
 use Rattle.lard_base.specs.declared.place.Place.TheVariants as place
 use Rattle.lard_base.specs.declared.place.Reason.{Reason}
@@ -169,7 +170,7 @@ last_ack last = record {
   seq = last.snd.0;
   ack = last.rcv.0;
   flags = record { syn = false; ack = true; fin = false; rst = false; psh = false };
-  wnd = 16384;
+  wnd = RECEIVE_WINDOW;
   mss = None;
   payload = [];
 }

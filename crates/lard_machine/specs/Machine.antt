@@ -5,6 +5,7 @@ use Rattle.std.specs.FinMap as table
 use Rattle.lard_base.specs.declared.config.Config.{Config}
 use Rattle.lard_base.specs.declared.event.Event.{Event}
 use Rattle.lard_base.specs.declared.event.Event.TheVariants as event
+use Rattle.lard_base.specs.declared.limits.TheConstants.{MAX_PACKET_BYTES, MAX_PACKETS, MAX_RECORDS, MAX_RESPONSE_BYTES}
 use Rattle.lard_base.specs.declared.place.Place.{Place}
 use Rattle.lard_base.specs.declared.place.Place.TheVariants as place
 use Rattle.lard_base.specs.declared.place.TimerKind.TheVariants.{Tcp}
@@ -207,10 +208,10 @@ lost m k (Some p) =
 -- the first limit that was reached
 abbrev pub limit_of : ℕ → ℕ → ℕ → ℕ → Option What
 limit_of packets bytes records answered =
-    if nat_le 1000000 packets then Some Packets else
-    if nat_le (2 ^ 29) bytes then Some PacketBytes else
-    if nat_le 4000000 records then Some Records else
-    if nat_le (2 ^ 29) answered then Some Answers else
+    if nat_le MAX_PACKETS packets then Some Packets else
+    if nat_le MAX_PACKET_BYTES bytes then Some PacketBytes else
+    if nat_le MAX_RECORDS records then Some Records else
+    if nat_le MAX_RESPONSE_BYTES answered then Some Answers else
     None
 
 abbrev pub limit_reached : Machine → Option What

@@ -1,5 +1,6 @@
 -- What a place sends at the end of its turn: the segments that its endpoint or client gives, call by call, until none.
 use Rattle.std.specs.Prelude.{ℕ, zero, suc, ◌≤◌, Bool, ◌||◌, nat_lt, List, [], ◌∷◌, length, Option, Some, None, if◌then◌else◌}
+use Rattle.lard_base.specs.declared.limits.TheConstants.{MAX_SEGMENT_BYTES}
 use Rattle.lard_base.specs.declared.place.Place.{Place}
 use Rattle.lard_base.specs.declared.place.Place.TheVariants as place
 use Rattle.lard_client.specs.Control.{ClientBlock}
@@ -65,4 +66,4 @@ client_speaks x = client_emits (client.unsaid x) x
 -- packets of at most 1,520 bytes
 abbrev pub AreShort : List (Place × List ℕ) → Type 0
 AreShort [] = Unit {0}
-AreShort (s ∷ ss) = (length s.1 ≤ 1520) × AreShort ss
+AreShort (s ∷ ss) = (length s.1 ≤ MAX_SEGMENT_BYTES) × AreShort ss

@@ -6,9 +6,11 @@
 #![tactic(auto)]
 
 pub mod fault;
+pub mod limits;
 pub mod machine;
 pub mod places;
 
 pub use fault::{StepFault, What};
+pub use limits::first_limit;
 pub use machine::Machine;
 pub use places::{FrontConn, Station, Turn};

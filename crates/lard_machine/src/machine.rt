@@ -9,16 +9,20 @@ use lard_table::Table;
 
 /// The state of the whole. Connections are kept by their numbers.
 pub struct Machine {
+    /// The numbers of the run. They never change.
     pub config: Config,
+    /// The files that requests are answered with. They never change.
     pub files: Files,
     /// The clients that opened.
     pub clients: Table<Station>,
     /// The connections that the front end took.
     pub conns: Table<FrontConn>,
+    /// Every packet that was ever sent, lost or not.
     pub net: Net,
     /// The bytes of all responses that were queued.
     pub answered: u64,
     /// How many events were passed.
     pub events: u64,
+    /// All records so far.
     pub journal: Journal,
 }

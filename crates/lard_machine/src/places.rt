@@ -8,6 +8,7 @@ use lard_journal::Recs;
 /// A client's place.
 #[derive(Drop)]
 pub struct Station {
+    /// The client's end of the connection.
     pub client: Client,
     /// The sequence number with which the cluster begins on this connection.
     pub iss: u32,
@@ -23,11 +24,13 @@ pub enum FrontConn {
     Closed(Final),
 }
 
-/// What a place does in its turn: records of its own, the segments that it sends, each with its goal, and how many bytes
-/// of responses it queued.
+/// What a place does in its turn.
 #[derive(Debug, Drop)]
 pub struct Turn {
+    /// The records of what it did, without those of packets and timers.
     pub notes: Recs,
+    /// The segments that it sends, each with its goal.
     pub segments: Sends,
+    /// How many bytes of responses it queued.
     pub answered: u32,
 }

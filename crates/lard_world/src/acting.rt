@@ -44,7 +44,7 @@ pub fn conclude(
         is_armed,
     } = act;
     let Turn {
-        notes,
+        mut notes,
         segments,
         answered,
     } = turn;
@@ -52,7 +52,7 @@ pub fn conclude(
     let mut recs = Recs::new(alloc);
     recs.push(Rec::Event { i, event })?;
     push(&mut recs, own)?;
-    push_all(&mut recs, notes)?;
+    recs.append(&mut notes)?;
     send(&mut machine.net, alloc, &place, segments, &mut recs)?;
     push(&mut recs, timer_change(&place, c, was_armed, is_armed))?;
     machine.journal.append(recs)?;
@@ -122,16 +122,6 @@ fn push(recs: &mut Recs, rec: Option<Rec>) -> Result<(), NoMemory>
         None => return Ok(()),
         Some(rec) => return recs.push(rec),
     }
-}
-
-/// Adds all of these records.
-fn push_all(recs: &mut Recs, more: Recs) -> Result<(), NoMemory>
-    ensures { OnOk result (recs.new ≡ recs.old ++ more) }
-{
-    for rec in more.into_vec() {
-        recs.push(rec)?;
-    }
-    Ok(())
 }
 
 /// The record of the timer that changed, from its flags before and after the step.

@@ -1,6 +1,7 @@
 //! The rules of a client's place, each over one client.
 
 ghost use Rattle.std.specs.Prelude.{◌≡◌, ◌+◌, ◌^◌, ◌≤◌, ◌++◌, [], length, IfOk, IfSome, OnOk};
+ghost use Rattle.lard_base.specs.declared.limits.TheConstants.{MAX_SEGMENT_BYTES, MAX_STREAM_BYTES};
 ghost use Rattle.lard_client.specs.Control.{written_len};
 ghost use Rattle.lard_client.specs.Leaving.{IsHeld, IsWritable};
 ghost use Rattle.lard_machine.specs.Client.{accepted_note, client_aborts, client_gets, client_heard, client_holds, client_shuts, client_takes, client_timer, client_writes, eof_note, ready_of, silent, speaking};
@@ -77,7 +78,7 @@ pub fn open(alloc: Global, client: &mut Client) -> Result<Turn, NoMemory>
 
 /// The client writes (RFC 9293, 3.10.2), unless it writes no longer.
 pub fn write(alloc: Global, client: &mut Client, bytes: Bytes) -> Result<Turn, NoMemory>
-    requires { written_len client.old bytes ≤ 2 ^ 30 }
+    requires { written_len client.old bytes ≤ MAX_STREAM_BYTES }
     ensures turn { IfOk result (λ turn. (client.new, turn) ≡ client_writes client.old bytes) }
     ensures fits { IfOk result IsTurn }
 {
@@ -145,7 +146,7 @@ pub fn fire(alloc: Global, client: &mut Client) -> Result<Turn, NoMemory>
 
 /// A packet comes (RFC 9293, 3.10.7). What does not decode is dropped.
 pub fn get(alloc: Global, c: ConnId, client: &mut Client, bytes: &[u8]) -> Result<Turn, NoMemory>
-    requires { length bytes.now ≤ 1520 }
+    requires { length bytes.now ≤ MAX_SEGMENT_BYTES }
     ensures turn { IfOk result (λ turn. (client.new, turn) ≡ client_gets client.old (decoded bytes.now c Dir.ToClient)) }
     ensures fits { IfOk result IsTurn }
 {

@@ -2,6 +2,7 @@
 
 ghost use Rattle.std.specs.Prelude.{◌≡◌, ◌^◌, ◌≤◌, [], ◌∷◌, length, None, Some, IfNone, IfSome, IsSome, OnOk, OnErr, false};
 ghost use Rattle.std.specs.FinMap as table;
+ghost use Rattle.lard_base.specs.declared.limits.TheConstants.{MAX_SEGMENT_BYTES, MAX_STREAM_BYTES};
 ghost use Rattle.lard_machine.specs.Front.{front_gets, front_timer};
 ghost use Rattle.lard_machine.specs.Machine.{acted, env_of, front_acted, front_armed};
 ghost use Rattle.lard_machine.specs.Speaking.{listed};
@@ -30,10 +31,10 @@ pub fn get(
     iss: u32,
     bytes: &[u8],
 ) -> Result<(), NoMemory>
-    requires short { length bytes.now ≤ 1520 }
+    requires short { length bytes.now ≤ MAX_SEGMENT_BYTES }
     requires room { HasRoom machine.old }
     requires counts { HasCounts machine.old }
-    requires stream { machine.old.config.stream ≤ 2 ^ 30 }
+    requires stream { machine.old.config.stream ≤ MAX_STREAM_BYTES }
     ensures ok { OnOk result (machine.new ≡ front_acted machine.old (Event.Deliver k) (Rec.Got k ∷ []) c (front_gets (env_of machine.old c iss) (table.get machine.old.conns c) (decoded bytes.now c Dir.ToCluster))) }
     ensures err { OnErr result (machine.new.journal ≡ machine.old.journal) }
 {
@@ -63,7 +64,7 @@ fn meet(
     bytes: &[u8],
 ) -> Result<(), NoMemory>
     requires unknown { table.get machine.old.conns c ≡ None }
-    requires short { length bytes.now ≤ 1520 }
+    requires short { length bytes.now ≤ MAX_SEGMENT_BYTES }
     requires room { HasRoom machine.old }
     ensures ok { OnOk result (machine.new ≡ front_acted machine.old (Event.Deliver k) (Rec.Got k ∷ []) c (front_gets (env_of machine.old c iss) None (decoded bytes.now c Dir.ToCluster))) }
     ensures err { OnErr result (machine.new.journal ≡ machine.old.journal) }

@@ -1,6 +1,7 @@
 //! The rules of the front end, each over one connection. The connection comes back in each case, also without memory.
 
 ghost use Rattle.std.specs.Prelude.{◌≡◌, ◌+◌, ◌^◌, ◌≤◌, true, false, [], ◌∷◌, ◌++◌, length, None, Some, IfOk, IfSome, OnOk, option_map};
+ghost use Rattle.lard_base.specs.declared.limits.TheConstants.{MAX_SEGMENT_BYTES, MAX_SEGMENT_DATA, MAX_STREAM_BYTES};
 ghost use Rattle.lard_endpoint.specs.Control.{ControlBlock};
 ghost use Rattle.lard_endpoint.specs.Leaving.{IsReady};
 ghost use Rattle.lard_machine.specs.Client.{silent};
@@ -14,6 +15,7 @@ ghost use Rattle.lard_world.specs.Turns.{IsTurn};
 use crate::clients::silent;
 use crate::reading::{Env, Service, read};
 use crate::speaking::{packet, speak, speak_symbols, to_client};
+use lard_base::limits::RECEIVE_WINDOW;
 use lard_base::{Bytes, Epoch, NoMemory, Place, Reason, Sends};
 use lard_endpoint::{Endpoint, Final};
 use lard_journal::Rec;
@@ -21,9 +23,6 @@ use lard_machine::{FrontConn, Turn};
 use lard_segment::{Dir, Flags, Ready, Segment, decode};
 use lard_seq::Seq;
 use std::alloc::Global;
-
-/// The window that the front end offers on a connection that ended.
-const WINDOW: u16 = 16_384;
 
 /// No control bit is set.
 const BARE: Flags = Flags {
@@ -111,8 +110,8 @@ fn limit_turn(
     sends: Sends,
 ) -> Result<Turn, NoMemory>
     requires short { AreShort sends }
-    requires few { length sends ≤ 2 ^ 30 + 3 }
-    requires counted { service.answered ≤ 2 ^ 30 }
+    requires few { length sends ≤ MAX_STREAM_BYTES + 3 }
+    requires counted { service.answered ≤ MAX_STREAM_BYTES }
     ensures turn { IfOk result (λ turn. turn ≡ record { notes = service.notes; segments = sends ++ told (env_seen env.now) (limit_said last) ∷ []; answered = service.answered }) }
     ensures fits { IfOk result IsTurn }
 {
@@ -128,10 +127,10 @@ fn limit_turn(
 /// The packet of a segment without data.
 fn told(alloc: Global, env: &Env<'_>, segment: &Segment<'_>) -> Result<(Place, Bytes), NoMemory>
     requires plain { segment.now.mss ≡ None }
-    requires small { length segment.now.payload.now ≤ 1460 }
+    requires small { length segment.now.payload.now ≤ MAX_SEGMENT_DATA }
     requires no_ack { segment.now.flags.ack ≡ false → segment.now.ack.0 ≡ 0 }
     ensures packet { IfOk result (λ packet. packet ≡ told (env_seen env.now) (said segment.now)) }
-    ensures short { IfOk result (λ packet. length packet.1 ≤ 1520) }
+    ensures short { IfOk result (λ packet. length packet.1 ≤ MAX_SEGMENT_BYTES) }
 {
     let bytes = packet(alloc, segment, env.c, Dir::ToClient)?;
     Ok((Place::Client(env.c), bytes))
@@ -172,7 +171,7 @@ fn settled(alloc: Global, env: &Env<'_>, endpoint: Endpoint, service: Service) -
 /// A packet comes on a connection that the front end does not know yet. It listens to every client (RFC 9293,
 /// 3.10.7.2): a plain SYN begins the connection.
 pub fn meet(alloc: Global, env: &Env<'_>, bytes: &[u8]) -> Result<Begins, NoMemory>
-    requires { length bytes.now ≤ 1520 }
+    requires { length bytes.now ≤ MAX_SEGMENT_BYTES }
     ensures turn { IfOk result (λ begins. begun_of begins ≡ front_gets (env_seen env.now) None (decoded bytes.now env.now.c Dir.ToCluster)) }
     ensures fits { IfOk result (λ begins. IfSome begins (λ begun. IsTurn begun.1)) }
 {
@@ -218,8 +217,8 @@ fn begin(alloc: Global, env: &Env<'_>, segment: &Segment<'_>) -> Result<(FrontCo
 
 /// A packet comes on a connection that the front end took. What does not decode is dropped.
 pub fn get(alloc: Global, env: &Env<'_>, conn: FrontConn, bytes: &[u8]) -> Rests
-    requires short { length bytes.now ≤ 1520 }
-    requires stream { env.now.stream ≤ 2 ^ 30 }
+    requires short { length bytes.now ≤ MAX_SEGMENT_BYTES }
+    requires stream { env.now.stream ≤ MAX_STREAM_BYTES }
     requires counted { IsCountedIn conn }
     ensures turn { IfOk result.1 (λ turn. (Some result.0, turn) ≡ front_gets (env_seen env.now) (Some conn) (decoded bytes.now env.now.c Dir.ToCluster)) }
     ensures fits { IfOk result.1 IsTurn }
@@ -232,7 +231,7 @@ pub fn get(alloc: Global, env: &Env<'_>, conn: FrontConn, bytes: &[u8]) -> Rests
 
 /// A segment comes.
 fn hear(alloc: Global, env: &Env<'_>, conn: FrontConn, segment: &Segment<'_>) -> Rests
-    requires stream { env.now.stream ≤ 2 ^ 30 }
+    requires stream { env.now.stream ≤ MAX_STREAM_BYTES }
     requires counted { IsCountedIn conn }
     ensures turn { IfOk result.1 (λ turn. (Some result.0, turn) ≡ front_hears (env_seen env.now) (Some conn) (said segment.now)) }
     ensures fits { IfOk result.1 IsTurn }
@@ -255,7 +254,7 @@ fn hear(alloc: Global, env: &Env<'_>, conn: FrontConn, segment: &Segment<'_>) ->
 
 /// The endpoint took a segment, and the front end reads what it may.
 fn read_on(alloc: Global, env: &Env<'_>, mut endpoint: Endpoint, count: u32) -> Rests
-    requires stream { env.now.stream ≤ 2 ^ 30 }
+    requires stream { env.now.stream ≤ MAX_STREAM_BYTES }
     requires counted { count ≤ endpoint.send.total }
     ensures turn { IfOk result.1 (λ turn. (Some result.0, turn) ≡ heard (env_seen env.now) endpoint count) }
     ensures fits { IfOk result.1 IsTurn }
@@ -292,7 +291,7 @@ fn tombstone(
 fn last_words(last: Final, segment: &Segment<'_>) -> Option<Segment<'static>>
     ensures words { option_map said result ≡ last_words last.reason last (said segment.now) }
     ensures plain { IfSome result (λ words. words.mss ≡ None) }
-    ensures empty { IfSome result (λ words. length words.payload.now ≤ 1460) }
+    ensures empty { IfSome result (λ words. length words.payload.now ≤ MAX_SEGMENT_DATA) }
     ensures no_ack { IfSome result (λ words. words.flags.ack ≡ false → words.ack.0 ≡ 0) }
 {
     match last.reason {
@@ -327,7 +326,7 @@ fn last_ack(last: Final) -> Segment<'static>
         seq: last.snd,
         ack: last.rcv,
         flags: Flags { ack: true, ..BARE },
-        wnd: WINDOW,
+        wnd: RECEIVE_WINDOW,
         mss: None,
         payload: &[],
     }

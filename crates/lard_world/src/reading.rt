@@ -3,6 +3,7 @@
 ghost use Rattle.std.specs.Prelude.{◌≡◌, ◌+◌, ◌^◌, ◌≤◌, ◌<◌, false, [], ◌∷◌, ◌++◌, length, IfOk, IfSome, IsTrue, OnOk, Some, true, if◌then◌else◌};
 ghost use Rattle.std.specs.Option.{option_copied};
 ghost use Rattle.lard_answers.specs.Answers.{answer, found};
+ghost use Rattle.lard_base.specs.declared.limits.TheConstants.{MAX_STREAM_BYTES};
 ghost use Rattle.lard_files.specs.Files.{file_at};
 ghost use Rattle.lard_endpoint.specs.Control.{finishing};
 ghost use Rattle.lard_history.specs.Journal.{code_of};
@@ -65,7 +66,7 @@ pub fn read(
     endpoint: &mut Endpoint,
     service: &mut Service,
 ) -> Result<(), NoMemory>
-    requires stream { env.now.stream ≤ 2 ^ 30 }
+    requires stream { env.now.stream ≤ MAX_STREAM_BYTES }
     requires counted { IsCounted endpoint.old service.old }
     ensures read { OnOk result (service_of endpoint.new service.new ≡ reads (env_seen env.now) (service_of endpoint.old service.old)) }
     ensures counted { OnOk result (IsCounted endpoint.new service.new) }
@@ -119,7 +120,7 @@ fn answer(
     service: &mut Service,
     verdict: &Verdict,
 ) -> Result<(), NoMemory>
-    requires stream { env.now.stream ≤ 2 ^ 30 }
+    requires stream { env.now.stream ≤ MAX_STREAM_BYTES }
     requires counted { IsCounted endpoint.old service.old }
     requires open { endpoint.old.send.finished ≡ false }
     requires within { service.old.over ≡ None }

@@ -1,33 +1,32 @@
 //! What a place sends: segments as the bytes of packets, one by one, and call by call until none is left.
 
 ghost use Rattle.std.specs.Prelude.{◌≡◌, ◌+◌, ◌^◌, ◌≤◌, false, ◌++◌, length, IfOk, IfSome, OnOk};
+ghost use Rattle.lard_base.specs.declared.limits.TheConstants.{MAX_STREAM_BYTES};
 ghost use Rattle.lard_client.specs.Leaving as client_leaves;
 ghost use Rattle.lard_endpoint.specs.Leaving as endpoint_leaves;
 ghost use Rattle.lard_machine.specs.Speaking.{AreShort, client_speaks, has_symbol, speaks, speaks_symbols, to_client, to_front};
 ghost use Rattle.lard_segment.specs.Segment.{said, spelled};
 
+use lard_base::limits::{MAX_SEGMENT_BYTES, MAX_SEGMENT_DATA};
 use lard_base::{Bytes, ConnId, NoMemory, Place, Sends};
 use lard_client::Client;
 use lard_endpoint::Endpoint;
 use lard_segment::{Dir, Ready, Segment, encode};
 use std::alloc::Global;
 
-/// The most bytes of a packet.
-const PACKET: usize = 1_520;
-
-/// The most bytes of data in a segment.
-const DATA: usize = 1_460;
+/// The most bytes of data in a segment, as the length of a buffer.
+const DATA: usize = MAX_SEGMENT_DATA as usize;
 
 /// The bytes of a segment.
 pub fn packet(alloc: Global, segment: &Segment<'_>, c: ConnId, dir: Dir) -> Result<Bytes, NoMemory>
     requires some_mss { IfSome segment.now.mss (λ m. 1 ≤ m) }
-    requires small_mss { IfSome segment.now.mss (λ m. m ≤ 1460) }
-    requires small_payload { length segment.now.payload.now ≤ 1460 }
+    requires small_mss { IfSome segment.now.mss (λ m. m ≤ MAX_SEGMENT_DATA) }
+    requires small_payload { length segment.now.payload.now ≤ MAX_SEGMENT_DATA }
     requires no_ack { segment.now.flags.ack ≡ false → segment.now.ack.0 ≡ 0 }
     ensures bytes { IfOk result (λ bytes. bytes ≡ spelled c dir (said segment.now)) }
-    ensures short { IfOk result (λ bytes. length bytes ≤ 1520) }
+    ensures short { IfOk result (λ bytes. length bytes ≤ MAX_SEGMENT_BYTES) }
 {
-    let mut buf = [0; PACKET];
+    let mut buf = [0; MAX_SEGMENT_BYTES];
     let len = encode(segment, c, dir, &mut buf);
     Bytes::from_slice(alloc, &buf[..len])
 }
@@ -41,7 +40,7 @@ pub fn to_client(
 ) -> Result<(Place, Bytes), NoMemory>
     requires { endpoint_leaves.IsReady endpoint.now ready }
     ensures packet { IfOk result (λ packet. packet ≡ to_client c endpoint.now ready) }
-    ensures short { IfOk result (λ packet. length packet.1 ≤ 1520) }
+    ensures short { IfOk result (λ packet. length packet.1 ≤ MAX_SEGMENT_BYTES) }
 {
     let mut data = [0; DATA];
     let segment = endpoint.segment(ready, &mut data);
@@ -54,7 +53,7 @@ pub fn to_front(alloc: Global, client: &Client, ready: Ready) -> Result<(Place, 
     requires held { client_leaves.IsHeld client.now ready }
     requires writable { client_leaves.IsWritable ready }
     ensures packet { IfOk result (λ packet. packet ≡ to_front client.now ready) }
-    ensures short { IfOk result (λ packet. length packet.1 ≤ 1520) }
+    ensures short { IfOk result (λ packet. length packet.1 ≤ MAX_SEGMENT_BYTES) }
 {
     let mut data = [0; DATA];
     let segment = client.segment(ready, &mut data);
@@ -73,7 +72,7 @@ pub fn speak(
     ensures sends { IfOk result (λ sends. sends ≡ before ++ (speaks c endpoint.old).0) }
     ensures after { OnOk result (endpoint.new ≡ (speaks c endpoint.old).1) }
     ensures short { IfOk result AreShort }
-    ensures few { IfOk result (λ sends. length sends ≤ length before + 2 ^ 30 + 3) }
+    ensures few { IfOk result (λ sends. length sends ≤ length before + MAX_STREAM_BYTES + 3) }
 {
     let mut sends = before;
     let _total = endpoint.total();
@@ -89,7 +88,7 @@ pub fn speak_symbols(alloc: Global, c: ConnId, endpoint: &mut Endpoint) -> Resul
     ensures sends { IfOk result (λ sends. sends ≡ (speaks_symbols c endpoint.old).0) }
     ensures after { OnOk result (endpoint.new ≡ (speaks_symbols c endpoint.old).1) }
     ensures short { IfOk result AreShort }
-    ensures few { IfOk result (λ sends. length sends ≤ 2 ^ 30 + 3) }
+    ensures few { IfOk result (λ sends. length sends ≤ MAX_STREAM_BYTES + 3) }
 {
     let mut sends = Sends::new(alloc);
     let _total = endpoint.total();
@@ -116,7 +115,7 @@ pub fn client_speak(alloc: Global, client: &mut Client, before: Sends) -> Result
     ensures sends { IfOk result (λ sends. sends ≡ before ++ (client_speaks client.old).0) }
     ensures after { OnOk result (client.new ≡ (client_speaks client.old).1) }
     ensures short { IfOk result AreShort }
-    ensures few { IfOk result (λ sends. length sends ≤ length before + 2 ^ 30 + 3) }
+    ensures few { IfOk result (λ sends. length sends ≤ length before + MAX_STREAM_BYTES + 3) }
 {
     let mut sends = before;
     let _written = client.written();

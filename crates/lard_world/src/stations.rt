@@ -2,6 +2,7 @@
 
 ghost use Rattle.std.specs.Prelude.{◌≡◌, ◌+◌, ◌^◌, ◌≤◌, [], ◌∷◌, ◌<◌, false, None, Some, IfOk, IfNone, IfSome, IsSome, OnOk, OnErr};
 ghost use Rattle.std.specs.FinMap as table;
+ghost use Rattle.lard_base.specs.declared.limits.TheConstants.{MAX_SEGMENT_DATA, MAX_STREAM_BYTES};
 ghost use Rattle.lard_client.specs.Control.{is_armed, written_len};
 ghost use Rattle.lard_history.specs.Journal.{request};
 ghost use Rattle.lard_machine.specs.Client.{speaking};
@@ -99,7 +100,7 @@ pub fn open(
     mss: u16,
 ) -> Result<(), StepFault>
     requires room { HasRoom machine.old }
-    requires range { (1 ≤ wnd) × (1 ≤ mss) × (mss ≤ 1460) }
+    requires range { (1 ≤ wnd) × (1 ≤ mss) × (mss ≤ MAX_SEGMENT_DATA) }
     ensures { Steps (opened machine.old c isn iss wnd mss (table.get machine.old.clients c)) machine.old machine.new result }
 {
     if machine.clients.get(c.number()).is_some() {
@@ -153,7 +154,7 @@ fn begin(
 /// The client writes a plain request for a path.
 pub fn get(machine: &mut Machine, alloc: Global, c: ConnId, path: Path) -> Result<(), StepFault>
     requires room { HasRoom machine.old }
-    requires stream { machine.old.config.stream ≤ 2 ^ 30 }
+    requires stream { machine.old.config.stream ≤ MAX_STREAM_BYTES }
     ensures { Steps (wrote machine.old (Event.Get c path) c (request path) (table.get machine.old.clients c)) machine.old machine.new result }
 {
     let bytes = request(alloc, &path)?;
@@ -173,7 +174,7 @@ fn request(alloc: Global, path: &Path) -> Result<Bytes, NoMemory>
 /// The client writes these bytes.
 pub fn put(machine: &mut Machine, alloc: Global, c: ConnId, bytes: Bytes) -> Result<(), StepFault>
     requires room { HasRoom machine.old }
-    requires stream { machine.old.config.stream ≤ 2 ^ 30 }
+    requires stream { machine.old.config.stream ≤ MAX_STREAM_BYTES }
     ensures { Steps (wrote machine.old (Event.Write c bytes) c bytes (table.get machine.old.clients c)) machine.old machine.new result }
 {
     let copy = bytes.copy(alloc)?;
@@ -190,7 +191,7 @@ fn write(
     bytes: Bytes,
 ) -> Result<(), StepFault>
     requires room { HasRoom machine.old }
-    requires stream { machine.old.config.stream ≤ 2 ^ 30 }
+    requires stream { machine.old.config.stream ≤ MAX_STREAM_BYTES }
     ensures { Steps (wrote machine.old event c bytes (table.get machine.old.clients c)) machine.old machine.new result }
 {
     let Some(station) = machine.clients.get(c.number()) else {

@@ -1,23 +1,15 @@
 //! One step: no limit was reached, and the event has its rule.
 
 ghost use Rattle.std.specs.Prelude.{◌≡◌, ◌^◌, ◌≤◌, None, IfNone, length};
+ghost use Rattle.lard_base.specs.declared.limits.TheConstants.{MAX_STREAM_BYTES};
 ghost use Rattle.lard_machine.specs.Bounds.{HasRule, IsBounded};
 ghost use Rattle.lard_machine.specs.Machine.{Steps, happens, limit_reached, machine_step};
 ghost use Rattle.lard_world.specs.Turns.{HasCounts, HasRoom};
 
 use crate::{packets, stations};
 use lard_base::Event;
-use lard_machine::{Machine, StepFault, What};
+use lard_machine::{Machine, StepFault, What, first_limit};
 use std::alloc::Global;
-
-/// The most packets, bytes of packets, records, and bytes of responses of a run.
-const PACKETS: u32 = 1_000_000;
-
-const PACKET_BYTES: u64 = 1 << 29;
-
-const RECORDS: u64 = 4_000_000;
-
-const ANSWERS: u64 = 1 << 29;
 
 /// Does the step of an event. After a fault but want of memory everything is as it was; after want of memory the journal
 /// is.
@@ -25,7 +17,7 @@ const ANSWERS: u64 = 1 << 29;
 pub fn step(machine: &mut Machine, alloc: Global, event: Event) -> Result<(), StepFault>
     requires ruled { HasRule event }
     requires bounded { IsBounded machine.old }
-    requires stream { machine.old.config.stream ≤ 2 ^ 30 }
+    requires stream { machine.old.config.stream ≤ MAX_STREAM_BYTES }
     ensures { Steps (machine_step machine.old event) machine.old machine.new result }
 {
     if let Some(what) = limit_reached(machine) {
@@ -38,19 +30,12 @@ pub fn step(machine: &mut Machine, alloc: Global, event: Event) -> Result<(), St
 fn limit_reached(machine: &Machine) -> Option<What>
     ensures { result ≡ limit_reached machine.now }
 {
-    if machine.net.sent() >= PACKETS {
-        return Some(What::Packets);
-    }
-    if machine.net.bytes() >= PACKET_BYTES {
-        return Some(What::PacketBytes);
-    }
-    if machine.journal.len() >= RECORDS {
-        return Some(What::Records);
-    }
-    if machine.answered >= ANSWERS {
-        return Some(What::Answers);
-    }
-    None
+    first_limit(
+        machine.net.sent(),
+        machine.net.bytes(),
+        machine.journal.len(),
+        machine.answered,
+    )
 }
 
 /// Follows the rule of the event.
@@ -58,7 +43,7 @@ fn happen(machine: &mut Machine, alloc: Global, event: Event) -> Result<(), Step
     requires ruled { HasRule event }
     requires room { HasRoom machine.old }
     requires counts { HasCounts machine.old }
-    requires stream { machine.old.config.stream ≤ 2 ^ 30 }
+    requires stream { machine.old.config.stream ≤ MAX_STREAM_BYTES }
     ensures { Steps (happens machine.old event) machine.old machine.new result }
 {
     match event {
