@@ -31,12 +31,12 @@ use Rattle.lard_laws_bytes.proofs.Moves.{Moves, moved}
 use Rattle.lard_laws_bytes.proofs.Prefix.{said-front}
 use Rattle.lard_laws_bytes.proofs.Notes.{Adds, adds-both, adds-none, client-notes, client-others, front-notes, front-others, or-false}
 use Rattle.lard_laws_bytes.proofs.Segments.{Moment, replies-fair, replies-may, replies-moment, replies-others, words-fair, words-may, words-others}
-use Rattle.lard_laws_bytes.proofs.Steps.{IsQuiet, notes-tale, own-tale, step-may, step-others, step-tale, step_records, timers-may, timers-quiet}
+use Rattle.lard_laws_bytes.proofs.Steps.{AreAboutNobody, notes-tale, own-tale, step-may, step-others, step-tale, step_records, timers-may, timers-about-nobody}
 use Rattle.lard_laws_bytes.proofs.Turns.{client-agrees, client-may, front-agrees, front-may, front-moment}
 
 -- records that say nothing of bytes, and an event that is about no other connection
 pub record IsAside (files : FilesAt) (e : Event) (c : ℕ) (own : List Rec) : Type 0 where
-  pub quiet : IsQuiet own
+  pub quiet : AreAboutNobody own
   pub may : (past : List Rec) → EachMay (MayTell files) past own
   pub others : (q : ℕ) → q ≢ c → event_shuts q e ≡ false
   pub plain : ArePlain own
@@ -92,7 +92,7 @@ module _ (files : FilesAt) (m : Machine) (T : IsTruthful files m) (e : Event) (o
         let t1 : Tale = tale_step c t (rec.Event (m.events + 1) e) in
         let t2 : Tale = told_on c t1 notes in
         let is : tale (m.journal ++ rs) c ≡ t2 =
-        tale-append m.journal rs c ∙ step-tale (m.events + 1) e own notes sents timers c t aside.quiet (timers-quiet (place.Client c) c (is_armed x.client) (is_armed given.0))
+        tale-append m.journal rs c ∙ step-tale (m.events + 1) e own notes sents timers c t aside.quiet (timers-about-nobody (place.Client c) c (is_armed x.client) (is_armed given.0))
         ∙ others c t2 sents (words-others c (length m.net + 1) c given.1.segments) in
         subst (λ (u : Tale). Adds t (written_in given.1.notes) (accepted_in given.1.notes) 0 0 false u) (sym is)
         (adds-both t t1 t2 [] [] (written_in given.1.notes) (accepted_in given.1.notes) 0 0 0 0 0 0 false false refl refl (aside-adds (m.events + 1) c e t) (client-notes c t1 notes k.notes))
@@ -123,7 +123,7 @@ module _ (files : FilesAt) (m : Machine) (T : IsTruthful files m) (e : Event) (o
         adds.was_reset ∙ sym (or-false (tale m.journal c).was_reset) ∙ reset_is,
       );
       others = λ q n. step-others (m.events + 1) e own notes sents timers q (aside.others q n) (aside.quiet q) (client-others c q notes n k.notes)
-          (words-others q (length m.net + 1) c given.1.segments) (timers-quiet (place.Client c) c (is_armed x.client) (is_armed given.0) q);
+          (words-others q (length m.net + 1) c given.1.segments) (timers-about-nobody (place.Client c) c (is_armed x.client) (is_armed given.0) q);
       may = step-may (m.events + 1) e own notes sents timers (MayTell files) m.journal (tt, aside.may (m.journal ++ rec.Event (m.events + 1) e ∷ []))
           (client-may files c (m.journal ++ (rec.Event (m.events + 1) e ∷ own)) notes k.notes)
           (words-may files (m.journal ++ (rec.Event (m.events + 1) e ∷ own ++ notes)) (length m.net + 1) c given.1.segments)
@@ -181,7 +181,7 @@ module _ (files : FilesAt) (m : Machine) (T : IsTruthful files m) (e : Event) (o
 
     end_is : tale (m.journal ++ all_rs) c ≡ told_on c told replies
     end_is = tale-append m.journal all_rs c ∙ step-tale (m.events + 1) e own given.1.notes replies changes c (tale m.journal c) aside.quiet
-        (timers-quiet place.Front c (front_armed (table.get m.conns c)) (front_armed given.0))
+        (timers-about-nobody place.Front c (front_armed (table.get m.conns c)) (front_armed given.0))
 
     end_moment : Moment (T.talks c).w k.out_after k.vs_after reset (tale (m.journal ++ all_rs) c)
     end_moment = subst (Moment (T.talks c).w k.out_after k.vs_after reset) (sym end_is)
@@ -211,7 +211,7 @@ module _ (files : FilesAt) (m : Machine) (T : IsTruthful files m) (e : Event) (o
         end_moment.was_reset,
       );
       others = λ q n. step-others (m.events + 1) e own given.1.notes replies changes q (aside.others q n) (aside.quiet q) (front-others c q given.1.notes n k.noted.front)
-          (replies-others q (length m.net + 1) c (T.talks c).w k.out_after reset given.1.segments n k.sent) (timers-quiet place.Front c (front_armed (table.get m.conns c)) (front_armed given.0) q);
+          (replies-others q (length m.net + 1) c (T.talks c).w k.out_after reset given.1.segments n k.sent) (timers-about-nobody place.Front c (front_armed (table.get m.conns c)) (front_armed given.0) q);
       may = step-may (m.events + 1) e own given.1.notes replies changes (MayTell files) m.journal (tt, aside.may (m.journal ++ rec.Event (m.events + 1) e ∷ []))
           (front-may files c (T.talks c).out (m.journal ++ (rec.Event (m.events + 1) e ∷ own)) given.1.notes k.noted.front k.noted.unless_ended
           (λ f. agreed.tale.fin (sym (ap (λ (u : Tale). u.fin_sent) (own-tale (m.events + 1) e own given.1.notes replies changes c m.journal aside.quiet)) ∙ f)))

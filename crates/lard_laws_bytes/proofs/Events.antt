@@ -49,7 +49,7 @@ use Rattle.lard_laws_bytes.proofs.Content.{ArePlain, IsOfContent, accept-content
 use Rattle.lard_laws_bytes.proofs.Moves.{Moves, moved}
 use Rattle.lard_laws_bytes.proofs.Notes.{other-number, same-number}
 use Rattle.lard_laws_bytes.proofs.Segments.{words-fair, words-may, words-others}
-use Rattle.lard_laws_bytes.proofs.Steps.{IsQuiet, step-may, step-others, step-tale, step_records, timers-may, timers-quiet}
+use Rattle.lard_laws_bytes.proofs.Steps.{AreAboutNobody, step-may, step-others, step-tale, step_records, timers-may, timers-about-nobody}
 
 -- a connection that the front end has is not forgotten
 settled-some : (env : FrontEnv) (b : ControlBlock) (count answered : ℕ) (notes : List Rec) (over : Option ℕ)
@@ -75,7 +75,7 @@ timer-some env (Some (Closed last)) e = absurd cc
 
 module _ (files : FilesAt) (m : Machine) (T : IsTruthful files m) where
   -- a step in which no place acted, and at most a packet was lost
-  pub passed-on : (ps : List Packet) (e : Event) (own : List Rec) → AreFair T.talks (λ c. table.get m.clients c) ps → ((q : ℕ) → event_shuts q e ≡ false) → IsQuiet own
+  pub passed-on : (ps : List Packet) (e : Event) (own : List Rec) → AreFair T.talks (λ c. table.get m.clients c) ps → ((q : ℕ) → event_shuts q e ≡ false) → AreAboutNobody own
       → EachMay (MayTell files) (m.journal ++ rec.Event (m.events + 1) e ∷ []) own → ArePlain own → IsTruthful files (passed (record m { net = ps }) e own)
   passed-on ps e own fair shuts quiet may plain = record {
     talks = T.talks;
@@ -133,7 +133,7 @@ module _ (files : FilesAt) (m : Machine) (T : IsTruthful files m) (c isn iss wnd
   told_is =
       tale-append m.journal rs c
       ∙ ap (λ (t : Tale). told_on c t rs) unknown.1
-      ∙ step-tale (m.events + 1) e [] notes sents timers c untold (λ q. tt) (timers-quiet (place.Client c) c false (is_armed given.0))
+      ∙ step-tale (m.events + 1) e [] notes sents timers c untold (λ q. tt) (timers-about-nobody (place.Client c) c false (is_armed given.0))
       ∙ others c (told_on c (tale_step c untold (rec.Event (m.events + 1) e)) notes) sents (words-others c (length m.net + 1) c given.1.segments)
       ∙ ap (λ (ns : List Rec). told_on c (tale_step c untold (rec.Event (m.events + 1) e)) (rec.Opened c isn iss wnd mss ∷ ns)) it.notes
 
@@ -171,7 +171,7 @@ module _ (files : FilesAt) (m : Machine) (T : IsTruthful files m) (c isn iss wnd
     agrees = agrees;
     others = λ q n. step-others (m.events + 1) e [] notes sents timers q refl tt
         (other-number c c q refl n, subst (λ (ns : List Rec). Each (λ r. about q r ≡ false) ns) (sym it.notes) tt)
-        (words-others q (length m.net + 1) c given.1.segments) (timers-quiet (place.Client c) c false (is_armed given.0) q);
+        (words-others q (length m.net + 1) c given.1.segments) (timers-about-nobody (place.Client c) c false (is_armed given.0) q);
     may = step-may (m.events + 1) e [] notes sents timers (MayTell files) m.journal (tt, tt)
         (tt, subst (λ (ns : List Rec). EachMay (MayTell files) (m.journal ++ (rec.Event (m.events + 1) e ∷ []) ++ rec.Opened c isn iss wnd mss ∷ []) ns) (sym it.notes) tt)
         (words-may files (m.journal ++ (rec.Event (m.events + 1) e ∷ [] ++ notes)) (length m.net + 1) c given.1.segments)

@@ -16,14 +16,14 @@ abbrev pub step_records : ℕ → Event → List Rec → List Rec → List Rec �
 step_records i e own notes sents timers = rec.Event i e ∷ own ++ notes ++ sents ++ timers
 
 -- records about no connection
-abbrev pub IsQuiet : List Rec → Type 0
-IsQuiet rs = (q : ℕ) → Each (λ r. about q r ≡ false) rs
+abbrev pub AreAboutNobody : List Rec → Type 0
+AreAboutNobody rs = (q : ℕ) → Each (λ r. about q r ≡ false) rs
 
-pub timers-quiet : (p : Place) (c : ℕ) (a b : Bool) → IsQuiet (timer_change p c a b)
-timers-quiet p c false false q = tt
-timers-quiet p c false true q = (refl, tt)
-timers-quiet p c true false q = (refl, tt)
-timers-quiet p c true true q = tt
+pub timers-about-nobody : (p : Place) (c : ℕ) (a b : Bool) → AreAboutNobody (timer_change p c a b)
+timers-about-nobody p c false false q = tt
+timers-about-nobody p c false true q = (refl, tt)
+timers-about-nobody p c true false q = (refl, tt)
+timers-about-nobody p c true true q = tt
 
 pub timers-may : (files : FilesAt) (past : List Rec) (p : Place) (c : ℕ) (a b : Bool) → EachMay (MayTell files) past (timer_change p c a b)
 timers-may files past p c false false = tt
@@ -41,7 +41,7 @@ module _ (i : ℕ) (e : Event) (own notes sents timers : List Rec) where
       (Each-append P (rec.Event i e ∷ own ++ notes) sents (Each-append P (rec.Event i e ∷ own) notes (shuts, o) n) s) t
 
   -- what they tell of a connection is told by the event, the notes and the segments
-  pub step-tale : (c : ℕ) (t : Tale) → IsQuiet own → IsQuiet timers
+  pub step-tale : (c : ℕ) (t : Tale) → AreAboutNobody own → AreAboutNobody timers
       → told_on c t (step_records i e own notes sents timers) ≡ told_on c (told_on c (tale_step c t (rec.Event i e)) notes) sents
   step-tale c t o q =
       told_on-append c t (rec.Event i e ∷ own ++ notes ++ sents) timers
@@ -50,14 +50,14 @@ module _ (i : ℕ) (e : Event) (own notes sents timers : List Rec) where
       ∙ ap (λ u. told_on c u sents) (told_on-append c t (rec.Event i e ∷ own) notes ∙ ap (λ u. told_on c u notes) (others c (tale_step c t (rec.Event i e)) own (o c)))
 
   -- before the segments
-  pub notes-tale : (c : ℕ) (J : List Rec) → IsQuiet own
+  pub notes-tale : (c : ℕ) (J : List Rec) → AreAboutNobody own
       → tale (J ++ (rec.Event i e ∷ own ++ notes)) c ≡ told_on c (tale_step c (tale J c) (rec.Event i e)) notes
   notes-tale c J o =
       tale-append J (rec.Event i e ∷ own ++ notes) c ∙ told_on-append c (tale J c) (rec.Event i e ∷ own) notes
       ∙ ap (λ u. told_on c u notes) (others c (tale_step c (tale J c) (rec.Event i e)) own (o c))
 
   -- before the notes
-  pub own-tale : (c : ℕ) (J : List Rec) → IsQuiet own → tale (J ++ (rec.Event i e ∷ own)) c ≡ tale_step c (tale J c) (rec.Event i e)
+  pub own-tale : (c : ℕ) (J : List Rec) → AreAboutNobody own → tale (J ++ (rec.Event i e ∷ own)) c ≡ tale_step c (tale J c) (rec.Event i e)
   own-tale c J o = tale-append J (rec.Event i e ∷ own) c ∙ others c (tale_step c (tale J c) (rec.Event i e)) own (o c)
 
   -- each may stand where it does

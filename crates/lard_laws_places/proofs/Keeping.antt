@@ -20,7 +20,7 @@ use Rattle.lard_laws_places.proofs.ClientRules.{ClientSays, aborts-says, gets-sa
 use Rattle.lard_machine.proofs.Forms.{Forms, step_has}
 use Rattle.lard_laws_places.proofs.FrontRules as front
 use Rattle.lard_laws_places.proofs.Kept.{Begins, before, begun, client-holds, front-holds, more_events}
-use Rattle.lard_laws_places.proofs.Linked.{Linked, delivers, loses, quiet, quiets}
+use Rattle.lard_laws_places.proofs.Linked.{Linked, delivers, loses, quiet, uncounted-all}
 use Rattle.lard_laws_places.proofs.Steps.{Holds}
 use Rattle.lard_laws_places.proofs.Telling.{IsLawful, ShutsOnly, Tells, told-lawful}
 use Rattle.lard_machine.specs.declared.machine.Machine.{Machine}
@@ -77,7 +77,7 @@ module _ (m : Machine) (h : Holds m) where
       let mine : nat_eq c c ≡ true = grind (arith, nat_tests) in
       let new : IsUnopened (client_tale t) = subst (λ o. ClientStands c o (client_tale t)) none (h.stands c).client in
       client-holds m h e own c iss false (client_opens c isn wnd mss)
-      (record { tells = (tt, (refl, tt)); front = refl; linked = quiets m.journal (rec.Event (m.events + 1) e ∷ own) m.net m.answered (tt, (tt, tt)) h.linked })
+      (record { tells = (tt, (refl, tt)); front = refl; linked = uncounted-all m.journal (rec.Event (m.events + 1) e ∷ own) m.net m.answered (tt, (tt, tt)) h.linked })
       (opens-says m.config.stream c iss _ isn wnd mss (ap (λ b. cond b (Some (record { isn = isn; iss = iss })) t.numbers) mine) (or_false t.has_closed new.writes))
 
   module _ (c : ℕ) (x : Station) (is : table.get m.clients c ≡ Some x) where

@@ -17,7 +17,7 @@ use Rattle.lard_journal.specs.declared.rec.Rec.TheVariants as rec
 use Rattle.lard_laws_places.specs.Places.{ClientStands, FrontStands, FrontTale, IsBetween, Stands, TakesOpened, client_tale, front_tale}
 use Rattle.lard_laws_places.proofs.ClientRules.{ClientSays, IsOfClient, clients-front}
 use Rattle.lard_laws_places.proofs.FrontRules.{FrontSays, IsOfFront, SaysNothing, fronts-client}
-use Rattle.lard_laws_places.proofs.Linked.{IsQuiet, Linked, acted-linked}
+use Rattle.lard_laws_places.proofs.Linked.{IsUncounted, Linked, acted-linked}
 use Rattle.lard_laws_places.proofs.Steps.{Holds, IsSameTale, MaySay, all-stand, end-tale, end-tells, sent-between, stands-same, still-between}
 use Rattle.lard_laws_places.proofs.Telling.{IsLawful, Tells, Tells-append, told-lawful}
 use Rattle.lard_machine.specs.declared.machine.Machine.{Machine}
@@ -30,18 +30,18 @@ use Rattle.lard_table.proofs.Map.{get_inserted, get_other}
 
 -- ---- notes
 
-client-quiet : (r : Rec) → IsOfClient r → IsQuiet r
-client-quiet (rec.Wrote c bytes) i = tt
-client-quiet (rec.Accepted c bytes) i = tt
-client-quiet (rec.Eof c) i = tt
-client-quiet (rec.Aborted c) i = tt
-client-quiet _ i = absurd i
+client-uncounted : (r : Rec) → IsOfClient r → IsUncounted r
+client-uncounted (rec.Wrote c bytes) i = tt
+client-uncounted (rec.Accepted c bytes) i = tt
+client-uncounted (rec.Eof c) i = tt
+client-uncounted (rec.Aborted c) i = tt
+client-uncounted _ i = absurd i
 
-front-quiet : (r : Rec) → IsOfFront r → IsQuiet r
-front-quiet (rec.Took p c epoch) i = tt
-front-quiet (rec.Served p c r code size via) i = tt
-front-quiet (rec.Reset p c total) i = tt
-front-quiet _ i = absurd i
+front-uncounted : (r : Rec) → IsOfFront r → IsUncounted r
+front-uncounted (rec.Took p c epoch) i = tt
+front-uncounted (rec.Served p c r code size via) i = tt
+front-uncounted (rec.Reset p c total) i = tt
+front-uncounted _ i = absurd i
 
 client-answers : (r : Rec) → IsOfClient r → (n : ℕ) → answered_step n r ≡ n
 client-answers (rec.Wrote c bytes) i n = refl
@@ -108,7 +108,7 @@ module _ (m : Machine) (h : Holds m) (e : Event) (own : List Rec) (c : ℕ) wher
         stands = all-stand stream c m.clients more m.conns m.conns m.journal rows (λ q n. get_other m.clients c q x n) (λ q n. refl) tells h.stands
             (stands-same stream c (table.get more c) (table.get m.conns c) (told_on c before rows) u same
             (subst (λ (o : Option Station). Stands stream c o (table.get m.conns c) u) (sym (get_inserted m.clients c x)) one));
-        linked = acted-linked (client_put m c x) e own a (Each-weaker IsOfClient IsQuiet client-quiet turn.notes says.notes) sum b.linked;
+        linked = acted-linked (client_put m c x) e own a (Each-weaker IsOfClient IsUncounted client-uncounted turn.notes says.notes) sum b.linked;
         ends = Each-append (IsBetween more) m.net (packets_of (place.Client c) turn.segments)
             (Each-weaker (IsBetween m.clients) (IsBetween more) (still-between m.clients more (opened-grows m.clients c x)) m.net h.ends)
             (sent-between more c (place.Client c) place.Front opened (inl (refl, refl)) turn.segments says.to);
@@ -171,7 +171,7 @@ module _ (m : Machine) (h : Holds m) (e : Event) (own : List Rec) (c : ℕ) wher
         stands = all-stand stream c m.clients m.clients m.conns other m.journal rows (λ q n. refl) (other-conns conn) tells h.stands
             (stands-same stream c (table.get m.clients c) (table.get other c) (told_on c before rows) u same
             (subst (λ (o : Option FrontConn). Stands stream c (table.get m.clients c) o u) (sym (this-conn conn turn.segments says.none)) one));
-        linked = acted-linked (record m { conns = other }) e own a (Each-weaker IsOfFront IsQuiet front-quiet turn.notes says.notes) says.answered b.linked;
+        linked = acted-linked (record m { conns = other }) e own a (Each-weaker IsOfFront IsUncounted front-uncounted turn.notes says.notes) says.answered b.linked;
         ends = Each-append (IsBetween m.clients) m.net (packets_of place.Front turn.segments) h.ends
             (sent-between m.clients c place.Front (place.Client c) opened (inr (refl, refl)) turn.segments says.to);
         events = more_events m.journal _ m.events (rec.Event (m.events + 1) e) h.events;

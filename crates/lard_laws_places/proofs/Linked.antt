@@ -26,11 +26,11 @@ pub record Linked (J : List Rec) (net : List Packet) (answered : ℕ) : Type 0 w
   pub bytes : answered_bytes J ≡ answered
 
 -- records that say nothing of packets
-abbrev pub IsQuiet : Rec → Type 0
-IsQuiet (rec.Sent k from to bytes) = ⊥
-IsQuiet (rec.Got k) = ⊥
-IsQuiet (rec.Lost k) = ⊥
-IsQuiet _ = Unit {0}
+abbrev pub IsUncounted : Rec → Type 0
+IsUncounted (rec.Sent k from to bytes) = ⊥
+IsUncounted (rec.Got k) = ⊥
+IsUncounted (rec.Lost k) = ⊥
+IsUncounted _ = Unit {0}
 
 module _ (J : List Rec) (net : List Packet) (answered : ℕ) (l : Linked J net answered) where
   -- a record that changes nothing of the packets
@@ -48,7 +48,7 @@ module _ (J : List Rec) (net : List Packet) (answered : ℕ) (l : Linked J net a
     bytes = answered_bytes-append J (r ∷ []) ∙ ap (λ n. answered_step n r) l.bytes;
   }
 
-  pub quiet : (r : Rec) → IsQuiet r → Linked (J ++ r ∷ []) net (answered_step answered r)
+  pub quiet : (r : Rec) → IsUncounted r → Linked (J ++ r ∷ []) net (answered_step answered r)
   quiet (rec.Sent k from to bytes) q = absurd q
   quiet (rec.Got k) q = absurd q
   quiet (rec.Lost k) q = absurd q
@@ -102,11 +102,11 @@ module _ (J : List Rec) (net : List Packet) (answered : ℕ) (l : Linked J net a
 
 -- ---- many records
 
-pub quiets : (J rs : List Rec) (net : List Packet) (answered : ℕ) → Each IsQuiet rs → Linked J net answered → Linked (J ++ rs) net (fold answered_step answered rs)
-quiets J [] net answered q l = subst (λ (K : List Rec). Linked K net answered) (sym (append-nil J)) l
-quiets J (r ∷ rs) net answered q l =
+pub uncounted-all : (J rs : List Rec) (net : List Packet) (answered : ℕ) → Each IsUncounted rs → Linked J net answered → Linked (J ++ rs) net (fold answered_step answered rs)
+uncounted-all J [] net answered q l = subst (λ (K : List Rec). Linked K net answered) (sym (append-nil J)) l
+uncounted-all J (r ∷ rs) net answered q l =
     subst (λ (K : List Rec). Linked K net (fold answered_step (answered_step answered r) rs)) (append_assoc J (r ∷ []) rs)
-    (quiets (J ++ r ∷ []) rs net (answered_step answered r) q.1 (quiet J net answered l r q.0))
+    (uncounted-all (J ++ r ∷ []) rs net (answered_step answered r) q.1 (quiet J net answered l r q.0))
 
 pub sents : (J : List Rec) (net : List Packet) (answered : ℕ) (from : Place) (ss : List (Place × List ℕ)) → Linked J net answered
     → Linked (J ++ sent_records (length net + 1) from ss) (net ++ packets_of from ss) answered
@@ -141,11 +141,11 @@ loses J net answered i k p at there l =
 
 -- ---- a step's end
 
-timer-quiet : (p : Place) (c : ℕ) (was is : Bool) → Each IsQuiet (timer_change p c was is)
-timer-quiet p c false false = tt
-timer-quiet p c false true = (tt, tt)
-timer-quiet p c true false = (tt, tt)
-timer-quiet p c true true = tt
+timer-uncounted : (p : Place) (c : ℕ) (was is : Bool) → Each IsUncounted (timer_change p c was is)
+timer-uncounted p c false false = tt
+timer-uncounted p c false true = (tt, tt)
+timer-uncounted p c true false = (tt, tt)
+timer-uncounted p c true true = tt
 
 timer-answers : (p : Place) (c : ℕ) (was is : Bool) (n : ℕ) → fold answered_step n (timer_change p c was is) ≡ n
 timer-answers p c false false n = refl
@@ -159,7 +159,7 @@ parts J A B C D =
     ap (λ xs. (xs ++ C) ++ D) (append_assoc J A B) ∙ ap (λ xs. xs ++ D) (append_assoc J (A ++ B) C) ∙ append_assoc J ((A ++ B) ++ C) D
 
 -- behind the event and its own records, what the place notes and sends, and its timer
-pub acted-linked : (m : Machine) (e : Event) (own : List Rec) (a : Act) → Each IsQuiet a.turn.notes
+pub acted-linked : (m : Machine) (e : Event) (own : List Rec) (a : Act) → Each IsUncounted a.turn.notes
     → ((n : ℕ) → fold answered_step n a.turn.notes ≡ n + a.turn.answered)
     → Linked (m.journal ++ rec.Event (m.events + 1) e ∷ own) m.net m.answered
     → Linked (m.journal ++ records m e own a) (m.net ++ packets_of a.place a.turn.segments) (m.answered + a.turn.answered)
@@ -169,8 +169,8 @@ acted-linked m e own a q sum l =
     let T : List Rec = timer_change a.place a.c a.was_armed a.is_armed in
     let net : List Packet = m.net ++ packets_of a.place a.turn.segments in
     let noted : Linked ((m.journal ++ A) ++ a.turn.notes) m.net (m.answered + a.turn.answered) =
-    subst (λ n. Linked ((m.journal ++ A) ++ a.turn.notes) m.net n) (sum m.answered) (quiets (m.journal ++ A) a.turn.notes m.net m.answered q l) in
+    subst (λ n. Linked ((m.journal ++ A) ++ a.turn.notes) m.net n) (sum m.answered) (uncounted-all (m.journal ++ A) a.turn.notes m.net m.answered q l) in
     let said = sents ((m.journal ++ A) ++ a.turn.notes) m.net (m.answered + a.turn.answered) a.place a.turn.segments noted in
-    let timed = quiets (((m.journal ++ A) ++ a.turn.notes) ++ S) T net (m.answered + a.turn.answered) (timer-quiet a.place a.c a.was_armed a.is_armed) said in
+    let timed = uncounted-all (((m.journal ++ A) ++ a.turn.notes) ++ S) T net (m.answered + a.turn.answered) (timer-uncounted a.place a.c a.was_armed a.is_armed) said in
     subst (λ (J : List Rec). Linked J net (m.answered + a.turn.answered)) (parts m.journal A a.turn.notes S T)
     (subst (λ n. Linked ((((m.journal ++ A) ++ a.turn.notes) ++ S) ++ T) net n) (timer-answers a.place a.c a.was_armed a.is_armed (m.answered + a.turn.answered)) timed)

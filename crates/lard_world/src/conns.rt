@@ -23,7 +23,7 @@ use std::alloc::Global;
 
 /// A packet of client `c` comes to the front end. `iss` is the sequence number with which the cluster begins.
 #[tactic(auto, using(crate::proofs::Lent::conn_back))]
-pub fn get(
+pub fn receive(
     machine: &mut Machine,
     alloc: Global,
     k: u32,
@@ -42,7 +42,7 @@ pub fn get(
         return meet(machine, alloc, k, c, iss, bytes);
     };
     let was_armed = is_armed(&conn);
-    let (conn, turn) = front::get(alloc, &env(machine, c, iss), conn, bytes);
+    let (conn, turn) = front::receive(alloc, &env(machine, c, iss), conn, bytes);
     let now_armed = put_back(machine, c, conn);
     let done = Act {
         place: Place::Front,

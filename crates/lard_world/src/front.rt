@@ -216,7 +216,7 @@ fn begin(alloc: Global, env: &Env<'_>, segment: &Segment<'_>) -> Result<(FrontCo
 }
 
 /// A packet comes on a connection that the front end took. What does not decode is dropped.
-pub fn get(alloc: Global, env: &Env<'_>, conn: FrontConn, bytes: &[u8]) -> Rests
+pub fn receive(alloc: Global, env: &Env<'_>, conn: FrontConn, bytes: &[u8]) -> Rests
     requires short { length bytes.now ≤ MAX_SEGMENT_BYTES }
     requires stream { env.now.stream ≤ MAX_STREAM_BYTES }
     requires counted { IsCountedIn conn }

@@ -79,7 +79,7 @@ fn to_front(
         return pass(machine, alloc, Event::Deliver(k), Rec::Got(k));
     };
     let iss = station.iss;
-    conns::get(machine, alloc, k, c, iss, bytes)
+    conns::receive(machine, alloc, k, c, iss, bytes)
 }
 
 /// A packet comes to client `c`.
@@ -98,7 +98,7 @@ fn to_client(
     let Some(mut acting) = take_out(machine, alloc, c) else {
         return pass(machine, alloc, Event::Deliver(k), Rec::Got(k));
     };
-    let turn = clients::get(alloc, c, &mut acting.station.client, bytes)?;
+    let turn = clients::receive(alloc, c, &mut acting.station.client, bytes)?;
     put_back(
         machine,
         alloc,
