@@ -1,6 +1,7 @@
 -- What either end of a connection asks of a segment that arrives, before it takes anything of it, by the number nxt
 -- that it awaits and the size wnd of its window, RCV.NXT and RCV.WND (RFC 9293, 3.3.1).
 use Rattle.std.specs.Prelude.{◌≡◌, ℕ, ◌+◌, ◌-◌, ◌≤◌, ◌==◌, nat_lt, not, ◌&&◌, ◌||◌, Bool, false, if◌then◌else◌, List, [], length, take, drop, Option, unwrap_or}
+use Rattle.lard_arrival.specs.declared.rules.TheConstants.{DEFAULT_MSS}
 use Rattle.lard_segment.specs.Options.{clamped}
 use Rattle.lard_segment.specs.Segment.{Said}
 use Rattle.lard_seq.specs.Seq.{seq_add, seq_offset}
@@ -35,7 +36,7 @@ bare s = record s { payload = []; flags = record s.flags { fin = false } }
 
 -- The peer's maximum segment size: 536 where its SYN names none (RFC 9293, 3.7.1), and 1 to 1,460.
 abbrev pub peer_mss : Option ℕ → ℕ
-peer_mss named = clamped (unwrap_or named 536)
+peer_mss named = clamped (unwrap_or named DEFAULT_MSS)
 
 -- These bytes stand at this place of all.
 pub record IsPartAt (place : ℕ) (part all : List ℕ) : Type 0 where

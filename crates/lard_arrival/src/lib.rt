@@ -8,4 +8,4 @@ mod rules;
 #[cfg(test)]
 mod tests;
 
-pub use rules::{bare, is_acceptable, is_allowed, peer_mss};
+pub use rules::{DEFAULT_MSS, bare, is_acceptable, is_allowed, peer_mss};

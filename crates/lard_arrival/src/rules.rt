@@ -4,14 +4,12 @@ ghost use Rattle.std.specs.Prelude.{◌≡◌, ◌≤◌};
 ghost use Rattle.lard_arrival.specs.Arrival.{seg_len, last_number, is_acceptable, is_allowed, bare, peer_mss};
 ghost use Rattle.lard_segment.specs.Segment.{said};
 
+use lard_base::limits::MAX_SEGMENT_DATA;
 use lard_segment::{Flags, Segment};
 use lard_seq::Seq;
 
 /// The maximum segment size of a peer whose SYN names none (RFC 9293, 3.7.1).
-const DEFAULT_MSS: u16 = 536;
-
-/// The greatest maximum segment size.
-const MAX_MSS: u16 = 1460;
+pub const DEFAULT_MSS: u16 = 536;
 
 /// Whether a segment is acceptable, by the four cases of RFC 9293, 3.10.7.4, table 6.
 pub fn is_acceptable(segment: &Segment<'_>, nxt: Seq, wnd: u32) -> bool
@@ -55,9 +53,9 @@ pub fn bare<'a>(segment: &Segment<'a>) -> Segment<'a>
 pub fn peer_mss(named: Option<u16>) -> u16
     ensures value { result ≡ peer_mss named }
     ensures some { 1 ≤ result }
-    ensures small { result ≤ 1460 }
+    ensures small { result ≤ MAX_SEGMENT_DATA }
 {
-    named.unwrap_or(DEFAULT_MSS).clamp(1, MAX_MSS)
+    named.unwrap_or(DEFAULT_MSS).clamp(1, MAX_SEGMENT_DATA)
 }
 
 /// How many numbers a segment takes: its data, its SYN and its FIN (RFC 9293, 3.4).

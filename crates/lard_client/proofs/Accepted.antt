@@ -8,21 +8,21 @@ use Rattle.lard_client.specs.declared.phase.Phase.TheVariants.{Open, Aborted, Re
 use Rattle.lard_client.specs.Leaving.{refusal}
 use Rattle.lard_client.specs.Control.{ClientBlock, is_open, is_open_in, is_aborted, is_aborted_in, is_established, rcv_nxt}
 use Rattle.lard_client.specs.Arriving.{nothing, known, room, fresh_len, ends, part_of, on_segment, reset_by_peer, answers_syn, established, on_greeting, heard_open, heard_in, arrived}
-use Rattle.lard_client.specs.Laws.{IsInOrder}
-use Rattle.lard_client.proofs.Outcomes.{Outcome, segment-outcome}
+use Rattle.lard_client.specs.Laws.{IsAwaitedPart, IsInOrder}
+use Rattle.lard_client.proofs.Counting.{arrived-awaited}
+use Rattle.lard_client.proofs.Outcomes.{Outcome, greeting-quiet, segment-outcome}
 use Rattle.lard_segment.specs.declared.segment.Ready.{Ready}
 use Rattle.lard_segment.specs.Segment.{Said}
-use Rattle.lard_send.specs.Send.{one_if}
-use Rattle.lard_seq.specs.Seq.{seq_add}
+use Rattle.lard_seq.specs.Seq.{one_if, seq_add}
 use Rattle.lard_seq.proofs.Laws.{add-offset}
 
 -- nothing is in order
 none-order : (x y : ClientBlock) (s : Said) (o : Option Ready) → y.accepted ≡ x.accepted → (is_established x ≡ true → rcv_nxt y ≡ rcv_nxt x)
-    → IsInOrder x s (record { from = 0; len = 0; eof = false; reply = o }) y
-none-order x y s o a n = record {
+    → IsAwaitedPart x s (record { from = 0; len = 0; eof = false; reply = o }) → IsInOrder x s (record { from = 0; len = 0; eof = false; reply = o }) y
+none-order x y s o a n f = record {
   within = omega arith;
   place = λ h. absurd (omega arith);
-  fresh = λ h. absurd (omega arith);
+  fresh = f;
   fits = omega arith;
   ended = λ e. cc;
   last = λ e. cc;
@@ -36,14 +36,6 @@ none-order x y s o a n = record {
 moved : (i j a b n d e f : ℕ) → j ≡ i → b ≡ a + n → d ≡ f → e ≡ 0 → seq_add j (1 + b + d) ≡ seq_add (seq_add i (1 + a + e)) (n + f)
 moved i j a b n d e f p q r t = omega arith
 
--- the part has all that there is room for
-part-fresh : (x : ClientBlock) (s : Said)
-    → take (fresh_len x s) (drop (min (known x s) (length s.payload)) s.payload) ≡ take (room x) (drop (known x s) s.payload)
-part-fresh x s =
-    let rest = drop (known x s) s.payload in
-    let size : fresh_len x s ≡ min (room x) (length rest) = omega (arith, length-drop (known x s) s.payload) in
-    ap (λ (l : List ℕ). take (fresh_len x s) l) (drop_min (known x s) s.payload) ∙ ap (λ n. take n rest) size ∙ take_min (room x) rest
-
 -- the FIN is taken where its bytes are
 reaches : (x : ClientBlock) (s : Said) → ends x s ≡ true → known x s + fresh_len x s ≡ length s.payload
 reaches x s t = eqb-true _ _ (and_parts s.flags.fin (known x s + fresh_len x s == length s.payload) t).1
@@ -55,13 +47,13 @@ all_known x s false e h = omega arith
 
 -- a part is in order
 part-order : (x y : ClientBlock) (s : Said) → s.seq < 2 ^ 32 → x.eof ≡ false → y.accepted ≡ x.accepted + fresh_len x s → y.eof ≡ ends x s
-    → y.send.irs ≡ x.send.irs → (ends x s ≡ true → y.send.finished ≡ true) → IsInOrder x s (part_of x s) y
-part-order x y s q f a e i shut =
+    → y.send.irs ≡ x.send.irs → (ends x s ≡ true → y.send.finished ≡ true) → IsAwaitedPart x s (part_of x s) → IsInOrder x s (part_of x s) y
+part-order x y s q f a e i shut w =
     let numbered : rcv_nxt x < 2 ^ 32 = omega arith in
     record {
       within = omega arith;
       place = λ h. ap (seq_add s.seq) (all_known x s (ends x s) refl h) ∙ add-offset (rcv_nxt x) s.seq numbered q;
-      fresh = λ h. part-fresh x s;
+      fresh = w;
       fits = omega arith;
       ended = λ t. (and_parts s.flags.fin (known x s + fresh_len x s == length s.payload) t).0;
       last = λ t. let all = reaches x s t in omega arith;
@@ -74,41 +66,38 @@ part-order x y s q f a e i shut =
 same-next : (x y : ClientBlock) → y.accepted ≡ x.accepted → y.eof ≡ x.eof → y.send.irs ≡ x.send.irs → rcv_nxt y ≡ rcv_nxt x
 same-next x y a e i = ap (λ n. seq_add n (1 + y.accepted + one_if y.eof)) i ∙ ap (λ n. seq_add x.send.irs (1 + n + one_if y.eof)) a ∙ ap (λ b. seq_add x.send.irs (1 + x.accepted + one_if b)) e
 
-outcome-order : (x : ClientBlock) (s : Said) (r : Heard × ClientBlock) → s.seq < 2 ^ 32 → Outcome x s r → IsInOrder x s r.0 r.1
-outcome-order x s r q =
+outcome-order : (x : ClientBlock) (s : Said) (r : Heard × ClientBlock) → s.seq < 2 ^ 32 → IsAwaitedPart x s r.0 → Outcome x s r → IsInOrder x s r.0 r.1
+outcome-order x s r q w =
     let P : Heard → Type 0 = λ h. IsInOrder x s h r.1 in
-    ⊎_elim (λ u. subst P (sym u.0) (none-order x r.1 s None u.1 (λ e. same-next x r.1 u.1 u.2 u.3)))
-    (λ t. subst P (sym t.1) (part-order x r.1 s q t.0 t.2 t.3 t.4 t.5))
+    let Q : Heard → Type 0 = λ h. IsAwaitedPart x s h in
+    ⊎_elim (λ u. subst P (sym u.0) (none-order x r.1 s None u.1 (λ e. same-next x r.1 u.1 u.2 u.3) (subst Q u.0 w)))
+    (λ t. subst P (sym t.1) (part-order x r.1 s q t.0 t.2 t.3 t.4 t.5 (subst Q t.1 w)))
 
--- while its SYN is not acknowledged it accepts nothing
-greeting-quiet : (x : ClientBlock) (s : Said) (P : Heard × ClientBlock → Type 0) → ((y : ClientBlock) → y.accepted ≡ x.accepted → P (nothing, y)) → P (on_greeting x s)
-greeting-quiet x s P f =
-    let synced = cond s.flags.syn (nothing, established x s) (nothing, x) in
-    cond_both (not (answers_syn x s)) (nothing, x) (cond s.flags.rst (nothing, reset_by_peer x) synced) P (λ t. f x refl)
-    (λ t. cond_both s.flags.rst (nothing, reset_by_peer x) synced P (λ u. f (reset_by_peer x) refl)
-    (λ u. cond_both s.flags.syn (nothing, established x s) (nothing, x) P (λ v. f (established x s) refl) (λ v. f x refl)))
+-- in order, if it is the awaited part
+abbrev InOrder : ClientBlock → Said → Heard × ClientBlock → Type 0
+InOrder x s r = IsAwaitedPart x s r.0 → IsInOrder x s r.0 r.1
 
-open-order : (x : ClientBlock) (s : Said) → s.seq < 2 ^ 32 → IsInOrder x s (heard_open x s).0 (heard_open x s).1
+open-order : (x : ClientBlock) (s : Said) → s.seq < 2 ^ 32 → InOrder x s (heard_open x s)
 open-order x s q =
-    cond_both (x.send.una == 0) (on_greeting x s) (on_segment x s) (λ r. IsInOrder x s r.0 r.1)
-    (λ t. greeting-quiet x s (λ r. IsInOrder x s r.0 r.1)
-    (λ y a. none-order x y s None a (λ e. let no : not true ≡ true = subst (λ b. not b ≡ true) t e in absurd (cc))))
-    (λ f. outcome-order x s (on_segment x s) q (segment-outcome x s))
+    cond_both (x.send.una == 0) (on_greeting x s) (on_segment x s) (InOrder x s)
+    (λ t. greeting-quiet x s (InOrder x s)
+    (λ y a f n. none-order x y s None a (λ e. let no : not true ≡ true = subst (λ b. not b ≡ true) t e in absurd (cc))))
+    (λ f w. outcome-order x s (on_segment x s) q w (segment-outcome x s))
 
-phase-order : (p : Phase) (x : ClientBlock) (s : Said) → s.seq < 2 ^ 32 → IsInOrder x s (heard_in p x s).0 (heard_in p x s).1
+phase-order : (p : Phase) (x : ClientBlock) (s : Said) → s.seq < 2 ^ 32 → InOrder x s (heard_in p x s)
 phase-order Open x s q = open-order x s q
 phase-order Aborted x s q = none-order x x s _ refl (λ e. refl)
 phase-order Reset x s q = none-order x x s None refl (λ e. refl)
 
 pub arrived-order : (x : ClientBlock) (s : Said) → s.seq < 2 ^ 32 → IsInOrder x s (arrived x s).0 (arrived x s).1
 unfolding arrived
-arrived-order x s q = phase-order x.phase x s q
+arrived-order x s q = phase-order x.phase x s q (arrived-awaited x s)
 
 -- ---- bounds
 open-bounded : (x : ClientBlock) (s : Said) → x.accepted ≤ 2 ^ 30 → (heard_open x s).1.accepted ≤ 2 ^ 30
 open-bounded x s b =
     cond_both (x.send.una == 0) (on_greeting x s) (on_segment x s) (λ r. r.1.accepted ≤ 2 ^ 30)
-    (λ t. greeting-quiet x s (λ r. r.1.accepted ≤ 2 ^ 30) (λ y a. omega arith))
+    (λ t. greeting-quiet x s (λ r. r.1.accepted ≤ 2 ^ 30) (λ y a f n. omega arith))
     (λ f. ⊎_elim (λ u. let a = u.1 in omega arith) (λ t. let a = t.2 in omega arith) (segment-outcome x s))
 
 phase-bounded : (p : Phase) (x : ClientBlock) (s : Said) → x.accepted ≤ 2 ^ 30 → (heard_in p x s).1.accepted ≤ 2 ^ 30
@@ -136,7 +125,7 @@ open-part : (x : ClientBlock) (s : Said) → ((heard_open x s).0.from + (heard_o
 open-part x s =
     let P : Heard × ClientBlock → Type 0 = λ r. (r.0.from + r.0.len ≤ length s.payload) × (r.0.reply ≡ None) in
     cond_both (x.send.una == 0) (on_greeting x s) (on_segment x s) P
-    (λ t. greeting-quiet x s P (λ y a. (omega arith, refl)))
+    (λ t. greeting-quiet x s P (λ y a f n. (omega arith, refl)))
     (λ f.
     let Q : Heard → Type 0 = λ h. (h.from + h.len ≤ length s.payload) × (h.reply ≡ None) in
     ⊎_elim (λ u. subst Q (sym u.0) (omega arith, refl)) (λ t. subst Q (sym t.1) (omega arith, refl)) (segment-outcome x s))

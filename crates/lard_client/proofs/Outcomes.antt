@@ -1,44 +1,36 @@
 -- What a segment may make of an open client: nothing that counts, or a part of it is accepted.
-use Rattle.std.proofs.Common.{◌≡◌, ◌-◌, ◌+◌, ℕ, Bool, true, false, cond, nat_lt, ◌==◌, not, ◌&&◌, ◌||◌, ◌⊎◌, length, refl, ap, ◌∙◌, inl, inr, ⊎_elim}
+use Rattle.std.proofs.Common.{◌≡◌, ◌≤◌, ◌-◌, ◌+◌, ℕ, Bool, true, false, cond, nat_lt, ◌==◌, not, ◌&&◌, ◌||◌, ◌⊎◌, length, arith, refl, ap, subst, ◌∙◌, inl, inr, ⊎_elim}
+use Rattle.std.specs.Prelude.{if◌then◌else◌}
 use Rattle.std.proofs.lemmas.Bool.{cond_both, or_parts}
 use Rattle.lard_client.specs.declared.heard.Heard.{Heard}
 use Rattle.lard_client.specs.Control.{ClientBlock, rcv_nxt, rcv_wnd}
 use Rattle.lard_arrival.specs.Arrival.{bare, is_acceptable, is_allowed}
-use Rattle.lard_client.specs.Arriving.{nothing, owing, begins_after, fresh_len, ends, accepting, part_of, on_fresh, on_text, on_ack, on_syn, on_rst, on_unacceptable, on_segment, reset_by_peer}
+use Rattle.lard_client.specs.Arriving.{nothing, owing, begins_after, fresh_len, ends, accepting, part_of, on_fresh, on_text, on_ack, on_syn, on_rst, on_unacceptable, on_segment, reset_by_peer, answers_syn, established, on_greeting}
 use Rattle.lard_segment.specs.Segment.{Said}
+use Rattle.lard_send.proofs.Sent.{after_ack-irs}
 use Rattle.lard_send.specs.Send.{Sending, after_ack, moved_up, windowed, is_newer, closed}
 use Rattle.lard_seq.specs.Seq.{seq_offset}
 
 -- nothing was accepted
 abbrev pub Quiet : ClientBlock → Heard × ClientBlock → Type 0
-Quiet x r = (r.0 ≡ nothing) × (r.1.accepted ≡ x.accepted) × (r.1.eof ≡ x.eof) × (r.1.send.irs ≡ x.send.irs)
+Quiet x r = (r.0 ≡ nothing) × (r.1.accepted ≡ x.accepted) × (r.1.eof ≡ x.eof) × (r.1.send.irs ≡ x.send.irs) × (rcv_wnd r.1 ≡ rcv_wnd x)
 
 -- a part was accepted, before any FIN
 abbrev pub Took : ClientBlock → Said → Heard × ClientBlock → Type 0
 Took x s r =
     (x.eof ≡ false) × (r.0 ≡ part_of x s) × (r.1.accepted ≡ x.accepted + fresh_len x s) × (r.1.eof ≡ ends x s) × (r.1.send.irs ≡ x.send.irs)
-    × (ends x s ≡ true → r.1.send.finished ≡ true)
+    × (ends x s ≡ true → r.1.send.finished ≡ true) × (rcv_wnd x ≤ fresh_len x s + rcv_wnd r.1)
 
 abbrev pub Outcome : ClientBlock → Said → Heard × ClientBlock → Type 0
 Outcome x s r = Quiet x r ⊎ Took x s r
 
 quiet : (x : ClientBlock) (s : Said) → Outcome x s (nothing, x)
-quiet x s = inl (refl, refl, refl, refl)
+quiet x s = inl (refl, refl, refl, refl, refl)
 
 -- ---- the peer's first number stays
 either : (b : Bool) (p q : Sending) (i : ℕ) → p.irs ≡ i → q.irs ≡ i → (cond b p q).irs ≡ i
 either true p q i h k = h
 either false p q i h k = k
-
-pub irs-after_ack : (s : Sending) (ack seq wnd : ℕ) → (after_ack s ack seq wnd).irs ≡ s.irs
-irs-after_ack s ack seq wnd =
-    let offset = seq_offset ack s.iss in
-    let k = (offset - 1) - (s.una - 1) in
-    let moved = moved_up s offset in
-    let same : moved.irs ≡ s.irs = either (nat_lt s.una offset) (record s { una = offset; rest = _ }) s s.irs refl refl in
-    either (nat_lt s.nxt offset) s _ s.irs refl
-    (either ((s.una == 0) && (offset == 0)) s (windowed moved (s.una == 0) seq ack wnd) s.irs refl
-    (either ((s.una == 0) || is_newer moved seq ack) (record moved { wnd = wnd; wl1 = seq; wl2 = ack }) moved s.irs same same))
 
 finished-closed : (b : Bool) (s : Sending) → b ≡ true → (cond b (closed s) s).finished ≡ true
 finished-closed true s e = refl
@@ -47,12 +39,17 @@ finished-closed false s e = cc
 irs-closed : (b : Bool) (s : Sending) → (cond b (closed s) s).irs ≡ s.irs
 irs-closed b s = either b (closed s) s s.irs refl refl
 
+-- what it accepts fills its window, or leaves it as it was
+window-left : (x : ClientBlock) (n : ℕ) (b : Bool) → rcv_wnd x ≤ n + (x.wnd - (x.held + (if b then n else 0)))
+window-left x n true = omega arith
+window-left x n false = omega arith
+
 -- ---- step by step
 fresh-outcome : (x : ClientBlock) (s : Said) → Outcome x s (on_fresh x s)
 fresh-outcome x s =
     cond_both (begins_after x s || x.eof) (nothing, x) (part_of x s, accepting x (fresh_len x s) (ends x s)) (Outcome x s)
     (λ t. quiet x s)
-    (λ f. inr ((or_parts (begins_after x s) x.eof f).1, refl, refl, refl, irs-closed (ends x s) x.send, finished-closed (ends x s) x.send))
+    (λ f. inr ((or_parts (begins_after x s) x.eof f).1, refl, refl, refl, irs-closed (ends x s) x.send, finished-closed (ends x s) x.send, window-left x (fresh_len x s) x.holding))
 
 text-outcome : (x : ClientBlock) (s : Said) → Outcome x s (on_text x s)
 text-outcome x s =
@@ -63,7 +60,7 @@ text-outcome x s =
 renumbered : (x : ClientBlock) (s : Said) (send : Sending) (r : Heard × ClientBlock) → send.irs ≡ x.send.irs
     → Outcome (record x { send = send }) s r → Outcome x s r
 renumbered x s send r e =
-    ⊎_elim (λ q. inl (q.0, q.1, q.2, q.3 ∙ e))
+    ⊎_elim (λ q. inl (q.0, q.1, q.2, q.3 ∙ e, q.4))
     (λ t. inr (
       t.0,
       t.1 ∙ ap (λ i. part_of (record x { send = record x.send { irs = i } }) s) e,
@@ -71,6 +68,7 @@ renumbered x s send r e =
       t.3 ∙ ap (λ i. ends (record x { send = record x.send { irs = i } }) s) e,
       t.4 ∙ e,
       (λ h. t.5 (ap (λ i. ends (record x { send = record x.send { irs = i } }) s) e ∙ h)),
+      subst (λ n. rcv_wnd x ≤ n + rcv_wnd r.1) (ap (λ i. fresh_len (record x { send = record x.send { irs = i } }) s) e) t.6,
     ))
 
 ack-outcome : (x : ClientBlock) (s : Said) → Outcome x s (on_ack x s)
@@ -81,18 +79,18 @@ ack-outcome x s =
     (λ t. quiet x s)
     (λ f. cond_both (nat_lt x.send.nxt (seq_offset s.ack x.send.iss)) (nothing, owing x) known_ack (Outcome x s)
     (λ t. quiet x s)
-    (λ g. renumbered x s send known_ack (irs-after_ack x.send s.ack s.seq s.wnd) (text-outcome (record x { send = send }) s)))
+    (λ g. renumbered x s send known_ack (after_ack-irs x.send s.ack s.seq s.wnd) (text-outcome (record x { send = send }) s)))
 
 -- without data and FIN nothing is accepted
-bare-outcome : (x : ClientBlock) (s : Said) → Quiet x (on_ack x (bare s))
+pub bare-outcome : (x : ClientBlock) (s : Said) → Quiet x (on_ack x (bare s))
 bare-outcome x s =
     let send = after_ack x.send s.ack s.seq s.wnd in
     let known_ack : Heard × ClientBlock = (nothing, record x { send = send }) in
     cond_both (not s.flags.ack) (nothing, x) (cond (nat_lt x.send.nxt (seq_offset s.ack x.send.iss)) (nothing, owing x) known_ack) (Quiet x)
-    (λ t. (refl, refl, refl, refl))
+    (λ t. (refl, refl, refl, refl, refl))
     (λ f. cond_both (nat_lt x.send.nxt (seq_offset s.ack x.send.iss)) (nothing, owing x) known_ack (Quiet x)
-    (λ t. (refl, refl, refl, refl))
-    (λ g. (refl, refl, refl, irs-after_ack x.send s.ack s.seq s.wnd)))
+    (λ t. (refl, refl, refl, refl, refl))
+    (λ g. (refl, refl, refl, after_ack-irs x.send s.ack s.seq s.wnd, refl)))
 
 pub segment-outcome : (x : ClientBlock) (s : Said) → Outcome x s (on_segment x s)
 segment-outcome x s =
@@ -103,3 +101,12 @@ segment-outcome x s =
     (λ t. cond_both (is_allowed (rcv_nxt x) (rcv_wnd x) s) (on_ack (owing x) (bare s)) (cond s.flags.rst (nothing, x) (nothing, owing x)) (Outcome x s)
     (λ u. inl (bare-outcome (owing x) s))
     (λ u. cond_both s.flags.rst (nothing, x) (nothing, owing x) (Outcome x s) (λ v. quiet x s) (λ v. quiet x s)))
+
+-- while its SYN is not acknowledged it accepts nothing
+pub greeting-quiet : (x : ClientBlock) (s : Said) (P : Heard × ClientBlock → Type 0)
+    → ((y : ClientBlock) → y.accepted ≡ x.accepted → y.eof ≡ x.eof → rcv_wnd y ≡ rcv_wnd x → P (nothing, y)) → P (on_greeting x s)
+greeting-quiet x s P f =
+    let synced = cond s.flags.syn (nothing, established x s) (nothing, x) in
+    cond_both (not (answers_syn x s)) (nothing, x) (cond s.flags.rst (nothing, reset_by_peer x) synced) P (λ t. f x refl refl refl)
+    (λ t. cond_both s.flags.rst (nothing, reset_by_peer x) synced P (λ u. f (reset_by_peer x) refl refl refl)
+    (λ u. cond_both s.flags.syn (nothing, established x s) (nothing, x) P (λ v. f (established x s) refl refl refl) (λ v. f x refl refl refl)))

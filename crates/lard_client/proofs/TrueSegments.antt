@@ -1,16 +1,17 @@
 -- What a client accepts of a segment that tells the truth.
-use Rattle.std.proofs.Common.{◌≡◌, ◌≤◌, ◌<◌, ◌-◌, ◌+◌, ◌^◌, ℕ, Bool, true, false, List, length, take, drop, arith, refl, subst, sym, ap, ◌∙◌, ⊎_elim, length-drop}
-use Rattle.std.proofs.lemmas.Bool.{cases_lt}
+use Rattle.std.proofs.Common.{◌≡◌, ◌≤◌, ◌<◌, ◌-◌, ◌+◌, ◌^◌, ℕ, nat_lt, not, ◌&&◌, Bool, true, false, List, length, take, drop, min, arith, refl, subst, sym, ap, ◌∙◌, ⊎_elim, length-drop}
+use Rattle.std.specs.Prelude.{if◌then◌else◌}
+use Rattle.std.proofs.lemmas.Bool.{cases_lt, not-true}
 use Rattle.std.proofs.lemmas.List.{drop-take, drop-drop, length-take, take-take}
 use Rattle.lard_client.specs.declared.heard.Heard.{Heard}
-use Rattle.lard_client.specs.Control.{ClientBlock}
-use Rattle.lard_client.specs.Arriving.{arrived}
-use Rattle.lard_arrival.specs.Arrival.{IsPartAt}
-use Rattle.lard_client.specs.Laws.{IsInOrder, IsTrueSegment, IsNextOf}
+use Rattle.lard_client.specs.Control.{ClientBlock, is_open, is_established, rcv_nxt, rcv_wnd}
+use Rattle.lard_client.specs.Arriving.{arrived, begins_after, known, room}
+use Rattle.lard_arrival.specs.Arrival.{IsPartAt, is_acceptable}
+use Rattle.lard_client.specs.Laws.{counts, IsAwaitedPart, IsInOrder, IsTrueSegment, IsNextOf}
 use Rattle.lard_client.proofs.Accepted.{arrived-order}
+use Rattle.lard_client.proofs.Counting.{arrived-awaited}
 use Rattle.lard_segment.specs.Segment.{Said}
-use Rattle.lard_send.specs.Send.{one_if}
-use Rattle.lard_seq.specs.Seq.{seq_add}
+use Rattle.lard_seq.specs.Seq.{one_if, seq_add, seq_offset}
 
 -- two places with one number are one place, within 2^30
 same_place : (i k f a e : ℕ) → i < 2 ^ 32 → k + f ≤ 2 ^ 30 → a ≤ 2 ^ 30 → e ≡ 0 → seq_add (seq_add i (1 + k)) f ≡ seq_add i (1 + a + e) → k + f ≡ a
@@ -68,3 +69,35 @@ true-accepted x s all k a t =
       part = taken_part x s all k (arrived x s).0 (arrived x s).1 a t order;
       final = taken_all x s all k (arrived x s).0 (arrived x s).1 a t order;
     }
+
+-- ---- all of them
+later : (i a k e : ℕ) → i < 2 ^ 32 → k ≤ a → a ≤ 2 ^ 30 → e ≡ 0 → seq_offset (seq_add i (1 + a + e)) (seq_add i (1 + k)) ≡ a - k
+later i a k e hi hk ha he = omega arith
+
+-- one that counts comes before the FIN
+last_test : (a b c d e f g h i : Bool) → (a && (b && (c && (d && (e && (f && (g && (h && i)))))))) ≡ true → i ≡ true
+last_test false b c d e f g h i t = absurd (cc)
+last_test true false c d e f g h i t = absurd (cc)
+last_test true true false d e f g h i t = absurd (cc)
+last_test true true true false e f g h i t = absurd (cc)
+last_test true true true true false f g h i t = absurd (cc)
+last_test true true true true true false g h i t = absurd (cc)
+last_test true true true true true true false h i t = absurd (cc)
+last_test true true true true true true true false i t = absurd (cc)
+last_test true true true true true true true true i t = t
+
+counts-open : (x : ClientBlock) (s : Said) → counts x s ≡ true → x.eof ≡ false
+counts-open x s c =
+    not-true x.eof
+    (last_test (is_open x) (is_established x) (is_acceptable (rcv_nxt x) (rcv_wnd x) s) (not s.flags.rst) (not s.flags.syn) s.flags.ack
+    (not (nat_lt x.send.nxt (seq_offset s.ack x.send.iss))) (not (begins_after x s)) (not x.eof) c)
+
+pub true-len : (x : ClientBlock) (s : Said) (all : List ℕ) (k : ℕ) → x.accepted ≤ length all → IsTrueSegment x all k s
+    → counts x s ≡ true → k ≤ x.accepted → (arrived x s).0.len ≡ min (k + length s.payload - x.accepted) (room x)
+true-len x s all k a t c le =
+    let most = t.most in
+    let offset : known x s ≡ x.accepted - k =
+    ap (seq_offset (rcv_nxt x)) t.number ∙ later x.send.irs x.accepted k (one_if x.eof) t.first le (omega arith) (ap one_if (counts-open x s c)) in
+    let len : (arrived x s).0.len ≡ min (length s.payload - known x s) (room x) =
+    (arrived-awaited x s).len ∙ ap (λ b. if b then min (length s.payload - known x s) (room x) else 0) c in
+    len ∙ ap (λ n. min n (room x)) (omega (arith, offset))

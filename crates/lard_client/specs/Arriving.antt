@@ -2,6 +2,7 @@
 -- heard, and what is kept after it. Where a step does not drop the segment, the next one goes on.
 use Rattle.std.specs.Prelude.{ℕ, ◌+◌, ◌-◌, ◌^◌, ◌==◌, nat_lt, min, not, ◌&&◌, ◌||◌, Bool, true, false, if◌then◌else◌, length, Some, None}
 use Rattle.lard_arrival.specs.Arrival.{is_in_window, is_acceptable, is_allowed, bare, peer_mss}
+use Rattle.lard_base.specs.declared.limits.TheConstants.{MAX_STREAM_BYTES}
 use Rattle.lard_client.specs.declared.phase.Phase.{Phase}
 use Rattle.lard_client.specs.declared.phase.Phase.TheVariants.{Open, Aborted, Reset}
 use Rattle.lard_client.specs.declared.heard.Heard.{Heard}
@@ -31,7 +32,7 @@ known x s = seq_offset (rcv_nxt x) s.seq
 
 -- How many bytes may be accepted: what the window leaves, and no more than one direction carries, 2^30.
 abbrev pub room : ClientBlock → ℕ
-room x = min (rcv_wnd x) (2 ^ 30 - x.accepted)
+room x = min (rcv_wnd x) (MAX_STREAM_BYTES - x.accepted)
 
 -- How many bytes from RCV.NXT on there is room for.
 abbrev pub fresh_len : ClientBlock → Said → ℕ

@@ -1,10 +1,12 @@
 -- What a client keeps of its connection: its control block (RFC 9293, 3.3.1), by counts. It holds no bytes of the
 -- cluster's, and counts those that it accepted.
 use Rattle.std.specs.Prelude.{ℕ, ◌+◌, ◌-◌, ◌≤◌, ◌^◌, ◌==◌, not, ◌&&◌, ◌||◌, Bool, true, false, if◌then◌else◌, List, length}
+use Rattle.lard_arrival.specs.declared.rules.TheConstants.{DEFAULT_MSS}
+use Rattle.lard_base.specs.declared.limits.TheConstants.{MAX_SEGMENT_DATA, MAX_STREAM_BYTES}
 use Rattle.lard_client.specs.declared.phase.Phase.{Phase}
 use Rattle.lard_client.specs.declared.phase.Phase.TheVariants.{Open, Aborted, Reset}
-use Rattle.lard_send.specs.Send.{Sending, one_if, begun, queued_too, closed, is_clear}
-use Rattle.lard_seq.specs.Seq.{seq_add}
+use Rattle.lard_send.specs.Send.{Sending, begun, queued_too, closed, is_clear}
+use Rattle.lard_seq.specs.Seq.{one_if, seq_add}
 
 pub record ClientBlock : Type 0 where
   pub c : ℕ  -- the number of its connection
@@ -17,14 +19,14 @@ pub record ClientBlock : Type 0 where
   pub mss : ℕ  -- the most bytes of a segment that it takes
   pub owed : Bool  -- an ACK is owed
   pub last_window : ℕ  -- the window that the last segment told
-  pub phase : Phase
+  pub phase : Phase  -- whether it goes on
 
 -- What holds of every client.
 pub record IsClientBlock (x : ClientBlock) : Type 0 where
-  pub bounded : x.accepted ≤ 2 ^ 30
+  pub bounded : x.accepted ≤ MAX_STREAM_BYTES
   pub held_within : x.held ≤ x.wnd
   pub some_mss : 1 ≤ x.mss
-  pub small_mss : x.mss ≤ 1460
+  pub small_mss : x.mss ≤ MAX_SEGMENT_DATA
 
 abbrev pub is_open_in : Phase → Bool
 is_open_in Open = true
@@ -64,7 +66,7 @@ snd_nxt x = seq_add x.send.iss x.send.nxt
 abbrev pub opened : ℕ → ℕ → ℕ → ℕ → ClientBlock
 opened c isn wnd mss = record {
   c = c;
-  send = begun isn 0 0 536;
+  send = begun isn 0 0 DEFAULT_MSS;
   accepted = 0;
   eof = false;
   wnd = wnd;

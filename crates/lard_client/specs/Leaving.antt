@@ -1,11 +1,12 @@
 -- What a client sends: the next segment, what its timer sends again, and its resets (RFC 9293, 3.8 and 3.10).
 use Rattle.std.specs.Prelude.{◌≡◌, ℕ, ◌+◌, ◌-◌, ◌≤◌, ◌==◌, nat_lt, not, ◌&&◌, ◌||◌, Bool, true, false, if◌then◌else◌, take, drop, Option, Some, None, IfSome}
+use Rattle.lard_base.specs.declared.limits.TheConstants.{MAX_SEGMENT_DATA}
 use Rattle.lard_client.specs.Control.{ClientBlock, is_open, is_established, rcv_nxt, rcv_wnd, snd_nxt}
 use Rattle.lard_segment.specs.declared.segment.Ready.{Ready}
 use Rattle.lard_segment.specs.Segment.{Said}
 use Rattle.lard_send.specs.declared.piece.Piece.{Piece}
-use Rattle.lard_send.specs.Send.{one_if, symbols, acknowledged_bytes, next_piece, after_next, resent_piece, after_resend}
-use Rattle.lard_seq.specs.Seq.{seq_add}
+use Rattle.lard_send.specs.Send.{symbols, acknowledged_bytes, next_piece, after_next, resent_piece, after_resend}
+use Rattle.lard_seq.specs.Seq.{one_if, seq_add}
 
 -- The SYN: <SEQ=ISS><CTL=SYN>, with the client's window and maximum segment size (RFC 9293, 3.10.1 and 3.7.1).
 abbrev pub syn_ready : ClientBlock → Ready
@@ -141,7 +142,7 @@ filled x r = record {
 
 -- A segment that may be written: little data, a size in its range, and no number without ACK.
 pub record IsWritable (r : Ready) : Type 0 where
-  pub small_payload : r.len ≤ 1460
+  pub small_payload : r.len ≤ MAX_SEGMENT_DATA
   pub some_mss : IfSome r.mss (λ m. 1 ≤ m)
-  pub small_mss : IfSome r.mss (λ m. m ≤ 1460)
+  pub small_mss : IfSome r.mss (λ m. m ≤ MAX_SEGMENT_DATA)
   pub no_ack : r.flags.ack ≡ false → r.ack.0 ≡ 0

@@ -1,6 +1,6 @@
 //! A client of the cluster: its own calls.
 
-ghost use Rattle.std.specs.Prelude.{◌≡◌, ◌≤◌, ◌^◌, false, length, IfOk, IfSome, OnOk, OnErr, Ok};
+ghost use Rattle.std.specs.Prelude.{◌≡◌, ◌≤◌, false, length, IfOk, IfSome, OnOk, OnErr, Ok};
 ghost use Rattle.lard_client.specs.Control.{IsClientBlock, is_open, is_established, is_writing, is_holding, is_armed, opened, written, written_len, shut_down, held_on, taken, aborted, rcv_nxt, rcv_wnd, snd_nxt};
 ghost use Rattle.lard_client.specs.Leaving.{IsHeld, IsWritable, abort_ready};
 ghost use Rattle.lard_send.specs.Send.{IsSending};
@@ -9,6 +9,8 @@ mod arriving;
 mod leaving;
 
 use crate::phase::Phase;
+use lard_arrival::DEFAULT_MSS;
+use lard_base::limits::{MAX_SEGMENT_DATA, MAX_STREAM_BYTES};
 use lard_base::{ConnId, NoMemory};
 use lard_segment::Ready;
 use lard_send::SendHalf;
@@ -19,25 +21,31 @@ use std::marker::Model;
 /// A client that opened its connection. Only `write` takes memory.
 #[derive(Drop)]
 pub struct Client {
+    /// The connection that it opened.
     c: ConnId,
+    /// Its symbols, and the cluster's window. It knows both first numbers, the cluster's once it is established.
     send: SendHalf,
-    /// The number of its SYN, as `send` has it.
-    isn: Seq,
-    /// The number of the cluster's SYN, once it is established, as `send` has it.
-    irs: Seq,
+    /// How many bytes it accepted, at most 2^30. It keeps none of them.
     accepted: u32,
+    /// It took the cluster's FIN, behind all bytes.
     eof: bool,
+    /// The window that it opens while it holds nothing, in bytes, at least 1.
     wnd: u16,
+    /// How many of the accepted bytes lie in its window, at most `wnd`.
     held: u16,
+    /// Accepted bytes stay in its window: its last `hold` or `take` was `hold`.
     holding: bool,
+    /// The most bytes of a segment that it takes, 1 to 1,460, as its SYN says.
     mss: u16,
+    /// An ACK is owed, for a segment that came or for a window that opened.
     owed: bool,
+    /// The window that the last segment told, in bytes; before the first one `wnd`.
     last_window: u16,
+    /// Whether it goes on.
     phase: Phase,
 }
 
 impl Model for Client {
-    ghost use Rattle.std.specs.Prelude.{◌≡◌};
     ghost use Rattle.lard_client.specs.Control.{ClientBlock, IsClientBlock};
 
     ghost Value = { ClientBlock };
@@ -56,7 +64,7 @@ impl Model for Client {
       phase = x.phase;
     } };
 
-    ghost invariant = { λ x. (x.isn.0 ≡ x.send.iss) × (x.irs.0 ≡ x.send.irs) × IsClientBlock (record {
+    ghost invariant = { λ x. IsClientBlock (record {
       c = x.c;
       send = x.send;
       accepted = x.accepted;
@@ -77,14 +85,12 @@ impl Client {
     pub fn open(alloc: Global, c: ConnId, isn: Seq, wnd: u16, mss: u16) -> Client
         requires some_window { 1 ≤ wnd }
         requires some_mss { 1 ≤ mss }
-        requires small_mss { mss ≤ 1460 }
+        requires small_mss { mss ≤ MAX_SEGMENT_DATA }
         ensures { result ≡ opened c isn.0 wnd mss }
     {
         Client {
             c,
-            send: SendHalf::make(alloc, isn, Seq(0), 0, 536),
-            isn,
-            irs: Seq(0),
+            send: SendHalf::make(alloc, isn, Seq(0), 0, DEFAULT_MSS),
             accepted: 0,
             eof: false,
             wnd,
@@ -107,7 +113,7 @@ impl Client {
     /// Writes bytes behind those that it wrote, at most 2^30 over its connection. It answers false, and does nothing,
     /// where the client no longer writes. Without memory it is as it was.
     pub fn write(&mut self, bytes: &[u8]) -> Result<bool, NoMemory>
-        requires { written_len self.old bytes.now ≤ 2 ^ 30 }
+        requires { written_len self.old bytes.now ≤ MAX_STREAM_BYTES }
         ensures answer { IfOk result (λ writes. writes ≡ is_writing self.old) }
         ensures ok { OnOk result (self.new ≡ written self.old bytes.now) }
         ensures err { OnErr result (self.new ≡ self.old) }
@@ -218,7 +224,7 @@ impl Client {
     fn rcv_nxt(&self) -> Seq
         ensures { result.0 ≡ rcv_nxt self.now }
     {
-        self.irs.add(1 + self.accepted + self.eof as u32)
+        self.send.irs().add(1 + self.accepted + self.eof as u32)
     }
 
     /// The window, RCV.WND: what it opens less what it holds.
@@ -228,10 +234,19 @@ impl Client {
         self.wnd - self.held
     }
 
+    /// What holds of every client, by the law of its sending half too. It is called where a proof wants it, and does
+    /// nothing.
+    fn law(&self)
+        ensures block { IsClientBlock self.now }
+        ensures sending { IsSending self.now.send }
+    {
+        let _sending = self.send.total();
+    }
+
     /// The number that it sends next, SND.NXT.
     fn snd_nxt(&self) -> Seq
         ensures { result.0 ≡ snd_nxt self.now }
     {
-        self.isn.add(self.send.nxt())
+        self.send.iss().add(self.send.nxt())
     }
 }

@@ -4,7 +4,8 @@ use Rattle.std.proofs.lemmas.Bool.{and_parts, not-true, eqb-true}
 use Rattle.std.proofs.lemmas.List.{nil_from_length}
 use Rattle.lard_base.specs.declared.parts.EndpointParts.{EndpointParts}
 use Rattle.lard_base.specs.Parts.{IsValidParts}
-use Rattle.lard_send.specs.Send.{one_if, symbols, is_clear}
+use Rattle.lard_send.specs.Send.{symbols, is_clear}
+use Rattle.lard_seq.specs.Seq.{one_if}
 use Rattle.lard_endpoint.specs.Control.{ControlBlock, IsControlBlock}
 use Rattle.lard_endpoint.specs.Moving.{may_freeze, parts_of}
 

@@ -4,56 +4,12 @@ use Rattle.std.specs.Prelude.{if◌then◌else◌, Option, Some, None, OnSome}
 use Rattle.std.proofs.lemmas.Bool.{and_parts, eqb-true, eqb-false, ltb-true, not-true, and_from, lt-ltb, eq-eqb, false≢true, cases_lt}
 use Rattle.std.proofs.lemmas.Bool.Decides.{nat_tests}
 use Rattle.lard_send.specs.declared.piece.Piece.{Piece}
-use Rattle.lard_send.specs.Send.{Sending, IsSending, one_if, symbols, left, unsent_bytes, syn_piece, byte_piece, may_send, next_len, next_fin, next_piece, after_next}
+use Rattle.lard_send.specs.Send.{may_send, next_piece, after_next}
+use Rattle.lard_send.proofs.Sent.{unsent, piece_falls, next-rests}
+use Rattle.lard_seq.specs.Seq.{one_if}
 use Rattle.lard_segment.specs.declared.segment.Ready.{Ready}
 use Rattle.lard_endpoint.specs.Control.{ControlBlock, IsControlBlock}
 use Rattle.lard_endpoint.specs.Leaving.{told, owes, ack_ready, owed_ready, after_owed, ready_of, after_piece, advanced, emitted, after_emit, emits_left}
-
-set_bit : (b : Bool) → 0 < one_if b → b ≡ true
-set_bit true h = refl
-set_bit false h = absurd (omega arith)
-
--- what may be sent is at least one symbol
-some_sent : (s : Sending) (b : Bool) → IsSending s → may_send s ≡ true → next_fin s ≡ b → 0 < next_len s + one_if b
-some_sent s true h m e = omega arith
-some_sent s false h m e =
-    let may = and_parts (not (s.una == 0)) (nat_lt s.nxt (symbols s) && nat_lt 0 (left s)) m in
-    let room = and_parts (nat_lt s.nxt (symbols s)) (nat_lt 0 (left s)) may.1 in
-    let unsent : s.nxt < symbols s = ltb-true s.nxt (symbols s) room.0 in
-    let begun : s.una ≡ 0 → ⊥ = eqb-false s.una 0 (not-true (s.una == 0) may.0) in
-    let open_ : 0 < left s = ltb-true 0 (left s) room.1 in
-    let mss = h.some_mss in
-    let sent = h.sent in
-    ⊎_elim
-    (λ (some : 0 < next_len s). omega arith)
-    (λ (none : next_len s ≤ 0).
-    let same : next_len s ≡ unsent_bytes s = omega arith in
-    let fin : s.finished ≡ true = set_bit s.finished (omega arith) in
-    let fits : nat_lt (next_len s) (left s) ≡ true = lt-ltb (next_len s) (left s) (omega arith) in
-    absurd (false≢true (sym e ∙ and_from s.finished ((next_len s == unsent_bytes s) && nat_lt (next_len s) (left s)) fin
-    (and_from (next_len s == unsent_bytes s) (nat_lt (next_len s) (left s)) (eq-eqb (next_len s) (unsent_bytes s) same) fits))))
-    (cases_lt 0 (next_len s))
-
--- how many symbols are not sent
-abbrev unsent : Sending → ℕ
-unsent s = symbols s - s.nxt
-
-next-falls : (s : Sending) (first may : Bool) → IsSending s → (s.nxt == 0) ≡ first → may_send s ≡ may
-    → OnSome (if first then Some syn_piece else if may then Some (byte_piece s (s.nxt - 1) (next_len s) (next_fin s)) else None)
-    (unsent (if first then record s { nxt = 1 } else if may then record s { nxt = s.nxt + next_len s + one_if (next_fin s) } else s) < unsent s)
-next-falls s true may h e f = let zero : s.nxt ≡ 0 = eqb-true s.nxt 0 e in omega arith
-next-falls s false true h e f =
-    let some : 0 < next_len s + one_if (next_fin s) = some_sent s (next_fin s) h f refl in
-    let may = and_parts (not (s.una == 0)) (nat_lt s.nxt (symbols s) && nat_lt 0 (left s)) f in
-    let room : s.nxt < symbols s = ltb-true s.nxt (symbols s) (and_parts (nat_lt s.nxt (symbols s)) (nat_lt 0 (left s)) may.1).0 in
-    omega arith
-next-falls s false false h e f = tt
-
-next-rests : (s : Sending) (first may : Bool) → (if first then Some syn_piece else if may then Some (byte_piece s (s.nxt - 1) (next_len s) (next_fin s)) else None) ≡ None
-    → (if first then record s { nxt = 1 } else if may then record s { nxt = s.nxt + next_len s + one_if (next_fin s) } else s) ≡ s
-next-rests s true may e = cc
-next-rests s false true e = cc
-next-rests s false false e = refl
 
 -- once the window was told, nothing is owed
 told_all : (c : ControlBlock) → one_if (owes (told c)) ≡ 0
@@ -72,8 +28,7 @@ by_owed c d false e s o = tt
 by_piece : (c : ControlBlock) (p : Option Piece) → next_piece c.send ≡ p → IsControlBlock c
     → OnSome (ready_of (advanced c) p (owed_ready (advanced c))) (emits_left (after_piece (advanced c) p (after_owed (advanced c))) < emits_left c)
 by_piece c (Some p) e h =
-    let falls : OnSome (next_piece c.send) (unsent (after_next c.send) < unsent c.send) = next-falls c.send (c.send.nxt == 0) (may_send c.send) h.sending refl refl in
-    let less : unsent (after_next c.send) < unsent c.send = subst (λ (o : Option Piece). OnSome o (unsent (after_next c.send) < unsent c.send)) e falls in
+    let less = piece_falls c.send p h.sending e in
     let none : one_if (owes (told (advanced c))) ≡ 0 = told_all (advanced c) in
     omega arith
 by_piece c None e h = by_owed c (advanced c) (owes (advanced c)) refl (next-rests c.send (c.send.nxt == 0) (may_send c.send) e) refl

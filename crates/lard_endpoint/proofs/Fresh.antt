@@ -3,8 +3,8 @@ use Rattle.std.proofs.Common.{◌≡◌, ℕ, ◌+◌, ◌-◌, ◌^◌, ◌<◌
 use Rattle.std.specs.Prelude.{if◌then◌else◌}
 use Rattle.std.proofs.lemmas.Bool.{cond_both, cases_lt, lt-ltb, and_from, false≢true}
 use Rattle.std.proofs.lemmas.List.{drop-take, drop-drop, drop_all, length-take, take_min, take_all, take-take}
-use Rattle.lard_recv.specs.Recv.{Received, one_if, awaited, room, begins_after, fresh, gained}
-use Rattle.lard_seq.specs.Seq.{seq_add, seq_offset}
+use Rattle.lard_recv.specs.Recv.{Received, awaited, room, begins_after, fresh, gained}
+use Rattle.lard_seq.specs.Seq.{one_if, seq_add, seq_offset}
 use Rattle.lard_arrival.specs.Arrival.{IsPartAt}
 use Rattle.lard_endpoint.specs.Laws.{IsTrueData}
 use Rattle.lard_endpoint.proofs.Numbers.{offset_later}

@@ -3,5 +3,5 @@ pub mod Ends
 pub mod Fresh
 pub mod Numbers
 pub mod Silence
-pub mod Small
 pub mod Sound
+pub mod Windows

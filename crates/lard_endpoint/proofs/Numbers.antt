@@ -4,6 +4,3 @@ use Rattle.lard_seq.specs.Seq.{seq_add, seq_offset}
 
 pub offset_later : (first a b : ℕ) → first < 2 ^ 32 → b ≤ a → a ≤ 2 ^ 31 → seq_offset (seq_add first a) (seq_add first b) ≡ a - b
 offset_later first a b hf hb ha = omega arith
-
-pub offset_earlier : (first a b : ℕ) → first < 2 ^ 32 → a < b → b ≤ 2 ^ 31 → seq_offset (seq_add first a) (seq_add first b) ≡ 2 ^ 32 - (b - a)
-offset_earlier first a b hf hb ha = omega arith

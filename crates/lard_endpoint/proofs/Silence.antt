@@ -5,25 +5,9 @@ use Rattle.std.proofs.lemmas.Bool.Decides.{nat_tests}
 use Rattle.lard_segment.specs.declared.segment.Ready.{Ready}
 use Rattle.lard_send.specs.declared.piece.Piece.{Piece}
 use Rattle.lard_send.specs.Send.{Sending, IsSending, symbols, is_clear, next_piece, resent_piece, again_len, again_fin, unsent_bytes, syn_piece, byte_piece}
+use Rattle.lard_send.proofs.Sent.{resent_some}
 use Rattle.lard_endpoint.specs.Control.{ControlBlock, IsControlBlock}
 use Rattle.lard_endpoint.specs.Leaving.{owes, ack_ready, owed_ready, ready_of, advanced, retried, emitted, timed}
-
--- there is a piece where the first test, the second or the third holds
-some_of : (a b d : Bool) (x y z : Piece) → is_some (if a then Some x else if b then Some y else if d then Some z else None) ≡ (a || (b || d))
-some_of true b d x y z = refl
-some_of false true d x y z = refl
-some_of false false true x y z = refl
-some_of false false false x y z = refl
-
--- which is where UNA is not the last symbol
-tests : (una nxt all : ℕ) → una ≤ nxt → nxt ≤ all → 0 < all → ((una == 0) || (nat_lt una nxt || nat_lt nxt all)) ≡ not (una == all)
-tests una nxt all a b c = grind (arith, nat_tests)
-
-resent-some : (s : Sending) → IsSending s → is_some (resent_piece s) ≡ not (is_clear s)
-resent-some s h =
-    some_of (s.una == 0) (nat_lt s.una s.nxt) (nat_lt s.nxt (symbols s)) syn_piece (byte_piece s (s.una - 1) (again_len s) (again_fin s))
-    (byte_piece s (s.nxt - 1) (min (unsent_bytes s) 1) (unsent_bytes s == 0))
-    ∙ tests s.una s.nxt (symbols s) h.sent h.queued (omega arith)
 
 ready-some : (c : ControlBlock) (p : Option Piece) → is_some (ready_of c p None) ≡ is_some p
 ready-some c (Some p) = refl
@@ -34,7 +18,7 @@ timed-by_reset c true o e = cc
 timed-by_reset c false o e = refl
 
 pub timer-some : (c : ControlBlock) → IsControlBlock c → c.reset ≡ false → is_some (timed c) ≡ not (is_clear c.send)
-timer-some c h r = timed-by_reset c c.reset (ready_of (retried c) (resent_piece c.send) None) r ∙ ready-some (retried c) (resent_piece c.send) ∙ resent-some c.send h.sending
+timer-some c h r = timed-by_reset c c.reset (ready_of (retried c) (resent_piece c.send) None) r ∙ ready-some (retried c) (resent_piece c.send) ∙ resent_some c.send h.sending
 
 by_owed : (b : Bool) (r : Ready) → (if b then Some r else None) ≡ None → b ≡ false
 by_owed true r e = cc

@@ -4,11 +4,13 @@ use Rattle.std.proofs.lemmas.Bool.{cond_both, cond-true, ltb-true, ltb-false, eq
 use Rattle.std.specs.Prelude.{if◌then◌else◌, Option, Some, None}
 use Rattle.std.proofs.lemmas.List.{length-take}
 use Rattle.lard_recv.specs.Recv.{Received, IsReceived, room, begins_after, awaited, fresh, ends, taken, arrived}
-use Rattle.lard_send.specs.Send.{Sending, IsSending, one_if, symbols, is_newer, moved_up, windowed, after_ack, left, may_send, unsent_bytes, next_len, next_fin, next_piece, after_next, resent_piece, after_resend, queued_too}
+use Rattle.lard_recv.proofs.Window.{arrived-irs, fresh-fits}
+use Rattle.lard_send.proofs.Sent.{after_ack-irs}
+use Rattle.lard_send.specs.Send.{Sending, IsSending, symbols, is_newer, moved_up, windowed, after_ack, left, may_send, unsent_bytes, next_len, next_fin, next_piece, after_next, resent_piece, after_resend, queued_too}
 use Rattle.lard_send.specs.declared.piece.Piece.{Piece}
 use Rattle.lard_endpoint.specs.declared.control.arriving.Arrival.{Arrival}
 use Rattle.lard_endpoint.specs.declared.control.arriving.Arrival.TheVariants.{Fine, AckOwed, Reset}
-use Rattle.lard_seq.specs.Seq.{seq_offset}
+use Rattle.lard_seq.specs.Seq.{one_if, seq_offset}
 use Rattle.lard_segment.specs.Segment.{Said}
 use Rattle.lard_arrival.specs.Arrival.{bare, is_acceptable, is_allowed}
 use Rattle.lard_endpoint.specs.Arriving.{owing, on_text, on_acked, on_ack, on_syn, on_rst, on_unacceptable, on_segment}
@@ -28,7 +30,7 @@ taken-sound r bytes fin le h =
 
 pub arrived-sound : (r : Received) (seq : ℕ) (data_ : List ℕ) (fin : Bool) → IsReceived r → IsReceived (arrived r seq data_ fin)
 arrived-sound r seq data_ fin h =
-    let least : length (fresh r seq data_) ≤ room r = omega (arith, length-take (room r) (drop (seq_offset (awaited r) seq) data_)) in
+    let least = fresh-fits r seq data_ in
     cond_both (begins_after seq (awaited r)) r _ IsReceived (λ b. h)
     (λ b. cond_both r.fin r (taken r (fresh r seq data_) (ends r seq data_ fin)) IsReceived (λ f. h) (λ f. taken-sound r (fresh r seq data_) (ends r seq data_ fin) least h))
 
@@ -110,20 +112,6 @@ flags-sound : (c : ControlBlock) (owed reset : Bool) (last_window : ℕ) → IsC
 flags-sound c owed reset last_window h = record { received = h.received; sending = h.sending; same_irs = h.same_irs }
 
 -- neither rule moves the first number
-arrived-irs : (r : Received) (seq : ℕ) (data_ : List ℕ) (fin : Bool) → (arrived r seq data_ fin).irs ≡ r.irs
-arrived-irs r seq data_ fin = cond_both (begins_after seq (awaited r)) r _ (λ t. t.irs ≡ r.irs) (λ b. refl)
-    (λ b. cond_both r.fin r (taken r (fresh r seq data_) (ends r seq data_ fin)) (λ t. t.irs ≡ r.irs) (λ f. refl) (λ f. refl))
-
-after_ack-irs : (s : Sending) (ack seq wnd : ℕ) → (after_ack s ack seq wnd).irs ≡ s.irs
-after_ack-irs s ack seq wnd =
-    let offset = seq_offset ack s.iss in
-    let moved = moved_up s offset in
-    let same : moved.irs ≡ s.irs = cond_both (nat_lt s.una offset) (record s { una = offset; rest = drop ((offset - 1) - (s.una - 1)) s.rest }) s (λ t. t.irs ≡ s.irs) (λ b. refl) (λ b. refl) in
-    let last = windowed moved (s.una == 0) seq ack wnd in
-    cond_both (nat_lt s.nxt offset) s (if (s.una == 0) && (offset == 0) then s else last) (λ t. t.irs ≡ s.irs) (λ b. refl)
-    (λ b. cond_both ((s.una == 0) && (offset == 0)) s last (λ t. t.irs ≡ s.irs) (λ d. refl)
-    (λ d. cond_both ((s.una == 0) || is_newer moved seq ack) (record moved { wnd = wnd; wl1 = seq; wl2 = ack }) moved (λ t. t.irs ≡ s.irs) (λ e. same) (λ e. same)))
-
 after_next-irs : (s : Sending) → (after_next s).irs ≡ s.irs
 after_next-irs s =
     let nxt = s.nxt + next_len s + one_if (next_fin s) in

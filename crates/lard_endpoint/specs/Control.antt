@@ -2,6 +2,7 @@
 -- offsets from their SYN, never in plain sequence numbers.
 use Rattle.std.specs.Prelude.{◌≡◌, ℕ, Bool, false, List, []}
 use Rattle.lard_arrival.specs.Arrival.{peer_mss}
+use Rattle.lard_base.specs.declared.limits.TheConstants.{RECEIVE_WINDOW}
 use Rattle.lard_recv.specs.Recv.{Received, IsReceived, restored, room, awaited, consumed, discarded}
 use Rattle.lard_segment.specs.Segment.{Said}
 use Rattle.lard_send.specs.Send.{Sending, IsSending, begun, queued_too, closed}
@@ -38,7 +39,7 @@ listening syn iss = record {
   recv = restored syn.seq 0 false [];
   send = begun iss syn.seq syn.wnd (peer_mss syn.mss);
   owed = false;
-  last_window = 16384;
+  last_window = RECEIVE_WINDOW;
   reset = false;
 }
 

@@ -1,10 +1,11 @@
 -- What an endpoint sends: the next segment, and what its timer sends again (RFC 9293, 3.8 and 3.10.8).
 use Rattle.std.specs.Prelude.{◌≡◌, ℕ, ◌+◌, ◌-◌, ◌≤◌, ◌==◌, nat_lt, ◌&&◌, ◌||◌, Bool, true, false, if◌then◌else◌, take, drop, Option, Some, None, IfSome}
+use Rattle.lard_base.specs.declared.limits.TheConstants.{MAX_SEGMENT_DATA}
 use Rattle.lard_segment.specs.declared.segment.Ready.{Ready}
 use Rattle.lard_segment.specs.Segment.{Said}
 use Rattle.lard_send.specs.declared.piece.Piece.{Piece}
-use Rattle.lard_send.specs.Send.{acknowledged_bytes, one_if, symbols, next_piece, after_next, resent_piece, after_resend}
-use Rattle.lard_seq.specs.Seq.{seq_add}
+use Rattle.lard_send.specs.Send.{acknowledged_bytes, symbols, next_piece, after_next, resent_piece, after_resend}
+use Rattle.lard_seq.specs.Seq.{one_if, seq_add}
 use Rattle.lard_endpoint.specs.Control.{ControlBlock, rcv_nxt, rcv_wnd, snd_nxt}
 
 -- The sequence number of a piece's first symbol: the SYN has the first number, byte k, from 0, has the one k + 1 after it.
@@ -13,7 +14,7 @@ piece_seq c p = if p.syn then c.send.iss else seq_add c.send.iss (1 + p.at)
 
 -- The SYN alone names a maximum segment size, 1,460 bytes (RFC 9293, 3.7.1).
 abbrev pub own_mss : Bool → Option ℕ
-own_mss syn = if syn then Some 1460 else None
+own_mss syn = if syn then Some MAX_SEGMENT_DATA else None
 
 -- A piece's segment: each carries ACK with RCV.NXT, and the window (RFC 9293, 3.10.7.4 and 3.8.6).
 abbrev pub piece_ready : ControlBlock → Piece → Ready
@@ -95,8 +96,8 @@ after_timer c = if c.reset then c else after_piece (retried c) (resent_piece c.s
 pub record IsReady (c : ControlBlock) (r : Ready) : Type 0 where
   pub from : acknowledged_bytes c.send ≤ r.at
   pub to : r.at + r.len ≤ c.send.total
-  pub small : r.len ≤ 1460
-  pub size : IfSome r.mss (λ m. m ≡ 1460)
+  pub small : r.len ≤ MAX_SEGMENT_DATA
+  pub size : IfSome r.mss (λ m. m ≡ MAX_SEGMENT_DATA)
   pub ack : r.flags.ack ≡ true
 
 -- A segment with the data of its place.

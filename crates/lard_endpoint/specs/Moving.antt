@@ -1,5 +1,6 @@
 -- How an endpoint is frozen, goes on at another place, and ends.
 use Rattle.std.specs.Prelude.{ℕ, not, ◌&&◌, ◌||◌, Bool, true, false, if◌then◌else◌}
+use Rattle.lard_base.specs.declared.limits.TheConstants.{RECEIVE_WINDOW}
 use Rattle.lard_base.specs.declared.parts.EndpointParts.{EndpointParts}
 use Rattle.lard_base.specs.declared.place.Reason.{Reason}
 use Rattle.lard_base.specs.declared.place.Reason.TheVariants.{Closed, Peer}
@@ -34,7 +35,7 @@ adopted p = record {
   recv = restored p.irs p.got p.fin p.unread;
   send = resumed p;
   owed = true;
-  last_window = 16384;
+  last_window = RECEIVE_WINDOW;
   reset = false;
 }
 

@@ -1,6 +1,6 @@
 //! An endpoint's control block, and the calls of its owner (RFC 9293, 3.3.1 and 3.10).
 
-ghost use Rattle.std.specs.Prelude.{◌≡◌, ◌+◌, ◌≤◌, ◌^◌, true, false, length, IfOk, OnOk, OnErr};
+ghost use Rattle.std.specs.Prelude.{◌≡◌, ◌+◌, ◌≤◌, true, false, length, IfOk, OnOk, OnErr};
 ghost use Rattle.lard_segment.specs.Segment.{said};
 ghost use Rattle.lard_send.specs.Send.{is_clear};
 ghost use Rattle.lard_endpoint.specs.Control.{IsControlBlock, listening, queueing, finishing, consuming, discarding_on};
@@ -11,6 +11,7 @@ pub mod moving;
 
 use lard_arrival::peer_mss;
 use lard_base::NoMemory;
+use lard_base::limits::{MAX_STREAM_BYTES, RECEIVE_WINDOW};
 use lard_recv::RecvHalf;
 use lard_segment::Segment;
 use lard_send::SendHalf;
@@ -18,19 +19,18 @@ use lard_seq::Seq;
 use std::alloc::Global;
 use std::marker::Model;
 
-/// The receive window while nothing is unread, in bytes.
-const WHOLE_WINDOW: u16 = 16_384;
-
 /// The cluster's end of a connection. There is one of each, so it cannot be cloned, and it is not let go: `end`, `kill`
 /// and `freeze` spend it. Only `listen`, `adopt` and `queue` take memory.
 pub struct Endpoint {
-    irs: Seq,
-    iss: Seq,
+    /// The peer's bytes: what came, what is awaited, and the window.
     recv: RecvHalf,
+    /// This side's symbols, and the peer's window. It begins at the same SYN of the peer as `recv`.
     send: SendHalf,
-    discarding: bool,
+    /// An ACK is owed for a segment that came.
     owed: bool,
+    /// The window that the last segment told, in bytes; before the first one the whole window.
     last_window: u16,
+    /// The peer reset the connection.
     reset: bool,
 }
 
@@ -50,8 +50,8 @@ impl Model for Endpoint {
       reset = e.reset;
     } };
 
-    // what the halves keep to themselves
-    ghost invariant = { λ e. (e.irs.0 ≡ e.recv.irs) × (e.irs.0 ≡ e.send.irs) × (e.iss.0 ≡ e.send.iss) × (e.discarding ≡ e.recv.discarding) };
+    // both halves count the peer's numbers from one SYN
+    ghost invariant = { λ e. e.send.irs ≡ e.recv.irs };
 }
 
 impl Endpoint {
@@ -67,13 +67,10 @@ impl Endpoint {
         let recv = RecvHalf::make(alloc, syn.seq)?;
         let send = SendHalf::make(alloc, iss, syn.seq, syn.wnd, peer_mss(syn.mss));
         Ok(Endpoint {
-            irs: syn.seq,
-            iss,
             recv,
             send,
-            discarding: false,
             owed: false,
-            last_window: WHOLE_WINDOW,
+            last_window: RECEIVE_WINDOW as u16,
             reset: false,
         })
     }
@@ -82,7 +79,7 @@ impl Endpoint {
     /// as it was.
     pub fn queue(&mut self, bytes: &[u8]) -> Result<(), NoMemory>
         requires unfinished { self.old.send.finished ≡ false }
-        requires fits { self.old.send.total + length bytes.now ≤ 2 ^ 30 }
+        requires fits { self.old.send.total + length bytes.now ≤ MAX_STREAM_BYTES }
         ensures ok { OnOk result (self.new ≡ queueing self.old bytes.now) }
         ensures err { OnErr result (self.new ≡ self.old) }
     {
@@ -109,7 +106,6 @@ impl Endpoint {
         ensures { self.new ≡ discarding_on self.old }
     {
         self.recv.discard_on();
-        self.discarding = true;
     }
 
     /// The bytes that came in order and were not consumed, at most 16,384, lent without a copy.
@@ -145,7 +141,7 @@ impl Endpoint {
         ensures value { result ≡ self.now.send.total }
         ensures law { IsControlBlock self.now }
     {
-        let _got = self.recv.got();
+        self.law();
         self.send.total()
     }
 
@@ -154,5 +150,13 @@ impl Endpoint {
         ensures { result ≡ self.now.send.finished }
     {
         self.send.finished()
+    }
+
+    /// What holds of every endpoint, by the laws of its halves. It is called where a proof wants it, and does nothing.
+    fn law(&self)
+        ensures { IsControlBlock self.now }
+    {
+        let _received = self.recv.got();
+        let _sending = self.send.total();
     }
 }

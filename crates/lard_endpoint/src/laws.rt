@@ -1,6 +1,6 @@
 //! What holds of endpoints over all their calls, for those who compose them.
 
-ghost use Rattle.lard_endpoint.specs.Laws.{LaterIsTheDifference, EarlierIsTheComplement, AheadIsInTheWindow, FreshIsThePart, FinComesLast, ListeningIsSound, ArrivingKeeps, LeavingKeeps, QueueingKeeps, FinishingKeeps, ReadingKeeps, AdoptionIsSound, TimerIsForTheRest, SilenceOwesNothing, PartsAreValid, AdoptionGoesOn};
+ghost use Rattle.lard_endpoint.specs.Laws.{LaterIsTheDifference, EarlierIsTheComplement, AheadIsInTheWindow, FreshIsThePart, FinComesLast, ListeningIsSound, ArrivingKeeps, LeavingKeeps, QueueingKeeps, FinishingKeeps, ReadingKeeps, AdoptionIsSound, TimerIsForTheRest, SilenceOwesNothing, PartsAreValid, AdoptionGoesOn, EmittedStaysInTheWindow, WindowIsNotTakenBack, SegmentsTellTheWindow};
 
 /// Numbers of one direction of a connection differ as their offsets do.
 pub fn numbers_differ_as_offsets()
@@ -34,6 +34,13 @@ pub fn both_directions_stay_bounded()
 pub fn silence_means_something()
     ensures timer { TimerIsForTheRest }
     ensures emit { SilenceOwesNothing }
+{}
+
+/// What is emitted lies in the window of the peer, and no segment takes back the window that an earlier one told.
+pub fn windows_are_kept()
+    ensures sending { EmittedStaysInTheWindow }
+    ensures receiving { WindowIsNotTakenBack }
+    ensures telling { SegmentsTellTheWindow }
 {}
 
 /// An endpoint that is adopted from the parts of a frozen one goes on where that stood.

@@ -7,12 +7,11 @@ use Rattle.lard_endpoint.specs.Leaving.{ack_ready, owes, owed_ready, ready_of, a
 use Rattle.lard_laws_bytes.specs.Agreement.{AreReplies, IsReply}
 use Rattle.lard_laws_bytes.proofs.FrontEndpoint.{IsBetween, between-emitted}
 use Rattle.lard_machine.specs.Speaking.{to_client, emits, has_symbol, emits_symbols}
-use Rattle.lard_recv.specs.Recv.{one_if}
 use Rattle.lard_segment.specs.declared.segment.Ready.{Ready}
 use Rattle.lard_segment.specs.Segment.{Said}
 use Rattle.lard_send.specs.declared.piece.Piece.{Piece}
 use Rattle.lard_send.specs.Send.{next_piece, resent_piece}
-use Rattle.lard_seq.specs.Seq.{seq_add}
+use Rattle.lard_seq.specs.Seq.{one_if, seq_add}
 use Rattle.lard_truth.specs.Truth.{Stream}
 use Rattle.lard_truth.proofs.Endpoint.{emitted-fair, timed-fair, emit-left}
 use Rattle.lard_truth.proofs.Pieces.{Fair}

@@ -9,8 +9,7 @@ use Rattle.lard_client.specs.Control.{ClientBlock, is_established}
 use Rattle.lard_client.specs.Laws.{IsInOrder}
 use Rattle.lard_client.proofs.Accepted.{arrived-order}
 use Rattle.lard_segment.specs.Segment.{Said}
-use Rattle.lard_send.specs.Send.{one_if}
-use Rattle.lard_seq.specs.Seq.{seq_add}
+use Rattle.lard_seq.specs.Seq.{one_if, seq_add}
 
 -- it takes something
 abbrev pub Takes : Heard → Type 0

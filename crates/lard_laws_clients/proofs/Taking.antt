@@ -41,8 +41,7 @@ use Rattle.lard_segment.proofs.Again.{again}
 use Rattle.lard_segment.specs.declared.fault.SegFault.{SegFault}
 use Rattle.lard_segment.specs.declared.segment.Dir.TheVariants.{ToClient, ToCluster}
 use Rattle.lard_segment.specs.Segment.{Said, decoded}
-use Rattle.lard_send.specs.Send.{one_if}
-use Rattle.lard_seq.specs.Seq.{seq_add}
+use Rattle.lard_seq.specs.Seq.{one_if, seq_add}
 use Rattle.lard_laws_clients.specs.Laws.{Gets, IsNext, MayTake, got_step, last_got}
 use Rattle.lard_laws_clients.proofs.Hearing.{Takes, end-number, next-number, takes-established}
 

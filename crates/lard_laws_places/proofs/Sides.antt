@@ -1,8 +1,8 @@
 -- What a sending half keeps as segments come and go: its first number, its bytes and its end.
 use Rattle.std.proofs.Common.{◌≡◌, ℕ, ◌+◌, ◌-◌, cond, max, nat_lt, ◌==◌, ◌&&◌, ◌||◌, drop, refl}
 use Rattle.std.proofs.lemmas.Bool.{cond_both}
-use Rattle.lard_send.specs.Send.{Sending, symbols, one_if, moved_up, is_newer, windowed, after_ack, may_send, next_len, next_fin, after_next, after_resend}
-use Rattle.lard_seq.specs.Seq.{seq_offset}
+use Rattle.lard_send.specs.Send.{Sending, symbols, moved_up, is_newer, windowed, after_ack, may_send, next_len, next_fin, after_next, after_resend}
+use Rattle.lard_seq.specs.Seq.{one_if, seq_offset}
 
 pub record IsSameSide (s t : Sending) : Type 0 where
   pub first : t.iss ≡ s.iss

@@ -15,8 +15,8 @@ use Rattle.lard_segment.specs.declared.segment.Dir.TheVariants.{ToCluster}
 use Rattle.lard_segment.specs.declared.segment.Ready.{Ready}
 use Rattle.lard_segment.specs.Segment.{Said, IsSendable, spelled}
 use Rattle.lard_send.specs.declared.piece.Piece.{Piece}
-use Rattle.lard_send.specs.Send.{Sending, one_if, symbols, left, syn_piece, byte_piece, unsent_bytes, may_send, next_len, next_fin, next_piece, after_next, again_len, again_fin, resent_piece, after_resend}
-use Rattle.lard_seq.specs.Seq.{seq_add}
+use Rattle.lard_send.specs.Send.{Sending, symbols, left, syn_piece, byte_piece, unsent_bytes, may_send, next_len, next_fin, next_piece, after_next, again_len, again_fin, resent_piece, after_resend}
+use Rattle.lard_seq.specs.Seq.{one_if, seq_add}
 use Rattle.lard_truth.specs.Truth.{Stream, Accepts}
 use Rattle.lard_truth.proofs.Client.{emitted-fair, emit-left}
 use Rattle.lard_truth.proofs.Speaking.{next-moves, resend-moves}

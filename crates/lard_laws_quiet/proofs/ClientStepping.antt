@@ -10,8 +10,8 @@ use Rattle.lard_client.specs.Control.{ClientBlock, is_open, is_open_in, is_abort
 use Rattle.lard_client.specs.Leaving.{after_timer}
 use Rattle.lard_client.specs.Arriving.{nothing, owing, reset_by_peer, begins_after, fresh_len, ends, accepting, part_of, on_fresh, on_text, on_ack, on_syn, on_rst, on_unacceptable, on_segment, answers_syn, established, on_greeting, reply_to, heard_in, arrived}
 use Rattle.lard_segment.specs.Segment.{Said}
-use Rattle.lard_send.specs.Send.{Sending, queued_too, closed, introduced, after_ack, one_if}
-use Rattle.lard_seq.specs.Seq.{seq_offset}
+use Rattle.lard_send.specs.Send.{Sending, queued_too, closed, introduced, after_ack}
+use Rattle.lard_seq.specs.Seq.{one_if, seq_offset}
 use Rattle.lard_laws_quiet.proofs.Acked.{taken_by}
 use Rattle.lard_laws_quiet.proofs.Acknowledging.{Moves, ack-moves}
 use Rattle.lard_laws_quiet.proofs.ClientSaying.{Same, timer-same}

@@ -24,8 +24,8 @@ use Rattle.lard_machine.specs.declared.places.Station.{Station}
 use Rattle.lard_machine.specs.Machine.{front_armed}
 use Rattle.lard_recv.specs.Recv as recv
 use Rattle.lard_request.specs.declared.verdict.Verdict.{Verdict}
-use Rattle.lard_send.specs.Send.{Sending, is_clear, one_if, symbols}
-use Rattle.lard_seq.specs.Seq.{seq_add}
+use Rattle.lard_send.specs.Send.{Sending, is_clear, symbols}
+use Rattle.lard_seq.specs.Seq.{one_if, seq_add}
 use Rattle.lard_truth.specs.Truth.{Accepts, Hears, Stream}
 
 -- ---- two ends of a stream

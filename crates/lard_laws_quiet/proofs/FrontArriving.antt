@@ -10,10 +10,10 @@ use Rattle.lard_endpoint.specs.Control.{ControlBlock, rcv_nxt, rcv_wnd}
 use Rattle.lard_laws_bytes.proofs.FrontEndpoint.{segment-takes}
 use Rattle.lard_laws_quiet.proofs.Acknowledging.{ack-moves, acks-offset}
 use Rattle.lard_laws_quiet.proofs.Acked.{WordMay, heard_by}
-use Rattle.lard_recv.specs.Recv.{Received, arrived, awaited, begins_after, ends, fresh, one_if, taken}
+use Rattle.lard_recv.specs.Recv.{Received, arrived, awaited, begins_after, ends, fresh, taken}
 use Rattle.lard_segment.specs.Segment.{Said}
 use Rattle.lard_send.specs.Send.{after_ack}
-use Rattle.lard_seq.specs.Seq.{seq_offset}
+use Rattle.lard_seq.specs.Seq.{one_if, seq_offset}
 
 -- no more is acknowledged than so much, and the peer reset the connection only where it aborted
 abbrev pub Holds : ℕ → Bool → ControlBlock → Type 0

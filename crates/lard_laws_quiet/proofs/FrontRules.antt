@@ -27,12 +27,11 @@ use Rattle.lard_machine.specs.declared.places.Turn.{Turn}
 use Rattle.lard_machine.specs.Client.{silent}
 use Rattle.lard_machine.specs.Front.{FrontEnv, Service, begun, cut_off, front_gets, front_timer, heard, is_plain_syn, is_telling, last_ack, last_words, limit_said, met, ready_of, reads, refusal, rested, settled, spoken, told, tombstone}
 use Rattle.lard_machine.specs.Speaking.{speaks, speaks_symbols}
-use Rattle.lard_recv.specs.Recv.{one_if}
 use Rattle.lard_request.specs.declared.verdict.Verdict.{Verdict}
 use Rattle.lard_segment.specs.declared.segment.Ready.{Ready}
 use Rattle.lard_segment.specs.Segment.{Said, IsSendable}
 use Rattle.lard_send.specs.Send.{is_clear, symbols}
-use Rattle.lard_seq.specs.Seq.{seq_add, seq_offset}
+use Rattle.lard_seq.specs.Seq.{one_if, seq_add, seq_offset}
 use Rattle.lard_seq.proofs.Laws.{offset-add}
 use Rattle.lard_truth.specs.Truth.{Stream, IsStream, IsTrueOf}
 use Rattle.lard_truth.proofs.Speaking.{one_small}

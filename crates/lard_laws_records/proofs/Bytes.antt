@@ -14,6 +14,7 @@ use Rattle.lard_segment.specs.declared.segment.Flags.{Flags}
 use Rattle.lard_segment.specs.Fields.{flag_byte, source_port, target_port}
 use Rattle.lard_segment.specs.Options.{option_bytes}
 use Rattle.lard_segment.specs.Segment.{Said, fixed_bytes, spelled, with_checksum}
+use Rattle.lard_segment.proofs.Written.{length-option_bytes}
 
 -- ---- each item of a list
 
@@ -94,10 +95,6 @@ bytes-options : (mss : Option ℕ) → AreBytes (option_bytes mss)
 bytes-options None = tt
 bytes-options (Some m) = (omega arith, (omega arith, bytes-16 m))
 
-few-options : (mss : Option ℕ) → length (option_bytes mss) ≤ 4
-few-options None = omega arith
-few-options (Some m) = omega arith
-
 -- a bit that may be set
 cond-most : (b : Bool) (n : ℕ) → cond b n 0 ≤ n
 cond-most true n = omega arith
@@ -130,7 +127,7 @@ bytes-fixed dir s begins checksum small =
 -- the segment with some checksum
 bytes-with : (dir : Dir) (s : Said) (checksum : ℕ) → AreBytes s.payload → AreBytes (with_checksum dir s checksum)
 bytes-with dir s checksum h =
-    let few = few-options s.mss in
+    let few = length-option_bytes s.mss in
     bytes-append (fixed_bytes dir s (20 + length (option_bytes s.mss)) checksum ++ option_bytes s.mss) s.payload
     (bytes-append (fixed_bytes dir s (20 + length (option_bytes s.mss)) checksum) (option_bytes s.mss)
     (bytes-fixed dir s (20 + length (option_bytes s.mss)) checksum (omega (arith, few))) (bytes-options s.mss)) h

@@ -33,7 +33,7 @@ use Rattle.lard_request.specs.Verdict.{closes, verdict}
 use Rattle.lard_segment.specs.declared.fault.SegFault.{SegFault}
 use Rattle.lard_segment.specs.declared.segment.Ready.{Ready}
 use Rattle.lard_segment.specs.Segment.{Said}
-use Rattle.lard_send.specs.Send.{one_if}
+use Rattle.lard_seq.specs.Seq.{one_if}
 use Rattle.lard_laws_records.proofs.Clients.{Fits, silent-fits}
 use Rattle.lard_laws_records.proofs.Content.{AreFiles, answer-fits, code-small}
 

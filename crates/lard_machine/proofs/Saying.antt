@@ -12,7 +12,9 @@ use Rattle.lard_machine.specs.Speaking.{to_client, to_front, emits, speaks, has_
 use Rattle.lard_machine.proofs.Draining.{Drains, nothing_more, one_more}
 use Rattle.lard_segment.specs.declared.segment.Ready.{Ready}
 use Rattle.lard_send.specs.declared.piece.Piece.{Piece}
-use Rattle.lard_send.specs.Send.{Sending, IsSending, one_if, syn_piece, byte_piece, may_send, next_len, next_fin, next_piece, after_next}
+use Rattle.lard_send.proofs.Sent.{next-rests}
+use Rattle.lard_send.specs.Send.{Sending, IsSending, syn_piece, byte_piece, may_send, next_len, next_fin, next_piece, after_next}
+use Rattle.lard_seq.specs.Seq.{one_if}
 
 abbrev always : Ready → Bool
 always r = true
@@ -49,12 +51,6 @@ pub symbols-done : (c : ℕ) (b : ControlBlock) → emitted b ≡ None → speak
 symbols-done c b e = nothing_more emitted after_emit (to_client c) has_symbol emits_left IsControlBlock (emits_symbols c) (symbols-drains c) (emits_left b) b e
 
 -- where nothing is emitted, nothing changes
-next-rests : (s : Sending) (first may : Bool) → (if first then Some syn_piece else if may then Some (byte_piece s (s.nxt - 1) (next_len s) (next_fin s)) else None) ≡ None
-    → (if first then record s { nxt = 1 } else if may then record s { nxt = s.nxt + next_len s + one_if (next_fin s) } else s) ≡ s
-next-rests s true may e = cc
-next-rests s false true e = cc
-next-rests s false false e = refl
-
 pub emit-rests : (b : ControlBlock) → emitted b ≡ None → after_emit b ≡ b
 emit-rests b e = go b.reset (next_piece b.send) refl (owes (advanced b)) e where
   go : (t : Bool) (p : Option Piece) → next_piece b.send ≡ p → (o : Bool)

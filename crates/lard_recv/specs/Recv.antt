@@ -1,6 +1,7 @@
 -- The receiving half of a connection, by counts: how many bytes came in order, and which of them are not read yet.
 use Rattle.std.specs.Prelude.{◌≡◌, ℕ, ◌+◌, ◌-◌, ◌^◌, ◌≤◌, ◌==◌, nat_lt, min, not, ◌&&◌, Bool, true, false, if◌then◌else◌, List, [], ◌++◌, length, take, drop}
-use Rattle.lard_seq.specs.Seq.{seq_add, seq_offset}
+use Rattle.lard_base.specs.declared.limits.TheConstants.{MAX_STREAM_BYTES, RECEIVE_WINDOW}
+use Rattle.lard_seq.specs.Seq.{one_if, seq_add, seq_offset}
 use Rattle.lard_recv.specs.declared.half.Took.{Took}
 use Rattle.lard_recv.specs.declared.half.Took.TheVariants.{Bytes, Old, Ahead}
 
@@ -10,12 +11,12 @@ pub record Received : Type 0 where
   pub got : ℕ  -- how many bytes came in order
   pub fin : Bool  -- the peer's FIN was taken
   pub unread : List ℕ  -- the last of the bytes that came, which are not read yet
-  pub discarding : Bool
+  pub discarding : Bool  -- what comes is counted, and not kept
 
 -- What holds of every half.
 pub record IsReceived (r : Received) : Type 0 where
-  pub received : r.got ≤ 2 ^ 30
-  pub buffered : length r.unread ≤ 16384
+  pub received : r.got ≤ MAX_STREAM_BYTES
+  pub buffered : length r.unread ≤ RECEIVE_WINDOW
   pub within : length r.unread ≤ r.got
   pub dropped : r.discarding ≡ true → length r.unread ≤ 0
 
@@ -23,17 +24,13 @@ pub record IsReceived (r : Received) : Type 0 where
 abbrev pub restored : ℕ → ℕ → Bool → List ℕ → Received
 restored irs got fin unread = record { irs = irs; got = got; fin = fin; unread = unread; discarding = false }
 
-abbrev pub one_if : Bool → ℕ
-one_if true = 1
-one_if false = 0
-
 -- RCV.NXT: the SYN, the bytes and the FIN have a number each (RFC 9293, 3.4).
 abbrev pub awaited : Received → ℕ
 awaited r = seq_add r.irs (1 + r.got + one_if r.fin)
 
 -- RCV.WND: 16,384 bytes fit, and no more than 2^30 come over one connection (RFC 9293, 3.8.6).
 abbrev pub room : Received → ℕ
-room r = min (16384 - length r.unread) (2 ^ 30 - r.got)
+room r = min (RECEIVE_WINDOW - length r.unread) (MAX_STREAM_BYTES - r.got)
 
 -- A segment begins after RCV.NXT where its number is less than half the number space after it (RFC 9293, 3.4).
 abbrev pub begins_after : ℕ → ℕ → Bool
@@ -93,3 +90,15 @@ ArrivalKeepsThePart = (r : Received) (all : List ℕ) (seq : ℕ) (data_ : List 
 
 abbrev pub ReadingKeepsThePart : Type 0
 ReadingKeepsThePart = (r : Received) (all : List ℕ) (n : ℕ) → IsUnusedPart r all → IsUnusedPart (consumed r n) all
+
+-- Where the window ends, as an offset from the peer's SYN: RCV.NXT and RCV.WND together.
+abbrev pub window_end : Received → ℕ
+window_end r = (1 + r.got + one_if r.fin) + room r
+
+-- That end is never taken back, whatever arrives and whatever is read (RFC 9293, 3.8.6: a receiver should not shrink its
+-- window, which would move the right window edge to the left).
+abbrev pub ArrivalTakesNoWindowBack : Type 0
+ArrivalTakesNoWindowBack = (r : Received) (seq : ℕ) (data_ : List ℕ) (fin : Bool) → window_end r ≤ window_end (arrived r seq data_ fin)
+
+abbrev pub ReadingTakesNoWindowBack : Type 0
+ReadingTakesNoWindowBack = (r : Received) (n : ℕ) → (window_end r ≤ window_end (consumed r n)) × (window_end r ≤ window_end (discarded r))

@@ -3,28 +3,30 @@
 ghost use Rattle.std.specs.Prelude.{◌≡◌, ◌+◌, ◌≤◌, [], ◌++◌, length, take, drop, IfOk};
 
 use lard_base::NoMemory;
+use lard_base::limits::RECEIVE_WINDOW;
 use std::alloc::Global;
 use std::marker::Model;
 
-/// How many unread bytes are kept.
-pub const ROOM: usize = 16_384;
-
-/// Up to 16,384 bytes, seen as the list of them. They lie together, from `start` on.
+/// Up to 16,384 bytes, seen as the list of them.
 #[derive(Drop)]
 pub struct Buffer {
+    /// The memory, of 16,384 bytes, which is taken once.
     bytes: Vec<u8>,
+    /// Where the bytes of the list begin in it.
     start: usize,
+    /// How many they are. They lie together.
     len: usize,
 }
 
 impl Model for Buffer {
     ghost use Rattle.std.specs.Prelude.{◌≡◌, ℕ, ◌+◌, ◌≤◌, List, length, take, drop};
+    ghost use Rattle.lard_base.specs.declared.limits.TheConstants.{RECEIVE_WINDOW};
 
     ghost Value = { List ℕ };
 
     ghost view = { λ b. take b.len (drop b.start b.bytes.items) };
 
-    ghost invariant = { λ b. (length b.bytes.items ≡ 16384) × (b.start + b.len ≤ 16384) };
+    ghost invariant = { λ b. (length b.bytes.items ≡ RECEIVE_WINDOW) × (b.start + b.len ≤ RECEIVE_WINDOW) };
 }
 
 impl Buffer {
@@ -32,7 +34,7 @@ impl Buffer {
     pub fn new(alloc: Global) -> Result<Buffer, NoMemory>
         ensures { IfOk result (λ buffer. buffer ≡ []) }
     {
-        let bytes = vec![in alloc; 0; ROOM]?;
+        let bytes = vec![in alloc; 0; RECEIVE_WINDOW as usize]?;
         Ok(Buffer {
             bytes,
             start: 0,
@@ -43,14 +45,14 @@ impl Buffer {
     /// The bytes, lent.
     pub fn as_slice(&self) -> &[u8]
         ensures value { result.now ≡ self.now }
-        ensures bound { length self.now ≤ 16384 }
+        ensures bound { length self.now ≤ RECEIVE_WINDOW }
     {
         &self.bytes.as_slice()[self.start..self.start + self.len]
     }
 
     /// Adds bytes at the end, for which there is room.
     pub fn push(&mut self, more: &[u8])
-        requires { length self.old + length more.now ≤ 16384 }
+        requires { length self.old + length more.now ≤ RECEIVE_WINDOW }
         ensures { self.new ≡ self.old ++ more.now }
     {
         self.start = make_room(&mut self.bytes, self.start, self.len, more.len());

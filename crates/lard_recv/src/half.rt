@@ -1,16 +1,14 @@
 //! The receiving half: it takes the bytes that are next in order, and lends those that are not read yet.
 
-ghost use Rattle.std.specs.Prelude.{◌≡◌, ◌≤◌, ◌^◌, false, [], length, take, drop, IfOk};
+ghost use Rattle.std.specs.Prelude.{◌≡◌, ◌≤◌, false, [], length, take, drop, IfOk};
 ghost use Rattle.lard_recv.specs.Recv.{IsReceived, restored, awaited, room, begins_after, taken, arrived, brought, consumed, discarded};
 
-use crate::buffer::{Buffer, ROOM};
+use crate::buffer::Buffer;
 use lard_base::NoMemory;
+use lard_base::limits::{MAX_STREAM_BYTES, RECEIVE_WINDOW};
 use lard_seq::Seq;
 use std::alloc::Global;
 use std::marker::Model;
-
-/// The most bytes that come over one connection.
-const MOST: u32 = 1 << 30;
 
 /// What a segment brought.
 #[derive(Clone, Copy, Debug, PartialEq, Eq)]
@@ -26,10 +24,15 @@ pub enum Took {
 /// The bytes of the peer, as far as they came in order. Only `make` and `restore` take memory.
 #[derive(Drop)]
 pub struct RecvHalf {
+    /// The sequence number of the peer's SYN, IRS.
     irs: Seq,
+    /// How many bytes came in order, at most 2^30; the SYN and the FIN do not count.
     got: u32,
+    /// The peer's FIN was taken, behind all its bytes.
     fin: bool,
+    /// The last of the bytes that came, which are not read yet: at most 16,384.
     unread: Buffer,
+    /// What comes is counted and acknowledged, and not kept; nothing is unread then.
     discarding: bool,
 }
 
@@ -60,9 +63,9 @@ impl RecvHalf {
         fin: bool,
         unread: &[u8],
     ) -> Result<RecvHalf, NoMemory>
-        requires buffered { length unread.now ≤ 16384 }
+        requires buffered { length unread.now ≤ RECEIVE_WINDOW }
         requires within { length unread.now ≤ got }
-        requires received { got ≤ 2 ^ 30 }
+        requires received { got ≤ MAX_STREAM_BYTES }
         ensures { IfOk result (λ half. half ≡ restored irs.0 got fin unread.now) }
     {
         let mut buffer = Buffer::new(alloc)?;
@@ -131,8 +134,8 @@ impl RecvHalf {
     pub fn window(&self) -> u32
         ensures { result ≡ room self.now }
     {
-        let free = ROOM - self.unread.as_slice().len();
-        (free as u32).min(MOST - self.got)
+        let free = RECEIVE_WINDOW as usize - self.unread.as_slice().len();
+        (free as u32).min(MAX_STREAM_BYTES - self.got)
     }
 
     /// The number that is awaited, RCV.NXT.
@@ -140,6 +143,13 @@ impl RecvHalf {
         ensures { result.0 ≡ awaited self.now }
     {
         self.irs.add(1 + self.got + self.fin as u32)
+    }
+
+    /// The sequence number of the peer's SYN, IRS.
+    pub fn irs(&self) -> Seq
+        ensures { result.0 ≡ self.now.irs }
+    {
+        self.irs
     }
 
     /// How many bytes came in order, at most 2^30. The SYN and the FIN do not count.
@@ -155,6 +165,13 @@ impl RecvHalf {
         ensures { result ≡ self.now.fin }
     {
         self.fin
+    }
+
+    /// Whether what comes is dropped: true exactly after `discard_on`.
+    pub fn discarding(&self) -> bool
+        ensures { result ≡ self.now.discarding }
+    {
+        self.discarding
     }
 
     /// The bytes that came and were not consumed, at most 16,384, lent without a copy.

@@ -106,9 +106,3 @@ mss-decoded bytes c dir s h =
     let r = decoded-read bytes c dir s h in
     let header : List ℕ = take (r.begins - 20) (drop 20 bytes) in
     mss_among-range (length header) header None s.mss r.options tt
-
--- numbers that were read from bytes fit their fields
-pub numbers-decoded : (bytes : List ℕ) (c : ℕ) (dir : Dir) (s : Said) → decoded bytes c dir ≡ Ok s → ((i : ℕ) → slice_index bytes i < 256) → (s.seq < 2 ^ 32) × (s.ack < 2 ^ 32) × (s.wnd < 2 ^ 16)
-numbers-decoded bytes c dir s h fits =
-    let r = decoded-read bytes c dir s h in
-    (omega (arith, r.sequence, fits 4, fits 5, fits 6, fits 7), omega (arith, r.acknowledgement, fits 8, fits 9, fits 10, fits 11), omega (arith, r.window, fits 14, fits 15))

@@ -13,7 +13,7 @@ length-with_checksum : (dir : Dir) (s : Said) (checksum : ℕ) → length (with_
 length-with_checksum dir s checksum = omega (arith, length-append (option_bytes s.mss) s.payload)
 
 -- the options take 4 bytes at most
-length-option_bytes : (mss : Option ℕ) → length (option_bytes mss) ≤ 4
+pub length-option_bytes : (mss : Option ℕ) → length (option_bytes mss) ≤ 4
 length-option_bytes None = omega arith
 length-option_bytes (Some m) = omega arith
 
@@ -22,11 +22,7 @@ pub length-spelled : (c : ℕ) (dir : Dir) (s : Said) → length (spelled c dir 
 unfolding spelled
 length-spelled c dir s = length-with_checksum dir s (checksum_of c dir (with_checksum dir s 0))
 
--- so it has at least 20
-pub length-spelled-least : (c : ℕ) (dir : Dir) (s : Said) → 20 ≤ length (spelled c dir s)
-length-spelled-least c dir s = omega (arith, length-spelled c dir s)
-
--- and at most 1,484 with the data that may be sent
+-- so it has at most 1,484 with the data that may be sent
 pub length-spelled-most : (c : ℕ) (dir : Dir) (s : Said) → length s.payload ≤ 1460 → length (spelled c dir s) ≤ 1484
 length-spelled-most c dir s small = omega (arith, length-spelled c dir s, length-option_bytes s.mss, small)
 

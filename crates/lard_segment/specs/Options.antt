@@ -1,6 +1,7 @@
 -- The options of a segment (RFC 9293, 3.1 and 3.2).
 use Rattle.std.specs.Prelude.{ℕ, ◌-◌, zero, suc, List, [], ◌∷◌, length, drop, min, max, Option, Some, None, Result, Ok, Err, if◌then◌else◌, nat_lt, nat_eq, ◌&&◌, ◌||◌, not}
 use Rattle.std.specs.Int.{w16, to_be_bytes}
+use Rattle.lard_base.specs.declared.limits.TheConstants.{MAX_SEGMENT_DATA}
 use Rattle.lard_segment.specs.Fields.{word_at}
 use Rattle.lard_segment.specs.declared.fault.SegFault.{SegFault}
 use Rattle.lard_segment.specs.declared.fault.SegFault.TheVariants as fault
@@ -15,7 +16,7 @@ option_len k (len ∷ more) =
 
 -- a maximum segment size in its range
 abbrev pub clamped : ℕ → ℕ
-clamped m = min (max m 1) 1460
+clamped m = min (max m 1) MAX_SEGMENT_DATA
 
 -- the maximum segment size so far, and then that of an option of kind k, where it is the first
 abbrev pub mss_after : Option ℕ → ℕ → List ℕ → Option ℕ

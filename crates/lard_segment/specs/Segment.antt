@@ -1,9 +1,9 @@
 -- What a segment says, the one spelling of it, and what bytes say (RFC 9293, 3.1).
 use Rattle.std.specs.Prelude.{◌≡◌, ℕ, ◌+◌, ◌-◌, ◌*◌, ◌/◌, ◌^◌, ◌<◌, ◌≤◌, Bool, false, List, ◌∷◌, ◌++◌, length, take, drop, slice_index, Option, None, Some, Result, Ok, Err, IfSome, if◌then◌else◌, nat_lt, nat_eq, ◌&&◌, ◌||◌, not}
 use Rattle.std.specs.Int.{w16, w32, to_be_bytes}
+use Rattle.lard_base.specs.declared.limits.TheConstants.{MAX_SEGMENT_DATA}
 use Rattle.lard_segment.specs.declared.segment.Dir.{Dir}
 use Rattle.lard_segment.specs.declared.segment.Flags.{Flags}
-use Rattle.lard_segment.specs.declared.segment.Ready.{Ready}
 use Rattle.lard_segment.specs.declared.segment.Segment.{Segment}
 use Rattle.lard_segment.specs.declared.fault.SegFault.{SegFault}
 use Rattle.lard_segment.specs.declared.fault.SegFault.TheVariants as fault
@@ -22,11 +22,6 @@ pub record Said : Type 0 where
 
 abbrev pub said : Segment → Said
 said s = record { seq = s.seq.0; ack = s.ack.0; flags = s.flags; wnd = s.wnd; mss = s.mss; payload = s.payload.now }
-
--- a ready segment, once its data is taken from the queued bytes
-abbrev pub ready_said : List ℕ → Ready → Said
-ready_said queued r =
-    record { seq = r.seq.0; ack = r.ack.0; flags = r.flags; wnd = r.wnd; mss = r.mss; payload = take r.len (drop r.at queued) }
 
 -- ---- the one spelling
 
@@ -50,8 +45,8 @@ pub record IsSendable (s : Said) : Type 0 where
   pub ack_fits : s.ack < 2 ^ 32
   pub wnd_fits : s.wnd < 2 ^ 16
   pub some_mss : IfSome s.mss (λ m. 1 ≤ m)
-  pub small_mss : IfSome s.mss (λ m. m ≤ 1460)
-  pub small_payload : length s.payload ≤ 1460
+  pub small_mss : IfSome s.mss (λ m. m ≤ MAX_SEGMENT_DATA)
+  pub small_payload : length s.payload ≤ MAX_SEGMENT_DATA
   pub no_ack : s.flags.ack ≡ false → s.ack ≡ 0
 
 -- ---- what bytes say

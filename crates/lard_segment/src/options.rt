@@ -5,6 +5,7 @@ ghost use Rattle.lard_segment.specs.Options.{option_len, mss_after, mss_in};
 
 use crate::fault::SegFault;
 use crate::fields::word;
+use lard_base::limits::MAX_SEGMENT_DATA;
 
 /// The kind of the option that ends the list.
 const END: u8 = 0;
@@ -14,8 +15,6 @@ const NOTHING: u8 = 1;
 pub const MSS: u8 = 2;
 /// The length of that option.
 pub const MSS_LEN: u8 = 4;
-/// The greatest maximum segment size that is taken.
-const MAX_MSS: u16 = 1460;
 
 /// The length of an option of this kind, of which `after` begins with the length byte.
 fn length_of(kind: u8, after: &[u8]) -> Option<usize>
@@ -42,7 +41,7 @@ fn after_option(mss: Option<u16>, kind: u8, after: &[u8]) -> Option<u16>
     if kind != MSS || mss.is_some() {
         return mss;
     }
-    Some(word(after, 1).clamp(1, MAX_MSS))
+    Some(word(after, 1).clamp(1, MAX_SEGMENT_DATA))
 }
 
 /// The maximum segment size that the options name, brought into the range 1 to 1,460.

@@ -12,6 +12,7 @@ use crate::fields::{
 use crate::options::mss_of;
 use crate::segment::{Dir, Segment};
 use lard_base::ConnId;
+use lard_base::limits::MAX_SEGMENT_DATA;
 use lard_seq::Seq;
 
 /// What the bytes say of connection `c`, where they come this way, or the first fault in the order of its
@@ -21,7 +22,7 @@ use lard_seq::Seq;
 pub fn decode(bytes: &[u8], c: ConnId, dir: Dir) -> Result<Segment<'_>, SegFault>
     requires { length bytes.now ≤ 65535 }
     ensures given { Gives result (decoded bytes.now c dir) }
-    ensures size { IfOk result (λ s. IfSome s.mss (λ m. (1 ≤ m) × (m ≤ 1460))) }
+    ensures size { IfOk result (λ s. IfSome s.mss (λ m. (1 ≤ m) × (m ≤ MAX_SEGMENT_DATA))) }
     ensures within { IfOk result (λ s. 20 + length s.payload.now ≤ length bytes.now) }
 {
     if bytes.len() < FIXED {

@@ -13,17 +13,18 @@ use crate::options::{MSS, MSS_LEN};
 use crate::segment::{Dir, Segment};
 use byteorder::{BigEndian, ByteOrder};
 use lard_base::ConnId;
+use lard_base::limits::{MAX_SEGMENT_BYTES, MAX_SEGMENT_DATA};
 
 /// Writes the one spelling of the segment on connection `c` to the front of `buf`, and answers its length,
 /// at most 1,484.
 pub fn encode(segment: &Segment<'_>, c: ConnId, dir: Dir, buf: &mut [u8]) -> usize
-    requires room { 1520 ≤ length buf.old }
+    requires room { MAX_SEGMENT_BYTES ≤ length buf.old }
     requires some_mss { IfSome segment.now.mss (λ m. 1 ≤ m) }
-    requires small_mss { IfSome segment.now.mss (λ m. m ≤ 1460) }
-    requires small_payload { length segment.now.payload.now ≤ 1460 }
+    requires small_mss { IfSome segment.now.mss (λ m. m ≤ MAX_SEGMENT_DATA) }
+    requires small_payload { length segment.now.payload.now ≤ MAX_SEGMENT_DATA }
     requires no_ack { segment.now.flags.ack ≡ false → segment.now.ack.0 ≡ 0 }
     ensures len { result ≡ length (spelled c dir (said segment.now)) }
-    ensures within { (20 ≤ result) × (result ≤ 1484) }
+    ensures within { (20 ≤ result) × (result ≤ 24 + MAX_SEGMENT_DATA) }
     ensures bytes { buf.new ≡ spelled c dir (said segment.now) ++ drop result buf.old }
 {
     let len = put_rest(buf, segment.mss, segment.payload);

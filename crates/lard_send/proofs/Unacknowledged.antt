@@ -2,8 +2,8 @@
 use Rattle.std.proofs.Common.{◌≡◌, ◌≤◌, ◌-◌, ◌+◌, ℕ, Bool, true, false, List, ◌++◌, length, take, drop, min, max, nat_lt, ◌==◌, ◌&&◌, ◌||◌, arith, ap, ◌∙◌, sym, length-append, length-drop}
 use Rattle.std.specs.Prelude.{if◌then◌else◌}
 use Rattle.std.proofs.lemmas.List.{drop-drop, drop-append-le, drop_min}
-use Rattle.lard_seq.specs.Seq.{seq_offset}
-use Rattle.lard_send.specs.Send.{Sending, IsUnacknowledgedPart, acknowledged_bytes, one_if, symbols, queued_too, moved_up, is_newer, windowed, after_ack, may_send, next_len, next_fin, after_next, after_resend}
+use Rattle.lard_seq.specs.Seq.{one_if, seq_offset}
+use Rattle.lard_send.specs.Send.{Sending, IsUnacknowledgedPart, acknowledged_bytes, symbols, queued_too, moved_up, is_newer, windowed, after_ack, may_send, next_len, next_fin, after_next, after_resend}
 
 -- the rest of a list from any place on is known by its length
 last_part : (all rest : List ℕ) (n total : ℕ) → length all ≡ total → rest ≡ drop n all → rest ≡ drop (total - length rest) all

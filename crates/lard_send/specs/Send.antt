@@ -1,8 +1,9 @@
 -- The sending half of a connection, by counts. What is sent is a list of symbols: the SYN, then the queued bytes, then
 -- the FIN once it is finished. UNA and NXT count the symbols that are acknowledged, and those that are sent.
 use Rattle.std.specs.Prelude.{◌≡◌, ℕ, ◌+◌, ◌-◌, ◌^◌, ◌≤◌, ◌==◌, nat_lt, nat_le, min, max, not, ◌&&◌, ◌||◌, Bool, true, false, if◌then◌else◌, List, [], ◌++◌, length, take, drop, Option, Some, None}
+use Rattle.lard_base.specs.declared.limits.TheConstants.{MAX_SEGMENT_DATA, MAX_STREAM_BYTES}
 use Rattle.lard_base.specs.declared.parts.EndpointParts.{EndpointParts}
-use Rattle.lard_seq.specs.Seq.{seq_offset}
+use Rattle.lard_seq.specs.Seq.{one_if, seq_offset}
 use Rattle.lard_send.specs.declared.piece.Piece.{Piece}
 use Rattle.lard_send.specs.declared.half.Ack.{Ack}
 use Rattle.lard_send.specs.declared.half.Ack.TheVariants.{New, Same, Beyond}
@@ -21,10 +22,6 @@ pub record Sending : Type 0 where
   pub wl2 : ℕ  -- the acknowledgement number of that segment
   pub mss : ℕ  -- the most bytes of a segment
 
-abbrev pub one_if : Bool → ℕ
-one_if true = 1
-one_if false = 0
-
 -- The SYN, the bytes and the FIN.
 abbrev pub symbols : Sending → ℕ
 symbols s = 1 + s.total + one_if s.finished
@@ -38,9 +35,9 @@ pub record IsSending (s : Sending) : Type 0 where
   pub sent : s.una ≤ s.nxt
   pub queued : s.nxt ≤ symbols s
   pub kept : length s.rest + min (s.una - 1) s.total ≡ s.total
-  pub most : s.total ≤ 2 ^ 30
+  pub most : s.total ≤ MAX_STREAM_BYTES
   pub some_mss : 1 ≤ s.mss
-  pub small_mss : s.mss ≤ 1460
+  pub small_mss : s.mss ≤ MAX_SEGMENT_DATA
 
 -- A half whose SYN is not sent. The window came with the peer's SYN (RFC 9293, 3.10.7.2).
 abbrev pub begun : ℕ → ℕ → ℕ → ℕ → Sending
@@ -106,9 +103,13 @@ pub record IsQueued (s : Sending) (p : Piece) : Type 0 where
   pub from : acknowledged_bytes s ≤ p.at
   pub to : p.at + p.len ≤ s.total
 
--- How many symbols the peer's window leaves.
+-- How many symbols from UNA on the peer has room for: its window (RFC 9293, 3.8.6).
+unfoldable pub peer_room : Sending → ℕ
+peer_room s = s.wnd
+
+-- How many symbols that room leaves.
 abbrev pub left : Sending → ℕ
-left s = (s.una + s.wnd) - s.nxt
+left s = (s.una + peer_room s) - s.nxt
 
 abbrev pub unsent_bytes : Sending → ℕ
 unsent_bytes s = s.total - (s.nxt - 1)
@@ -183,3 +184,13 @@ SendingKeepsThePart = (s : Sending) (all : List ℕ) → IsUnacknowledgedPart s 
 abbrev pub PiecesAreParts : Type 0
 PiecesAreParts = (s : Sending) (all : List ℕ) (at len : ℕ) → acknowledged_bytes s ≤ at → IsUnacknowledgedPart s all
     → take len (drop (at - acknowledged_bytes s) s.rest) ≡ take len (drop at all)
+
+-- What may be sent for the first time, when it is not the SYN: symbols from NXT on, below UNA plus the peer's window, with
+-- no more bytes than a segment of the peer has (RFC 9293, 3.4: SND.UNA =< number < SND.UNA + SND.WND, and 3.7.1).
+pub record IsAllowed (s : Sending) (p : Piece) : Type 0 where
+  pub first : p.syn ≡ false → 1 + p.at ≡ s.nxt
+  pub below : p.syn ≡ false → s.nxt + p.len + one_if p.fin ≤ s.una + s.wnd
+  pub small : p.len ≤ s.mss
+
+abbrev pub FirstsAreAllowed : Type 0
+FirstsAreAllowed = (s : Sending) (p : Piece) → next_piece s ≡ Some p → IsAllowed s p

@@ -1,12 +1,13 @@
 //! The sending half: what is queued leaves in pieces, and what is acknowledged is dropped.
 
-ghost use Rattle.std.specs.Prelude.{◌≡◌, ◌+◌, ◌-◌, ◌≤◌, ◌^◌, false, not, ◌++◌, length, take, drop, OnOk, OnErr, IfSome};
+ghost use Rattle.std.specs.Prelude.{◌≡◌, ◌+◌, ◌-◌, ◌≤◌, false, not, ◌++◌, length, take, drop, OnOk, OnErr, IfSome};
 ghost use Rattle.lard_base.specs.Parts.{IsValidParts};
 ghost use Rattle.lard_seq.specs.Seq.{seq_offset};
-ghost use Rattle.lard_send.specs.Send.{IsSending, IsQueued, acknowledged_bytes, symbols, begun, resumed, introduced, queued_too, closed, is_clear, moved_up, is_newer, windowed, after_ack, ack_answer, byte_piece, left, unsent_bytes, may_send, next_len, next_fin, next_piece, after_next, again_len, again_fin, resent_piece, after_resend};
+ghost use Rattle.lard_send.specs.Send.{IsSending, IsQueued, acknowledged_bytes, symbols, begun, resumed, introduced, queued_too, closed, is_clear, moved_up, is_newer, windowed, after_ack, ack_answer, byte_piece, peer_room, left, unsent_bytes, may_send, next_len, next_fin, next_piece, after_next, again_len, again_fin, resent_piece, after_resend};
 
 use crate::piece::Piece;
 use crate::rest::Rest;
+use lard_base::limits::{MAX_SEGMENT_DATA, MAX_STREAM_BYTES};
 use lard_base::{EndpointParts, NoMemory};
 use lard_seq::Seq;
 use std::alloc::Global;
@@ -26,16 +27,27 @@ pub enum Ack {
 /// The symbols of this side, as far as they are not acknowledged. Only `queue` takes memory.
 #[derive(Drop)]
 pub struct SendHalf {
+    /// The sequence number of the SYN, ISS.
     iss: Seq,
+    /// The sequence number of the peer's SYN, IRS, from which `wl1` is counted.
     irs: Seq,
+    /// How many symbols are acknowledged: SND.UNA as an offset, at most `nxt`.
     una: u32,
+    /// How many symbols are sent: SND.NXT as an offset, at most all that there are.
     nxt: u32,
+    /// The queued bytes that are not acknowledged.
     rest: Rest,
+    /// How many bytes were queued since the connection began, at most 2^30.
     total: u32,
+    /// The FIN follows the queued bytes, and no more are queued.
     finished: bool,
+    /// The peer's window, SND.WND, in bytes.
     wnd: u16,
+    /// The sequence number of the segment that brought the window, SND.WL1.
     wl1: Seq,
+    /// The acknowledgement number of that segment, SND.WL2.
     wl2: Seq,
+    /// The most bytes of a segment that the peer takes, 1 to 1,460.
     mss: u16,
 }
 
@@ -78,7 +90,7 @@ impl SendHalf {
     /// `mss` is 1 to 1,460 bytes. It takes no memory yet.
     pub fn make(alloc: Global, iss: Seq, irs: Seq, wnd: u16, mss: u16) -> SendHalf
         requires some_mss { 1 ≤ mss }
-        requires small_mss { mss ≤ 1460 }
+        requires small_mss { mss ≤ MAX_SEGMENT_DATA }
         ensures { result ≡ begun iss.0 irs.0 wnd mss }
     {
         SendHalf {
@@ -101,7 +113,7 @@ impl SendHalf {
     pub fn peer(&mut self, irs: Seq, mss: u16)
         requires syn { self.old.una ≡ 0 }
         requires some_mss { 1 ≤ mss }
-        requires small_mss { mss ≤ 1460 }
+        requires small_mss { mss ≤ MAX_SEGMENT_DATA }
         ensures { self.new ≡ introduced self.old irs.0 mss }
     {
         self.irs = irs;
@@ -132,7 +144,7 @@ impl SendHalf {
     /// memory the half is as it was.
     pub fn queue(&mut self, bytes: &[u8]) -> Result<(), NoMemory>
         requires unfinished { self.old.finished ≡ false }
-        requires fits { self.old.total + length bytes.now ≤ 2 ^ 30 }
+        requires fits { self.old.total + length bytes.now ≤ MAX_STREAM_BYTES }
         ensures ok { OnOk result (self.new ≡ queued_too self.old bytes.now) }
         ensures err { OnErr result (self.new ≡ self.old) }
     {
@@ -199,6 +211,7 @@ impl SendHalf {
         ensures piece { result ≡ next_piece self.old }
         ensures after { self.new ≡ after_next self.old }
         ensures part { IfSome result (λ p. IsQueued self.new p) }
+        ensures small { IfSome result (λ p. p.len ≤ MAX_SEGMENT_DATA) }
     {
         if self.nxt == 0 {
             self.nxt = 1;
@@ -242,6 +255,7 @@ impl SendHalf {
         ensures piece { result ≡ resent_piece self.old }
         ensures after { self.new ≡ after_resend self.old }
         ensures part { IfSome result (λ p. IsQueued self.new p) }
+        ensures small { IfSome result (λ p. p.len ≤ MAX_SEGMENT_DATA) }
     {
         if self.una == 0 {
             self.nxt = self.nxt.max(1);
@@ -300,11 +314,20 @@ impl SendHalf {
         1 + self.total + self.finished as u32
     }
 
-    /// How many symbols the peer's window leaves.
+    /// How many symbols the peer has room for that may be on their way, SND.UNA =< symbol < SND.UNA + room.
+    #[tactic(auto, unfolding(crate::specs::Send::peer_room))]
+    fn peer_room(&self) -> u32
+        ensures value { result ≡ peer_room self.now }
+        ensures bound { result ≤ 65535 }
+    {
+        self.wnd as u32
+    }
+
+    /// How many symbols may be sent before more are acknowledged.
     fn left(&self) -> u32
         ensures { result ≡ left self.now }
     {
-        (self.una + self.wnd as u32).saturating_sub(self.nxt)
+        (self.una + self.peer_room()).saturating_sub(self.nxt)
     }
 
     /// How many bytes are not sent.
@@ -346,6 +369,20 @@ impl SendHalf {
         ensures { result ≡ not (is_clear self.now) }
     {
         !self.clear()
+    }
+
+    /// The sequence number of the SYN, ISS.
+    pub fn iss(&self) -> Seq
+        ensures { result.0 ≡ self.now.iss }
+    {
+        self.iss
+    }
+
+    /// The sequence number of the peer's SYN, IRS, as `make`, `peer` or `restore` had it.
+    pub fn irs(&self) -> Seq
+        ensures { result.0 ≡ self.now.irs }
+    {
+        self.irs
     }
 
     /// The bytes queued since the connection began, at most 2^30.

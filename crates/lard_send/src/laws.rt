@@ -1,6 +1,6 @@
-//! What holds of all bytes that were queued over a connection, which no half keeps.
+//! What holds of all bytes that were queued over a connection, which no half keeps, and of all that is sent.
 
-ghost use Rattle.lard_send.specs.Send.{QueueingKeepsThePart, AckKeepsThePart, SendingKeepsThePart, PiecesAreParts};
+ghost use Rattle.lard_send.specs.Send.{QueueingKeepsThePart, AckKeepsThePart, SendingKeepsThePart, PiecesAreParts, FirstsAreAllowed};
 
 /// What `fill` writes is the part of all queued bytes that stands at the piece's place.
 pub fn pieces_are_parts_of_the_queue()
@@ -8,4 +8,9 @@ pub fn pieces_are_parts_of_the_queue()
     ensures acknowledging { AckKeepsThePart }
     ensures sending { SendingKeepsThePart }
     ensures pieces { PiecesAreParts }
+{}
+
+/// What is sent for the first time lies below UNA plus the peer's window, and fits a segment of the peer.
+pub fn firsts_stay_in_the_window()
+    ensures { FirstsAreAllowed }
 {}

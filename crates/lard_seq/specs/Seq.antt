@@ -1,5 +1,5 @@
 -- Sequence numbers are counted modulo 2^32 (RFC 9293, 3.4).
-use Rattle.std.specs.Prelude.{◌≡◌, ℕ, ◌+◌, ◌-◌, ◌%◌, ◌^◌, ◌<◌}
+use Rattle.std.specs.Prelude.{◌≡◌, ℕ, ◌+◌, ◌-◌, ◌%◌, ◌^◌, ◌<◌, Bool, true, false}
 
 -- the number that is n after b
 abbrev pub seq_add : ℕ → ℕ → ℕ
@@ -8,6 +8,11 @@ seq_add b n = (b + n) % 2 ^ 32
 -- how far s is after b, for two sequence numbers
 abbrev pub seq_offset : ℕ → ℕ → ℕ
 seq_offset s b = (s + 2 ^ 32 - b) % 2 ^ 32
+
+-- how many numbers a SYN or a FIN takes, where there is one
+abbrev pub one_if : Bool → ℕ
+one_if true = 1
+one_if false = 0
 
 -- The four laws by which callers count in offsets.
 abbrev pub OffsetIsWhatWasAdded : Type 0

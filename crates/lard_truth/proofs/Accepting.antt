@@ -9,9 +9,10 @@ use Rattle.lard_client.specs.Control.{ClientBlock, is_open_in, is_established}
 use Rattle.lard_client.specs.Arriving.{nothing, reset_by_peer, answers_syn, established, on_greeting, on_segment, heard_open, heard_in, arrived}
 use Rattle.lard_client.specs.Laws.{IsInOrder, IsTrueSegment, IsNextOf}
 use Rattle.lard_client.proofs.Accepted.{arrived-order, arrived-ended}
-use Rattle.lard_client.proofs.Outcomes.{Outcome, Quiet, Took, segment-outcome, irs-after_ack}
+use Rattle.lard_client.proofs.Outcomes.{Outcome, Quiet, Took, segment-outcome}
 use Rattle.lard_client.proofs.TrueSegments.{true-accepted}
 use Rattle.lard_segment.specs.Segment.{Said}
+use Rattle.lard_send.proofs.Sent.{after_ack-irs}
 use Rattle.lard_send.specs.Send.{introduced}
 use Rattle.lard_seq.specs.Seq.{seq_add}
 use Rattle.lard_truth.specs.Truth.{Stream, IsStream, IsBare, Stands, IsTrueOf, Accepts}
@@ -40,7 +41,7 @@ greeting-takes x b s z a greets =
     cond_both (not (answers_syn b s)) (nothing, b) (cond s.flags.rst (nothing, reset_by_peer b) synced) P (λ t. none b refl refl (λ e. absurd (unknown e)))
     (λ t. cond_both s.flags.rst (nothing, reset_by_peer b) synced P (λ u. none (reset_by_peer b) refl refl (λ e. absurd (unknown e)))
     (λ u. cond_both s.flags.syn (nothing, established b s) (nothing, b) P
-    (λ v. none (established b s) refl refl (λ e. irs-after_ack (introduced b.send s.seq (peer_mss s.mss)) s.ack s.seq s.wnd ∙ greets v))
+    (λ v. none (established b s) refl refl (λ e. after_ack-irs (introduced b.send s.seq (peer_mss s.mss)) s.ack s.seq s.wnd ∙ greets v))
     (λ v. none b refl refl (λ e. absurd (unknown e)))))
 
 -- ---- once it is established

@@ -6,9 +6,9 @@ use Rattle.lard_arrival.specs.Arrival.{IsPartAt}
 use Rattle.lard_segment.specs.declared.segment.Flags.{Flags}
 use Rattle.lard_segment.specs.Segment.{Said, IsSendable}
 use Rattle.lard_send.specs.declared.piece.Piece.{Piece}
-use Rattle.lard_send.specs.Send.{Sending, IsSending, one_if, symbols, acknowledged_bytes, syn_piece, byte_piece, left, unsent_bytes, may_send, next_len, next_fin, next_piece, again_len, again_fin, resent_piece}
+use Rattle.lard_send.specs.Send.{Sending, IsSending, symbols, acknowledged_bytes, syn_piece, byte_piece, left, unsent_bytes, may_send, next_len, next_fin, next_piece, again_len, again_fin, resent_piece}
 use Rattle.lard_send.proofs.Unacknowledged.{pieces}
-use Rattle.lard_seq.specs.Seq.{seq_add}
+use Rattle.lard_seq.specs.Seq.{one_if, seq_add}
 use Rattle.lard_truth.specs.Truth.{Stream, IsTrueOf, Speaks, stream_of}
 use Rattle.lard_truth.proofs.Speaking.{one_small}
 

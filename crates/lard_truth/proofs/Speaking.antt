@@ -2,9 +2,9 @@
 use Rattle.std.proofs.Common.{◌≡◌, ◌≤◌, ◌<◌, ◌+◌, ◌-◌, ◌^◌, ℕ, Bool, true, false, cond, max, nat_lt, ◌==◌, ◌&&◌, ◌||◌, List, [], ◌++◌, length, drop, arith, ap, sym, subst, refl, append-nil}
 use Rattle.std.proofs.lemmas.Bool.{cond_both}
 use Rattle.lard_endpoint.proofs.Sound.{after_ack-sound, after_next-sound, after_resend-sound, queued-sound}
-use Rattle.lard_send.specs.Send.{Sending, IsSending, IsUnacknowledgedPart, begun, introduced, queued_too, closed, one_if, symbols, moved_up, is_newer, windowed, after_ack, may_send, next_len, next_fin, after_next, after_resend}
+use Rattle.lard_send.specs.Send.{Sending, IsSending, IsUnacknowledgedPart, begun, introduced, queued_too, closed, symbols, moved_up, is_newer, windowed, after_ack, may_send, next_len, next_fin, after_next, after_resend}
 use Rattle.lard_send.proofs.Unacknowledged.{kept-queued, kept-ack, kept-next, kept-resend}
-use Rattle.lard_seq.specs.Seq.{seq_offset}
+use Rattle.lard_seq.specs.Seq.{one_if, seq_offset}
 use Rattle.lard_truth.specs.Truth.{Stream, IsStream, GoesOn, Speaks, stream_of}
 use Rattle.lard_truth.proofs.Growth.{goes_on-equal}
 

@@ -9,11 +9,9 @@ use super::Client;
 use crate::heard::Heard;
 use crate::phase::Phase;
 use lard_arrival::{bare, is_acceptable, is_allowed, peer_mss};
+use lard_base::limits::MAX_STREAM_BYTES;
 use lard_segment::Segment;
 use lard_send::Ack;
-
-/// The most bytes that come over one connection.
-const MOST: u32 = 1 << 30;
 
 impl Client {
     /// Takes a segment, and says which part of its data was accepted. The reply, which `emit` never gives, is to be sent
@@ -55,7 +53,7 @@ impl Client {
         Heard::nothing()
     }
 
-    /// Takes a segment while the client's SYN is not acknowledged.
+    /// RFC 9293, 3.10.7.3, while the client's SYN is not acknowledged: check the ACK, the RST and the SYN bit.
     fn on_greeting(&mut self, segment: &Segment<'_>) -> Heard
         requires { self.old.send.una ≡ 0 }
         ensures { (result, self.new) ≡ on_greeting self.old (said segment.now) }
@@ -77,7 +75,7 @@ impl Client {
     fn answers_syn(&self, segment: &Segment<'_>) -> bool
         ensures { result ≡ answers_syn self.now (said segment.now) }
     {
-        segment.flags.ack && (segment.ack.offset_from(self.isn) == 1 && 0 < self.send.nxt())
+        segment.flags.ack && (segment.ack.offset_from(self.send.iss()) == 1 && 0 < self.send.nxt())
     }
 
     /// Takes the cluster's SYN, which acknowledges the client's.
@@ -85,13 +83,12 @@ impl Client {
         requires { self.old.send.una ≡ 0 }
         ensures { self.new ≡ established self.old (said segment.now) }
     {
-        self.irs = segment.seq;
         self.send.peer(segment.seq, peer_mss(segment.mss));
         let _ack = self.send.ack(segment.ack, segment.seq, segment.wnd);
         self.owed = true;
     }
 
-    /// First: check sequence number.
+    /// RFC 9293, 3.10.7.4, first: check sequence number.
     fn on_segment(&mut self, segment: &Segment<'_>) -> Heard
         ensures { (result, self.new) ≡ on_segment self.old (said segment.now) }
     {
@@ -101,8 +98,8 @@ impl Client {
         self.on_unacceptable(segment)
     }
 
-    /// Owes an ACK for a segment that is not acceptable, unless it has RST. At a window of 0 the ACK of one that begins
-    /// at RCV.NXT is taken all the same.
+    /// RFC 9293, 3.10.7.4, first, for a segment that is not acceptable: an ACK is owed, unless it is a reset. At a window
+    /// of 0 a valid ACK of one is taken.
     fn on_unacceptable(&mut self, segment: &Segment<'_>) -> Heard
         ensures { (result, self.new) ≡ on_unacceptable self.old (said segment.now) }
     {
@@ -116,7 +113,7 @@ impl Client {
         Heard::nothing()
     }
 
-    /// Second: check the RST bit.
+    /// RFC 9293, 3.10.7.4, second: check the RST bit. The third, on security, has nothing to check here.
     fn on_rst(&mut self, segment: &Segment<'_>) -> Heard
         ensures { (result, self.new) ≡ on_rst self.old (said segment.now) }
     {
@@ -131,7 +128,7 @@ impl Client {
         Heard::nothing()
     }
 
-    /// Fourth: check the SYN bit.
+    /// RFC 9293, 3.10.7.4, fourth: check the SYN bit.
     fn on_syn(&mut self, segment: &Segment<'_>) -> Heard
         ensures { (result, self.new) ≡ on_syn self.old (said segment.now) }
     {
@@ -142,7 +139,7 @@ impl Client {
         self.on_ack(segment)
     }
 
-    /// Fifth: check the ACK field.
+    /// RFC 9293, 3.10.7.4, fifth: check the ACK field. The sixth, on urgent data, is left out: no pointer is read.
     fn on_ack(&mut self, segment: &Segment<'_>) -> Heard
         ensures { (result, self.new) ≡ on_ack self.old (said segment.now) }
     {
@@ -158,7 +155,7 @@ impl Client {
         }
     }
 
-    /// Seventh: process the segment text, and eighth: check the FIN bit.
+    /// RFC 9293, 3.10.7.4, seventh: process the segment text, and eighth: check the FIN bit.
     fn on_text(&mut self, segment: &Segment<'_>) -> Heard
         ensures { (result, self.new) ≡ on_text self.old (said segment.now) }
     {
@@ -210,7 +207,7 @@ impl Client {
     fn room(&self) -> u32
         ensures { result ≡ room self.now }
     {
-        (self.rcv_wnd() as u32).min(MOST - self.accepted)
+        (self.rcv_wnd() as u32).min(MAX_STREAM_BYTES - self.accepted)
     }
 
     /// Accepts so many bytes, and the FIN behind them where `fin` is true, which finishes the client's own side.

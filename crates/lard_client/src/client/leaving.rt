@@ -23,7 +23,7 @@ impl Client {
     /// The next segment that is to be sent, or none: first the SYN; once that is acknowledged bytes and the FIN, at most
     /// a segment and as far as the cluster's window allows; else an ACK where one is owed. A client that was aborted or
     /// reset gives none.
-    #[tactic(auto, using(crate::proofs::Writable::writable_piece, crate::proofs::Writable::short_next, crate::proofs::Emitting::told_falls))]
+    #[tactic(auto, using(crate::proofs::Writable::writable_piece, crate::proofs::Emitting::told_falls))]
     pub fn emit(&mut self) -> Option<Ready>
         ensures ready { result ≡ emitted self.old }
         ensures after { self.new ≡ after_emit self.old }
@@ -35,8 +35,7 @@ impl Client {
         if !self.is_open() {
             return None;
         }
-        // What holds of the sending half bounds the piece.
-        let _written = self.written();
+        self.law();
         match self.send.next() {
             Some(piece) => return Some(self.tell(piece)),
             None => return self.tell_owed(),
@@ -45,7 +44,7 @@ impl Client {
 
     /// What the timer sends again, or none: the SYN while it is not acknowledged; else the sent symbols from the first
     /// that is not acknowledged, at most a segment; where all are, one symbol beyond the window.
-    #[tactic(auto, using(crate::proofs::Writable::writable_piece, crate::proofs::Writable::short_resent, crate::proofs::Emitting::resent_some))]
+    #[tactic(auto, using(crate::proofs::Writable::writable_piece, lard_send::proofs::Sent::resent_some))]
     pub fn timer(&mut self) -> Option<Ready>
         ensures ready { result ≡ timed self.old }
         ensures after { self.new ≡ after_timer self.old }
@@ -57,8 +56,7 @@ impl Client {
         if !self.is_open() {
             return None;
         }
-        // What holds of the sending half bounds the piece.
-        let _written = self.written();
+        self.law();
         match self.send.resend() {
             Some(piece) => return Some(self.tell(piece)),
             None => return None,
@@ -133,7 +131,7 @@ impl Client {
         ensures { result ≡ syn_ready self.now }
     {
         Ready {
-            seq: self.isn,
+            seq: self.send.iss(),
             ack: Seq(0),
             flags: Flags { syn: true, ..BARE },
             wnd: self.rcv_wnd(),
@@ -148,7 +146,7 @@ impl Client {
         ensures { result ≡ data_ready self.now piece }
     {
         Ready {
-            seq: self.isn.add(1).add(piece.at),
+            seq: self.send.iss().add(1).add(piece.at),
             ack: self.rcv_nxt(),
             flags: Flags {
                 ack: true,

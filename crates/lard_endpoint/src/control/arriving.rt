@@ -21,24 +21,24 @@ pub enum Arrival {
 }
 
 impl Endpoint {
-    /// Takes a segment of the peer.
+    /// Takes a segment of the peer. RFC 9293, 3.10.7.4, first: check sequence number.
     pub fn arrive(&mut self, segment: &Segment<'_>) -> Arrival
         ensures { (result, self.new) ≡ on_segment self.old (said segment.now) }
     {
-        // RFC 9293, 3.10.7.4, first: check sequence number
         if is_acceptable(segment, self.recv.next(), self.recv.window()) {
             return self.on_rst(segment);
         }
         self.on_unacceptable(segment)
     }
 
-    /// Answers a segment that is not acceptable, unless it is a reset. At a window of 0 it takes a valid ACK of one.
+    /// RFC 9293, 3.10.7.4, first, for a segment that is not acceptable: an ACK is owed, unless it is a reset. At a window
+    /// of 0 a valid ACK of one is taken.
     fn on_unacceptable(&mut self, segment: &Segment<'_>) -> Arrival
         ensures { (result, self.new) ≡ on_unacceptable self.old (said segment.now) }
     {
         if is_allowed(segment, self.recv.next(), self.recv.window()) {
             self.owe();
-            let _fine = self.on_ack(&bare(segment));
+            let _arrival = self.on_ack(&bare(segment));
             return Arrival::AckOwed;
         }
         if segment.flags.rst {
@@ -48,7 +48,7 @@ impl Endpoint {
         Arrival::AckOwed
     }
 
-    // RFC 9293, 3.10.7.4, second: check the RST bit
+    /// RFC 9293, 3.10.7.4, second: check the RST bit. The third, on security, has nothing to check here.
     fn on_rst(&mut self, segment: &Segment<'_>) -> Arrival
         ensures { (result, self.new) ≡ on_rst self.old (said segment.now) }
     {
@@ -63,7 +63,7 @@ impl Endpoint {
         Arrival::AckOwed
     }
 
-    // RFC 9293, 3.10.7.4, fourth: check the SYN bit
+    /// RFC 9293, 3.10.7.4, fourth: check the SYN bit.
     fn on_syn(&mut self, segment: &Segment<'_>) -> Arrival
         ensures { (result, self.new) ≡ on_syn self.old (said segment.now) }
     {
@@ -74,7 +74,7 @@ impl Endpoint {
         self.on_ack(segment)
     }
 
-    // RFC 9293, 3.10.7.4, fifth: check the ACK field
+    /// RFC 9293, 3.10.7.4, fifth: check the ACK field. The sixth, on urgent data, is left out: no pointer is read.
     fn on_ack(&mut self, segment: &Segment<'_>) -> Arrival
         ensures { (result, self.new) ≡ on_ack self.old (said segment.now) }
     {
@@ -100,7 +100,7 @@ impl Endpoint {
         self.on_text(segment)
     }
 
-    // RFC 9293, 3.10.7.4, seventh: process the segment text, and eighth: check the FIN bit
+    /// RFC 9293, 3.10.7.4, seventh: process the segment text, and eighth: check the FIN bit.
     fn on_text(&mut self, segment: &Segment<'_>) -> Arrival
         ensures { (result, self.new) ≡ on_text self.old (said segment.now) }
     {

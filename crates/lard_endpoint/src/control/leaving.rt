@@ -7,12 +7,10 @@ ghost use Rattle.lard_endpoint.specs.Control.{rcv_wnd};
 ghost use Rattle.lard_endpoint.specs.Leaving.{piece_ready, piece_seq, own_mss, ack_ready, told, owes, emitted, after_emit, timed, after_timer, advanced, retried, emits_left, IsReady, filled};
 
 use crate::control::Endpoint;
+use lard_base::limits::MAX_SEGMENT_DATA;
 use lard_segment::{Flags, Ready, Segment};
 use lard_send::Piece;
 use lard_seq::Seq;
-
-/// The maximum segment size that the cluster's SYN names.
-const OWN_MSS: u16 = 1460;
 
 impl Endpoint {
     /// The next segment that is to be sent, which then counts as sent, or none. First comes the SYN; once that is
@@ -24,8 +22,7 @@ impl Endpoint {
         ensures fits { IfSome result (λ r. IsReady self.new r) }
         ensures ends { OnSome result (emits_left self.new < emits_left self.old) }
     {
-        // with what holds of every endpoint each segment brings the end nearer
-        let _total = self.total();
+        self.law();
         if self.reset {
             return None;
         }
@@ -80,9 +77,8 @@ impl Endpoint {
         ensures piece { result ≡ next_piece self.old.send }
         ensures after { self.new ≡ advanced self.old }
         ensures part { IfSome result (λ p. IsQueued self.new.send p) }
-        ensures small { IfSome result (λ p. p.len ≤ 1460) }
+        ensures small { IfSome result (λ p. p.len ≤ MAX_SEGMENT_DATA) }
     {
-        let _total = self.send.total();
         self.send.next()
     }
 
@@ -91,16 +87,15 @@ impl Endpoint {
         ensures piece { result ≡ resent_piece self.old.send }
         ensures after { self.new ≡ retried self.old }
         ensures part { IfSome result (λ p. IsQueued self.new.send p) }
-        ensures small { IfSome result (λ p. p.len ≤ 1460) }
+        ensures small { IfSome result (λ p. p.len ≤ MAX_SEGMENT_DATA) }
     {
-        let _total = self.send.total();
         self.send.resend()
     }
 
     /// The segment of a piece, which tells the window and ends what is owed.
     fn told_by(&mut self, piece: Piece) -> Ready
         requires part { IsQueued self.old.send piece }
-        requires small { piece.len ≤ 1460 }
+        requires small { piece.len ≤ MAX_SEGMENT_DATA }
         ensures ready { result ≡ piece_ready self.old piece }
         ensures after { self.new ≡ told self.old }
         ensures fits { IsReady self.new result }
@@ -137,10 +132,10 @@ impl Endpoint {
         ensures { result.0 ≡ piece_seq self.now piece }
     {
         if piece.syn {
-            return self.iss;
+            return self.send.iss();
         }
-        let _total = self.total();
-        self.iss.add(1 + piece.at)
+        self.law();
+        self.send.iss().add(1 + piece.at)
     }
 
     /// An ACK without data.
@@ -148,7 +143,7 @@ impl Endpoint {
         ensures { result ≡ ack_ready self.now }
     {
         Ready {
-            seq: self.iss.add(self.send.nxt()),
+            seq: self.send.iss().add(self.send.nxt()),
             ack: self.recv.next(),
             flags: Flags {
                 syn: false,
@@ -191,5 +186,5 @@ impl Endpoint {
 fn own_mss(syn: bool) -> Option<u16>
     ensures { result ≡ own_mss syn }
 {
-    if syn { Some(OWN_MSS) } else { None }
+    if syn { Some(MAX_SEGMENT_DATA) } else { None }
 }

@@ -6,7 +6,8 @@ ghost use Rattle.lard_base.specs.declared.place.Reason.TheVariants.{Limit};
 ghost use Rattle.lard_endpoint.specs.Control.{rcv_nxt, snd_nxt};
 ghost use Rattle.lard_endpoint.specs.Moving.{may_freeze, parts_of, adopted, is_closed, may_end, final_of, end_reason};
 
-use crate::control::{Endpoint, WHOLE_WINDOW};
+use crate::control::Endpoint;
+use lard_base::limits::RECEIVE_WINDOW;
 use lard_base::{Bytes, EndpointParts, NoMemory, Reason};
 use lard_recv::RecvHalf;
 use lard_send::SendHalf;
@@ -52,13 +53,10 @@ impl Endpoint {
         let irs = Seq(parts.irs);
         let recv = RecvHalf::restore(alloc, irs, parts.got, parts.fin, parts.unread.as_slice())?;
         Ok(Endpoint {
-            irs,
-            iss: Seq(parts.iss),
             recv,
             send: SendHalf::restore(alloc, parts),
-            discarding: false,
             owed: true,
-            last_window: WHOLE_WINDOW,
+            last_window: RECEIVE_WINDOW as u16,
             reset: false,
         })
     }
@@ -68,7 +66,7 @@ impl Endpoint {
     pub fn can_freeze(&self) -> bool
         ensures { result ≡ may_freeze self.now }
     {
-        (self.send.clear() && !self.send.finished()) && (!self.discarding && !self.reset)
+        (self.send.clear() && !self.send.finished()) && (!self.recv.discarding() && !self.reset)
     }
 
     /// Stands still from now on.
@@ -107,17 +105,15 @@ impl Endpoint {
         (self.send.finished() && self.send.clear()) && self.recv.finished()
     }
 
+    /// Takes the endpoint apart, which ends it, and keeps its last numbers.
     fn spend(self, reason: Reason) -> Final
         ensures { result ≡ final_of self reason }
     {
-        let snd = self.iss.add(self.send.nxt());
+        let snd = self.send.iss().add(self.send.nxt());
         let rcv = self.recv.next();
         let Endpoint {
-            irs: _,
-            iss: _,
             recv: _,
             send: _,
-            discarding: _,
             owed: _,
             last_window: _,
             reset: _,
@@ -135,11 +131,11 @@ impl Frozen {
         ensures valid { IfOk result (λ parts. IsValidParts parts) }
     {
         let endpoint = &self.endpoint;
-        let _sound = endpoint.total();
+        endpoint.law();
         let unread = Bytes::from_slice(alloc, endpoint.recv.unread())?;
         Ok(EndpointParts {
-            irs: endpoint.irs.0,
-            iss: endpoint.iss.0,
+            irs: endpoint.recv.irs().0,
+            iss: endpoint.send.iss().0,
             got: endpoint.recv.got(),
             fin: endpoint.recv.finished(),
             una: endpoint.send.una(),
