@@ -28,7 +28,7 @@ pub const MAX_FILE_BYTES: usize = 1 << 20;
 pub const MAX_ALL_FILES_BYTES: usize = 1 << 26;
 
 /// The most files.
-pub const MAX_FILES: usize = 1_024;
+pub const MAX_FILES: usize = 65_536;
 
 /// The most bytes of a schedule.
 pub const MAX_INPUT_BYTES: usize = 1 << 26;
