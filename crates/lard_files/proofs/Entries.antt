@@ -46,15 +46,16 @@ total-added files path bytes = omega (arith, sum_by-append (λ f. length f.1) fi
 -- what a file that passes the check knows
 pub record IsAllowed (files : List (List ℕ × List ℕ)) (path : List ℕ) (len : ℕ) : Type 0 where
   pub absent : file_at files path ≡ None
+  pub short : len ≤ 2 ^ 20
   pub fits : total files + len ≤ 2 ^ 26
 
 pub allowed : (files : List (List ℕ × List ℕ)) (path : List ℕ) (len : ℕ) → add_check files path len ≡ Ok tt → IsAllowed files path len
-allowed files path len = go (file_at files path) (nat_lt (2 ^ 20) len) (nat_lt 65536 (length files + 1)) (nat_lt (2 ^ 26) (total files + len)) refl refl where
-  go : (o : Option (List ℕ)) (b c d : Bool) → file_at files path ≡ o → nat_lt (2 ^ 26) (total files + len) ≡ d
+allowed files path len = go (file_at files path) (nat_lt (2 ^ 20) len) (nat_lt 65536 (length files + 1)) (nat_lt (2 ^ 26) (total files + len)) refl refl refl where
+  go : (o : Option (List ℕ)) (b c d : Bool) → file_at files path ≡ o → nat_lt (2 ^ 20) len ≡ b → nat_lt (2 ^ 26) (total files + len) ≡ d
       → cond {A = Result (Unit {0}) FileFault} (is_some o) (Err Repeated) (cond b (Err (TooLong len)) (cond c (Err (TooMany (length files + 1))) (cond d (Err (TooMuch (total files + len))) (Ok tt)))) ≡ Ok tt
       → IsAllowed files path len
-  go (Some x) b c d e f h = cc
-  go None true c d e f h = cc
-  go None false true d e f h = cc
-  go None false false true e f h = cc
-  go None false false false e f h = record { absent = e; fits = grind (arith, nat_tests, f) }
+  go (Some x) b c d e s f h = cc
+  go None true c d e s f h = cc
+  go None false true d e s f h = cc
+  go None false false true e s f h = cc
+  go None false false false e s f h = record { absent = e; short = grind (arith, nat_tests, s); fits = grind (arith, nat_tests, f) }

@@ -1,9 +1,9 @@
 -- What a look-up finds once a file is added.
-use Rattle.std.proofs.Common.{◌≡◌, ◌≢◌, ◌≤◌, length, arith, ℕ, Bool, true, false, List, [], ◌∷◌, ◌++◌, Option, Some, None, cond, refl, ap}
+use Rattle.std.proofs.Common.{◌≡◌, ◌≢◌, ℕ, Bool, true, false, List, [], ◌∷◌, ◌++◌, Option, Some, None, All, cond, refl, sym, ap, subst}
 use Rattle.std.proofs.lemmas.Slice.Eq.{bytes_eq-Decides}
-use Rattle.std.proofs.lemmas.List.Sums.{sum_by-cons}
+use Rattle.std.proofs.lemmas.List.Elements.{All-head, All-tail}
 use Rattle.std.specs.Str.{bytes_eq}
-use Rattle.lard_files.specs.Files.{file_at, total}
+use Rattle.lard_files.specs.Files.{IsFile, file_at}
 
 -- a path is equal to itself, and a test of another is false
 same : (q : List ℕ) → bytes_eq q q ≡ true
@@ -29,10 +29,13 @@ pub others_stay : (files : List (List ℕ × List ℕ)) (path bytes other : List
 others_stay [] path bytes other n = ap (λ b. cond {A = Option (List ℕ)} b (Some bytes) None) (differs other path n)
 others_stay (f ∷ files) path bytes other n = ap (λ o. cond {A = Option (List ℕ)} (bytes_eq other f.0) (Some f.1) o) (others_stay files path bytes other n)
 
--- a file that is found is one of those whose lengths are added up
-pub file-within : (files : List (List ℕ × List ℕ)) (path bytes : List ℕ) → file_at files path ≡ Some bytes → length bytes ≤ total files
-file-within [] path bytes h = cc
-file-within (f ∷ files) path bytes h = go (file-within files path bytes) (bytes_eq path f.0) h where
-  go : (file_at files path ≡ Some bytes → length bytes ≤ total files) → (b : Bool) → cond {A = Option (List ℕ)} b (Some f.1) (file_at files path) ≡ Some bytes → length bytes ≤ total (f ∷ files)
-  go later true e = let same : length f.1 ≡ length bytes = let k : f.1 ≡ bytes = cc in ap length k in omega (arith, same, sum_by-cons (λ (g : List ℕ × List ℕ). length g.1) f files)
-  go later false e = omega (arith, later e, sum_by-cons (λ (g : List ℕ × List ℕ). length g.1) f files)
+-- a file that is found is one that may be kept
+pub file-kept : (files : List (List ℕ × List ℕ)) (path bytes : List ℕ) → All IsFile files → file_at files path ≡ Some bytes → IsFile (path, bytes)
+file-kept [] path bytes all h = cc
+file-kept (f ∷ files) path bytes all h = go (file-kept files path bytes (All-tail IsFile f files all)) (bytes_eq path f.0) refl h where
+  go : (file_at files path ≡ Some bytes → IsFile (path, bytes)) → (b : Bool) → bytes_eq path f.0 ≡ b → cond {A = Option (List ℕ)} b (Some f.1) (file_at files path) ≡ Some bytes → IsFile (path, bytes)
+  go later true is e =
+      let key : path ≡ f.0 = (bytes_eq-Decides path f.0).0 is in
+      let value : f.1 ≡ bytes = cc in
+      subst (λ p. IsFile (p, bytes)) (sym key) (subst (λ b. IsFile (f.0, b)) value (All-head IsFile f files all))
+  go later false is e = later e

@@ -1,8 +1,9 @@
 -- The files of a run: pairs of a path and its bytes, in the order in which they were added, and which may be added.
-use Rattle.std.specs.Prelude.{◌≡◌, ℕ, ◌+◌, ◌^◌, Bool, List, map, length, sum_by, Option, is_some, Result, Ok, Err, Vec, nat_lt, if◌then◌else◌}
+use Rattle.std.specs.Prelude.{◌≡◌, ℕ, ◌+◌, ◌≤◌, Bool, List, map, length, sum_by, Option, is_some, Result, Ok, Err, Vec, nat_lt, if◌then◌else◌}
 use Rattle.std.specs.declared.alloc.Global.{Global}
 use Rattle.std.specs.Str.{bytes_eq}
 use Rattle.std.specs.Map.{lookup}
+use Rattle.lard_base.specs.declared.limits.TheConstants.{MAX_ALL_FILES_BYTES, MAX_FILES, MAX_FILE_BYTES, MAX_PATH_BYTES}
 use Rattle.lard_files.specs.declared.fault.FileFault.{FileFault}
 use Rattle.lard_files.specs.declared.fault.FileFault.TheVariants.{Repeated, TooLong, TooMany, TooMuch, NoMemory}
 
@@ -18,13 +19,25 @@ file_at files path = lookup (bytes_eq path) files
 abbrev pub total : List (List ℕ × List ℕ) → ℕ
 total files = sum_by (λ f. length f.1) files
 
+-- a path that a file may have: 1 to 1,024 bytes
+abbrev pub IsPath : List ℕ → Type 0
+IsPath path = (1 ≤ length path) × (length path ≤ MAX_PATH_BYTES)
+
+-- the bytes that a file may have: at most 2^20
+abbrev pub IsContent : List ℕ → Type 0
+IsContent bytes = length bytes ≤ MAX_FILE_BYTES
+
+-- a file that may be kept
+abbrev pub IsFile : List ℕ × List ℕ → Type 0
+IsFile (path, bytes) = IsPath path × IsContent bytes
+
 -- the first fault of one more file of len bytes, beside `count` files with `sum` bytes in all; `there` where one of them has its path
 abbrev pub first_fault : Bool → ℕ → ℕ → ℕ → Result (Unit {0}) FileFault
 first_fault there count sum len =
     if there then Err Repeated
-    else if nat_lt (2 ^ 20) len then Err (TooLong len)
-    else if nat_lt 65536 (count + 1) then Err (TooMany (count + 1))
-    else if nat_lt (2 ^ 26) (sum + len) then Err (TooMuch (sum + len))
+    else if nat_lt MAX_FILE_BYTES len then Err (TooLong len)
+    else if nat_lt MAX_FILES (count + 1) then Err (TooMany (count + 1))
+    else if nat_lt MAX_ALL_FILES_BYTES (sum + len) then Err (TooMuch (sum + len))
     else Ok tt
 
 -- whether a file of len bytes may be added under a path

@@ -1,24 +1,17 @@
 //! The map from paths to bytes.
 
 ghost use Rattle.std.specs.Prelude.{◌≡◌, ◌≢◌, ℕ, ◌<◌, ◌≤◌, ◌^◌, List, [], ◌∷◌, ◌++◌, length, OnOk, OnErr, IfSome, option_copied};
-ghost use Rattle.lard_files.specs.Files.{file_at, add_check, Answers, first_fault as first_fault_of};
+ghost use Rattle.lard_files.specs.Files.{file_at, add_check, Answers, IsContent, IsPath, first_fault as first_fault_of};
 
 use crate::fault::FileFault;
 use indexmap::IndexMap;
+use lard_base::limits::{MAX_ALL_FILES_BYTES, MAX_FILE_BYTES, MAX_FILES, MAX_PATH_BYTES};
 use lard_base::{Bytes, NoMemory};
 use std::alloc::Global;
 use std::marker::Model;
 
-/// The most bytes of one file.
-const MOST_BYTES: u64 = 1 << 20;
-
-/// The most files.
-const MOST_FILES: u64 = 65_536;
-
-/// The most bytes of all files together.
-const MOST_IN_ALL: u64 = 1 << 26;
-
-/// Files by their paths, in the order in which they were added.
+/// Files by their paths, in the order in which they were added. Each path has 1 to 1,024 bytes, and each file at most
+/// 2^20.
 #[derive(Drop)]
 pub struct Files {
     files: IndexMap<Vec<u8>, Bytes>,
@@ -26,14 +19,15 @@ pub struct Files {
 }
 
 impl Model for Files {
-    ghost use Rattle.std.specs.Prelude.{ℕ, ◌≡◌, ◌≤◌, ◌^◌, List};
-    ghost use Rattle.lard_files.specs.Files.{shown, total};
+    ghost use Rattle.std.specs.Prelude.{ℕ, ◌≡◌, ◌≤◌, List, All};
+    ghost use Rattle.lard_base.specs.declared.limits.TheConstants.{MAX_ALL_FILES_BYTES};
+    ghost use Rattle.lard_files.specs.Files.{IsFile, shown, total};
 
     ghost Value = { List (List ℕ × List ℕ) };
 
     ghost view = { λ f. shown f.files.entries };
 
-    ghost invariant = { λ f. (f.bytes ≡ total (shown f.files.entries)) × (f.bytes ≤ 2 ^ 26) };
+    ghost invariant = { λ f. (f.bytes ≡ total (shown f.files.entries)) × (f.bytes ≤ MAX_ALL_FILES_BYTES) × All IsFile (shown f.files.entries) };
 }
 
 impl Files {
@@ -52,7 +46,7 @@ impl Files {
     /// 65,536, `TooMuch` with the sum of their lengths above 2^26 bytes, both counted with this one, `NoMemory`.
     pub fn add(&mut self, path: &[u8], bytes: &[u8]) -> Result<(), FileFault>
         requires some_path { 1 ≤ length path.now }
-        requires short_path { length path.now ≤ 1024 }
+        requires short_path { length path.now ≤ MAX_PATH_BYTES }
         ensures answer { Answers (add_check self.old path.now (length bytes.now)) result }
         ensures ok { OnOk result (self.new ≡ self.old ++ (path.now, bytes.now) ∷ []) }
         ensures err { OnErr result (self.new ≡ self.old) }
@@ -66,10 +60,12 @@ impl Files {
         }
     }
 
-    /// The bytes of the file with this path, lent, at most 2^26. `None` where there is no such file.
+    /// The bytes of the file with this path, lent, at most 2^20. `None` where there is no such file, as it is for a path
+    /// that no file may have.
     pub fn get(&self, path: &[u8]) -> Option<&[u8]>
         ensures file { option_copied result ≡ file_at self.now path.now }
-        ensures size { IfSome result (λ bytes. length bytes.now ≤ 2 ^ 26) }
+        ensures short { IfSome result (λ bytes. IsContent bytes.now) }
+        ensures path { IfSome result (λ _. IsPath path.now) }
     {
         match self.files.get(path) {
             Some(bytes) => Some(bytes.as_slice()),
@@ -91,7 +87,8 @@ impl Files {
 
     /// Keeps a file that may be added.
     fn keep(&mut self, path: &[u8], bytes: &[u8]) -> Result<(), NoMemory>
-        requires { add_check self.old path.now (length bytes.now) ≡ Ok tt }
+        requires path { IsPath path.now }
+        requires allowed { add_check self.old path.now (length bytes.now) ≡ Ok tt }
         ensures ok { OnOk result (self.new ≡ self.old ++ (path.now, bytes.now) ∷ []) }
         ensures err { OnErr result (self.new ≡ self.old) }
     {
@@ -108,19 +105,19 @@ impl Files {
 /// one of them has its path.
 fn first_fault(there: bool, count: u64, sum: u64, len: u64) -> Result<(), FileFault>
     requires count_fits { count < 2 ^ 63 }
-    requires sum_fits { sum ≤ 2 ^ 26 }
+    requires sum_fits { sum ≤ MAX_ALL_FILES_BYTES }
     ensures { result ≡ first_fault_of there count sum len }
 {
     if there {
         return Err(FileFault::Repeated);
     }
-    if len > MOST_BYTES {
+    if len > MAX_FILE_BYTES as u64 {
         return Err(FileFault::TooLong(len));
     }
-    if count + 1 > MOST_FILES {
+    if count + 1 > MAX_FILES as u64 {
         return Err(FileFault::TooMany(count + 1));
     }
-    if sum + len > MOST_IN_ALL {
+    if sum + len > MAX_ALL_FILES_BYTES as u64 {
         return Err(FileFault::TooMuch(sum + len));
     }
     Ok(())

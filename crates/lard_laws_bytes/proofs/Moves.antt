@@ -13,7 +13,7 @@ use Rattle.lard_journal.specs.declared.rec.Rec.{Rec}
 use Rattle.lard_machine.specs.declared.machine.Machine.{Machine}
 use Rattle.lard_machine.specs.declared.places.FrontConn.{FrontConn}
 use Rattle.lard_machine.specs.declared.places.Station.{Station}
-use Rattle.lard_net.specs.declared.net.Packet.{Packet}
+use Rattle.lard_net.specs.Net.{Packet}
 use Rattle.lard_laws_bytes.specs.Truthful.{AreFair, ConnAgrees, IsTruthful, MayAccept, Talk}
 use Rattle.lard_laws_bytes.proofs.Later.{AllStay, AllTalkOn, TalksOn, all-later, fair-append, put, put-other, put-same, talks-same}
 

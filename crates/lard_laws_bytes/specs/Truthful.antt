@@ -11,7 +11,7 @@ use Rattle.lard_journal.specs.declared.rec.Rec.TheVariants as rec
 use Rattle.lard_machine.specs.declared.machine.Machine.{Machine}
 use Rattle.lard_machine.specs.declared.places.FrontConn.{FrontConn}
 use Rattle.lard_machine.specs.declared.places.Station.{Station}
-use Rattle.lard_net.specs.declared.net.Packet.{Packet}
+use Rattle.lard_net.specs.Net.{Packet}
 use Rattle.lard_request.specs.declared.verdict.Verdict.{Verdict}
 use Rattle.lard_segment.specs.declared.segment.Dir.TheVariants.{ToClient, ToCluster}
 use Rattle.lard_segment.specs.Segment.{Said, spelled}

@@ -35,8 +35,7 @@ use Rattle.lard_machine.specs.Client.{accepted_note, client_aborts, client_gets,
 use Rattle.lard_machine.specs.Front.{front_gets, front_timer}
 use Rattle.lard_machine.specs.Machine.{acted, client_acted, client_goes_on, env_of, front_acted, front_armed, sent_records, timer_change}
 use Rattle.lard_machine.proofs.Forms.{Forms}
-use Rattle.lard_net.specs.declared.net.Packet.{Packet}
-use Rattle.lard_net.specs.Net.{packet_at}
+use Rattle.lard_net.specs.Net.{Packet, packet_at}
 use Rattle.lard_segment.proofs.Again.{again}
 use Rattle.lard_segment.specs.declared.fault.SegFault.{SegFault}
 use Rattle.lard_segment.specs.declared.segment.Dir.TheVariants.{ToClient, ToCluster}

@@ -12,8 +12,7 @@ use Rattle.lard_journal.specs.declared.rec.Rec.TheVariants as rec
 use Rattle.lard_laws_places.specs.Places.{net_of}
 use Rattle.lard_machine.specs.declared.machine.Machine.{Machine}
 use Rattle.lard_machine.specs.Machine.{IsReached}
-use Rattle.lard_net.specs.declared.net.Packet.{Packet}
-use Rattle.lard_net.specs.Net.{packet_at}
+use Rattle.lard_net.specs.Net.{Packet, packet_at}
 use Rattle.lard_segment.specs.declared.segment.Dir.TheVariants.{ToClient}
 use Rattle.lard_segment.specs.Segment.{Said, decoded}
 use Rattle.lard_seq.specs.Seq.{seq_add}

@@ -31,8 +31,7 @@ use Rattle.lard_machine.specs.Bounds.{HasRule}
 use Rattle.lard_machine.specs.Client.{client_aborts, client_gets, client_holds, client_opens, client_shuts, client_takes, client_timer, client_writes}
 use Rattle.lard_machine.specs.Front.{front_gets, front_timer}
 use Rattle.lard_machine.specs.Machine.{client_acted, client_goes_on, env_of, machine_step, passed, start}
-use Rattle.lard_net.specs.declared.net.Packet.{Packet}
-use Rattle.lard_net.specs.Net.{lose_at, packet_at}
+use Rattle.lard_net.specs.Net.{Packet, lose_at, packet_at}
 use Rattle.lard_segment.specs.declared.segment.Dir.TheVariants.{ToClient, ToCluster}
 use Rattle.lard_segment.specs.Segment.{decoded}
 

@@ -15,8 +15,7 @@ use Rattle.lard_laws_places.specs.Places.{IsNetOf, goal_in, lost_in, net_of, net
 use Rattle.lard_laws_places.proofs.Lookups.{goal_lost, goal_push, lost_lost, lost_push}
 use Rattle.lard_machine.specs.Machine.{Act, packet_of, packets_of, records, sent_records, timer_change}
 use Rattle.lard_machine.specs.declared.machine.Machine.{Machine}
-use Rattle.lard_net.specs.declared.net.Packet.{Packet}
-use Rattle.lard_net.specs.Net.{lose_at, packet_at}
+use Rattle.lard_net.specs.Net.{Packet, lose_at, packet_at}
 use Rattle.lard_net.proofs.Packets.{bytes_pushed, lost_bytes, lost_length}
 
 -- a journal of these packets, and of so many bytes of responses

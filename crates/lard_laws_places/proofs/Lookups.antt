@@ -3,8 +3,7 @@ use Rattle.std.proofs.Common.{◌≡◌, ℕ, zero, suc, ◌+◌, ◌-◌, List,
 use Rattle.std.proofs.lemmas.Bool.Decides.{nat_tests}
 use Rattle.std.specs.Prelude.{slice_get}
 use Rattle.lard_laws_places.specs.Places.{goal_in, lost_in}
-use Rattle.lard_net.specs.declared.net.Packet.{Packet}
-use Rattle.lard_net.specs.Net.{lose_at, packet_at}
+use Rattle.lard_net.specs.Net.{Packet, lose_at, packet_at}
 
 next_same : (m n : ℕ) → nat_eq m n ≡ nat_eq (suc m) (suc n)
 next_same m n = grind (arith, nat_tests)

@@ -19,8 +19,7 @@ use Rattle.lard_machine.specs.declared.machine.Machine.{Machine}
 use Rattle.lard_machine.specs.declared.places.FrontConn.{FrontConn}
 use Rattle.lard_machine.specs.Bounds.{IsBounded}
 use Rattle.lard_machine.specs.Machine.{IsReached, Passes, start}
-use Rattle.lard_net.specs.declared.net.Packet.{Packet}
-use Rattle.lard_net.specs.Net.{packet_at}
+use Rattle.lard_net.specs.Net.{Packet, packet_at}
 
 pub reached-holds : Always Holds
 reached-holds config files m r = passes-keep Holds step-holds r.0 (start config files) m r.1 (start-holds config files)

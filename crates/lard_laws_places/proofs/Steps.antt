@@ -20,7 +20,7 @@ use Rattle.lard_machine.specs.declared.machine.Machine.{Machine}
 use Rattle.lard_machine.specs.declared.places.FrontConn.{FrontConn}
 use Rattle.lard_machine.specs.declared.places.Station.{Station}
 use Rattle.lard_machine.specs.Machine.{packets_of, sent_records, timer_change}
-use Rattle.lard_net.specs.declared.net.Packet.{Packet}
+use Rattle.lard_net.specs.Net.{Packet}
 
 -- each connection stands as its tale tells
 abbrev pub AllStand : ℕ → FinMap nat_cmp Station → FinMap nat_cmp FrontConn → List Rec → Type 0

@@ -9,8 +9,7 @@ use Rattle.lard_laws_places.specs.Places.{IsBetween, IsNetOf, Stands}
 use Rattle.lard_machine.specs.declared.machine.Machine.{Machine}
 use Rattle.lard_machine.specs.Bounds.{IsBounded}
 use Rattle.lard_machine.specs.Machine.{IsReached, Passes, start}
-use Rattle.lard_net.specs.declared.net.Packet.{Packet}
-use Rattle.lard_net.specs.Net.{packet_at}
+use Rattle.lard_net.specs.Net.{Packet, packet_at}
 
 -- it is so in every state that events lead to
 abbrev pub Always : (Machine → Type 0) → Type 0

@@ -14,8 +14,7 @@ use Rattle.lard_journal.specs.declared.rec.Rec.TheVariants as rec
 use Rattle.lard_machine.specs.declared.places.FrontConn.{FrontConn}
 use Rattle.lard_machine.specs.declared.places.FrontConn.TheVariants.{Held, Lent, Closed}
 use Rattle.lard_machine.specs.declared.places.Station.{Station}
-use Rattle.lard_net.specs.declared.net.Packet.{Packet}
-use Rattle.lard_net.specs.Net.{bytes_in, lose_at, packet_at}
+use Rattle.lard_net.specs.Net.{Packet, bytes_in, lose_at, packet_at}
 
 -- ---- clients
 

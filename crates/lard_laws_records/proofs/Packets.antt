@@ -15,8 +15,7 @@ use Rattle.lard_laws_bytes.proofs.Later.{fair-packet as sent-fair}
 use Rattle.lard_laws_bytes.specs.Truthful.{AreFair, ConnAgrees, IsFair, IsTruthful}
 use Rattle.lard_machine.specs.declared.machine.Machine.{Machine}
 use Rattle.lard_machine.specs.declared.places.Station.{Station}
-use Rattle.lard_net.specs.declared.net.Packet.{Packet}
-use Rattle.lard_net.specs.Net.{packet_at}
+use Rattle.lard_net.specs.Net.{Packet, packet_at}
 use Rattle.lard_segment.specs.declared.segment.Dir.TheVariants.{ToClient, ToCluster}
 use Rattle.lard_segment.specs.Segment.{Said, decoded}
 use Rattle.lard_segment.proofs.Again.{again}

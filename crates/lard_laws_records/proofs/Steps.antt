@@ -28,8 +28,7 @@ use Rattle.lard_machine.specs.declared.places.Station.{Station}
 use Rattle.lard_machine.specs.declared.places.Turn.{Turn}
 use Rattle.lard_machine.specs.Front.{front_gets, front_timer}
 use Rattle.lard_machine.specs.Machine.{Act, acted, client_acted, client_goes_on, client_put, env_of, front_acted, front_armed, front_put, limit_of, packets_of, passed, records, sent_records, timer_change}
-use Rattle.lard_net.specs.declared.net.Packet.{Packet}
-use Rattle.lard_net.specs.Net.{lose_at}
+use Rattle.lard_net.specs.Net.{Packet, lose_at}
 use Rattle.lard_segment.specs.declared.segment.Dir.TheVariants.{ToClient, ToCluster}
 use Rattle.lard_segment.specs.Segment.{decoded}
 use Rattle.lard_laws_records.specs.Records.{IsGiven}

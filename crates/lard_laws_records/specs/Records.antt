@@ -1,16 +1,17 @@
 -- What a schedule gives to a run, and that all records of the run are in range.
-use Rattle.std.specs.Prelude.{ℕ, ◌≤◌, ◌^◌, List, length, All}
+use Rattle.std.specs.Prelude.{ℕ, ◌≤◌, ◌^◌, List, All}
 use Rattle.hex.specs.Hex.{IsBytes}
 use Rattle.lard_base.specs.declared.config.Config.{Config}
 use Rattle.lard_base.specs.declared.event.Event.{Event}
 use Rattle.lard_base.specs.declared.event.Event.TheVariants as event
+use Rattle.lard_files.specs.Files.{IsContent}
 use Rattle.lard_journal.specs.Range.{IsEventInRange, IsInRange}
 use Rattle.lard_machine.specs.declared.machine.Machine.{Machine}
 use Rattle.lard_machine.specs.Machine.{Passes, start}
 
--- a file of bytes, at most 2^20 of them
+-- a file of bytes, of which there are no more than a file may have
 abbrev pub IsFile : List ℕ × List ℕ → Type 0
-IsFile (path, bytes) = IsBytes bytes × (length bytes ≤ 2 ^ 20)
+IsFile (path, bytes) = IsBytes bytes × IsContent bytes
 
 -- the path of a get is made of bytes
 abbrev pub HasBytes : Event → Type 0

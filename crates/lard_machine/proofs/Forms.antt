@@ -18,8 +18,7 @@ use Rattle.lard_machine.specs.Bounds.{HasRule}
 use Rattle.lard_machine.specs.Client.{client_opens, client_writes, client_shuts, client_holds, client_takes, client_aborts, client_timer, client_gets}
 use Rattle.lard_machine.specs.Front.{front_gets, front_timer}
 use Rattle.lard_machine.specs.Machine.{aborts, client_acted, client_goes_on, delivered, env_of, from_place, front_acted, happens, holds, limit_reached, lost, machine_step, opened, passed, shut, takes, timer, to_client, to_front, to_place, unless_limit, wrote}
-use Rattle.lard_net.specs.declared.net.Packet.{Packet}
-use Rattle.lard_net.specs.Net.{lose_at, packet_at}
+use Rattle.lard_net.specs.Net.{Packet, lose_at, packet_at}
 use Rattle.lard_segment.specs.declared.segment.Dir.TheVariants.{ToClient, ToCluster}
 use Rattle.lard_segment.specs.Segment.{decoded}
 

@@ -26,8 +26,7 @@ use Rattle.lard_machine.specs.declared.places.Turn.{Turn}
 use Rattle.lard_machine.specs.Bounds.{HasRule}
 use Rattle.lard_machine.specs.Client.{client_opens, client_writes, client_shuts, client_holds, client_takes, client_aborts, client_timer, client_gets}
 use Rattle.lard_machine.specs.Front.{FrontEnv, front_gets, front_timer}
-use Rattle.lard_net.specs.declared.net.Packet.{Packet}
-use Rattle.lard_net.specs.Net.{bytes_in, lose_at, packet_at}
+use Rattle.lard_net.specs.Net.{Packet, bytes_in, lose_at, packet_at}
 use Rattle.lard_segment.specs.declared.segment.Dir.TheVariants.{ToClient, ToCluster}
 use Rattle.lard_segment.specs.Segment.{decoded}
 use Rattle.lard_send.specs.Send.{is_clear}

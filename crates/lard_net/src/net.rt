@@ -1,41 +1,50 @@
 //! Every packet that was ever sent, by its number.
 
 ghost use Rattle.std.specs.Prelude.{◌≡◌, ◌+◌, ◌-◌, ◌≤◌, ◌<◌, ◌^◌, [], ◌∷◌, ◌++◌, false, length, slice_get, IfOk, IfSome, OnOk, OnErr};
-ghost use Rattle.std.specs.Option.{option_copied};
-ghost use Rattle.lard_net.specs.Net.{bytes_in, lose_at, packet_at};
+ghost use Rattle.std.specs.Option.{option_copied, option_map};
+ghost use Rattle.lard_net.specs.Net.{IsSized, bytes_in, lent_packet, lose_at, packet_at};
 
 use lard_base::{Bytes, NoMemory, Place};
 use std::alloc::Global;
 use std::marker::Model;
 
-/// A packet that was sent.
-#[derive(Debug, Drop)]
-pub struct Packet {
+/// A packet that was sent, lent.
+#[derive(Debug, Clone, Copy)]
+pub struct Packet<'a> {
     pub from: Place,
     pub to: Place,
-    /// At most 1,520 bytes.
-    pub bytes: Bytes,
+    /// At most 1,520 bytes where one of the places is a client, and else at most 2^21.
+    pub bytes: &'a [u8],
     /// It arrives no more.
     pub lost: bool,
+}
+
+/// A packet as it is kept.
+#[derive(Debug, Drop)]
+struct Kept {
+    from: Place,
+    to: Place,
+    bytes: Bytes,
+    lost: bool,
 }
 
 /// Every packet that was ever sent, in the order of their numbers, which run from 1.
 #[derive(Debug, Drop)]
 pub struct Net {
-    packets: Vec<Packet>,
+    packets: Vec<Kept>,
     bytes: u64,
 }
 
 impl Model for Net {
     ghost use Rattle.std.specs.Prelude.{List, ◌≡◌, ◌<◌, ◌^◌, length};
-    ghost use Rattle.lard_net.specs.declared.net.Packet.{Packet};
-    ghost use Rattle.lard_net.specs.Net.{AreShort, bytes_in};
+    ghost use Rattle.lard_net.specs.Net as net;
+    ghost use Rattle.lard_net.specs.Net.{AreSized, bytes_in, shown};
 
-    ghost Value = { List Packet };
+    ghost Value = { List net.Packet };
 
-    ghost view = { λ n. n.packets.items };
+    ghost view = { λ n. shown n.packets.items };
 
-    ghost invariant = { λ n. AreShort n.packets.items × (n.bytes ≡ bytes_in n.packets.items) × (length n.packets.items < 2 ^ 32) };
+    ghost invariant = { λ n. AreSized (shown n.packets.items) × (n.bytes ≡ bytes_in (shown n.packets.items)) × (length (shown n.packets.items) < 2 ^ 32) };
 }
 
 impl Net {
@@ -49,16 +58,17 @@ impl Net {
         }
     }
 
-    /// Sends a packet of at most 1,520 bytes, and answers its number. Without memory nothing is sent.
+    /// Sends a packet, and answers its number. It has at most 1,520 bytes where one of the places is a client, and else at
+    /// most 2^21. Without memory nothing is sent.
     pub fn send(&mut self, from: Place, to: Place, bytes: Bytes) -> Result<u32, NoMemory>
         requires room { length self.old < 2 ^ 32 - 1 }
-        requires short { length bytes ≤ 1520 }
+        requires sized { IsSized from to (length bytes) }
         ensures number { IfOk result (λ k. k ≡ length self.old + 1) }
         ensures ok { OnOk result (self.new ≡ self.old ++ record { from = from; to = to; bytes = bytes; lost = false } ∷ []) }
         ensures err { OnErr result (self.new ≡ self.old) }
     {
         let len = bytes.len() as u64;
-        self.packets.push(Packet {
+        self.packets.push(Kept {
             from,
             to,
             bytes,
@@ -68,15 +78,21 @@ impl Net {
         Ok(self.packets.len() as u32)
     }
 
-    /// The packet with this number, where it was sent. It has at most 1,520 bytes.
-    pub fn get(&self, k: u32) -> Option<&Packet>
-        ensures packet { option_copied result ≡ packet_at self.now k }
-        ensures short { IfSome result (λ packet. length packet.now.bytes ≤ 1520) }
+    /// The packet with this number, where it was sent, lent. It has no more bytes than may go between its places.
+    pub fn get(&self, k: u32) -> Option<Packet<'_>>
+        ensures packet { option_map lent_packet result ≡ packet_at self.now k }
+        ensures sized { IfSome result (λ packet. IsSized packet.from packet.to (length packet.bytes.now)) }
     {
         if k == 0 {
             return None;
         }
-        at(self.packets.as_slice(), k as usize - 1)
+        let kept = at(self.packets.as_slice(), k as usize - 1)?;
+        Some(Packet {
+            from: kept.from,
+            to: kept.to,
+            bytes: kept.bytes.as_slice(),
+            lost: kept.lost,
+        })
     }
 
     /// From now on the packet with this number, which was sent, arrives no more.
@@ -94,7 +110,7 @@ impl Net {
         self.packets.len() as u32
     }
 
-    /// The bytes of all packets that were sent, below 2^43.
+    /// The bytes of all packets that were sent, below 2^53.
     pub fn bytes(&self) -> u64
         ensures { result ≡ bytes_in self.now }
     {
@@ -102,7 +118,7 @@ impl Net {
     }
 }
 
-fn at(packets: &[Packet], i: usize) -> Option<&Packet>
+fn at(packets: &[Kept], i: usize) -> Option<&Kept>
     ensures { option_copied result ≡ slice_get packets.now i }
 {
     packets.get(i)

@@ -1,7 +1,10 @@
 //! Each public call once.
 
+ghost use Rattle.std.specs.Prelude.{◌≡◌, length, IfOk};
+
 use crate::Net;
-use lard_base::{Bytes, ConnId, Place};
+use lard_base::{Bytes, ConnId, NodeId, Place};
+use std::alloc::{AllocError, Global};
 use std::test::Fail;
 
 #[test]
@@ -21,12 +24,37 @@ fn packets_are_numbered_found_and_lost(rt: HostRuntime) -> Result<(), Fail> {
     assert_eq!(rt; net.bytes(), 8);
     assert!(rt; net.get(0).is_none());
     assert!(rt; net.get(3).is_none());
-    assert!(rt;
-        net.get(1).is_some_and(|packet| packet.lost && packet.bytes.as_slice() == b"one".as_slice())
-    );
-    assert!(rt;
-        net.get(2)
-            .is_some_and(|packet| !packet.lost && packet.to == Place::Front)
-    );
+    let (Some(first), Some(second)) = (net.get(1), net.get(2)) else {
+        return Err(Fail::new("two packets"));
+    };
+    assert_eq!(rt; first.bytes, b"one".as_slice());
+    assert!(rt; first.lost);
+    assert_eq!(rt; second.bytes, b"three".as_slice());
+    assert_eq!(rt; second.to, Place::Front);
+    assert!(rt; !second.lost);
     Ok(())
+}
+
+/// Between places that are no clients there are longer packets than segments.
+#[test]
+fn messages_are_longer_than_segments(rt: HostRuntime) -> Result<(), Fail> {
+    let alloc = rt.alloc();
+    let mut net = Net::new(alloc);
+    let Some(n) = NodeId::new(1) else {
+        return Err(Fail::new("a number in range"));
+    };
+    let message = Bytes::from_vec(filled(alloc, 1_521)?);
+    net.send(Place::Front, Place::Node(n), message)?;
+    let Some(packet) = net.get(1) else {
+        return Err(Fail::new("a packet"));
+    };
+    assert_eq!(rt; packet.bytes.len(), 1_521);
+    assert_eq!(rt; net.bytes(), 1_521);
+    Ok(())
+}
+
+fn filled(alloc: Global, len: usize) -> Result<Vec<u8>, AllocError>
+    ensures { IfOk result (λ bytes. length bytes.items ≡ len) }
+{
+    vec![in alloc; b'x'; len]
 }

@@ -13,8 +13,7 @@ use Rattle.lard_machine.specs.declared.places.FrontConn.{FrontConn}
 use Rattle.lard_machine.specs.declared.places.FrontConn.TheVariants.{Lent}
 use Rattle.lard_machine.specs.declared.places.Station.{Station}
 use Rattle.lard_machine.specs.declared.places.Turn.{Turn}
-use Rattle.lard_net.specs.declared.net.Packet.{Packet}
-use Rattle.lard_net.specs.Net.{lose_at}
+use Rattle.lard_net.specs.Net.{Packet, lose_at}
 use Rattle.lard_table.proofs.Map.{get_inserted, insert_twice}
 use Rattle.lard_world.specs.Lent.{stand_in, without_client, without_conn}
 

@@ -34,7 +34,7 @@ status-size code =
     let f = length-append http digits in
     (omega arith, omega (arith, reason-most code))
 
-length-most : (n : ℕ) → n ≤ 2 ^ 26 → length (length_line n) ≤ 26
+length-most : (n : ℕ) → n ≤ 2 ^ 20 → length (length_line n) ≤ 26
 length-most n h =
     let d : length (decimal n) ≤ 8 = length-decimal-le 8 n (lit≤ tt) (omega arith) (omega arith) in
     omega (arith, length-append (codes "Content-Length: " ++ decimal n) (codes "\r\n"), length-append (codes "Content-Length: ") (decimal n))
@@ -47,7 +47,7 @@ content-most : (body : List ℕ) (b : Bool) → length (content body b) ≤ leng
 content-most body true = omega arith
 content-most body false = omega arith
 
-pub response_fits : (code : Code) (body : List ℕ) (head close : Bool) (bytes : List ℕ) → bytes ≡ response code body head close → length body ≤ 2 ^ 26 → (1 ≤ length bytes) × (length bytes ≤ 2 ^ 27)
+pub response_fits : (code : Code) (body : List ℕ) (head close : Bool) (bytes : List ℕ) → bytes ≡ response code body head close → length body ≤ 2 ^ 20 → (1 ≤ length bytes) × (length bytes ≤ 2 ^ 27)
 unfolding response
 response_fits code body head close bytes e h =
     let line = length_line (length body) in

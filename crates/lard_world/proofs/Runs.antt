@@ -17,7 +17,7 @@ use Rattle.lard_machine.specs.declared.places.FrontConn.{FrontConn}
 use Rattle.lard_machine.specs.declared.places.Station.{Station}
 use Rattle.lard_machine.specs.Bounds.{HasRule}
 use Rattle.lard_machine.specs.Machine.{Steps, machine_step, start}
-use Rattle.lard_net.specs.declared.net.Packet.{Packet}
+use Rattle.lard_net.specs.Net.{Packet}
 use Rattle.lard_machine.proofs.Runs.{reached-more, step-set}
 use Rattle.lard_world.specs.Runs.{IsRun}
 use Rattle.lard_world.specs.World.{is_short}

@@ -96,6 +96,7 @@ fn send(
 }
 
 /// Sends a packet, and answers the record of it.
+#[tactic(auto, using(lard_net::proofs::Packets::segment_sized))]
 fn send_one(
     net: &mut Net,
     alloc: Global,

@@ -2,7 +2,7 @@
 
 ghost use Rattle.std.specs.Prelude.{◌≡◌, ◌^◌, ◌≤◌, ◌∷◌, [], length, false, OnOk, OnErr};
 ghost use Rattle.std.specs.FinMap as table;
-ghost use Rattle.lard_net.specs.Net.{packet_at};
+ghost use Rattle.lard_net.specs.Net.{IsSized, packet_at};
 ghost use Rattle.lard_machine.specs.Bounds.{HasTimer};
 ghost use Rattle.lard_machine.specs.Machine.{Steps, delivered, from_place, lost, timer, to_client, to_front, to_place};
 ghost use Rattle.lard_world.specs.Turns.{HasCounts, HasRoom};
@@ -10,7 +10,7 @@ ghost use Rattle.lard_world.specs.Turns.{HasCounts, HasRoom};
 use crate::acting::pass;
 use crate::stations::{put_back, take_out};
 use crate::{clients, conns};
-use lard_base::{ConnId, Event, NoMemory, Place};
+use lard_base::{Bytes, ConnId, Event, NoMemory, Place};
 use lard_journal::Rec;
 use lard_machine::{Machine, StepFault};
 use std::alloc::Global;
@@ -32,7 +32,7 @@ pub fn deliver(machine: &mut Machine, alloc: Global, k: u32) -> Result<(), StepF
     }
     let from = packet.from;
     let to = packet.to;
-    let bytes = packet.bytes.copy(alloc)?;
+    let bytes = Bytes::from_slice(alloc, packet.bytes)?;
     bring(machine, alloc, k, from, to, bytes.as_slice())?;
     Ok(())
 }
@@ -46,7 +46,7 @@ fn bring(
     to: Place,
     bytes: &[u8],
 ) -> Result<(), NoMemory>
-    requires short { length bytes.now ≤ 1520 }
+    requires sized { IsSized from to (length bytes.now) }
     requires room { HasRoom machine.old }
     requires counts { HasCounts machine.old }
     requires stream { machine.old.config.stream ≤ 2 ^ 30 }

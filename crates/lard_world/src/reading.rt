@@ -4,7 +4,7 @@ ghost use Rattle.std.specs.Prelude.{◌≡◌, ◌+◌, ◌^◌, ◌≤◌, ◌<
 ghost use Rattle.std.specs.Option.{option_copied};
 ghost use Rattle.lard_answers.specs.Answers.{answer, found};
 ghost use Rattle.lard_base.specs.declared.limits.TheConstants.{MAX_STREAM_BYTES};
-ghost use Rattle.lard_files.specs.Files.{file_at};
+ghost use Rattle.lard_files.specs.Files.{IsContent, file_at};
 ghost use Rattle.lard_endpoint.specs.Control.{finishing};
 ghost use Rattle.lard_history.specs.Journal.{code_of};
 ghost use Rattle.lard_machine.specs.Front.{answered, closed_behind, may_read, reads};
@@ -229,7 +229,7 @@ fn response(alloc: Global, files: &Files, verdict: &Verdict) -> Result<Bytes, No
 /// The response to a request for a path that names this file, or none.
 #[tactic(auto, using(crate::proofs::Responses::response_fits))]
 fn found(alloc: Global, body: Option<&[u8]>, head: bool, close: bool) -> Result<Bytes, NoMemory>
-    requires { IfSome body (λ bytes. length bytes.now ≤ 2 ^ 26) }
+    requires { IfSome body (λ bytes. IsContent bytes.now) }
     ensures response { IfOk result (λ bytes. bytes ≡ found (option_copied body.entry) head close) }
     ensures size { IfOk result (λ bytes. (1 ≤ length bytes) × (length bytes ≤ 2 ^ 27)) }
 {
