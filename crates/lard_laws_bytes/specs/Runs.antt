@@ -20,7 +20,7 @@ StatesAreTruthful = Always (λ files m. IsTruthful (file_at files) m)
 abbrev pub JournalsTellTheTruth : Type 0
 JournalsTellTheTruth = Always (λ files m. TellsTheTruth (file_at files) m.journal)
 
--- At every moment, what a client accepted is a front of the responses to what it wrote.
+-- At every moment, what a client accepted is a prefix of the responses to what it wrote.
 abbrev pub ClientsAcceptAnswers : Type 0
 ClientsAcceptAnswers = Always (λ files m. AcceptsOnlyAnswers (file_at files) m.journal)
 

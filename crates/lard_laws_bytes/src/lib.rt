@@ -34,7 +34,7 @@ pub fn the_agreement_gives_the_prefix()
 {}
 
 /// In every run, whatever is lost, repeated or comes out of order, all that was ever sent is true, and what a client
-/// accepts is at every moment a front of the responses to what it wrote. Each response answers the next request, and a
+/// accepts is at every moment a prefix of the responses to what it wrote. Each response answers the next request, and a
 /// reset stands where the next response would be.
 pub fn every_run_is_true()
     ensures states { StatesAreTruthful }

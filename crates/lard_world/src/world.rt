@@ -69,7 +69,7 @@ impl World {
         }
     }
 
-    /// Does the step of an event. After a fault but want of memory the world is as it was. After want of memory it is
+    /// Does the step of an event. After a fault, unless memory ran out, the world is as it was. If memory ran out it is
     /// spoiled, and its journal is as it was.
     pub fn step(&mut self, alloc: Global, event: Event) -> Result<(), StepFault>
         requires usable { self.old.spoiled ≡ false }
