@@ -250,8 +250,7 @@ IsReached config files m = (es : List Event) × Passes (start config files) es m
 
 -- ---- what a call does
 
--- A step does what the rules give. After a fault everything is as before; where memory ran out, only the
--- journal is.
+-- A step does what the rules give. After a fault everything is as before; where memory ran out, only the journal is.
 abbrev pub Steps : Result Machine StepFault → Machine → Machine → Result (Unit {0}) StepFault → Type 0
 Steps given old new (Ok _) = given ≡ Ok new
 Steps given old new (Err NoMemory) = new.journal ≡ old.journal

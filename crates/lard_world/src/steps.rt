@@ -11,8 +11,7 @@ use lard_base::Event;
 use lard_machine::{Machine, StepFault, What, first_limit};
 use std::alloc::Global;
 
-/// Does the step of an event. After a fault everything is as it was; if memory ran out, only the journal
-/// is.
+/// Does the step of an event. After a fault everything is as it was; if memory ran out, only the journal is.
 #[tactic(auto, unfolding(lard_machine::specs::Machine::machine_step))]
 pub fn step(machine: &mut Machine, alloc: Global, event: Event) -> Result<(), StepFault>
     requires ruled { HasRule event }
