@@ -1,13 +1,12 @@
 -- What is accepted is in order, stays bounded, and is nothing once the client was aborted or reset.
-use Rattle.std.proofs.Common.{is_some, Bool, Some, ◌&&◌, ◌≡◌, ◌≤◌, ◌<◌, ◌+◌, ◌^◌, ℕ, true, false, cond, min, ◌==◌, not, Option, None, IfSome, List, length, take, drop, arith, refl, subst, sym, ap, ◌∙◌, ⊎_elim, length-drop}
+use Rattle.std.proofs.Common.{is_some, Bool, Some, ◌&&◌, ◌≡◌, ◌≤◌, ◌<◌, ◌+◌, ◌^◌, ℕ, true, false, cond, min, ◌==◌, not, Option, None, IfSome, length, arith, refl, subst, sym, ap, ◌∙◌, ⊎_elim}
 use Rattle.std.proofs.lemmas.Bool.{cond_both, and_parts, eqb-true}
-use Rattle.std.proofs.lemmas.List.{take_min, drop_min}
 use Rattle.lard_client.specs.declared.heard.Heard.{Heard}
 use Rattle.lard_client.specs.declared.phase.Phase.{Phase}
 use Rattle.lard_client.specs.declared.phase.Phase.TheVariants.{Open, Aborted, Reset}
 use Rattle.lard_client.specs.Leaving.{refusal}
 use Rattle.lard_client.specs.Control.{ClientBlock, is_open, is_open_in, is_aborted, is_aborted_in, is_established, rcv_nxt}
-use Rattle.lard_client.specs.Arriving.{nothing, known, room, fresh_len, ends, part_of, on_segment, reset_by_peer, answers_syn, established, on_greeting, heard_open, heard_in, arrived}
+use Rattle.lard_client.specs.Arriving.{known, fresh_len, ends, part_of, on_segment, on_greeting, heard_open, heard_in, arrived}
 use Rattle.lard_client.specs.Laws.{IsAwaitedPart, IsInOrder}
 use Rattle.lard_client.proofs.Counting.{arrived-awaited}
 use Rattle.lard_client.proofs.Outcomes.{Outcome, greeting-quiet, segment-outcome}

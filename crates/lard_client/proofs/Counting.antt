@@ -1,5 +1,5 @@
 -- What is accepted of a segment that counts, and that nothing is of another.
-use Rattle.std.proofs.Common.{◌≡◌, ◌≤◌, ◌<◌, ◌-◌, ◌+◌, ℕ, Bool, true, false, cond, min, nat_lt, ◌==◌, not, ◌&&◌, ◌||◌, List, [], length, take, drop, arith, refl, ap, subst, sym, ◌∙◌, ◌⊎◌, inl, inr, ⊎_elim, length-drop}
+use Rattle.std.proofs.Common.{◌≡◌, ◌+◌, ℕ, Bool, true, false, min, nat_lt, ◌==◌, not, ◌&&◌, ◌||◌, List, [], length, take, drop, arith, refl, ap, subst, sym, ◌∙◌, ◌⊎◌, inl, inr, ⊎_elim, length-drop}
 use Rattle.std.specs.Prelude.{if◌then◌else◌}
 use Rattle.std.proofs.lemmas.Bool.{cond_both, and_parts, eqb-true, not-true}
 use Rattle.std.proofs.lemmas.List.{nil_from_length, length-take, take_min, drop_min}
@@ -8,12 +8,12 @@ use Rattle.lard_client.specs.declared.heard.Heard.{Heard}
 use Rattle.lard_client.specs.declared.phase.Phase.{Phase}
 use Rattle.lard_client.specs.declared.phase.Phase.TheVariants.{Open, Aborted, Reset}
 use Rattle.lard_client.specs.Control.{ClientBlock, is_open_in, rcv_nxt, rcv_wnd}
-use Rattle.lard_client.specs.Arriving.{nothing, owing, begins_after, known, room, fresh_len, ends, accepting, part_of, on_fresh, on_text, on_ack, on_syn, on_rst, on_unacceptable, on_segment, reset_by_peer, answers_syn, established, on_greeting, heard_open, heard_in, arrived}
+use Rattle.lard_client.specs.Arriving.{nothing, owing, begins_after, known, room, fresh_len, ends, accepting, part_of, on_fresh, on_text, on_ack, on_syn, on_rst, on_unacceptable, on_segment, reset_by_peer, on_greeting, heard_in, arrived}
 use Rattle.lard_client.specs.Laws.{counts, IsAwaitedPart}
 use Rattle.lard_client.proofs.Outcomes.{bare-outcome, greeting-quiet, segment-outcome}
 use Rattle.lard_segment.specs.Segment.{Said}
 use Rattle.lard_send.proofs.Sent.{after_ack-irs}
-use Rattle.lard_send.specs.Send.{Sending, after_ack}
+use Rattle.lard_send.specs.Send.{after_ack}
 use Rattle.lard_seq.specs.Seq.{seq_offset}
 
 -- the part has all that there is room for

@@ -1,12 +1,11 @@
 -- Each segment that is emitted leaves less to be emitted.
-use Rattle.std.proofs.Common.{◌≡◌, ◌≤◌, ◌<◌, ◌-◌, ◌+◌, ℕ, Bool, true, false, cond, min, nat_lt, ◌==◌, not, ◌&&◌, ◌||◌, Option, Some, None, is_some, arith, refl, sym, ap, ◌∙◌}
-use Rattle.std.proofs.lemmas.Bool.{cond_both, cond-false, and_parts, eqb-true, ltb-true}
+use Rattle.std.proofs.Common.{◌≡◌, ◌<◌, ℕ, Bool, true, false, nat_lt, ◌==◌, ◌&&◌, ◌||◌, Some, arith, refl, ap}
 use Rattle.std.proofs.lemmas.Bool.Decides.{nat_tests}
 use Rattle.lard_client.specs.Control.{ClientBlock, is_established, rcv_wnd}
 use Rattle.lard_client.specs.Leaving.{told, owes, unsaid}
 use Rattle.lard_send.proofs.Sent.{piece_falls}
 use Rattle.lard_send.specs.declared.piece.Piece.{Piece}
-use Rattle.lard_send.specs.Send.{Sending, IsSending, symbols, left, unsent_bytes, may_send, next_len, next_fin, next_piece, after_next, resent_piece, is_clear, syn_piece, byte_piece, again_len, again_fin}
+use Rattle.lard_send.specs.Send.{IsSending, next_piece, after_next}
 use Rattle.lard_seq.specs.Seq.{one_if}
 
 -- a client that told its window owes nothing

@@ -8,7 +8,7 @@ use Rattle.lard_arrival.specs.Arrival.{bare, is_acceptable, is_allowed}
 use Rattle.lard_client.specs.Arriving.{nothing, owing, begins_after, fresh_len, ends, accepting, part_of, on_fresh, on_text, on_ack, on_syn, on_rst, on_unacceptable, on_segment, reset_by_peer, answers_syn, established, on_greeting}
 use Rattle.lard_segment.specs.Segment.{Said}
 use Rattle.lard_send.proofs.Sent.{after_ack-irs}
-use Rattle.lard_send.specs.Send.{Sending, after_ack, moved_up, windowed, is_newer, closed}
+use Rattle.lard_send.specs.Send.{Sending, after_ack, closed}
 use Rattle.lard_seq.specs.Seq.{seq_offset}
 
 -- nothing was accepted

@@ -7,7 +7,7 @@ use Rattle.lard_client.specs.declared.heard.Heard.{Heard}
 use Rattle.lard_client.specs.Control.{ClientBlock, is_open, is_established, rcv_nxt, rcv_wnd}
 use Rattle.lard_client.specs.Arriving.{arrived, begins_after, known, room}
 use Rattle.lard_arrival.specs.Arrival.{IsPartAt, is_acceptable}
-use Rattle.lard_client.specs.Laws.{counts, IsAwaitedPart, IsInOrder, IsTrueSegment, IsNextOf}
+use Rattle.lard_client.specs.Laws.{counts, IsInOrder, IsTrueSegment, IsNextOf}
 use Rattle.lard_client.proofs.Accepted.{arrived-order}
 use Rattle.lard_client.proofs.Counting.{arrived-awaited}
 use Rattle.lard_segment.specs.Segment.{Said}

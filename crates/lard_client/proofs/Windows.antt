@@ -1,14 +1,14 @@
 -- What is emitted stays in the cluster's window, and what is told of the own one is not taken back.
-use Rattle.std.proofs.Common.{◌≡◌, ℕ, ◌+◌, ◌-◌, ◌<◌, ◌≤◌, ◌==◌, not, ◌||◌, Bool, true, false, List, [], ◌∷◌, arith, refl, ap, subst, ⊎_elim}
+use Rattle.std.proofs.Common.{◌≡◌, ◌+◌, ◌<◌, ◌≤◌, ◌==◌, not, ◌||◌, Bool, true, false, List, [], ◌∷◌, arith, refl, ap, subst, ⊎_elim}
 use Rattle.std.specs.Prelude.{if◌then◌else◌, Option, Some, None, IfSome}
 use Rattle.std.proofs.lemmas.Bool.{cond_both}
 use Rattle.lard_client.specs.declared.heard.Heard.{Heard}
 use Rattle.lard_client.specs.declared.phase.Phase.{Phase}
 use Rattle.lard_client.specs.declared.phase.Phase.TheVariants.{Open, Aborted, Reset}
-use Rattle.lard_client.specs.Arriving.{fresh_len, on_greeting, on_segment, heard_open, heard_in, arrived}
-use Rattle.lard_client.specs.Control.{ClientBlock, is_open, is_writing, is_established, written, shut_down, held_on, taken, aborted, rcv_wnd}
+use Rattle.lard_client.specs.Arriving.{on_greeting, on_segment, heard_open, heard_in, arrived}
+use Rattle.lard_client.specs.Control.{ClientBlock, is_open, is_writing, is_established}
 use Rattle.lard_client.specs.Laws.{Call, Arrives, Writes, Shuts, Aborts, Holds, Takes, Emits, Fires, called, after_calls, window_end, TellsTheWindow}
-use Rattle.lard_client.specs.Leaving.{syn_ready, data_ready, piece_ready, ack_ready, told, owes, owed_ready, ready_of, after_piece, after_owed, emitted, after_emit, timed, after_timer}
+use Rattle.lard_client.specs.Leaving.{syn_ready, data_ready, ack_ready, told, owes, owed_ready, ready_of, after_piece, emitted, timed}
 use Rattle.lard_client.proofs.Outcomes.{greeting-quiet, segment-outcome}
 use Rattle.lard_segment.specs.declared.segment.Ready.{Ready}
 use Rattle.lard_segment.specs.Segment.{Said}

@@ -1,9 +1,8 @@
 -- What a client sends may be written.
-use Rattle.std.proofs.Common.{◌≡◌, ◌≤◌, ◌-◌, Bool, true, false, cond, min, nat_lt, ◌==◌, Some, None, arith, refl, subst}
+use Rattle.std.proofs.Common.{◌≤◌, Bool, true, false, cond, arith, refl}
 use Rattle.lard_client.specs.Control.{ClientBlock}
 use Rattle.lard_client.specs.Leaving.{IsWritable, syn_ready, data_ready, piece_ready}
 use Rattle.lard_send.specs.declared.piece.Piece.{Piece}
-use Rattle.lard_send.specs.Send.{Sending, IsSending, syn_piece, byte_piece, may_send, symbols, next_piece, next_len, next_fin, resent_piece, again_len, again_fin, unsent_bytes}
 
 -- a segment with little data, and with a size in its range where it is the SYN
 of_kind : (x : ClientBlock) (p : Piece) (b : Bool) → 1 ≤ x.mss → x.mss ≤ 1460 → p.len ≤ 1460 → IsWritable (cond b (syn_ready x) (data_ready x p))

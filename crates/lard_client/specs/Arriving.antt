@@ -1,6 +1,6 @@
 -- What a client makes of a segment, step by step in the order of RFC 9293, 3.10.7.4. Each step answers what the client
 -- heard, and what is kept after it. Where a step does not drop the segment, the next one goes on.
-use Rattle.std.specs.Prelude.{ℕ, ◌+◌, ◌-◌, ◌^◌, ◌==◌, nat_lt, min, not, ◌&&◌, ◌||◌, Bool, true, false, if◌then◌else◌, length, Some, None}
+use Rattle.std.specs.Prelude.{ℕ, ◌+◌, ◌-◌, ◌==◌, nat_lt, min, not, ◌&&◌, ◌||◌, Bool, true, false, if◌then◌else◌, length, Some, None}
 use Rattle.lard_arrival.specs.Arrival.{is_in_window, is_acceptable, is_allowed, bare, peer_mss}
 use Rattle.lard_base.specs.declared.limits.TheConstants.{MAX_STREAM_BYTES}
 use Rattle.lard_client.specs.declared.phase.Phase.{Phase}

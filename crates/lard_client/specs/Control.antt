@@ -1,6 +1,6 @@
 -- What a client keeps of its connection: its control block (RFC 9293, 3.3.1), by counts. It holds no bytes of the
 -- cluster's, and counts those that it accepted.
-use Rattle.std.specs.Prelude.{ℕ, ◌+◌, ◌-◌, ◌≤◌, ◌^◌, ◌==◌, not, ◌&&◌, ◌||◌, Bool, true, false, if◌then◌else◌, List, length}
+use Rattle.std.specs.Prelude.{ℕ, ◌+◌, ◌-◌, ◌≤◌, ◌==◌, not, ◌&&◌, ◌||◌, Bool, true, false, if◌then◌else◌, List, length}
 use Rattle.lard_arrival.specs.declared.rules.TheConstants.{DEFAULT_MSS}
 use Rattle.lard_base.specs.declared.limits.TheConstants.{MAX_SEGMENT_DATA, MAX_STREAM_BYTES}
 use Rattle.lard_client.specs.declared.phase.Phase.{Phase}

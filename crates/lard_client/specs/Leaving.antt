@@ -3,6 +3,8 @@ use Rattle.std.specs.Prelude.{◌≡◌, ℕ, ◌+◌, ◌-◌, ◌≤◌, ◌==
 use Rattle.lard_base.specs.declared.limits.TheConstants.{MAX_SEGMENT_DATA}
 use Rattle.lard_client.specs.Control.{ClientBlock, is_open, is_established, rcv_nxt, rcv_wnd, snd_nxt}
 use Rattle.lard_segment.specs.declared.segment.Ready.{Ready}
+use Rattle.lard_segment.specs.declared.segment.TheConstants.Flags.{ACK, RST, RST_ACK}
+use Rattle.lard_segment.specs.Control.{control_ready}
 use Rattle.lard_segment.specs.Segment.{Said}
 use Rattle.lard_send.specs.declared.piece.Piece.{Piece}
 use Rattle.lard_send.specs.Send.{symbols, acknowledged_bytes, next_piece, after_next, resent_piece, after_resend}
@@ -38,39 +40,15 @@ piece_ready x p = if p.syn then syn_ready x else data_ready x p
 
 -- A plain ACK, at SND.NXT: <SEQ=SND.NXT><ACK=RCV.NXT><CTL=ACK> (RFC 9293, 3.10.7.4).
 abbrev pub ack_ready : ClientBlock → Ready
-ack_ready x = record {
-  seq = record { 0 = snd_nxt x };
-  ack = record { 0 = rcv_nxt x };
-  flags = record { syn = false; ack = true; fin = false; rst = false; psh = false };
-  wnd = rcv_wnd x;
-  mss = None;
-  at = x.send.total;
-  len = 0;
-}
+ack_ready x = control_ready (snd_nxt x) (rcv_nxt x) ACK (rcv_wnd x) x.send.total
 
 -- The RST of a client that aborts: <SEQ=SND.NXT><ACK=RCV.NXT><CTL=RST,ACK> (RFC 9293, 3.10.5).
 abbrev pub reset_ready : ClientBlock → Ready
-reset_ready x = record {
-  seq = record { 0 = snd_nxt x };
-  ack = record { 0 = rcv_nxt x };
-  flags = record { syn = false; ack = true; fin = false; rst = true; psh = false };
-  wnd = 0;
-  mss = None;
-  at = x.send.total;
-  len = 0;
-}
+reset_ready x = control_ready (snd_nxt x) (rcv_nxt x) RST_ACK 0 x.send.total
 
 -- The RST that answers an ACK number: <SEQ=SEG.ACK><CTL=RST> (RFC 9293, 3.10.7.1).
 abbrev pub refusal : ClientBlock → ℕ → Ready
-refusal x ack = record {
-  seq = record { 0 = ack };
-  ack = record { 0 = 0 };
-  flags = record { syn = false; ack = false; fin = false; rst = true; psh = false };
-  wnd = 0;
-  mss = None;
-  at = x.send.total;
-  len = 0;
-}
+refusal x ack = control_ready ack 0 RST 0 x.send.total
 
 -- A segment ends what is owed, and tells the window.
 abbrev pub told : ClientBlock → ClientBlock

@@ -1,10 +1,9 @@
 -- What is emitted call by call comes to an end.
-use Rattle.std.proofs.Common.{◌≡◌, ℕ, ◌+◌, ◌-◌, ◌<◌, ◌≤◌, nat_lt, ◌==◌, not, ◌&&◌, Bool, true, false, arith, ap, sym, subst, refl, ◌∙◌, ⊎_elim}
+use Rattle.std.proofs.Common.{◌≡◌, ◌<◌, ◌==◌, Bool, true, false, arith, ap, sym, subst, refl, ◌∙◌}
 use Rattle.std.specs.Prelude.{if◌then◌else◌, Option, Some, None, OnSome}
-use Rattle.std.proofs.lemmas.Bool.{and_parts, eqb-true, eqb-false, ltb-true, not-true, and_from, lt-ltb, eq-eqb, false≢true, cases_lt}
 use Rattle.std.proofs.lemmas.Bool.Decides.{nat_tests}
 use Rattle.lard_send.specs.declared.piece.Piece.{Piece}
-use Rattle.lard_send.specs.Send.{may_send, next_piece, after_next}
+use Rattle.lard_send.specs.Send.{may_send, next_piece}
 use Rattle.lard_send.proofs.Sent.{unsent, piece_falls, next-rests}
 use Rattle.lard_seq.specs.Seq.{one_if}
 use Rattle.lard_segment.specs.declared.segment.Ready.{Ready}

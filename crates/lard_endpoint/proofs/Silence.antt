@@ -1,10 +1,9 @@
 -- What it means that nothing is sent.
-use Rattle.std.proofs.Common.{◌≡◌, ℕ, ◌-◌, ◌<◌, ◌≤◌, min, nat_lt, ◌==◌, not, Bool, true, false, arith, ◌||◌, refl, ◌∙◌}
+use Rattle.std.proofs.Common.{◌≡◌, not, Bool, true, false, refl, ◌∙◌}
 use Rattle.std.specs.Prelude.{if◌then◌else◌, Option, Some, None, is_some}
-use Rattle.std.proofs.lemmas.Bool.Decides.{nat_tests}
 use Rattle.lard_segment.specs.declared.segment.Ready.{Ready}
 use Rattle.lard_send.specs.declared.piece.Piece.{Piece}
-use Rattle.lard_send.specs.Send.{Sending, IsSending, symbols, is_clear, next_piece, resent_piece, again_len, again_fin, unsent_bytes, syn_piece, byte_piece}
+use Rattle.lard_send.specs.Send.{is_clear, next_piece, resent_piece}
 use Rattle.lard_send.proofs.Sent.{resent_some}
 use Rattle.lard_endpoint.specs.Control.{ControlBlock, IsControlBlock}
 use Rattle.lard_endpoint.specs.Leaving.{owes, ack_ready, owed_ready, ready_of, advanced, retried, emitted, timed}

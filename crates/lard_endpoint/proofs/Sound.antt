@@ -2,7 +2,6 @@
 use Rattle.std.proofs.Common.{◌≡◌, ℕ, ◌+◌, ◌-◌, ◌^◌, ◌<◌, ◌≤◌, max, Bool, true, false, nat_lt, ◌==◌, not, ◌&&◌, ◌||◌, List, ◌++◌, length, drop, arith, length-append, length-drop, sym, ap, ◌∙◌, refl}
 use Rattle.std.proofs.lemmas.Bool.{cond_both, cond-true, ltb-true, ltb-false, eqb-true, eqb-false, and_parts, not-true}
 use Rattle.std.specs.Prelude.{if◌then◌else◌, Option, Some, None}
-use Rattle.std.proofs.lemmas.List.{length-take}
 use Rattle.lard_recv.specs.Recv.{Received, IsReceived, room, begins_after, awaited, fresh, ends, taken, arrived}
 use Rattle.lard_recv.proofs.Window.{arrived-irs, fresh-fits}
 use Rattle.lard_send.proofs.Sent.{after_ack-irs}

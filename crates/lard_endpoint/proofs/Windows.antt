@@ -1,5 +1,5 @@
 -- What is emitted stays in the peer's window, and what is told of the own one is not taken back.
-use Rattle.std.proofs.Common.{◌≡◌, ℕ, ◌+◌, ◌<◌, ◌≤◌, nat_lt, ◌==◌, not, ◌&&◌, Bool, true, false, List, [], ◌∷◌, length, arith, refl, sym, subst}
+use Rattle.std.proofs.Common.{◌≡◌, ◌+◌, ◌<◌, ◌≤◌, nat_lt, ◌==◌, not, ◌&&◌, Bool, true, false, List, [], ◌∷◌, length, arith, refl, sym, subst}
 use Rattle.std.specs.Prelude.{if◌then◌else◌, Option, Some, None, IfSome}
 use Rattle.std.proofs.lemmas.Bool.{cond_both}
 use Rattle.lard_arrival.specs.Arrival.{bare, is_acceptable, is_allowed}
@@ -8,7 +8,7 @@ use Rattle.lard_endpoint.specs.declared.control.arriving.Arrival.TheVariants.{Fi
 use Rattle.lard_endpoint.specs.Arriving.{owing, on_text, on_acked, on_ack, on_syn, on_rst, on_unacceptable, on_segment}
 use Rattle.lard_endpoint.specs.Control.{ControlBlock, rcv_nxt, rcv_wnd}
 use Rattle.lard_endpoint.specs.Laws.{Call, Arrives, Queues, Finishes, Reads, Discards, Emits, Fires, called, after_calls, TellsTheWindow}
-use Rattle.lard_endpoint.specs.Leaving.{piece_ready, ack_ready, told, owes, owed_ready, after_owed, ready_of, after_piece, advanced, retried, emitted, after_emit, timed, after_timer}
+use Rattle.lard_endpoint.specs.Leaving.{piece_ready, ack_ready, told, owes, owed_ready, ready_of, after_piece, advanced, retried, emitted, after_emit, timed, after_timer}
 use Rattle.lard_recv.proofs.Window.{end-arrived, end-read}
 use Rattle.lard_recv.specs.Recv.{Received, arrived, window_end}
 use Rattle.lard_segment.specs.declared.segment.Ready.{Ready}

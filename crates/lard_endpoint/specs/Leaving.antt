@@ -2,6 +2,8 @@
 use Rattle.std.specs.Prelude.{◌≡◌, ℕ, ◌+◌, ◌-◌, ◌≤◌, ◌==◌, nat_lt, ◌&&◌, ◌||◌, Bool, true, false, if◌then◌else◌, take, drop, Option, Some, None, IfSome}
 use Rattle.lard_base.specs.declared.limits.TheConstants.{MAX_SEGMENT_DATA}
 use Rattle.lard_segment.specs.declared.segment.Ready.{Ready}
+use Rattle.lard_segment.specs.declared.segment.TheConstants.Flags.{ACK}
+use Rattle.lard_segment.specs.Control.{control_ready}
 use Rattle.lard_segment.specs.Segment.{Said}
 use Rattle.lard_send.specs.declared.piece.Piece.{Piece}
 use Rattle.lard_send.specs.Send.{acknowledged_bytes, symbols, next_piece, after_next, resent_piece, after_resend}
@@ -30,15 +32,7 @@ piece_ready c p = record {
 
 -- A plain ACK, at SND.NXT: <SEQ=SND.NXT><ACK=RCV.NXT><CTL=ACK> (RFC 9293, 3.10.7.4).
 abbrev pub ack_ready : ControlBlock → Ready
-ack_ready c = record {
-  seq = record { 0 = snd_nxt c };
-  ack = record { 0 = rcv_nxt c };
-  flags = record { syn = false; ack = true; fin = false; rst = false; psh = false };
-  wnd = rcv_wnd c;
-  mss = None;
-  at = c.send.total;
-  len = 0;
-}
+ack_ready c = control_ready (snd_nxt c) (rcv_nxt c) ACK (rcv_wnd c) c.send.total
 
 -- A segment ends what is owed, and tells the window.
 abbrev pub told : ControlBlock → ControlBlock

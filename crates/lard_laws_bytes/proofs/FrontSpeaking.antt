@@ -2,6 +2,7 @@
 use Rattle.std.proofs.Common.{◌≡◌, ◌≤◌, ◌+◌, ℕ, zero, suc, Bool, false, cond, List, [], ◌∷◌, length, Option, Some, None, IfSome, arith, refl, ap, ◌∙◌, sym, subst}
 use Rattle.std.proofs.lemmas.Bool.{cond_both}
 use Rattle.lard_base.specs.declared.place.Place.{Place}
+use Rattle.lard_endpoint.proofs.Windows.{emitted-tells, timed-tells}
 use Rattle.lard_endpoint.specs.Control.{ControlBlock, rcv_nxt}
 use Rattle.lard_endpoint.specs.Leaving.{ack_ready, owes, owed_ready, ready_of, advanced, retried, emitted, after_emit, timed, after_timer, filled, after_piece, after_owed, told}
 use Rattle.lard_laws_bytes.specs.Agreement.{AreReplies, IsReply}
@@ -22,21 +23,6 @@ use Rattle.lard_truth.proofs.Speaking.{one_small}
 -- a segment has RCV.NXT, and is no RST
 abbrev Acknowledges : ControlBlock → Ready → Type 0
 Acknowledges b r = (r.ack.0 ≡ rcv_nxt b) × (r.flags.rst ≡ false)
-
-ready-acks : (b : ControlBlock) (p : Option Piece) (other : Option Ready) → IfSome other (Acknowledges b) → IfSome (ready_of b p other) (Acknowledges b)
-ready-acks b (Some p) other h = (refl, refl)
-ready-acks b None other h = h
-
-emitted-acks : (b : ControlBlock) → IfSome (emitted b) (Acknowledges b)
-emitted-acks b =
-    let P : Option Ready → Type 0 = λ o. IfSome o (Acknowledges b) in
-    cond_both b.reset None (ready_of (advanced b) (next_piece b.send) (owed_ready (advanced b))) P (λ _. tt)
-    (λ _. ready-acks (advanced b) (next_piece b.send) (owed_ready (advanced b)) (cond_both (owes (advanced b)) (Some (ack_ready (advanced b))) None P (λ _. (refl, refl)) (λ _. tt)))
-
-timed-acks : (b : ControlBlock) → IfSome (timed b) (Acknowledges b)
-timed-acks b =
-    let P : Option Ready → Type 0 = λ o. IfSome o (Acknowledges b) in
-    cond_both b.reset None (ready_of (retried b) (resent_piece b.send) None) P (λ _. tt) (λ _. ready-acks (retried b) (resent_piece b.send) None tt)
 
 -- RCV.NXT is no further than the client's FIN
 pub awaits-within : (w out : Stream) (b : ControlBlock) → IsBetween w out b → (n : ℕ) × (rcv_nxt b ≡ seq_add w.first n) × (n ≤ 2 + length w.bytes)
@@ -61,12 +47,12 @@ module _ (c : ℕ) (w out : Stream) (was_reset : Bool) where
 
   emitted-reply : (b : ControlBlock) (r : Ready) → IsBetween w out b → emitted b ≡ Some r → IsReply w out was_reset (filled (after_emit b) r)
   emitted-reply b r h e = reply-of b r (filled (after_emit b) r) h refl refl
-      (subst (λ (o : Option Ready). IfSome o (Acknowledges b)) e (emitted-acks b))
+      (let tells = emitted-tells b r e in (tells.ack, tells.no_rst))
       (subst (λ (x : Stream). Fair x (filled (after_emit b) r)) (sym h.out_is) (emitted-fair b out.bytes h.speaks r e))
 
   pub timed-reply : (b : ControlBlock) (r : Ready) → IsBetween w out b → timed b ≡ Some r → IsReply w out was_reset (filled (after_timer b) r)
   timed-reply b r h e = reply-of b r (filled (after_timer b) r) h refl refl
-      (subst (λ (o : Option Ready). IfSome o (Acknowledges b)) e (timed-acks b))
+      (let tells = timed-tells b r e in (tells.ack, tells.no_rst))
       (subst (λ (x : Stream). Fair x (filled (after_timer b) r)) (sym h.out_is) (timed-fair b out.bytes h.speaks r e))
 
 -- ---- call by call

@@ -2,6 +2,7 @@
 use Rattle.std.proofs.Common.{◌≡◌, ℕ, List, [], ◌∷◌, ◌++◌, Option, Some, None, IfSome, arith, refl, ap, ◌∙◌, subst}
 use Rattle.std.proofs.lemmas.Bool.{cond_both}
 use Rattle.lard_base.specs.declared.place.Place.{Place}
+use Rattle.lard_endpoint.proofs.Windows.{emitted-tells, timed-tells}
 use Rattle.lard_endpoint.specs.Control.{ControlBlock, rcv_nxt}
 use Rattle.lard_endpoint.specs.Leaving.{ack_ready, owes, owed_ready, after_owed, ready_of, after_piece, advanced, retried, emitted, after_emit, timed, after_timer, told, filled}
 use Rattle.lard_laws_bytes.proofs.FrontEndpoint.{IsBetween, between-emitted}
@@ -18,28 +19,6 @@ use Rattle.lard_truth.proofs.Endpoint.{emitted-fair, timed-fair}
 use Rattle.lard_truth.proofs.Speaking.{next-moves, resend-moves}
 
 -- ---- what is acknowledged
-
--- a segment has RCV.NXT
-abbrev Acknowledges : ControlBlock → Ready → Type 0
-Acknowledges b r = r.ack.0 ≡ rcv_nxt b
-
--- a piece's segment has it, and so has one in its place
-ready-acks : (b : ControlBlock) (p : Option Piece) (other : Option Ready) → IfSome other (Acknowledges b) → IfSome (ready_of b p other) (Acknowledges b)
-ready-acks b (Some p) other h = refl
-ready-acks b None other h = h
-
--- each segment that is emitted has it
-emitted-acks : (b : ControlBlock) → IfSome (emitted b) (Acknowledges b)
-emitted-acks b =
-    let P : Option Ready → Type 0 = λ o. IfSome o (Acknowledges b) in
-    cond_both b.reset None (ready_of (advanced b) (next_piece b.send) (owed_ready (advanced b))) P (λ _. tt)
-    (λ _. ready-acks (advanced b) (next_piece b.send) (owed_ready (advanced b)) (cond_both (owes (advanced b)) (Some (ack_ready (advanced b))) None P (λ _. refl) (λ _. tt)))
-
--- and so has what the timer sends
-timed-acks : (b : ControlBlock) → IfSome (timed b) (Acknowledges b)
-timed-acks b =
-    let P : Option Ready → Type 0 = λ o. IfSome o (Acknowledges b) in
-    cond_both b.reset None (ready_of (retried b) (resent_piece b.send) None) P (λ _. tt) (λ _. ready-acks (retried b) (resent_piece b.send) None tt)
 
 -- RCV.NXT acknowledges what was taken
 pub awaits-acks : (w out : Stream) (b : ControlBlock) → IsBetween w out b → Acks w.first (heard_by b.recv) (rcv_nxt b)
@@ -81,7 +60,7 @@ replies_may-append c isn heard (p ∷ ps) qs h k = (h.0, replies_may-append c is
 emitted-may : (w out : Stream) (b : ControlBlock) (r : Ready) → IsBetween w out b → emitted b ≡ Some r
     → IsSendable (filled (after_emit b) r) × ReplyMay w.first (heard_by b.recv) (filled (after_emit b) r)
 emitted-may w out b r h e =
-    let at : r.ack.0 ≡ rcv_nxt b = subst (λ (o : Option Ready). IfSome o (Acknowledges b)) e (emitted-acks b) in
+    let at : r.ack.0 ≡ rcv_nxt b = (emitted-tells b r e).ack in
     let acks = awaits-acks w out b h in (
       (emitted-fair b out.bytes h.speaks r e).1,
       λ _. (acks.0, at ∙ acks.1, acks.2),
@@ -91,7 +70,7 @@ emitted-may w out b r h e =
 pub timed-may : (w out : Stream) (b : ControlBlock) (r : Ready) → IsBetween w out b → timed b ≡ Some r
     → IsSendable (filled (after_timer b) r) × ReplyMay w.first (heard_by b.recv) (filled (after_timer b) r)
 timed-may w out b r h e =
-    let at : r.ack.0 ≡ rcv_nxt b = subst (λ (o : Option Ready). IfSome o (Acknowledges b)) e (timed-acks b) in
+    let at : r.ack.0 ≡ rcv_nxt b = (timed-tells b r e).ack in
     let acks = awaits-acks w out b h in (
       (timed-fair b out.bytes h.speaks r e).1,
       λ _. (acks.0, at ∙ acks.1, acks.2),

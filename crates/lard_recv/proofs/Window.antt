@@ -1,6 +1,5 @@
 -- What an arrival leaves as it was, and where the window ends.
-use Rattle.std.proofs.Common.{◌≡◌, ◌≤◌, ◌+◌, ◌-◌, ℕ, Bool, true, false, List, [], ◌++◌, length, drop, min, arith, ap, refl, length-append, length-drop}
-use Rattle.std.specs.Prelude.{if◌then◌else◌}
+use Rattle.std.proofs.Common.{◌≡◌, ◌≤◌, ◌+◌, ℕ, Bool, false, List, ◌++◌, length, drop, arith, ap, refl, length-append, length-drop}
 use Rattle.std.proofs.lemmas.Bool.{cond_both}
 use Rattle.std.proofs.lemmas.List.{length-take}
 use Rattle.lard_recv.specs.Recv.{Received, awaited, room, begins_after, fresh, ends, taken, arrived, consumed, discarded, window_end}

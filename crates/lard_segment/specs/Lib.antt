@@ -2,3 +2,4 @@ pub mod Fields
 pub mod Checksum
 pub mod Options
 pub mod Segment
+pub mod Control

@@ -10,15 +10,6 @@ use lard_segment::{Flags, Ready, Segment};
 use lard_send::Piece;
 use lard_seq::Seq;
 
-/// No control bit is set.
-const BARE: Flags = Flags {
-    syn: false,
-    ack: false,
-    fin: false,
-    rst: false,
-    psh: false,
-};
-
 impl Client {
     /// The next segment that is to be sent, or none: first the SYN; once that is acknowledged bytes and the FIN, at most
     /// a segment and as far as the cluster's window allows; else an ACK where one is owed. A client that was aborted or
@@ -133,7 +124,10 @@ impl Client {
         Ready {
             seq: self.send.iss(),
             ack: Seq(0),
-            flags: Flags { syn: true, ..BARE },
+            flags: Flags {
+                syn: true,
+                ..Flags::NONE
+            },
             wnd: self.rcv_wnd(),
             mss: Some(self.mss),
             at: 0,
@@ -149,10 +143,9 @@ impl Client {
             seq: self.send.iss().add(1).add(piece.at),
             ack: self.rcv_nxt(),
             flags: Flags {
-                ack: true,
                 fin: piece.fin,
                 psh: piece.push,
-                ..BARE
+                ..Flags::ACK
             },
             wnd: self.rcv_wnd(),
             mss: None,
@@ -165,48 +158,28 @@ impl Client {
     fn ack(&self) -> Ready
         ensures { result ≡ ack_ready self.now }
     {
-        Ready {
-            seq: self.snd_nxt(),
-            ack: self.rcv_nxt(),
-            flags: Flags { ack: true, ..BARE },
-            wnd: self.rcv_wnd(),
-            mss: None,
-            at: self.send.total(),
-            len: 0,
-        }
+        let at = self.send.total();
+        Ready::control(
+            self.snd_nxt(),
+            self.rcv_nxt(),
+            Flags::ACK,
+            self.rcv_wnd(),
+            at,
+        )
     }
 
     /// The RST of a client that aborts.
     pub(super) fn reset(&self) -> Ready
         ensures { result ≡ reset_ready self.now }
     {
-        Ready {
-            seq: self.snd_nxt(),
-            ack: self.rcv_nxt(),
-            flags: Flags {
-                ack: true,
-                rst: true,
-                ..BARE
-            },
-            wnd: 0,
-            mss: None,
-            at: self.send.total(),
-            len: 0,
-        }
+        let at = self.send.total();
+        Ready::control(self.snd_nxt(), self.rcv_nxt(), Flags::RST_ACK, 0, at)
     }
 
     /// The RST that answers an acknowledgement number.
     pub(super) fn refusal(&self, ack: Seq) -> Ready
         ensures { result ≡ refusal self.now ack.0 }
     {
-        Ready {
-            seq: ack,
-            ack: Seq(0),
-            flags: Flags { rst: true, ..BARE },
-            wnd: 0,
-            mss: None,
-            at: self.send.total(),
-            len: 0,
-        }
+        Ready::control(ack, Seq(0), Flags::RST, 0, self.send.total())
     }
 }

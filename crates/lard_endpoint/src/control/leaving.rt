@@ -114,10 +114,9 @@ impl Endpoint {
             ack: self.recv.next(),
             flags: Flags {
                 syn: piece.syn,
-                ack: true,
                 fin: piece.fin,
-                rst: false,
                 psh: piece.push,
+                ..Flags::ACK
             },
             wnd: self.window(),
             mss: own_mss(piece.syn),
@@ -142,21 +141,9 @@ impl Endpoint {
     fn ack_ready(&self) -> Ready
         ensures { result ≡ ack_ready self.now }
     {
-        Ready {
-            seq: self.send.iss().add(self.send.nxt()),
-            ack: self.recv.next(),
-            flags: Flags {
-                syn: false,
-                ack: true,
-                fin: false,
-                rst: false,
-                psh: false,
-            },
-            wnd: self.window(),
-            mss: None,
-            at: self.send.total(),
-            len: 0,
-        }
+        let seq = self.send.iss().add(self.send.nxt());
+        let at = self.send.total();
+        Ready::control(seq, self.recv.next(), Flags::ACK, self.window(), at)
     }
 
     /// Notes that a segment with the window was sent.
