@@ -33,10 +33,6 @@ until_close-before (v ∷ vs) ws h = go (until_close-before vs ws) (closes v) re
   go ih false e f =
       until_close-open v (vs ++ ws) e ∙ ap (λ w. v ∷ w) (ih (sym (ap (λ b. b || closes_any vs) e) ∙ f)) ∙ sym (until_close-open v vs e)
 
--- where none but the last closes, all count
-pub until_close-last : (vs : List Verdict) (v : Verdict) → closes_any vs ≡ false → closes v ≡ true → until_close (vs ++ v ∷ []) ≡ vs ++ v ∷ []
-until_close-last vs v h e = until_close-behind vs (v ∷ []) h ∙ ap (λ w. vs ++ w) (until_close-closed v [] e)
-
 -- ---- bytes that are cut, and other bytes
 
 cut-verdicts : (x z : List ℕ) (ps : List Piece) → Cuts x ps → verdicts (x ++ z) ≡ until_close (verdicts_on ps ++ verdicts_on (blocks z))

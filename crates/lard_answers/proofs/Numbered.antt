@@ -1,11 +1,9 @@
 -- The requests for files among all that is answered, each with its number.
-use Rattle.std.proofs.Common.{◌≡◌, ℕ, zero, suc, ◌+◌, ◌<◌, ◌≤◌, ◌⊎◌, ◌↔◌, false, List, [], ◌∷◌, ◌++◌, length, Option, Some, None, get_or, refl, sym, ap, ◌∙◌, subst, inl, inr, arith}
+use Rattle.std.proofs.Common.{◌≡◌, ℕ, zero, suc, ◌+◌, ◌<◌, ◌⊎◌, ◌↔◌, List, [], ◌∷◌, ◌++◌, length, Option, Some, None, get_or, refl, sym, ap, ◌∙◌, subst, inl, inr, arith}
 use Rattle.std.specs.List.{Contains, slice_get}
-use Rattle.lard_block.specs.Blocks.{Piece, Cuts}
 use Rattle.lard_request.specs.declared.verdict.Verdict.{Verdict}
-use Rattle.lard_answers.specs.Answers.{FilesAt, verdicts_on, verdicts, good_path, numbered, goods_from, goods, IsGoodAt, Rises, closes_any, IsFront}
+use Rattle.lard_answers.specs.Answers.{FilesAt, verdicts, good_path, numbered, goods_from, goods, IsGoodAt, Rises, IsFront}
 use Rattle.lard_answers.proofs.Growing.{verdicts-grow}
-use Rattle.lard_answers.proofs.Following.{verdicts-follow}
 
 pub goods-are : (files : FilesAt) (q : List ℕ) → goods files q ≡ goods_from files 1 (verdicts q)
 unfolding goods
@@ -76,10 +74,6 @@ goods-each files q r path = (there, back) where
 
 -- ---- their order
 
-Rises-less : (m n : ℕ) (gs : List Good) → m ≤ n → Rises n gs → Rises m gs
-Rises-less m n [] h r = tt
-Rises-less m n (g ∷ gs) h r = (omega (arith, h, r.0), r.1)
-
 rise-from : (files : FilesAt) (m n : ℕ) (vs : List Verdict) → m < n → Rises m (goods_from files n vs)
 rise-from files m n [] h = tt
 rise-from files m n (v ∷ vs) h = go (λ k a. rise-from files k (n + 1) vs a) (good_path files v) where
@@ -113,8 +107,3 @@ goods-grow files q z =
       goods-are files (q ++ z) ∙ ap (goods_from files 1) g.1 ∙ goods_from-append files 1 (verdicts q) g.0
           ∙ ap (λ w. w ++ goods_from files (1 + length (verdicts q)) g.0) (sym (goods-are files q)),
     )
-
--- those of bytes behind others that are cut
-pub goods-follow : (files : FilesAt) (x z : List ℕ) (ps : List Piece) → Cuts x ps → closes_any (verdicts_on ps) ≡ false
-    → goods files (x ++ z) ≡ goods_from files 1 (verdicts_on ps) ++ goods_from files (1 + length (verdicts_on ps)) (verdicts z)
-goods-follow files x z ps c h = goods-are files (x ++ z) ∙ ap (goods_from files 1) (verdicts-follow x z ps c h) ∙ goods_from-append files 1 (verdicts_on ps) (verdicts z)

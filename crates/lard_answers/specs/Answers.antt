@@ -2,19 +2,16 @@
 use Rattle.std.specs.Prelude.{◌≡◌, ℕ, ◌+◌, ◌<◌, Bool, true, false, List, [], ◌∷◌, ◌++◌, map, Option, Some, None, is_some, if◌then◌else◌}
 use Rattle.std.specs.List.{concat, list_any, slice_get}
 use Rattle.lard_block.specs.Blocks.{Piece, Head, Long, blocks}
+use Rattle.lard_request.specs.declared.verdict.Code.{Code}
 use Rattle.lard_request.specs.declared.verdict.Code.TheVariants.{Ok, NotFound, FieldsTooLarge}
 use Rattle.lard_request.specs.declared.verdict.Verdict.{Verdict}
 use Rattle.lard_request.specs.declared.verdict.Verdict.TheVariants.{Serve, Fault}
 use Rattle.lard_request.specs.Verdict.{closes, verdict}
-use Rattle.lard_response.specs.Response.{response}
+use Rattle.lard_response.specs.Response.{number, response}
 
 -- what each path holds, if it names a file
 abbrev pub FilesAt : Type 0
 FilesAt = List ℕ → Option (List ℕ)
-
--- no path names a file
-abbrev pub no_files : FilesAt
-no_files path = None
 
 -- ---- one answer
 
@@ -26,6 +23,16 @@ found (Some body) head close = response Ok body head close
 abbrev pub answer : FilesAt → Verdict → List ℕ
 answer files (Serve path head close) = found (files path) head close
 answer files (Fault code) = response code [] false true
+
+-- the code of the answer to a request for a path
+abbrev pub found_code : Option (List ℕ) → Code
+found_code None = NotFound
+found_code (Some body) = Ok
+
+-- the number of an answer's code
+abbrev pub answer_code : FilesAt → Verdict → ℕ
+answer_code files (Serve path head close) = number (found_code (files path))
+answer_code files (Fault code) = number code
 
 -- ---- all answers
 

@@ -12,9 +12,6 @@ pub const MAX_MESSAGE_BYTES: usize = 1 << 21;
 /// The receive window of the front end's and a node's endpoints, in bytes: how many wait to be read, at most.
 pub const RECEIVE_WINDOW: u16 = 16_384;
 
-/// The most bytes of a request's head, with the empty line that ends it.
-pub const MAX_HEAD_BYTES: usize = 8_192;
-
 /// The most fields of a request's head.
 pub const MAX_FIELDS: usize = 64;
 

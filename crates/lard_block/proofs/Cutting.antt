@@ -29,11 +29,11 @@ found-long s l None skip h = go (nat_lt l 8192) refl h where
   go true f e = cc
   go false f e = let k : s ≡ skip = cc in (k, refl, grind (arith, nat_tests, f))
 
-pub found-more : (s l : ℕ) (o : Option ℕ) (skip : ℕ) → found s l o ≡ More skip → (s ≡ skip) × (l < 8192)
+pub found-more : (s l : ℕ) (o : Option ℕ) (skip : ℕ) → found s l o ≡ More skip → (s ≡ skip) × (o ≡ None) × (l < 8192)
 found-more s l (Some n) skip h = cc
 found-more s l None skip h = go (nat_lt l 8192) refl h where
-  go : (b : Bool) → nat_lt l 8192 ≡ b → cond {A = Found} b (More s) (TooLong s) ≡ More skip → (s ≡ skip) × (l < 8192)
-  go true f e = let k : s ≡ skip = cc in (k, grind (arith, nat_tests, f))
+  go : (b : Bool) → nat_lt l 8192 ≡ b → cond {A = Found} b (More s) (TooLong s) ≡ More skip → (s ≡ skip) × ◌≡◌ {A = Option ℕ} None None × (l < 8192)
+  go true f e = let k : s ≡ skip = cc in (k, refl, grind (arith, nat_tests, f))
   go false f e = cc
 
 -- a block lies behind the pairs, within the bytes, and has 4 to 8,192 bytes
@@ -116,9 +116,9 @@ beyond q z h = go (cut_of q) refl where
   go (Block skip len) e = block-stays q skip len e z ∙ sym e
   go (TooLong skip) e = long-stays q skip e z ∙ sym e
   go (More skip) e =
-      let f : (skipped q ≡ skip) × (length (drop (skipped q) q) < 8192) =
+      let f : (skipped q ≡ skip) × (head_end (take 8192 (drop (skipped q) q)) ≡ None) × (length (drop (skipped q) q) < 8192) =
       found-more (skipped q) (length (drop (skipped q) q)) (head_end (take 8192 (drop (skipped q) q))) skip (sym (cut_is q) ∙ e) in
-      absurd (omega (arith, f.1, h, length-drop (skipped q) q))
+      absurd (omega (arith, f.2, h, length-drop (skipped q) q))
 
 -- the places of an answer
 pub cut-within : (q : List ℕ) → IsWithin (cut_of q) (length q)
@@ -126,9 +126,9 @@ cut-within q = go (cut_of q) refl where
   go : (f : Found) → cut_of q ≡ f → IsWithin f (length q)
   go (Block skip len) e = let c : IsCut q skip len = is_cut q skip len e in (c.some, c.short, c.within)
   go (More skip) e =
-      let f : (skipped q ≡ skip) × (length (drop (skipped q) q) < 8192) =
+      let f : (skipped q ≡ skip) × (head_end (take 8192 (drop (skipped q) q)) ≡ None) × (length (drop (skipped q) q) < 8192) =
       found-more (skipped q) (length (drop (skipped q) q)) (head_end (take 8192 (drop (skipped q) q))) skip (sym (cut_is q) ∙ e) in
-      (omega (arith, f.0, skipped-within q), omega (arith, f, skipped-within q, length-drop (skipped q) q))
+      (omega (arith, f.0, skipped-within q), omega (arith, f.0, f.2, skipped-within q, length-drop (skipped q) q))
   go (TooLong skip) e =
       let f : (skipped q ≡ skip) × ◌≡◌ {A = Option ℕ} (head_end (take 8192 (drop (skipped q) q))) None × (8192 ≤ length (drop (skipped q) q)) =
       found-long (skipped q) (length (drop (skipped q) q)) (head_end (take 8192 (drop (skipped q) q))) skip (sym (cut_is q) ∙ e) in

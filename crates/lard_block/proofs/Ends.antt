@@ -19,24 +19,24 @@ pub head-none : head_end [] ≡ None
 unfolding head_end
 head-none = refl
 
-head-hit : (a : ℕ) (rest : List ℕ) → ends_here (a ∷ rest) ≡ true → head_end (a ∷ rest) ≡ Some 4
+pub head-hit : (a : ℕ) (rest : List ℕ) → ends_here (a ∷ rest) ≡ true → head_end (a ∷ rest) ≡ Some 4
 unfolding head_end
 head-hit a rest e = ap (λ b. cond {A = Option ℕ} b (Some 4) (option_map (λ n. n + 1) (head_end rest))) e
 
-head-miss : (a : ℕ) (rest : List ℕ) → ends_here (a ∷ rest) ≡ false → head_end (a ∷ rest) ≡ option_map (λ n. n + 1) (head_end rest)
+pub head-miss : (a : ℕ) (rest : List ℕ) → ends_here (a ∷ rest) ≡ false → head_end (a ∷ rest) ≡ option_map (λ n. n + 1) (head_end rest)
 unfolding head_end
 head-miss a rest e = ap (λ b. cond {A = Option ℕ} b (Some 4) (option_map (λ n. n + 1) (head_end rest))) e
 
 -- bytes that begin with it, taken apart
-apart : (xs : List ℕ) → ends_here xs ≡ true → xs ≡ (13 ∷ 10 ∷ 13 ∷ 10 ∷ []) ++ drop 4 xs
+pub apart : (xs : List ℕ) → ends_here xs ≡ true → xs ≡ (13 ∷ 10 ∷ 13 ∷ 10 ∷ []) ++ drop 4 xs
 apart xs e = (starts_is Decides-eqb xs (13 ∷ 10 ∷ 13 ∷ 10 ∷ []) (ends_here xs) refl).0 e
 
 -- how a place behind a head comes: at the front, or in the rest
-data Ending (a : ℕ) (rest : List ℕ) (n : ℕ) : Type 0 where
+pub data Ending (a : ℕ) (rest : List ℕ) (n : ℕ) : Type 0 where
   here : ends_here (a ∷ rest) ≡ true → 4 ≡ n → Ending a rest n
   there : (m : ℕ) → ends_here (a ∷ rest) ≡ false → head_end rest ≡ Some m → suc m ≡ n → Ending a rest n
 
-ending : (a : ℕ) (rest : List ℕ) (n : ℕ) → head_end (a ∷ rest) ≡ Some n → Ending a rest n
+pub ending : (a : ℕ) (rest : List ℕ) (n : ℕ) → head_end (a ∷ rest) ≡ Some n → Ending a rest n
 ending a rest n h = go (ends_here (a ∷ rest)) refl where
   later : (o : Option ℕ) → ends_here (a ∷ rest) ≡ false → head_end rest ≡ o → option_map (λ n. n + 1) o ≡ Some n → Ending a rest n
   later None e f g = cc
@@ -55,7 +55,7 @@ end-within (a ∷ rest) n h = go (end-within rest) (ending a rest n h) where
   go ih (there m e f g) = let i : (4 ≤ m) × (m ≤ length rest) = ih m f in (omega (arith, g, i), omega (arith, g, i))
 
 -- a test of four bytes depends on no others
-same-front : (a : ℕ) (xs ys : List ℕ) → take 3 xs ≡ take 3 ys → ends_here (a ∷ xs) ≡ ends_here (a ∷ ys)
+pub same-front : (a : ℕ) (xs ys : List ℕ) → take 3 xs ≡ take 3 ys → ends_here (a ∷ xs) ≡ ends_here (a ∷ ys)
 same-front a xs ys e = ap (λ t. pointwise nat_eq (13 ∷ 10 ∷ 13 ∷ 10 ∷ []) (a ∷ t)) e
 
 plus : (n : ℕ) → n + 1 ≡ suc n

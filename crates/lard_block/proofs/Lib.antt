@@ -3,3 +3,4 @@ mod Pairs
 pub mod Cutting
 pub mod Division
 pub mod Skips
+mod Said

@@ -2,6 +2,7 @@
 use Rattle.std.specs.Prelude.{◌≡◌, ℕ, zero, suc, ◌+◌, ◌≤◌, ◌<◌, List, [], ◌∷◌, ◌++◌, map, length, take, drop, Option, Some, None, nat_eq, nat_lt, if◌then◌else◌}
 use Rattle.std.specs.List.{starts_with}
 use Rattle.std.specs.Option.{option_map}
+use Rattle.lard_block.specs.declared.block.TheConstants.{MAX_HEAD_BYTES}
 use Rattle.lard_block.specs.declared.block.Found.{Found}
 use Rattle.lard_block.specs.declared.block.Found.TheVariants.{Block, More, TooLong}
 
@@ -19,10 +20,10 @@ head_end (a ∷ rest) = if starts_with nat_eq (a ∷ rest) (13 ∷ 10 ∷ 13 ∷
 -- what is found behind the skipped bytes, of which there are so many: the end of a head within 8,192 bytes; else it is too long, or more is awaited
 abbrev pub found : ℕ → ℕ → Option ℕ → Found
 found skip behind (Some len) = Block skip len
-found skip behind None = if nat_lt behind 8192 then More skip else TooLong skip
+found skip behind None = if nat_lt behind MAX_HEAD_BYTES then More skip else TooLong skip
 
 abbrev pub found_in : ℕ → List ℕ → Found
-found_in skip rest = found skip (length rest) (head_end (take 8192 rest))
+found_in skip rest = found skip (length rest) (head_end (take MAX_HEAD_BYTES rest))
 
 -- what is found at the front of some bytes
 unfoldable pub cut_of : List ℕ → Found
@@ -30,9 +31,9 @@ cut_of bytes = found_in (skipped bytes) (drop (skipped bytes) bytes)
 
 -- the places that an answer names lie within n bytes
 abbrev pub IsWithin : Found → ℕ → Type 0
-IsWithin (Block skip len) n = (4 ≤ len) × (len ≤ 8192) × (skip + len ≤ n)
-IsWithin (More skip) n = (skip ≤ n) × (n < skip + 8192)
-IsWithin (TooLong skip) n = skip + 8192 ≤ n
+IsWithin (Block skip len) n = (4 ≤ len) × (len ≤ MAX_HEAD_BYTES) × (skip + len ≤ n)
+IsWithin (More skip) n = (skip ≤ n) × (n < skip + MAX_HEAD_BYTES)
+IsWithin (TooLong skip) n = skip + MAX_HEAD_BYTES ≤ n
 
 -- a part of the division: a block and the place behind it, or what is too long for a block
 pub data Piece : Type 0 where

@@ -3,8 +3,8 @@
 ghost use Rattle.std.specs.Prelude.{◌≡◌, ◌≤◌, length};
 ghost use Rattle.lard_block.specs.Blocks.{cut_of, skipped, head_end, IsWithin};
 
-/// The most bytes of a block.
-const MOST_BYTES: usize = 8_192;
+/// The most bytes of a block: of a request's head, with the empty line that ends it.
+pub const MAX_HEAD_BYTES: usize = 8_192;
 
 /// What is found at the front of some bytes. Each of the answers has the number of bytes that are skipped there: the
 /// bytes of leading pairs CR LF (RFC 9112, 2.2).
@@ -27,10 +27,10 @@ pub fn cut(bytes: &[u8]) -> Found
 {
     let skip = leading_pairs(bytes);
     let rest = &bytes[skip..];
-    let front = &rest[..rest.len().min(MOST_BYTES)];
+    let front = &rest[..rest.len().min(MAX_HEAD_BYTES)];
     match first_end(front) {
         Some(len) => Found::Block { skip, len },
-        None if rest.len() < MOST_BYTES => Found::More { skip },
+        None if rest.len() < MAX_HEAD_BYTES => Found::More { skip },
         None => Found::TooLong { skip },
     }
 }

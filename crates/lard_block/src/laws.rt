@@ -2,8 +2,17 @@
 
 ghost use Rattle.std.specs.Prelude.{◌≡◌, ℕ, ◌+◌, ◌≤◌, List, [], ◌∷◌, ◌++◌, map, length, take, drop};
 ghost use Rattle.lard_block.specs.Blocks.{skipped, cut_of, Piece, Head, moved, blocks, Divides, Cuts};
+ghost use Rattle.lard_block.specs.Said.{IsFound};
 
-use crate::block::Found;
+use crate::block::{Found, MAX_HEAD_BYTES};
+
+/// What is found is what these words say, and nothing else is: the pairs that are skipped are the longest run of them, a
+/// block ends by the first CR LF CR LF behind them and has at most 8,192 bytes, and where none ends within so many bytes
+/// more may come as long as there are fewer.
+pub fn what_is_found_is_as_said()
+    ensures said { (q : List ℕ) → IsFound q (cut_of q) }
+    ensures nothing_else { (q : List ℕ) (found : Found) → IsFound q found → found ≡ cut_of q }
+{}
 
 /// The division is one and no other: what is found first, and then the bytes behind it in the same way.
 pub fn division_is_unique()
@@ -16,7 +25,7 @@ pub fn division_is_unique()
 pub fn what_follows_changes_nothing()
     ensures block { (q z : List ℕ) (skip len : ℕ) → cut_of q ≡ Found.Block skip len → cut_of (q ++ z) ≡ Found.Block skip len }
     ensures long { (q z : List ℕ) (skip : ℕ) → cut_of q ≡ Found.TooLong skip → cut_of (q ++ z) ≡ Found.TooLong skip }
-    ensures beyond { (q z : List ℕ) → skipped q + 8192 ≤ length q → cut_of (q ++ z) ≡ cut_of q }
+    ensures beyond { (q z : List ℕ) → skipped q + MAX_HEAD_BYTES ≤ length q → cut_of (q ++ z) ≡ cut_of q }
     ensures blocks { (q z : List ℕ) → (later : List Piece) × (blocks (q ++ z) ≡ blocks q ++ later) }
 {}
 

@@ -9,4 +9,4 @@ pub mod laws;
 #[cfg(test)]
 mod tests;
 
-pub use block::{Found, cut};
+pub use block::{Found, MAX_HEAD_BYTES, cut};

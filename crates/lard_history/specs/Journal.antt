@@ -8,11 +8,7 @@ use Rattle.lard_base.specs.declared.place.Place.{Place}
 use Rattle.lard_base.specs.declared.place.Place.TheVariants.{Front, Node, Client}
 use Rattle.lard_journal.specs.declared.rec.Rec.{Rec}
 use Rattle.lard_journal.specs.declared.rec.Rec.TheVariants as rec
-use Rattle.lard_request.specs.declared.verdict.Code.{Code}
-use Rattle.lard_request.specs.declared.verdict.Code.TheVariants as code
 use Rattle.lard_request.specs.declared.verdict.Verdict.{Verdict}
-use Rattle.lard_request.specs.declared.verdict.Verdict.TheVariants.{Serve, Fault}
-use Rattle.lard_response.specs.Response.{number}
 use Rattle.lard_segment.specs.declared.fault.SegFault.{SegFault}
 use Rattle.lard_segment.specs.declared.segment.Dir.TheVariants.{ToClient}
 use Rattle.lard_segment.specs.Segment.{Said, decoded}
@@ -180,15 +176,6 @@ next_verdict J c = slice_get (verdicts (wrote J c)) (served J c)
 -- the response to it
 abbrev pub next_answer : FilesAt → List Rec → ℕ → Option (List ℕ)
 next_answer files J c = slice_get (answers files (wrote J c)) (served J c)
-
--- the code of the answer to a verdict
-abbrev pub found_code : Option (List ℕ) → Code
-found_code None = code.NotFound
-found_code (Some body) = code.Ok
-
-abbrev pub code_of : FilesAt → Verdict → ℕ
-code_of files (Serve path head close) = number (found_code (files path))
-code_of files (Fault fault) = number fault
 
 -- ---- resets, and the end of a stream
 

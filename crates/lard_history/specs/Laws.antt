@@ -2,14 +2,14 @@
 use Rattle.std.specs.Prelude.{◌≡◌, ◌⊎◌, ℕ, ◌+◌, ◌<◌, ◌≤◌, Bool, true, false, not, List, [], ◌∷◌, ◌++◌, length, Some, None, Ok, IsSome}
 use Rattle.std.specs.List.{list_all}
 use Rattle.std.specs.Option.{option_map}
-use Rattle.lard_answers.specs.Answers.{FilesAt, IsFront, answer_bytes}
+use Rattle.lard_answers.specs.Answers.{FilesAt, IsFront, answer_bytes, answer_code}
 use Rattle.lard_arrival.specs.Arrival.{IsPartAt}
 use Rattle.lard_base.specs.declared.event.Event.{Event}
 use Rattle.lard_base.specs.declared.event.Event.TheVariants as event
 use Rattle.lard_base.specs.declared.place.Place.{Place}
 use Rattle.lard_base.specs.declared.place.Place.TheVariants.{Front, Node, Client}
 use Rattle.lard_base.specs.declared.place.Via.TheVariants.{Own}
-use Rattle.lard_history.specs.Journal.{Numbers, accepted, acting, code_of, fin_sent, goal_of, has_closed, is_lost, last_epoch, next_answer, next_verdict, numbers_of, owner, request, said_to, sent_count, served, served_bytes, was_reset, wrote}
+use Rattle.lard_history.specs.Journal.{Numbers, accepted, acting, fin_sent, goal_of, has_closed, is_lost, last_epoch, next_answer, next_verdict, numbers_of, owner, request, said_to, sent_count, served, served_bytes, was_reset, wrote}
 use Rattle.lard_journal.specs.declared.rec.Rec.{Rec}
 use Rattle.lard_journal.specs.declared.rec.Rec.TheVariants as rec
 use Rattle.lard_segment.specs.declared.segment.Dir.TheVariants.{ToClient}
@@ -99,7 +99,7 @@ TellsTheTruth files J = EachMay (MayTell files) [] J
 -- which is there, and counts the bytes of that with those of all before it.
 abbrev pub MayServe : FilesAt → List Rec → Rec → Type 0
 MayServe files past (rec.Served place c r code size via) =
-    (r ≡ served past c + 1) × (option_map (code_of files) (next_verdict past c) ≡ Some code) × (option_map length (next_answer files past c) ≡ Some size) × (via ≡ Own)
+    (r ≡ served past c + 1) × (option_map (answer_code files) (next_verdict past c) ≡ Some code) × (option_map length (next_answer files past c) ≡ Some size) × (via ≡ Own)
 MayServe files past (rec.Reset place c total) = option_map (λ bytes. served_bytes past c + length bytes) (next_answer files past c) ≡ Some total
 MayServe files past _ = Unit {0}
 

@@ -3,11 +3,11 @@ use Rattle.std.proofs.Common.{◌≡◌, ◌⊎◌, ℕ, ◌+◌, List, [], ◌�
 use Rattle.std.proofs.lemmas.Option.{slice_get-map}
 use Rattle.std.specs.List.{list_any, slice_get}
 use Rattle.std.specs.Option.{option_map}
-use Rattle.lard_answers.specs.Answers.{FilesAt, IsFront, answer, verdicts}
+use Rattle.lard_answers.specs.Answers.{FilesAt, IsFront, answer, answer_code, verdicts}
 use Rattle.lard_answers.proofs.Growing.{answers-are}
 use Rattle.lard_base.specs.declared.place.Place.{Place}
 use Rattle.lard_base.specs.declared.place.Via.TheVariants.{Own}
-use Rattle.lard_history.specs.Journal.{code_of, next_answer, next_verdict, served, served_bytes, tale, told_on, wrote}
+use Rattle.lard_history.specs.Journal.{next_answer, next_verdict, served, served_bytes, tale, told_on, wrote}
 use Rattle.lard_history.specs.Laws.{EachMay, MayServe}
 use Rattle.lard_history.proofs.Each.{each_append}
 use Rattle.lard_history.proofs.Tales.{served-tale, served_bytes-tale, tale-append, wrote-tale}
@@ -37,10 +37,10 @@ module _ (files : FilesAt) (c : ℕ) (w said : List ℕ) (vs : List Verdict) (pa
       ap (λ (all : List (List ℕ)). slice_get all (served past c)) (answers-are files (wrote past c))
       ∙ slice_get-map (answer files) (verdicts (wrote past c)) (served past c) ∙ ap (option_map (answer files)) verdict-is
 
-  pub served-may : (place : Place) (r : ℕ) → r ≡ length vs + 1 → MayServe files past (rec.Served place c r (code_of files v) (length (answer files v)) Own)
+  pub served-may : (place : Place) (r : ℕ) → r ≡ length vs + 1 → MayServe files past (rec.Served place c r (answer_code files v) (length (answer files v)) Own)
   served-may place r e = (
     e ∙ ap (λ (n : ℕ). n + 1) (sym (served-tale past c ∙ t.served)),
-    ap (option_map (code_of files)) verdict-is,
+    ap (option_map (answer_code files)) verdict-is,
     ap (option_map length) answer-is,
     refl,
   )
@@ -103,12 +103,12 @@ module _ (files : FilesAt) (c : ℕ) (w out : Stream) (vs : List Verdict) where
 
     -- a response to the next verdict is queued
     pub noted-served : (place : Place) (r : ℕ) (v : Verdict) (said_next : List ℕ) → IsFront (us ++ v ∷ []) (verdicts w.bytes) → r ≡ length us + 1 → out.ended ≡ false
-        → said_next ≡ said ++ answer files v → Noted (us ++ v ∷ []) said_next (notes ++ rec.Served place c r (code_of files v) (length (answer files v)) Own ∷ [])
+        → said_next ≡ said ++ answer files v → Noted (us ++ v ∷ []) said_next (notes ++ rec.Served place c r (answer_code files v) (length (answer files v)) Own ∷ [])
     noted-served place r v said_next next e open_ is =
         let bytes : List ℕ = answer files v in
         let count = length-append us (v ∷ []) in
         let size = ap length is ∙ length-append said bytes in
-        noted-more (us ++ v ∷ []) said_next (rec.Served place c r (code_of files v) (length bytes) Own) refl (omega (arith, count)) (omega (arith, size)) (inl open_)
+        noted-more (us ++ v ∷ []) said_next (rec.Served place c r (answer_code files v) (length bytes) Own) refl (omega (arith, count)) (omega (arith, size)) (inl open_)
         (λ past t. served-may files c w.bytes said us past t v next place r e)
 
     -- it would pass the stream limit

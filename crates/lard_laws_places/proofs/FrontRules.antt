@@ -4,7 +4,7 @@ use Rattle.std.proofs.lemmas.Bool.{cond_both, and_parts, ltb-true, ltb-false}
 use Rattle.std.proofs.lemmas.Bool.Decides.{nat_tests}
 use Rattle.std.proofs.lemmas.List.Sums.{fold-append}
 use Rattle.std.specs.List.{fold}
-use Rattle.lard_answers.specs.Answers.{FilesAt, answer, found}
+use Rattle.lard_answers.specs.Answers.{FilesAt, answer, answer_code, found}
 use Rattle.lard_base.specs.declared.place.Place.{Place}
 use Rattle.lard_base.specs.declared.place.Place.TheVariants as place
 use Rattle.lard_base.specs.declared.place.Reason.TheVariants as reason
@@ -17,7 +17,7 @@ use Rattle.lard_endpoint.specs.Arriving.{on_segment}
 use Rattle.lard_endpoint.specs.Control.{ControlBlock, consuming, discarding_on, finishing, listening, queueing}
 use Rattle.lard_endpoint.specs.Leaving.{after_timer, timed}
 use Rattle.lard_endpoint.specs.Moving.{end_reason, final_of, may_end}
-use Rattle.lard_history.specs.Journal.{Tale, answered_step, code_of, tale_step, told_on}
+use Rattle.lard_history.specs.Journal.{Tale, answered_step, tale_step, told_on}
 use Rattle.lard_history.proofs.Each.{Each, Each-append}
 use Rattle.lard_history.proofs.Tales.{told_on-append}
 use Rattle.lard_journal.specs.declared.rec.Rec.{Rec}
@@ -146,7 +146,7 @@ module _ (env : FrontEnv) (u : Tale) where
       let le : total + length bytes ≤ env.stream = ltb-false env.stream (total + length bytes) within in
       let bytes_are : t.served_bytes ≡ total = s.bytes in
       let more : (closed_behind v (queueing w.block bytes)).send.total ≡ total + length bytes = closed_behind-many v (queueing w.block bytes) in
-      noted w h (rec.Served place.Front env.c (w.count + 1) (code_of env.files v) (length bytes) Own) (queued env v bytes w) refl
+      noted w h (rec.Served place.Front env.c (w.count + 1) (answer_code env.files v) (length bytes) Own) (queued env v bytes w) refl
       (refl, omega arith, s.reset) tt
       (many-serves None (w.count + 1) (total + length bytes) (closed_behind v (queueing w.block bytes)).send.total _ more
       (record {

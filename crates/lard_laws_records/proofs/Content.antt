@@ -5,15 +5,14 @@ use Rattle.std.proofs.lemmas.List.Elements.{All-weaker}
 use Rattle.std.proofs.lemmas.Map.Entries.{All-lookup}
 use Rattle.std.specs.List.{concat}
 use Rattle.std.specs.Str.{bytes_eq}
-use Rattle.lard_answers.specs.Answers.{FilesAt, answer, found}
+use Rattle.lard_answers.specs.Answers.{FilesAt, answer, answer_code, found, found_code}
 use Rattle.lard_files.specs.Files.{file_at}
 use Rattle.lard_history.proofs.Each.{Each}
-use Rattle.lard_history.specs.Journal.{code_of, found_code}
 use Rattle.lard_request.specs.declared.verdict.Code.{Code}
 use Rattle.lard_request.specs.declared.verdict.Code.TheVariants as code
 use Rattle.lard_request.specs.declared.verdict.Verdict.{Verdict}
 use Rattle.lard_request.specs.declared.verdict.Verdict.TheVariants.{Fault, Serve}
-use Rattle.lard_response.specs.Response.{close_line, content, length_line, number, reason, response, status_line}
+use Rattle.lard_response.specs.Response.{close_line, length_line, number, reason, response, response_body, status_line}
 use Rattle.lard_laws_records.specs.Records.{IsFile}
 use Rattle.lard_laws_records.proofs.Bytes.{AreBytes, bytes-append, bytes-concat, bytes-decimal, bytes-tested, index-bytes}
 
@@ -44,7 +43,7 @@ number-small code.FieldsTooLarge = omega arith
 number-small code.NotImplemented = omega arith
 
 -- and so has the code of each answer
-pub code-small : (files : FilesAt) (v : Verdict) → code_of files v < 1000
+pub code-small : (files : FilesAt) (v : Verdict) → answer_code files v < 1000
 code-small files (Serve path head close) = number-small (found_code (files path))
 code-small files (Fault fault) = number-small fault
 
@@ -95,7 +94,7 @@ close-short true = (bytes-tested (codes "Connection: close\r\n") refl, omega ari
 close-short false = (tt, omega arith)
 
 -- the content, which the answer to HEAD leaves out
-content-short : (body : List ℕ) (head : Bool) → IsContent body → IsShort (2 ^ 20) (content body head)
+content-short : (body : List ℕ) (head : Bool) → IsContent body → IsShort (2 ^ 20) (response_body body head)
 content-short body true h = (tt, omega arith)
 content-short body false h = h
 
@@ -104,8 +103,8 @@ response-answer : (c : Code) (body : List ℕ) (head close : Bool) → IsContent
 unfolding response
 response-answer c body head close h =
     let most = h.1 in
-    let whole : IsShort (80 + 42 + 20 + 2 + 2 ^ 20) (status_line c ++ length_line (length body) ++ close_line close ++ codes "\r\n" ++ content body head) =
-    short-append (80 + 42 + 20 + 2) (2 ^ 20) (status_line c ++ length_line (length body) ++ close_line close ++ codes "\r\n") (content body head)
+    let whole : IsShort (80 + 42 + 20 + 2 + 2 ^ 20) (status_line c ++ length_line (length body) ++ close_line close ++ codes "\r\n" ++ response_body body head) =
+    short-append (80 + 42 + 20 + 2) (2 ^ 20) (status_line c ++ length_line (length body) ++ close_line close ++ codes "\r\n") (response_body body head)
     (short-append (80 + 42 + 20) 2 (status_line c ++ length_line (length body) ++ close_line close) (codes "\r\n")
     (short-append (80 + 42) 20 (status_line c ++ length_line (length body)) (close_line close)
     (short-append 80 42 (status_line c) (length_line (length body)) (status-short c) (length-short (length body) (omega (arith, most))))

@@ -1,7 +1,7 @@
 -- What the front end notes in its turn is in range, and it sends few segments.
 use Rattle.std.proofs.Common.{◌≡◌, ℕ, zero, suc, ◌+◌, ◌≤◌, ◌^◌, List, [], ◌∷◌, length, take, drop, Bool, true, false, cond, nat_lt, Option, Some, None, Ok, Err, Result, refl, sym, subst, arith, length-append}
 use Rattle.std.proofs.lemmas.Bool.{cond_both, ltb-false}
-use Rattle.lard_answers.specs.Answers.{answer}
+use Rattle.lard_answers.specs.Answers.{answer, answer_code}
 use Rattle.lard_base.specs.declared.place.Place.{Place}
 use Rattle.lard_base.specs.declared.place.Place.TheVariants as place
 use Rattle.lard_base.specs.declared.place.Reason.TheVariants as reason
@@ -14,7 +14,6 @@ use Rattle.lard_endpoint.specs.Control.{ControlBlock, consuming, discarding_on, 
 use Rattle.lard_endpoint.specs.Leaving.{after_emit, after_timer, emits_left, emitted, owes, timed}
 use Rattle.lard_endpoint.specs.Moving.{final_of}
 use Rattle.lard_history.proofs.Each.{Each, Each-append}
-use Rattle.lard_history.specs.Journal.{code_of}
 use Rattle.lard_journal.specs.declared.rec.Rec.TheVariants as rec
 use Rattle.lard_journal.specs.Range.{IsInRange, IsNumber}
 use Rattle.lard_laws_places.proofs.Endpoints.{segment-many, timer-many}
@@ -112,7 +111,7 @@ module _ (env : FrontEnv) (number : IsNumber env.c) (small : env.stream ≤ 2 ^ 
       let within : total + length bytes ≤ env.stream = ltb-false env.stream (total + length bytes) t in
       let more : (closed_behind v (queueing w.block bytes)).send.total ≡ total + length bytes = closed-many v (queueing w.block bytes) in
       record {
-        notes = Each-append IsInRange w.notes (rec.Served place.Front env.c (w.count + 1) (code_of env.files v) (length bytes) Own ∷ []) h.notes
+        notes = Each-append IsInRange w.notes (rec.Served place.Front env.c (w.count + 1) (answer_code env.files v) (length bytes) Own ∷ []) h.notes
             ((tt, number, omega (arith, few, most), omega (arith, low), omega (arith, short), tt), tt);
         some = subst (λ n. w.count + 1 ≤ n) (sym more) (omega (arith, few, some));
         most = subst (λ n. n ≤ 2 ^ 30) (sym more) (omega (arith, within, small));

@@ -1,6 +1,6 @@
 -- The rules of the front end, each over one connection: the connection after it, and the front end's turn.
 use Rattle.std.specs.Prelude.{ℕ, zero, suc, ◌+◌, nat_lt, ◌&&◌, ◌||◌, not, Bool, true, false, if◌then◌else◌, List, [], ◌∷◌, ◌++◌, length, take, drop, Option, Some, None, Result, Ok, Err}
-use Rattle.lard_answers.specs.Answers.{FilesAt, answer}
+use Rattle.lard_answers.specs.Answers.{FilesAt, answer, answer_code}
 use Rattle.lard_base.specs.declared.limits.TheConstants.{RECEIVE_WINDOW}
 use Rattle.lard_base.specs.declared.place.Place.{Place}
 use Rattle.lard_base.specs.declared.place.Place.TheVariants as place
@@ -15,7 +15,6 @@ use Rattle.lard_endpoint.specs.Arriving.{on_segment}
 use Rattle.lard_endpoint.specs.Control.{ControlBlock, listening, queueing, finishing, consuming, discarding_on}
 use Rattle.lard_endpoint.specs.Leaving.{timed, after_timer}
 use Rattle.lard_endpoint.specs.Moving.{may_end, end_reason, final_of}
-use Rattle.lard_history.specs.Journal.{code_of}
 use Rattle.lard_journal.specs.declared.rec.Rec.{Rec}
 use Rattle.lard_journal.specs.declared.rec.Rec.TheVariants as rec
 use Rattle.lard_machine.specs.declared.places.FrontConn.{FrontConn}
@@ -59,7 +58,7 @@ abbrev pub queued : FrontEnv → Verdict → List ℕ → Service → Service
 queued env v bytes w = record {
   block = closed_behind v (queueing w.block bytes);
   count = w.count + 1;
-  notes = w.notes ++ rec.Served place.Front env.c (w.count + 1) (code_of env.files v) (length bytes) Own ∷ [];
+  notes = w.notes ++ rec.Served place.Front env.c (w.count + 1) (answer_code env.files v) (length bytes) Own ∷ [];
   answered = w.answered + length bytes;
   over = None;
 }

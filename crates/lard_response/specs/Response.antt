@@ -31,13 +31,17 @@ length_line n = codes "Content-Length: " ++ decimal n ++ codes "\r\n"
 abbrev pub close_line : Bool → List ℕ
 close_line close = if close then codes "Connection: close\r\n" else []
 
--- the content, which the answer to HEAD leaves out (RFC 9110, 9.3.2)
-abbrev pub content : List ℕ → Bool → List ℕ
-content body head = if head then [] else body
+-- the head of a response, with the empty line that ends it; a body of so many bytes follows in the answer to GET
+abbrev pub response_head : Code → ℕ → Bool → List ℕ
+response_head code len close = status_line code ++ length_line len ++ close_line close ++ codes "\r\n"
+
+-- the body as it is sent: the answer to HEAD leaves it out (RFC 9110, 9.3.2)
+abbrev pub response_body : List ℕ → Bool → List ℕ
+response_body body head = if head then [] else body
 
 -- a response with this body
 unfoldable pub response : Code → List ℕ → Bool → Bool → List ℕ
-response code body head close = status_line code ++ length_line (length body) ++ close_line close ++ codes "\r\n" ++ content body head
+response code body head close = response_head code (length body) close ++ response_body body head
 
 -- the codes of an answer behind which the connection always closes
 abbrev pub IsClosing : Code → Bool → Type 0

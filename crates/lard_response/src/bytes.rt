@@ -1,7 +1,7 @@
 //! The bytes of one response, written to one buffer.
 
 ghost use Rattle.std.specs.Prelude.{◌≡◌, ◌↔◌, ◌++◌, IsTrue, IfOk, OnOk};
-ghost use Rattle.lard_response.specs.Response.{status_line, length_line, close_line, content, response, IsClosing, HasItsBody};
+ghost use Rattle.lard_response.specs.Response.{status_line, length_line, close_line, response, response_body, IsClosing, HasItsBody};
 
 use itoa::Buffer;
 use lard_base::{Bytes, NoMemory};
@@ -37,7 +37,7 @@ pub fn write(
     requires close { IsClosing code close }
     ensures { IfOk result (λ bytes. bytes ≡ response code body.now head close) }
 {
-    let sent = content_of(body, head);
+    let sent = sent_of(body, head);
     let mut bytes = Vec::with_capacity(alloc, HEAD_BYTES + sent.len())?;
     bytes.extend_from_slice(status_of(code))?;
     push_length(&mut bytes, body.len())?;
@@ -79,9 +79,9 @@ fn close_of(close: bool) -> &'static [u8]
     if close { b"Connection: close\r\n" } else { b"" }
 }
 
-/// The content of a response to this body.
-fn content_of(body: &[u8], head: bool) -> &[u8]
-    ensures { result.now ≡ content body.now head }
+/// The body as it is sent.
+fn sent_of(body: &[u8], head: bool) -> &[u8]
+    ensures { result.now ≡ response_body body.now head }
 {
     if head { b"" } else { body }
 }

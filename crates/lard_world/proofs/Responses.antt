@@ -4,7 +4,7 @@ use Rattle.std.specs.Prelude.{codes, decimal}
 use Rattle.std.proofs.lemmas.Fmt.{length-decimal-le}
 use Rattle.lard_request.specs.declared.verdict.Code.{Code}
 use Rattle.lard_request.specs.declared.verdict.Code.TheVariants.{Ok, BadRequest, NotFound, TooLarge, FieldsTooLarge, NotImplemented}
-use Rattle.lard_response.specs.Response.{number, reason, status_line, length_line, close_line, content, response}
+use Rattle.lard_response.specs.Response.{number, reason, status_line, length_line, close_line, response, response_body}
 
 number-most : (code : Code) → number code ≤ 501
 number-most Ok = omega arith
@@ -43,7 +43,7 @@ close-most : (b : Bool) → length (close_line b) ≤ 19
 close-most true = lit≤ tt
 close-most false = lit≤ tt
 
-content-most : (body : List ℕ) (b : Bool) → length (content body b) ≤ length body
+content-most : (body : List ℕ) (b : Bool) → length (response_body body b) ≤ length body
 content-most body true = omega arith
 content-most body false = omega arith
 
@@ -52,7 +52,7 @@ unfolding response
 response_fits code body head close bytes e h =
     let line = length_line (length body) in
     let status = status_line code in
-    let sent = content body head in
+    let sent = response_body body head in
     let s = status-size code in
     let a = length-append (status ++ line ++ close_line close ++ codes "\r\n") sent in
     let b = length-append (status ++ line ++ close_line close) (codes "\r\n") in

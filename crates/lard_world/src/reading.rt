@@ -2,11 +2,10 @@
 
 ghost use Rattle.std.specs.Prelude.{◌≡◌, ◌+◌, ◌^◌, ◌≤◌, ◌<◌, false, [], ◌∷◌, ◌++◌, length, IfOk, IfSome, IsTrue, OnOk, Some, true, if◌then◌else◌};
 ghost use Rattle.std.specs.Option.{option_copied};
-ghost use Rattle.lard_answers.specs.Answers.{answer, found};
+ghost use Rattle.lard_answers.specs.Answers.{answer, answer_code, found};
 ghost use Rattle.lard_base.specs.declared.limits.TheConstants.{MAX_STREAM_BYTES};
 ghost use Rattle.lard_files.specs.Files.{IsContent, file_at};
 ghost use Rattle.lard_endpoint.specs.Control.{finishing};
-ghost use Rattle.lard_history.specs.Journal.{code_of};
 ghost use Rattle.lard_machine.specs.Front.{answered, closed_behind, may_read, reads};
 ghost use Rattle.lard_response.specs.Response.{number, response};
 ghost use Rattle.lard_world.specs.Front.{IsCounted, env_seen, service_of};
@@ -189,7 +188,7 @@ fn close_behind(endpoint: &mut Endpoint, verdict: &Verdict)
 
 /// The code of the answer to a verdict.
 fn code_of(files: &Files, verdict: &Verdict) -> u16
-    ensures { result ≡ code_of (file_at files.now) verdict.now }
+    ensures { result ≡ answer_code (file_at files.now) verdict.now }
 {
     match verdict {
         Verdict::Serve { path, .. } => match files.get(path.as_slice()) {
