@@ -36,6 +36,10 @@ found-more s l None skip h = go (nat_lt l 8192) refl h where
   go true f e = let k : s ≡ skip = cc in (k, refl, grind (arith, nat_tests, f))
   go false f e = cc
 
+-- where more is awaited, the pairs are skipped
+pub more-skips : (q : List ℕ) (skip : ℕ) → cut_of q ≡ More skip → skipped q ≡ skip
+more-skips q skip h = (found-more (skipped q) (length (drop (skipped q) q)) (head_end (take 8192 (drop (skipped q) q))) skip (sym (cut_is q) ∙ h)).0
+
 -- a block lies behind the pairs, within the bytes, and has 4 to 8,192 bytes
 pub record IsCut (q : List ℕ) (skip len : ℕ) : Type 0 where
   pub pairs : skipped q ≡ skip

@@ -1,14 +1,14 @@
 -- Bytes that are read from the front: what is cut into pieces with some verdicts, and the next verdict.
 use Rattle.std.proofs.Common.{◌≡◌, min, nat_lt, Option, Some, None, ◌+◌, ◌-◌, ℕ, false, cond, List, [], ◌∷◌, ◌++◌, map, length, take, drop, arith, ap, ◌∙◌, sym, subst, append_assoc, length-drop}
 use Rattle.std.proofs.Math.Seq.{take-add, drop-append_seam}
-use Rattle.std.proofs.lemmas.Bool.{cond_both}
 use Rattle.std.proofs.lemmas.List.{take_min, drop-take, length-take-le, map-append, take-append-drop, take-append-le}
 use Rattle.lard_answers.specs.Answers.{IsFront, piece_verdict, verdicts_on, until_close, verdicts, closes_any}
 use Rattle.lard_answers.proofs.Following.{verdicts_on-moved, until_close-behind}
 use Rattle.lard_answers.proofs.Growing.{until_close-cons, verdicts-are}
 use Rattle.lard_block.specs.declared.block.Found.{Found}
 use Rattle.lard_block.specs.declared.block.Found.TheVariants.{Block, More, TooLong}
-use Rattle.lard_block.specs.Blocks.{skipped, head_end, found, cut_of, Piece, Head, moved, blocks, Cuts}
+use Rattle.lard_block.specs.Blocks.{skipped, cut_of, Piece, Head, moved, blocks, Cuts}
+use Rattle.lard_block.proofs.Cutting.{more-skips}
 use Rattle.lard_block.proofs.Division.{grows, long-last, cuts-block}
 use Rattle.lard_block.proofs.Skips.{cuts-pairs}
 use Rattle.lard_recv.specs.Recv.{Received, consumed}
@@ -29,14 +29,6 @@ BeginsWith y v = (z : List ℕ) → (ws : List Verdict) × (verdicts_on (blocks 
 -- ---- what is cut
 
 -- where a whole head is awaited, the pairs before it are skipped
-found-more : (s l skip : ℕ) (o : Option ℕ) → found s l o ≡ More skip → s ≡ skip
-found-more s l skip (Some n) e = cc
-found-more s l skip None e = cond_both (nat_lt l 8192) (More s) (TooLong s) (λ (f : Found). f ≡ More skip → s ≡ skip) (λ _ f. cc) (λ _ f. cc) e
-
-more-skips : (q : List ℕ) (skip : ℕ) → cut_of q ≡ More skip → skipped q ≡ skip
-unfolding cut_of
-more-skips q skip e = found-more (skipped q) (length (drop (skipped q) q)) skip (head_end (take 8192 (drop (skipped q) q))) e
-
 pub cuts-more : (q : List ℕ) (skip : ℕ) → cut_of q ≡ More skip → Cuts (take skip q) []
 cuts-more q skip e = subst (λ n. Cuts (take n q) []) (more-skips q skip e) (cuts-pairs q)
 

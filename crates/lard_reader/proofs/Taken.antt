@@ -1,5 +1,5 @@
 -- What a batch uses, and what it leaves.
-use Rattle.std.proofs.Common.{append_assoc, ◌≡◌, ℕ, zero, suc, ◌+◌, ◌≤◌, ◌<◌, ◌||◌, Bool, true, false, List, [], ◌∷◌, ◌++◌, map, length, take, drop, Option, Some, None, cond, refl, sym, ap, ◌∙◌, subst, arith, nat_lt, nat_eq}
+use Rattle.std.proofs.Common.{append_assoc, ◌≡◌, ℕ, zero, suc, ◌+◌, ◌≤◌, ◌<◌, ◌||◌, Bool, true, false, List, [], ◌∷◌, ◌++◌, map, length, take, drop, None, cond, refl, sym, ap, ◌∙◌, subst, arith, nat_lt, nat_eq}
 use Rattle.std.specs.List.{starts_with}
 use Rattle.std.proofs.Math.ListN.{drop_of_length-le}
 use Rattle.std.proofs.Math.Seq.{take-add}
@@ -9,6 +9,7 @@ use Rattle.std.proofs.lemmas.List.{take-append-drop, length-take-le, drop-drop}
 use Rattle.lard_block.specs.declared.block.Found.{Found}
 use Rattle.lard_block.specs.declared.block.Found.TheVariants.{Block, More, TooLong}
 use Rattle.lard_block.specs.Blocks.{skipped, head_end, found, found_in, cut_of, Piece, Head, Long, moved, blocks, Cuts}
+use Rattle.lard_block.proofs.Cutting.{cut_is, found-more, more-skips}
 use Rattle.lard_block.proofs.Division.{block-first, long-last, cuts-nothing, cuts-block, cuts-join}
 use Rattle.lard_request.specs.Verdict.{closes, verdict}
 use Rattle.lard_answers.specs.Answers.{FilesAt, answer, answers, verdicts_on, verdicts, closes_any}
@@ -41,23 +42,6 @@ moved-behind q k ps h = go (nat_lt (length q) k) refl where
   go false e =
       let l : k ≤ length q = grind (arith, nat_tests, e) in
       ap (λ m. map (moved m) ps) (length-take-le k q l)
-
--- ---- the places of a cut
-
-cut_is : (q : List ℕ) → cut_of q ≡ found_in (skipped q) (drop (skipped q) q)
-unfolding cut_of
-cut_is q = refl
-
--- what is awaited lies behind the pairs: no end is there, and there are fewer than 8,192 bytes
-awaited : (s l : ℕ) (o : Option ℕ) (skip : ℕ) → found s l o ≡ More skip → (s ≡ skip) × (o ≡ None) × (l < 8192)
-awaited s l (Some n) skip h = cc
-awaited s l None skip h = go (nat_lt l 8192) refl h where
-  go : (b : Bool) → nat_lt l 8192 ≡ b → cond {A = Found} b (More s) (TooLong s) ≡ More skip → (s ≡ skip) × ◌≡◌ {A = Option ℕ} None None × (l < 8192)
-  go true f e = let k : s ≡ skip = cc in (k, refl, grind (arith, nat_tests, f))
-  go false f e = cc
-
-skipped-is : (q : List ℕ) (skip : ℕ) → cut_of q ≡ More skip → skipped q ≡ skip
-skipped-is q skip e = (awaited (skipped q) (length (drop (skipped q) q)) (head_end (take 8192 (drop (skipped q) q))) skip (sym (cut_is q) ∙ e)).0
 
 -- ---- the verdicts of a batch are those on its pieces
 
@@ -121,7 +105,7 @@ batch-cut pairs (suc n) q h = go (λ r. batch-cut pairs n r) (cut_of q) refl whe
       → Cuts (take (bytes_used (suc n) q) q) (batch_pieces (suc n) q)
   go ih (Block s l) e = block s l ih e (closes (verdict (take l (drop s q)))) refl
   go ih (More s) e =
-      subst (λ k. Cuts (take k q) (batch_pieces (suc n) q)) (skipped-is q s e ∙ sym (used-suc n q (More s) e))
+      subst (λ k. Cuts (take k q) (batch_pieces (suc n) q)) (more-skips q s e ∙ sym (used-suc n q (More s) e))
       (subst (λ ps. Cuts (take (skipped q) q) ps) (sym (pieces-more (suc n) q s e)) (pairs q))
   go ih (TooLong s) e = let f : true ≡ false = sym (ap has_long (pieces-long n q s e)) ∙ h in absurd (let g : ⊥ = cc in g)
 
@@ -177,7 +161,7 @@ skipped-once (a ∷ b ∷ rest) = go (skipped-once rest) (starts_with nat_eq (a 
 more-once : (q : List ℕ) (s : ℕ) → cut_of q ≡ More s → cut_of (drop s q) ≡ More 0
 more-once q s e =
     let a : (skipped q ≡ s) × (head_end (take 8192 (drop (skipped q) q)) ≡ None) × (length (drop (skipped q) q) < 8192) =
-    awaited (skipped q) (length (drop (skipped q) q)) (head_end (take 8192 (drop (skipped q) q))) s (sym (cut_is q) ∙ e) in
+    found-more (skipped q) (length (drop (skipped q) q)) (head_end (take 8192 (drop (skipped q) q))) s (sym (cut_is q) ∙ e) in
     let r : List ℕ = drop (skipped q) q in
     let t : nat_lt (length r) 8192 ≡ true = grind (arith, nat_tests, a.2) in
     ap (λ k. cut_of (drop k q)) (sym a.0)

@@ -3,6 +3,7 @@ use Rattle.std.specs.Prelude.{ℕ, ◌+◌, Bool, true, false, ◌&&◌, ◌||�
 use Rattle.std.specs.List.{starts_with}
 use Rattle.std.specs.Str.{bytes_eq}
 use Rattle.httparse.specs.Grammar.{RequestHead}
+use Rattle.lard_base.specs.declared.limits.TheConstants.{MAX_FIELDS}
 use Rattle.lard_request.specs.declared.verdict.Code.TheVariants as code
 use Rattle.lard_request.specs.declared.verdict.Verdict.{Verdict}
 use Rattle.lard_request.specs.declared.verdict.Verdict.TheVariants.{Serve, Fault}
@@ -51,10 +52,10 @@ abbrev pub verdict_of : Option RequestHead → Verdict
 verdict_of None = Fault code.BadRequest
 verdict_of (Some h) = head_verdict h
 
--- the verdict on a block; more than 66 pairs CR LF are those of more than 64 fields (RFC 6585, 5)
+-- the verdict on a block; the request line and the empty line have a pair CR LF each, and so has each field (RFC 6585, 5)
 unfoldable pub verdict : List ℕ → Verdict
 verdict block =
-    if nat_lt 66 (pairs block) then Fault code.FieldsTooLarge
+    if nat_lt (MAX_FIELDS + 2) (pairs block) then Fault code.FieldsTooLarge
     else (if has_bare_feed false block then Fault code.BadRequest
     else verdict_of (head_of block))
 

@@ -13,11 +13,12 @@ use crate::target::path_of_target;
 use crate::verdict::{Code, Verdict};
 use httparse::Status;
 use httparse::spans::{EMPTY_HEADER_SPAN, HeaderSpan, RequestSpans, parse_request};
+use lard_base::limits::MAX_FIELDS;
 use lard_base::{NoMemory, Path};
 use std::alloc::Global;
 
-/// The most pairs CR LF of a block: those of a request line, of 64 fields, and of the empty line.
-const MOST_PAIRS: usize = 66;
+/// The most pairs CR LF of a block: those of a request line, of its fields, and of the empty line.
+const MOST_PAIRS: usize = MAX_FIELDS + 2;
 
 /// How one block is judged: the first judgement that applies to it (RFC 9112, 3, 5 and 6). The block is any bytes.
 pub fn judge(alloc: Global, block: &[u8]) -> Result<Verdict, NoMemory>
