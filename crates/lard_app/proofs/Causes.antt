@@ -2,15 +2,15 @@
 use Rattle.std.proofs.Common.{◌≡◌, ℕ, ◌+◌, ◌^◌, ◌≤◌, ◌<◌, List, length, Bool, true, false, cond, Option, Some, None, Result, Ok, Err, refl, sym, ap, ◌∙◌, subst, inl, inr, ⊎_elim, arith}
 use Rattle.std.proofs.lemmas.Bool.Decides.{nat_tests}
 use Rattle.std.specs.Prelude.{is_some, nat_le, nat_lt}
+use Rattle.lard_base.specs.declared.limits.TheConstants.{MAX_INPUT_BYTES}
 use Rattle.lard_base.specs.Config.{config_check, range_check}
 use Rattle.lard_base.specs.declared.config.ConfigFault.{ConfigFault}
 use Rattle.lard_base.specs.declared.config.Key.{Key}
 use Rattle.lard_base.specs.declared.event.Event.{Event}
-use Rattle.lard_files.specs.Files.{add_check, file_at, first_fault, total}
+use Rattle.lard_files.specs.Files.{add_check, file_at, total}
 use Rattle.lard_files.specs.declared.fault.FileFault.{FileFault}
 use Rattle.lard_files.specs.declared.fault.FileFault.TheVariants as file_fault
-use Rattle.lard_history.specs.Journal.{answered_bytes, packet_bytes, sent_count}
-use Rattle.lard_machine.specs.Machine.{limit_of, machine_step}
+use Rattle.lard_machine.specs.Machine.{machine_step}
 use Rattle.lard_machine.specs.declared.fault.StepFault.{StepFault}
 use Rattle.lard_machine.specs.declared.fault.StepFault.TheVariants as fault
 use Rattle.lard_machine.specs.declared.fault.What.{What}
@@ -25,55 +25,33 @@ use Rattle.lard_app.specs.declared.status.Status.{Status}
 use Rattle.lard_app.specs.declared.status.Status.TheVariants.{Done, Usage, Refused, ReadFault, WriteFault, NoMemory, Limit}
 use Rattle.lard_app.specs.declared.status.Why.{Why}
 use Rattle.lard_app.specs.declared.status.Why.TheVariants as why
-use Rattle.lard_app.specs.Causes.{AddsNone, EndsLine, IsUnbuilt, IsUnfit, Reaches, Refuses, StandsFor, Tries, limit_at}
+use Rattle.lard_app.specs.Causes.{AddsNone, EndsLine, HasReached, IsUnbuilt, IsUnfit, IsWithinLimits, MayNotAdd, Reaches, Refuses, StandsFor, Tries}
 use Rattle.lard_app.specs.Forms.{missing, unbuilt}
-use Rattle.lard_app.specs.Replay.{Progress, begun, config_set, counted, ended_by, file_ends, filed, followed, found, input_limit, is_past, item_taken, moved, passed, stepped, taken, unless_unbuilt}
+use Rattle.lard_app.specs.Replay.{Progress, begun, config_set, counted, ended_by, file_ends, filed, followed, found, is_past, item_taken, moved, passed, stepped, taken, unless_unbuilt}
 use Rattle.lard_app.proofs.Failures.{IsFault, fault-step, limit-step, step-fault}
 use Rattle.lard_app.proofs.Knows.{Knows}
+use Rattle.lard_app.proofs.Numbers.{check-fault, fault-check, fault-file, fault-range, file-fault, range-fault}
 use Rattle.lard_app.proofs.Passing.{judged_by, passed_by}
 use Rattle.lard_app.proofs.Reached.{Told, reached-told}
 
 -- ---- numbers
 
-is_over : (r b n : ℕ) → r ≡ b → nat_lt input_limit (r + n + 1) ≡ true → input_limit < b + (n + 1)
+is_over : (r b n : ℕ) → r ≡ b → nat_lt MAX_INPUT_BYTES (r + n + 1) ≡ true → MAX_INPUT_BYTES < b + (n + 1)
 is_over r b n e o = grind (arith, nat_tests, e, o)
 
-over : (r b n : ℕ) → r ≡ b → input_limit < b + (n + 1) → nat_lt input_limit (r + n + 1) ≡ true
+over : (r b n : ℕ) → r ≡ b → MAX_INPUT_BYTES < b + (n + 1) → nat_lt MAX_INPUT_BYTES (r + n + 1) ≡ true
 over r b n e o = grind (arith, nat_tests, e, o)
 
-is_within : (r b n : ℕ) → r ≡ b → nat_lt input_limit (r + n + 1) ≡ false → b + (n + 1) ≤ input_limit
+is_within : (r b n : ℕ) → r ≡ b → nat_lt MAX_INPUT_BYTES (r + n + 1) ≡ false → b + (n + 1) ≤ MAX_INPUT_BYTES
 is_within r b n e o = grind (arith, nat_tests, e, o)
 
-within : (r b n : ℕ) → r ≡ b → b + (n + 1) ≤ input_limit → nat_lt input_limit (r + n + 1) ≡ false
+within : (r b n : ℕ) → r ≡ b → b + (n + 1) ≤ MAX_INPUT_BYTES → nat_lt MAX_INPUT_BYTES (r + n + 1) ≡ false
 within r b n e o = grind (arith, nat_tests, e, o)
-
--- ---- files
-
--- no check says that memory ran out
-no_memory : (there : Bool) (count sum len : ℕ) → ¬ (first_fault there count sum len ≡ Err file_fault.NoMemory)
-no_memory there count sum len e = go there (nat_lt (2 ^ 20) len) (nat_lt 65536 (count + 1)) (nat_lt (2 ^ 26) (sum + len)) e where
-  go : (p q r t : Bool) → ¬ (◌≡◌ {A = Result (Unit {0}) FileFault} (cond p (Err file_fault.Repeated) (cond q (Err (file_fault.TooLong len)) (cond r (Err (file_fault.TooMany (count + 1))) (cond t (Err (file_fault.TooMuch (sum + len))) (Ok tt)))))
-      (Err file_fault.NoMemory))
-  go true q r t h = cc
-  go false true r t h = cc
-  go false false true t h = cc
-  go false false false true h = cc
-  go false false false false h = cc
 
 -- ---- limits
 
--- no step reaches the limit on the input
-no_input : (packets bytes records answered : ℕ) → ¬ (limit_of packets bytes records answered ≡ Some what.Input)
-no_input packets bytes records answered e = go (nat_le 1000000 packets) (nat_le (2 ^ 29) bytes) (nat_le 4000000 records) (nat_le (2 ^ 29) answered) e where
-  go : (p q r t : Bool) → ¬ (cond p (Some what.Packets) (cond q (Some what.PacketBytes) (cond r (Some what.Records) (cond t (Some what.Answers) None))) ≡ Some what.Input)
-  go true q r t h = cc
-  go false true r t h = cc
-  go false false true t h = cc
-  go false false false true h = cc
-  go false false false false h = cc
-
 unreached : (m : Machine) (e : Event) → ¬ (Reaches m e what.Input)
-unreached m e (inl l) = no_input (sent_count m.journal) (packet_bytes m.journal) (length m.journal) (answered_bytes m.journal) l
+unreached m e (inl l) = l
 unreached m e (inr h) = let both : what.Input ≡ what.Stream = h.1 in cc
 
 err_status : (x y : Status) → ◌≡◌ {A = Result Progress Status} (Err x) (Err y) → x ≡ y
@@ -88,7 +66,7 @@ module _ (n bytes : ℕ) (s : Progress) (k : Knows n bytes s) (line : List ℕ) 
 
   -- ---- why the line ended the run
 
-  module _ (short : bytes + (length line + 1) ≤ input_limit) (status : Status) where
+  module _ (short : bytes + (length line + 1) ≤ MAX_INPUT_BYTES) (status : Status) where
     refused_here : (cause : Why) → Refuses s line cause → ◌≡◌ {A = Result Progress Status} (Err (Refused (s.lines + 1) cause)) (Err status) → EndsLine s n bytes line status
     refused_here cause r e = subst (EndsLine s n bytes line) (err_status (Refused (s.lines + 1) cause) status e) (next_number, short, r)
 
@@ -103,7 +81,7 @@ module _ (n bytes : ℕ) (s : Progress) (k : Knows n bytes s) (line : List ℕ) 
     limited_here : (w : What) (e : Event) → Tries s line e → Reaches s.machine e w → ◌≡◌ {A = Result Progress Status} (Err (Limit (s.lines + 1) w)) (Err status) → EndsLine s n bytes line status
     limited_here w e t r h = subst (EndsLine s n bytes line) (err_status (Limit (s.lines + 1) w) status h) (limited w e t r)
 
-    fault-ends : (e : Event) (f : StepFault) → Tries s line e → limit_at s.machine.journal ≡ None → IsFault s.machine e f → ◌≡◌ {A = Result Progress Status} (Err (ended_by (s.lines + 1) f)) (Err status) → EndsLine s n bytes line status
+    fault-ends : (e : Event) (f : StepFault) → Tries s line e → IsWithinLimits s.machine.journal → IsFault s.machine e f → ◌≡◌ {A = Result Progress Status} (Err (ended_by (s.lines + 1) f)) (Err status) → EndsLine s n bytes line status
     fault-ends e (fault.NotSent j sent) t l h is = refused_here (why.NotSent j sent) (e, t, l, h) is
     fault-ends e (fault.WasLost j) t l h is = refused_here (why.WasLost j) (e, t, l, h) is
     fault-ends e (fault.NoClient c) t l h is = refused_here (why.NoClient c) (e, t, l, h) is
@@ -114,8 +92,8 @@ module _ (n bytes : ℕ) (s : Progress) (k : Knows n bytes s) (line : List ℕ) 
     moved-ends : (e : Event) (r : Result Machine StepFault) → Tries s line e → machine_step s.machine e ≡ r → moved (followed (counted s line) (item.Event e)) r ≡ Err status → EndsLine s n bytes line status
     moved-ends e (Ok m) t is h = cc
     moved-ends e (Err f) t is h = ⊎_elim
-        (λ (l : (w : What) × (limit_at s.machine.journal ≡ Some w) × (fault.Limit w ≡ f)). limited_here l.0 e t (inl l.1) (ap (λ g. Err (ended_by (s.lines + 1) g)) l.2 ∙ h))
-        (λ (l : (limit_at s.machine.journal ≡ None) × IsFault s.machine e f). fault-ends e f t l.0 l.1 h)
+        (λ (l : (w : What) × HasReached s.machine.journal w × (fault.Limit w ≡ f)). limited_here l.0 e t (inl l.1) (ap (λ g. Err (ended_by (s.lines + 1) g)) l.2 ∙ h))
+        (λ (l : IsWithinLimits s.machine.journal × IsFault s.machine e f). fault-ends e f t l.0 l.1 h)
         (step-fault s.machine told e f is)
 
     event-ends : (e : Event) (o : Option Form) → StandsFor s line (item.Event e) → missing e ≡ o → stepped (followed (counted s line) (item.Event e)) e o ≡ Err status → EndsLine s n bytes line status
@@ -125,24 +103,24 @@ module _ (n bytes : ℕ) (s : Progress) (k : Knows n bytes s) (line : List ℕ) 
     set-ends : (key : Key) (value : ℕ) (r : Result (Unit {0}) ConfigFault) → StandsFor s line (item.Set key value) → range_check key value ≡ r
         → config_set (followed (counted s line) (item.Set key value)) key value r ≡ Err status → EndsLine s n bytes line status
     set-ends key value (Ok u) stands c h = cc
-    set-ends key value (Err fault) stands c h = refused_here (why.Config fault) (item.Set key value, stands, c) h
+    set-ends key value (Err fault) stands c h = refused_here (why.Config fault) (item.Set key value, stands, range-fault key value fault c) h
 
-    file-ends : (path b : List ℕ) (f : FileFault) → StandsFor s line (item.File path b) → add_check s.files path (length b) ≡ Err f
+    file-ends : (path b : List ℕ) (f : FileFault) → StandsFor s line (item.File path b) → MayNotAdd (file_at s.files path) (length s.files) (total s.files) (length b) f
         → ◌≡◌ {A = Result Progress Status} (Err (file_ends (s.lines + 1) f)) (Err status) → EndsLine s n bytes line status
-    file-ends path b file_fault.Repeated stands c h = refused_here why.Repeated (path, b, stands, c) h
-    file-ends path b (file_fault.TooLong m) stands c h = refused_here (why.TooLong m) (path, b, stands, c) h
-    file-ends path b (file_fault.TooMany m) stands c h = refused_here (why.TooMany m) (path, b, stands, c) h
-    file-ends path b (file_fault.TooMuch m) stands c h = refused_here (why.TooMuch m) (path, b, stands, c) h
-    file-ends path b file_fault.NoMemory stands c h = absurd (no_memory (is_some (file_at s.files path)) (length s.files) (total s.files) (length b) c)
+    file-ends path b file_fault.Repeated stands c h = refused_here (why.File file_fault.Repeated) (path, b, stands, c) h
+    file-ends path b (file_fault.TooLong m) stands c h = refused_here (why.File (file_fault.TooLong m)) (path, b, stands, c) h
+    file-ends path b (file_fault.TooMany m) stands c h = refused_here (why.File (file_fault.TooMany m)) (path, b, stands, c) h
+    file-ends path b (file_fault.TooMuch m) stands c h = refused_here (why.File (file_fault.TooMuch m)) (path, b, stands, c) h
+    file-ends path b file_fault.NoMemory stands c h = absurd c
 
     filed-ends : (path b : List ℕ) (r : Result (Unit {0}) FileFault) → StandsFor s line (item.File path b) → add_check s.files path (length b) ≡ r
         → filed (followed (counted s line) (item.File path b)) path b r ≡ Err status → EndsLine s n bytes line status
     filed-ends path b (Ok u) stands c h = cc
-    filed-ends path b (Err f) stands c h = file-ends path b f stands c h
+    filed-ends path b (Err f) stands c h = file-ends path b f stands (file-fault (file_at s.files path) (length s.files) (total s.files) (length b) f c) h
 
     begun-ends : (r : Result (Unit {0}) ConfigFault) → StandsFor s line item.Go → config_check s.config ≡ r → begun (followed (counted s line) item.Go) r ≡ Err status → EndsLine s n bytes line status
     begun-ends (Ok u) stands c h = cc
-    begun-ends (Err fault) stands c h = refused_here (why.Config fault) (item.Go, stands, c) h
+    begun-ends (Err fault) stands c h = refused_here (why.Config fault) (item.Go, stands, check-fault s.config k.keeps.fits fault c) h
 
     item-ends : (x : Item) → StandsFor s line x → taken (followed (counted s line) x) x ≡ Err status → EndsLine s n bytes line status
     item-ends item.Header stands h = cc
@@ -165,7 +143,7 @@ module _ (n bytes : ℕ) (s : Progress) (k : Knows n bytes s) (line : List ℕ) 
 
   -- ---- and back
 
-  module _ (short : bytes + (length line + 1) ≤ input_limit) where
+  module _ (short : bytes + (length line + 1) ≤ MAX_INPUT_BYTES) where
     -- what a line leads to that is read as something
     read_by : (f : Option Form) (x : Option Item) → unbuilt line ≡ f → item_of s.reader line ≡ x → passed s line ≡ item_taken (counted s line) (unless_unbuilt f (found x))
     read_by f x u i = passed_by s line false (within s.read bytes (length line) k.read short) ∙ ap (item_taken (counted s line)) (judged_by s.reader line f x u i)
@@ -185,23 +163,24 @@ module _ (n bytes : ℕ) (s : Progress) (k : Knows n bytes s) (line : List ℕ) 
 
     unfit-refused : (x : Item) (fault : ConfigFault) → StandsFor s line x → IsUnfit s.config x fault → passed s line ≡ Err (Refused (s.lines + 1) (why.Config fault))
     unfit-refused item.Header fault t u = absurd u
-    unfit-refused (item.Set key value) fault t u = stands_by (item.Set key value) t ∙ ap (config_set (followed (counted s line) (item.Set key value)) key value) u
+    unfit-refused (item.Set key value) fault t u = stands_by (item.Set key value) t ∙ ap (config_set (followed (counted s line) (item.Set key value)) key value) (fault-range key value u.1) ∙ ap (λ f. Err (Refused (s.lines + 1) (why.Config f))) (sym u.0)
     unfit-refused (item.File path bytes) fault t u = absurd u
-    unfit-refused item.Go fault t u = stands_by item.Go t ∙ ap (begun (followed (counted s line) item.Go)) u
+    unfit-refused item.Go fault t u = stands_by item.Go t ∙ ap (begun (followed (counted s line) item.Go)) (fault-check s.config k.keeps.fits fault u)
     unfit-refused (item.Event e) fault t u = absurd u
 
     file-refused : (f : FileFault) → AddsNone s line f → passed s line ≡ Err (file_ends (s.lines + 1) f)
-    file-refused f u = stands_by (item.File u.0 u.1) u.2 ∙ ap (filed (followed (counted s line) (item.File u.0 u.1)) u.0 u.1) u.3
+    file-refused f u = stands_by (item.File u.0 u.1) u.2 ∙ ap (filed (followed (counted s line) (item.File u.0 u.1)) u.0 u.1) (fault-file (file_at s.files u.0) (length s.files) (total s.files) (length u.1) f u.3)
 
     refused : (cause : Why) → Refuses s line cause → passed s line ≡ Err (Refused (s.lines + 1) cause)
     refused (why.FormNotBuilt f) (inl u) = read_by (Some f) (item_of s.reader line) u refl
     refused (why.FormNotBuilt f) (inr u) = unbuilt-refused u.0 f u.1 u.2
     refused why.Syntax u = read_by None None u.0 ((none_is s.reader line).1 u.1)
     refused (why.Config fault) u = unfit-refused u.0 fault u.1 u.2
-    refused why.Repeated u = file-refused file_fault.Repeated u
-    refused (why.TooLong m) u = file-refused (file_fault.TooLong m) u
-    refused (why.TooMany m) u = file-refused (file_fault.TooMany m) u
-    refused (why.TooMuch m) u = file-refused (file_fault.TooMuch m) u
+    refused (why.File file_fault.Repeated) u = file-refused file_fault.Repeated u
+    refused (why.File (file_fault.TooLong m)) u = file-refused (file_fault.TooLong m) u
+    refused (why.File (file_fault.TooMany m)) u = file-refused (file_fault.TooMany m) u
+    refused (why.File (file_fault.TooMuch m)) u = file-refused (file_fault.TooMuch m) u
+    refused (why.File file_fault.NoMemory) u = absurd u.3
     refused (why.NotSent j sent) u = tried_by u.0 (fault.NotSent j sent) u.1 (fault-step s.machine told u.0 (fault.NotSent j sent) u.2 u.3)
     refused (why.WasLost j) u = tried_by u.0 (fault.WasLost j) u.1 (fault-step s.machine told u.0 (fault.WasLost j) u.2 u.3)
     refused (why.NoClient c) u = tried_by u.0 (fault.NoClient c) u.1 (fault-step s.machine told u.0 (fault.NoClient c) u.2 u.3)

@@ -2,30 +2,31 @@
 use Rattle.std.proofs.Common.{◌≡◌, ◌≢◌, ◌↔◌, ℕ, suc, ◌+◌, ◌≤◌, ◌<◌, List, [], ◌∷◌, ◌++◌, length, Bool, true, false, cond, Result, Ok, Err, refl, sym, ap, ◌∙◌, subst, inl, inr, ⊎_elim, add-zero, zero-add, arith}
 use Rattle.std.proofs.lemmas.Bool.Decides.{nat_tests}
 use Rattle.std.specs.Prelude.{nat_lt}
+use Rattle.lard_base.specs.declared.limits.TheConstants.{MAX_INPUT_BYTES}
 use Rattle.lard_machine.specs.declared.fault.What.TheVariants.{Input, Packets, PacketBytes, Records, Answers, Stream}
 use Rattle.lard_schedule.specs.declared.reader.Stage.{Stage}
 use Rattle.lard_schedule.specs.declared.reader.Stage.TheVariants as stage
 use Rattle.lard_schedule.proofs.Cuts.{first_part}
 use Rattle.lard_app.specs.declared.status.Status.{Status}
 use Rattle.lard_app.specs.declared.status.Status.TheVariants.{Done, Usage, Refused, ReadFault, WriteFault, NoMemory, Limit}
-use Rattle.lard_app.specs.declared.status.Why.TheVariants.{Syntax, Config, Repeated, TooLong, TooMany, TooMuch, NotSent, WasLost, NoClient, Used, FormNotBuilt}
+use Rattle.lard_app.specs.declared.status.Why.TheVariants.{Syntax, Config, File, NotSent, WasLost, NoClient, Used, FormNotBuilt}
 use Rattle.lard_app.specs.Causes.{Ends, EndsRest, EndsText, Leads, bytes_in}
-use Rattle.lard_app.specs.Replay.{Progress, begin, ended_at, ending, input_limit, is_feed, lines_of, passed, replayed, whole}
+use Rattle.lard_app.specs.Replay.{Progress, begin, ended_at, ending, is_feed, lines_of, passed, replayed, whole}
 use Rattle.lard_app.proofs.Causes.{ends-line, line-ends, next_number}
 use Rattle.lard_app.proofs.Knows.{Knows, begin-knows, passed-knows}
 
 -- ---- numbers
 
-is_past_end : (r b m : ℕ) → r ≡ b → nat_lt input_limit (r + m) ≡ true → input_limit < b + m
+is_past_end : (r b m : ℕ) → r ≡ b → nat_lt MAX_INPUT_BYTES (r + m) ≡ true → MAX_INPUT_BYTES < b + m
 is_past_end r b m e o = grind (arith, nat_tests, e, o)
 
-past_end : (r b m : ℕ) → r ≡ b → input_limit < b + m → nat_lt input_limit (r + m) ≡ true
+past_end : (r b m : ℕ) → r ≡ b → MAX_INPUT_BYTES < b + m → nat_lt MAX_INPUT_BYTES (r + m) ≡ true
 past_end r b m e o = grind (arith, nat_tests, e, o)
 
-is_before_end : (r b m : ℕ) → r ≡ b → nat_lt input_limit (r + m) ≡ false → b + m ≤ input_limit
+is_before_end : (r b m : ℕ) → r ≡ b → nat_lt MAX_INPUT_BYTES (r + m) ≡ false → b + m ≤ MAX_INPUT_BYTES
 is_before_end r b m e o = grind (arith, nat_tests, e, o)
 
-before_end : (r b m : ℕ) → r ≡ b → b + m ≤ input_limit → nat_lt input_limit (r + m) ≡ false
+before_end : (r b m : ℕ) → r ≡ b → b + m ≤ MAX_INPUT_BYTES → nat_lt MAX_INPUT_BYTES (r + m) ≡ false
 before_end r b m e o = grind (arith, nat_tests, e, o)
 
 module _ (n bytes : ℕ) (s : Progress) (k : Knows n bytes s) where
@@ -34,8 +35,8 @@ module _ (n bytes : ℕ) (s : Progress) (k : Knows n bytes s) where
   number : s.lines + 1 ≡ n + 1
   number = next_number n bytes s k []
 
-  small : bytes ≤ input_limit
-  small = subst (λ m. m ≤ input_limit) k.read k.keeps.read
+  small : bytes ≤ MAX_INPUT_BYTES
+  small = subst (λ m. m ≤ MAX_INPUT_BYTES) k.read k.keeps.read
 
   -- `go` has not passed
   early : (st : Stage) → s.reader.stage ≡ st → st ≢ stage.Running → Refused (s.lines + 1) Syntax ≡ ended_at s.lines st → (status : Status) → ended_at s.lines st ≡ status → EndsText s n bytes [] status
@@ -48,8 +49,8 @@ module _ (n bytes : ℕ) (s : Progress) (k : Knows n bytes s) where
     go stage.Start p h = early stage.Start p (λ e. cc) refl status h
     go stage.Settings p h = early stage.Settings p (λ e. cc) refl status h
     go stage.Files p h = early stage.Files p (λ e. cc) refl status h
-  text-ends (b ∷ bs) status e = go (nat_lt input_limit (s.read + length (b ∷ bs))) refl e where
-    go : (t : Bool) → nat_lt input_limit (s.read + length (b ∷ bs)) ≡ t → cond t (Limit (s.lines + 1) Input) (Refused (s.lines + 1) Syntax) ≡ status → EndsText s n bytes (b ∷ bs) status
+  text-ends (b ∷ bs) status e = go (nat_lt MAX_INPUT_BYTES (s.read + length (b ∷ bs))) refl e where
+    go : (t : Bool) → nat_lt MAX_INPUT_BYTES (s.read + length (b ∷ bs)) ≡ t → cond t (Limit (s.lines + 1) Input) (Refused (s.lines + 1) Syntax) ≡ status → EndsText s n bytes (b ∷ bs) status
     go true p h = subst (EndsText s n bytes (b ∷ bs)) h (number, is_past_end s.read bytes (length (b ∷ bs)) k.read p)
     go false p h = subst (EndsText s n bytes (b ∷ bs)) h (number, is_before_end s.read bytes (length (b ∷ bs)) k.read p, inl (λ e. cc))
 
@@ -70,10 +71,7 @@ module _ (n bytes : ℕ) (s : Progress) (k : Knows n bytes s) where
   ends-text last (Limit line Answers) u = absurd u
   ends-text last (Limit line Stream) u = absurd u
   ends-text last (Refused line (Config fault)) u = absurd u
-  ends-text last (Refused line Repeated) u = absurd u
-  ends-text last (Refused line (TooLong m)) u = absurd u
-  ends-text last (Refused line (TooMany m)) u = absurd u
-  ends-text last (Refused line (TooMuch m)) u = absurd u
+  ends-text last (Refused line (File fault)) u = absurd u
   ends-text last (Refused line (NotSent j m)) u = absurd u
   ends-text last (Refused line (WasLost j)) u = absurd u
   ends-text last (Refused line (NoClient c)) u = absurd u

@@ -20,7 +20,8 @@ use Rattle.lard_machine.specs.declared.machine.Machine.{Machine}
 use Rattle.lard_machine.specs.declared.places.Station.{Station}
 use Rattle.lard_net.specs.Net.{Packet, bytes_in, lose_at, packet_at}
 use Rattle.lard_app.specs.declared.status.Why.TheVariants as why
-use Rattle.lard_app.specs.Causes.{IsOfClient, IsOfPacket, IsUntimely, Opens, WritesTooMuch, limit_at}
+use Rattle.lard_app.specs.Causes.{HasReached, IsOfClient, IsOfPacket, IsUntimely, IsWithinLimits, Opens, WritesTooMuch}
+use Rattle.lard_app.proofs.Numbers.{found_limit, limit-reached, none-reached, reached-limit, within-none}
 use Rattle.lard_app.proofs.Reached.{Told}
 
 -- ---- packets by their numbers
@@ -233,24 +234,24 @@ module _ (m : Machine) (t : Told m) where
 
   -- ---- the whole step
 
-  limit_same : limit_at m.journal ≡ limit_reached m
+  limit_same : found_limit m.journal ≡ limit_reached m
   limit_same =
       ap (λ n. limit_of n (packet_bytes m.journal) (length m.journal) (answered_bytes m.journal)) t.sent
       ∙ ap (λ n. limit_of (length m.net) n (length m.journal) (answered_bytes m.journal)) t.bytes
       ∙ ap (λ n. limit_of (length m.net) (bytes_in m.net) (length m.journal) n) t.answered
 
   -- a limit ends the step, or the event does
-  pub step-fault : (e : Event) (f : StepFault) → machine_step m e ≡ Err f → ((w : What) × (limit_at m.journal ≡ Some w) × (fault.Limit w ≡ f)) ⊎ ((limit_at m.journal ≡ None) × IsFault m e f)
+  pub step-fault : (e : Event) (f : StepFault) → machine_step m e ≡ Err f → ((w : What) × HasReached m.journal w × (fault.Limit w ≡ f)) ⊎ (IsWithinLimits m.journal × IsFault m e f)
   unfolding machine_step
   step-fault e f is = go (limit_reached m) refl is where
-    go : (o : Option What) → limit_reached m ≡ o → unless_limit o (happens m e) ≡ Err f → ((w : What) × (limit_at m.journal ≡ Some w) × (fault.Limit w ≡ f)) ⊎ ((limit_at m.journal ≡ None) × IsFault m e f)
-    go (Some w) l h = inl (w, limit_same ∙ l, err_is (fault.Limit w) f h)
-    go None l h = inr (limit_same ∙ l, happens-fault e f h)
+    go : (o : Option What) → limit_reached m ≡ o → unless_limit o (happens m e) ≡ Err f → ((w : What) × HasReached m.journal w × (fault.Limit w ≡ f)) ⊎ (IsWithinLimits m.journal × IsFault m e f)
+    go (Some w) l h = inl (w, limit-reached m.journal w (limit_same ∙ l), err_is (fault.Limit w) f h)
+    go None l h = inr (none-reached m.journal (limit_same ∙ l), happens-fault e f h)
 
-  pub limit-step : (e : Event) (w : What) → limit_at m.journal ≡ Some w → machine_step m e ≡ Err (fault.Limit w)
+  pub limit-step : (e : Event) (w : What) → HasReached m.journal w → machine_step m e ≡ Err (fault.Limit w)
   unfolding machine_step
-  limit-step e w l = ap (λ o. unless_limit o (happens m e)) (sym limit_same ∙ l)
+  limit-step e w l = ap (λ o. unless_limit o (happens m e)) (sym limit_same ∙ reached-limit m.journal w l)
 
-  pub fault-step : (e : Event) (f : StepFault) → limit_at m.journal ≡ None → IsFault m e f → machine_step m e ≡ Err f
+  pub fault-step : (e : Event) (f : StepFault) → IsWithinLimits m.journal → IsFault m e f → machine_step m e ≡ Err f
   unfolding machine_step
-  fault-step e f l h = ap (λ o. unless_limit o (happens m e)) (sym limit_same ∙ l) ∙ fault-happens e f h
+  fault-step e f l h = ap (λ o. unless_limit o (happens m e)) (sym limit_same ∙ within-none m.journal l) ∙ fault-happens e f h

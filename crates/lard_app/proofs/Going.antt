@@ -6,6 +6,7 @@ use Rattle.std.proofs.lemmas.List.{length-take-le}
 use Rattle.std.proofs.lemmas.List.Quantifiers.{position-Some}
 use Rattle.std.specs.List.{position}
 use Rattle.std.specs.Prelude.{nat_lt}
+use Rattle.lard_base.specs.declared.limits.TheConstants.{MAX_INPUT_BYTES}
 use Rattle.lard_base.specs.Outside.{Front}
 use Rattle.lard_base.specs.declared.event.Event.{Event}
 use Rattle.lard_machine.specs.declared.fault.What.TheVariants.{Input}
@@ -15,7 +16,7 @@ use Rattle.lard_schedule.proofs.Cuts.{first_part, split_alone, split_at}
 use Rattle.lard_app.specs.declared.status.Status.{Status}
 use Rattle.lard_app.specs.declared.status.Status.TheVariants.{Done, Usage, Refused, ReadFault, WriteFault, NoMemory, Limit}
 use Rattle.lard_app.specs.declared.status.Why.TheVariants.{Syntax}
-use Rattle.lard_app.specs.Replay.{begin, ended_at, ending, gain, event_listed, input_limit, is_feed, judged, lines_of, passed, replayed, report_of, whole, IsSound, Passes, Progress}
+use Rattle.lard_app.specs.Replay.{begin, ended_at, ending, gain, event_listed, is_feed, judged, lines_of, passed, replayed, report_of, whole, IsSound, Passes, Progress}
 use Rattle.lard_app.specs.Run.{Completes, Replays}
 use Rattle.lard_app.proofs.Growth.{begins, passed-grown, passed-none, BeginsWith}
 use Rattle.lard_app.proofs.Keeping.{Keeps, begin-keeps, passed-keeps}
@@ -123,7 +124,7 @@ module _ (text rest : List ℕ) (s : Progress) (old now : Option (List ℕ)) (g 
     at_end : whole text ≡ (s, ending s rest)
     at_end = sym g.same ∙ ap (replayed s) (split_alone is_feed rest none)
 
-    short : rest ≡ [] → length text ≤ input_limit
+    short : rest ≡ [] → length text ≤ MAX_INPUT_BYTES
     short e = let no : length rest ≡ 0 = ap length e in omega (arith, no, g.read, g.keeps.read)
 
     completed : (status : Status) → ending s rest ≡ status → Completes status text old now
@@ -140,8 +141,8 @@ module _ (text rest : List ℕ) (s : Progress) (old now : Option (List ℕ)) (g 
     going_end status e = go rest refl where
       go : (r : List ℕ) → rest ≡ r → Replays status text old now
       go [] f = subst (λ t. Replays t text old now) (sym (e ∙ ap (ending s) f)) (empty_end s.reader.stage refl f)
-      go (b ∷ bs) f = past (nat_lt input_limit (s.read + length (b ∷ bs))) refl where
-        past : (t : Bool) → nat_lt input_limit (s.read + length (b ∷ bs)) ≡ t → Replays status text old now
+      go (b ∷ bs) f = past (nat_lt MAX_INPUT_BYTES (s.read + length (b ∷ bs))) refl where
+        past : (t : Bool) → nat_lt MAX_INPUT_BYTES (s.read + length (b ∷ bs)) ≡ t → Replays status text old now
         past true h =
             let is : ending s rest ≡ Limit (s.lines + 1) Input = ap (ending s) f ∙ ap (λ u. cond u (Limit (s.lines + 1) Input) (Refused (s.lines + 1) Syntax)) h in
             subst (λ t. Replays t text old now) (sym (e ∙ is)) (completed (Limit (s.lines + 1) Input) is)

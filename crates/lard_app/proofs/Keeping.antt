@@ -1,12 +1,15 @@
 -- What a replay keeps: its machine is one that the events of its lines have led to, and its numbers are bounded.
-use Rattle.std.proofs.Common.{◌≡◌, ℕ, ◌+◌, ◌≤◌, ◌^◌, List, [], ◌∷◌, ◌++◌, length, true, false, Option, Some, None, Result, Ok, Err, refl, sym, ap, ◌∙◌, subst, append_assoc, append-nil, arith}
+use Rattle.std.proofs.Common.{◌≡◌, ℕ, ◌+◌, ◌≤◌, ◌^◌, List, [], ◌∷◌, ◌++◌, length, Bool, true, false, cond, Option, Some, None, Result, Ok, Err, refl, sym, ap, ◌∙◌, subst, append_assoc, append-nil, arith}
 use Rattle.std.proofs.lemmas.Bool.Decides.{nat_tests}
 use Rattle.std.specs.List.{flat_map}
 use Rattle.std.specs.Prelude.{nat_lt}
-use Rattle.lard_base.specs.Config.{config_check, range_check}
+use Rattle.lard_base.specs.declared.limits.TheConstants.{MAX_INPUT_BYTES}
+use Rattle.lard_base.specs.Config.{IsInRange as IsConfigRanged, config_check, is_in_range, range_check, set_key, standard}
 use Rattle.lard_base.specs.declared.config.Config.{Config}
 use Rattle.lard_base.specs.declared.config.ConfigFault.{ConfigFault}
+use Rattle.lard_base.specs.declared.config.ConfigFault.TheVariants.{Range}
 use Rattle.lard_base.specs.declared.config.Key.{Key}
+use Rattle.lard_base.specs.declared.config.Key.TheVariants.{Nodes, Low, High, Age, Idle, Over, Miss, Cache, Stream}
 use Rattle.lard_base.specs.declared.event.Event.{Event}
 use Rattle.lard_files.specs.Files.{add_check}
 use Rattle.lard_files.specs.declared.fault.FileFault.{FileFault}
@@ -31,7 +34,7 @@ use Rattle.lard_schedule.specs.Reader.{HasRange}
 use Rattle.lard_app.specs.declared.status.Form.{Form}
 use Rattle.lard_app.specs.declared.status.Status.{Status}
 use Rattle.lard_app.specs.Forms.{missing}
-use Rattle.lard_app.specs.Replay.{Progress, begin, begun, config_set, counted, event_listed, events_from, events_of, filed, followed, input_limit, is_past, judged, lines_of, moved, passed, replayed, sizes, stepped, taken, whole}
+use Rattle.lard_app.specs.Replay.{Progress, begin, begun, config_set, counted, event_listed, events_from, events_of, filed, followed, is_past, judged, lines_of, moved, passed, replayed, sizes, stepped, taken, whole}
 use Rattle.lard_app.proofs.Ranges.{HasRanges, IsGivenFile, config_checked, event-given, file-given}
 use Rattle.lard_app.proofs.Passing.{ok_is, passed-took, took-fits, took-judged}
 use Rattle.lard_app.proofs.Steps.{ruled}
@@ -69,17 +72,59 @@ pub record Keeps (s : Progress) (es : List Event) : Type 0 where
   pub idle : IsIdle s.reader.stage es
   pub runs : Passes (start s.machine.config s.machine.files) es s.machine
   pub listed : s.listed ≡ flat_map file_text (sizes s.files)
+  pub fits : IsConfigRanged s.config
   pub stream : s.machine.config.stream ≤ 2 ^ 30
   pub ranges : HasRanges s.files s.machine es
   pub unseen : IsUnseen s.reader.stage s.machine
   pub lines : s.lines ≤ s.read
-  pub read : s.read ≤ input_limit
+  pub read : s.read ≤ MAX_INPUT_BYTES
+
+-- each number that no line set is in its range
+standard_fits : IsConfigRanged standard
+standard_fits Nodes = refl
+standard_fits Low = refl
+standard_fits High = refl
+standard_fits Age = refl
+standard_fits Idle = refl
+standard_fits Over = refl
+standard_fits Miss = refl
+standard_fits Cache = refl
+standard_fits Stream = refl
+
+-- one that was set is, too, and the others are as they were
+set_fits : (c : Config) (key : Key) (value : ℕ) → IsConfigRanged c → is_in_range key value ≡ true → IsConfigRanged (set_key c key value)
+set_fits c Nodes value h e Nodes = e
+set_fits c Nodes value h e other = h other
+set_fits c Low value h e Low = e
+set_fits c Low value h e other = h other
+set_fits c High value h e High = e
+set_fits c High value h e other = h other
+set_fits c Age value h e Age = e
+set_fits c Age value h e other = h other
+set_fits c Idle value h e Idle = e
+set_fits c Idle value h e other = h other
+set_fits c Over value h e Over = e
+set_fits c Over value h e other = h other
+set_fits c Miss value h e Miss = e
+set_fits c Miss value h e other = h other
+set_fits c Cache value h e Cache = e
+set_fits c Cache value h e other = h other
+set_fits c Stream value h e Stream = e
+set_fits c Stream value h e other = h other
+
+-- a number that the check lets through is in its range
+range_passed : (key : Key) (value : ℕ) → range_check key value ≡ Ok tt → is_in_range key value ≡ true
+range_passed key value e = go (is_in_range key value) e where
+  go : (b : Bool) → cond {A = Result (Unit {0}) ConfigFault} b (Ok tt) (Err (Range key value)) ≡ Ok tt → b ≡ true
+  go true h = refl
+  go false h = cc
 
 pub begin-keeps : Keeps begin []
 begin-keeps = record {
   idle = refl;
   runs = refl;
   listed = refl;
+  fits = standard_fits;
   stream = omega arith;
   ranges = record { files = tt; config = (omega arith, omega arith, omega arith, omega arith, omega arith, omega arith, omega arith, omega arith, omega arith); taken = tt; events = tt };
   unseen = refl;
@@ -87,7 +132,7 @@ begin-keeps = record {
   read = omega arith;
 }
 
-within_limit : (m : ℕ) → nat_lt input_limit m ≡ false → m ≤ input_limit
+within_limit : (m : ℕ) → nat_lt MAX_INPUT_BYTES m ≡ false → m ≤ MAX_INPUT_BYTES
 within_limit m e = grind (arith, nat_tests, e)
 
 counted-keeps : (s : Progress) (line : List ℕ) (es : List Event) → is_past s line ≡ false → Keeps s es → Keeps (counted s line) es
@@ -95,6 +140,7 @@ counted-keeps s line es p k = record {
   idle = k.idle;
   runs = k.runs;
   listed = k.listed;
+  fits = k.fits;
   stream = k.stream;
   ranges = k.ranges;
   unseen = k.unseen;
@@ -114,12 +160,13 @@ module _ (s t : Progress) (es : List Event) (k : Keeps s es) where
   same_ranges : HasRanges s.files s.machine (es ++ [])
   same_ranges = subst (HasRanges s.files s.machine) (sym (append-nil es)) k.ranges
 
-  set-keeps : (key : Key) (value : ℕ) (r : Result (Unit {0}) ConfigFault) → config_set (followed s (item.Set key value)) key value r ≡ Ok t → Keeps t (es ++ [])
-  set-keeps key value (Err fault) e = cc
-  set-keeps key value (Ok u) e = subst (λ (v : Progress). Keeps v (es ++ [])) (ok_is _ t e) (record {
+  set-keeps : (key : Key) (value : ℕ) (r : Result (Unit {0}) ConfigFault) → range_check key value ≡ r → config_set (followed s (item.Set key value)) key value r ≡ Ok t → Keeps t (es ++ [])
+  set-keeps key value (Err fault) c e = cc
+  set-keeps key value (Ok u) c e = subst (λ (v : Progress). Keeps v (es ++ [])) (ok_is _ t e) (record {
     idle = subst (IsIdle s.reader.stage) (sym (append-nil es)) k.idle;
     runs = same_events;
     listed = k.listed;
+    fits = set_fits s.config key value k.fits (range_passed key value c);
     stream = k.stream;
     ranges = same_ranges;
     unseen = k.unseen;
@@ -133,6 +180,7 @@ module _ (s t : Progress) (es : List Event) (k : Keeps s es) where
     idle = tt;
     listed = refl;
     runs = subst (λ ds. Passes (start s.config s.files) ds (start s.config s.files)) (sym (append-nil es ∙ idle_before s.reader.stage es k.idle b)) refl;
+    fits = k.fits;
     stream = (config_checked s.config c).1;
     ranges = record { files = tt; config = (config_checked s.config c).0; taken = k.ranges.files; events = same_ranges.events };
     unseen = tt;
@@ -147,6 +195,7 @@ module _ (s t : Progress) (es : List Event) (k : Keeps s es) where
     idle = append-nil es ∙ idle_before s.reader.stage es k.idle b;
     runs = same_events;
     listed = ap (λ l. l ++ file_text (path, length bytes)) k.listed ∙ listed_more s.files path bytes;
+    fits = k.fits;
     stream = k.stream;
     ranges = record {
       files = Each-append IsGivenFile s.files ((path, bytes) ∷ []) k.ranges.files (file-given s.files words path bytes spelled fits c, tt);
@@ -168,6 +217,7 @@ module _ (s t : Progress) (es : List Event) (k : Keeps s es) where
         runs = subst (λ (c : Config). Passes (start c m.files) (es ++ e ∷ []) m) (sym kept.0)
             (subst (λ (fs : List (List ℕ × List ℕ)). Passes (start s.machine.config fs) (es ++ e ∷ []) m) (sym kept.1) (passes-more es (start s.machine.config s.machine.files) s.machine m e k.runs rule is));
         listed = k.listed;
+        fits = k.fits;
         stream = subst (λ (c : Config). c.stream ≤ 2 ^ 30) (sym kept.0) k.stream;
         ranges = record {
           files = k.ranges.files;
@@ -189,13 +239,14 @@ module _ (s t : Progress) (es : List Event) (k : Keeps s es) where
     idle = append-nil es ∙ subst (λ st. IsIdle st es) stands k.idle;
     runs = same_events;
     listed = k.listed;
+    fits = k.fits;
     stream = k.stream;
     ranges = same_ranges;
     unseen = subst (λ st. IsUnseen st s.machine) stands k.unseen;
     lines = k.lines;
     read = k.read;
   })
-  item-keeps words (item.Set key value) spelled stands range e = set-keeps key value (range_check key value) e
+  item-keeps words (item.Set key value) spelled stands range e = set-keeps key value (range_check key value) refl e
   item-keeps words (item.File path bytes) spelled stands range e = filed-keeps words path bytes (add_check s.files path (length bytes)) spelled range refl stands e
   item-keeps words item.Go spelled stands range e = begun-keeps (config_check s.config) refl stands e
   item-keeps words (item.Event d) spelled stands range e = event-keeps d (missing d) refl stands (event-given words d spelled range) range e

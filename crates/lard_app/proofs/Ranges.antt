@@ -83,8 +83,8 @@ all-visible (b ∷ bs) e = let both = and_parts (is_visible b) (list_all is_visi
 path-visible : (path : List ℕ) → is_path path ≡ true → Each IsVisible path
 path-visible [] e = tt
 path-visible (b ∷ bs) e =
-    let both = and_parts (nat_eq b 47 && nat_le (length bs) 1023) (list_all is_visible bs) e in
-    let slash = (and_parts (nat_eq b 47) (nat_le (length bs) 1023) both.0).0 in
+    let both = and_parts (nat_eq b 47 && nat_lt (length bs) 1024) (list_all is_visible bs) e in
+    let slash = (and_parts (nat_eq b 47) (nat_lt (length bs) 1024) both.0).0 in
     ((grind (arith, nat_tests, slash), grind (arith, nat_tests, slash)), all-visible bs both.1)
 
 visible-unspaced : (path : List ℕ) → Each IsVisible path → IsUnspaced path

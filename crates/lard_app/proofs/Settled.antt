@@ -1,9 +1,10 @@
 -- Where no fault came, the input alone decides how a run ends.
 use Rattle.std.proofs.Common.{◌≡◌, ◌⊎◌, inl, inr, ℕ, ◌+◌, ◌≤◌, List, [], ◌∷◌, ◌++◌, length, take, Option, Some, None, refl, sym, ap, ◌∙◌, append-nil}
 use Rattle.std.proofs.lemmas.List.{take_all}
+use Rattle.lard_base.specs.declared.limits.TheConstants.{MAX_INPUT_BYTES}
 use Rattle.lard_app.specs.declared.status.Status.{Status}
 use Rattle.lard_app.specs.declared.status.Status.TheVariants.{Done, Usage, Refused, ReadFault, WriteFault, NoMemory, Limit}
-use Rattle.lard_app.specs.Replay.{whole, input_limit}
+use Rattle.lard_app.specs.Replay.{whole}
 use Rattle.lard_app.specs.Run.{Ended, IsSettled, Ran}
 
 take_front : (text after : List ℕ) → take (length text) (text ++ after) ≡ text
@@ -19,10 +20,10 @@ pub settled : (status : Status) (left left_now old new : Option (List ℕ)) → 
 settled status None left_now old new ran read written = tt
 settled status (Some input) None old new ran read written = absurd ran.consumed
 settled status (Some input) (Some after) old new ran read written = go status ran.ended read written where
-  front : (after ≡ []) ⊎ (length ran.text ≡ input_limit + 1) → take (input_limit + 1) input ≡ ran.text
-  front how = ap (take (input_limit + 1)) ran.consumed ∙ read_front (input_limit + 1) ran.text after ran.bounded how
+  front : (after ≡ []) ⊎ (length ran.text ≡ MAX_INPUT_BYTES + 1) → take (MAX_INPUT_BYTES + 1) input ≡ ran.text
+  front how = ap (take (MAX_INPUT_BYTES + 1)) ran.consumed ∙ read_front (MAX_INPUT_BYTES + 1) ran.text after ran.bounded how
 
-  same : (made : Status) → (after ≡ []) ⊎ (length ran.text ≡ input_limit + 1) → (whole ran.text).1 ≡ made → made ≡ (whole (take (input_limit + 1) input)).1
+  same : (made : Status) → (after ≡ []) ⊎ (length ran.text ≡ MAX_INPUT_BYTES + 1) → (whole ran.text).1 ≡ made → made ≡ (whole (take (MAX_INPUT_BYTES + 1) input)).1
   same made how is = sym is ∙ ap (λ text. (whole text).1) (sym (front how))
 
   go : (made : Status) → Ended made ran.text (Some after) old new → ¬ (made ≡ ReadFault) → ¬ (made ≡ WriteFault) → IsSettled made (Some input)

@@ -1,18 +1,20 @@
 -- Why a replay ends as it does, in words of the text's lines, and of the journal before the line that ends it.
-use Rattle.std.specs.Prelude.{◌≡◌, ◌≢◌, ◌⊎◌, ℕ, ◌+◌, ◌<◌, ◌≤◌, true, List, [], ◌∷◌, ◌++◌, length, Option, Some, None, IsSome, Ok, Err}
+-- The numbers of all limits and ranges are written out here, apart from the rules that use them.
+use Rattle.std.specs.Prelude.{◌≡◌, ◌≢◌, ◌⊎◌, ℕ, ◌+◌, ◌-◌, ◌*◌, ◌^◌, ◌<◌, ◌≤◌, true, List, [], ◌∷◌, ◌++◌, length, Option, Some, None, IsSome, Ok}
 use Rattle.std.specs.FinMap as table
-use Rattle.lard_base.specs.Config.{config_check, range_check}
 use Rattle.lard_base.specs.declared.config.Config.{Config}
 use Rattle.lard_base.specs.declared.config.ConfigFault.{ConfigFault}
+use Rattle.lard_base.specs.declared.config.ConfigFault.TheVariants.{Range, LowHigh, NoRoom}
+use Rattle.lard_base.specs.declared.config.Key.{Key}
+use Rattle.lard_base.specs.declared.config.Key.TheVariants as key
 use Rattle.lard_base.specs.declared.event.Event.{Event}
 use Rattle.lard_base.specs.declared.event.Event.TheVariants as event
 use Rattle.lard_client.specs.Control.{written_len}
-use Rattle.lard_files.specs.Files.{add_check}
+use Rattle.lard_files.specs.Files.{file_at, total}
 use Rattle.lard_files.specs.declared.fault.FileFault.{FileFault}
 use Rattle.lard_files.specs.declared.fault.FileFault.TheVariants as file_fault
 use Rattle.lard_history.specs.Journal.{answered_bytes, is_lost, numbers_of, packet_bytes, request, sent_count}
 use Rattle.lard_journal.specs.declared.rec.Rec.{Rec}
-use Rattle.lard_machine.specs.Machine.{limit_of}
 use Rattle.lard_machine.specs.declared.fault.What.{What}
 use Rattle.lard_machine.specs.declared.fault.What.TheVariants as what
 use Rattle.lard_machine.specs.declared.machine.Machine.{Machine}
@@ -28,7 +30,7 @@ use Rattle.lard_app.specs.declared.status.Status.TheVariants.{Done, Refused, Lim
 use Rattle.lard_app.specs.declared.status.Why.{Why}
 use Rattle.lard_app.specs.declared.status.Why.TheVariants as why
 use Rattle.lard_app.specs.Forms.{missing, unbuilt}
-use Rattle.lard_app.specs.Replay.{Progress, begin, input_limit, passed}
+use Rattle.lard_app.specs.Replay.{Progress, begin, passed}
 
 -- ---- lines
 
@@ -51,12 +53,30 @@ Tries s line e = StandsFor s line (item.Event e) × (missing e ≡ None)
 
 -- ---- why an item is refused
 
+-- the range of each number of the configuration
+abbrev pub IsFit : Key → ℕ → Type 0
+IsFit key.Nodes n = (1 ≤ n) × (n ≤ 64)
+IsFit key.Low n = (1 ≤ n) × (n ≤ 1000)
+IsFit key.High n = (1 ≤ n) × (n ≤ 1000)
+IsFit key.Age n = n < 2 ^ 32
+IsFit key.Idle n = n ≤ 1000000
+IsFit key.Over n = n ≤ 1000000
+IsFit key.Miss n = n ≤ 1000000
+IsFit key.Cache n = (1 ≤ n) × (n ≤ 2 ^ 30)
+IsFit key.Stream n = (1 ≤ n) × (n ≤ 2 ^ 30)
+
+-- why the numbers that were kept do not go together: low is above high, or not even one connection would be admitted
+abbrev pub DisagreesBy : Config → ConfigFault → Type 0
+DisagreesBy config (Range key value) = ⊥
+DisagreesBy config (LowHigh low high) = (low ≡ config.low) × (high ≡ config.high) × (high < low)
+DisagreesBy config NoRoom = (config.low ≤ config.high) × ((config.nodes - 1) * config.high + config.low ≤ 1)
+
 -- a number out of its range, or `go` behind numbers that do not go together
 abbrev pub IsUnfit : Config → Item → ConfigFault → Type 0
 IsUnfit config item.Header fault = ⊥
-IsUnfit config (item.Set key value) fault = range_check key value ≡ Err fault
+IsUnfit config (item.Set key value) fault = (fault ≡ Range key value) × ¬ (IsFit key value)
 IsUnfit config (item.File path bytes) fault = ⊥
-IsUnfit config item.Go fault = config_check config ≡ Err fault
+IsUnfit config item.Go fault = DisagreesBy config fault
 IsUnfit config (item.Event e) fault = ⊥
 
 -- it or this use of it is not built
@@ -69,9 +89,18 @@ IsUnbuilt (item.Event e) f = missing e ≡ Some f
 
 -- ---- why a step is not done, after the records of J
 
--- the limit that was reached before the step
-abbrev pub limit_at : List Rec → Option What
-limit_at J = limit_of (sent_count J) (packet_bytes J) (length J) (answered_bytes J)
+-- no limit was reached before the step
+abbrev pub IsWithinLimits : List Rec → Type 0
+IsWithinLimits J = (sent_count J < 1000000) × (packet_bytes J < 2 ^ 29) × (length J < 4000000) × (answered_bytes J < 2 ^ 29)
+
+-- this limit was reached before the step, as the first of the four
+abbrev pub HasReached : List Rec → What → Type 0
+HasReached J what.Packets = 1000000 ≤ sent_count J
+HasReached J what.PacketBytes = (sent_count J < 1000000) × (2 ^ 29 ≤ packet_bytes J)
+HasReached J what.Records = (sent_count J < 1000000) × (packet_bytes J < 2 ^ 29) × (4000000 ≤ length J)
+HasReached J what.Answers = (sent_count J < 1000000) × (packet_bytes J < 2 ^ 29) × (length J < 4000000) × (2 ^ 29 ≤ answered_bytes J)
+HasReached J what.Input = ⊥
+HasReached J what.Stream = ⊥
 
 -- an event of packet k
 abbrev pub IsOfPacket : Event → ℕ → Type 0
@@ -111,21 +140,27 @@ IsUntimely J e (why.NoClient c) = IsOfClient e c × (numbers_of J c ≡ None)
 IsUntimely J e (why.Used c) = Opens e c × IsSome (numbers_of J c)
 IsUntimely J e why.Syntax = ⊥
 IsUntimely J e (why.Config fault) = ⊥
-IsUntimely J e why.Repeated = ⊥
-IsUntimely J e (why.TooLong n) = ⊥
-IsUntimely J e (why.TooMany n) = ⊥
-IsUntimely J e (why.TooMuch n) = ⊥
+IsUntimely J e (why.File fault) = ⊥
 IsUntimely J e (why.FormNotBuilt f) = ⊥
 
 -- a limit was reached before the step, or the event would pass that on what a client writes
 abbrev pub Reaches : Machine → Event → What → Type 0
-Reaches m e w = (limit_at m.journal ≡ Some w) ⊎ ((limit_at m.journal ≡ None) × (w ≡ what.Stream) × WritesTooMuch m e)
+Reaches m e w = HasReached m.journal w ⊎ (IsWithinLimits m.journal × (w ≡ what.Stream) × WritesTooMuch m e)
 
 -- ---- files
 
+-- Why a file of so many bytes may not be added to others, of which there are so many, with so many bytes in all, and the
+-- one with its path is given: the first of these that applies.
+abbrev pub MayNotAdd : Option (List ℕ) → ℕ → ℕ → ℕ → FileFault → Type 0
+MayNotAdd there count sum len file_fault.Repeated = IsSome there
+MayNotAdd there count sum len (file_fault.TooLong n) = (there ≡ None) × (n ≡ len) × (2 ^ 20 < len)
+MayNotAdd there count sum len (file_fault.TooMany n) = (there ≡ None) × (len ≤ 2 ^ 20) × (n ≡ count + 1) × (65536 < count + 1)
+MayNotAdd there count sum len (file_fault.TooMuch n) = (there ≡ None) × (len ≤ 2 ^ 20) × (count + 1 ≤ 65536) × (n ≡ sum + len) × (2 ^ 26 < sum + len)
+MayNotAdd there count sum len file_fault.NoMemory = ⊥
+
 -- it is a file that may not be added to those before, for this reason
 abbrev pub AddsNone : Progress → List ℕ → FileFault → Type 0
-AddsNone s line fault = (path : List ℕ) × (bytes : List ℕ) × StandsFor s line (item.File path bytes) × (add_check s.files path (length bytes) ≡ Err fault)
+AddsNone s line fault = (path : List ℕ) × (bytes : List ℕ) × StandsFor s line (item.File path bytes) × MayNotAdd (file_at s.files path) (length s.files) (total s.files) (length bytes) fault
 
 -- ---- causes
 
@@ -134,25 +169,22 @@ abbrev pub Refuses : Progress → List ℕ → Why → Type 0
 Refuses s line (why.FormNotBuilt f) = (unbuilt line ≡ Some f) ⊎ ((x : Item) × StandsFor s line x × IsUnbuilt x f)
 Refuses s line why.Syntax = (unbuilt line ≡ None) × ((x : Item) → ¬ (Stands s line x))
 Refuses s line (why.Config fault) = (x : Item) × StandsFor s line x × IsUnfit s.config x fault
-Refuses s line why.Repeated = AddsNone s line file_fault.Repeated
-Refuses s line (why.TooLong n) = AddsNone s line (file_fault.TooLong n)
-Refuses s line (why.TooMany n) = AddsNone s line (file_fault.TooMany n)
-Refuses s line (why.TooMuch n) = AddsNone s line (file_fault.TooMuch n)
-Refuses s line cause = (e : Event) × Tries s line e × (limit_at s.machine.journal ≡ None) × IsUntimely s.machine.journal e cause
+Refuses s line (why.File fault) = AddsNone s line fault
+Refuses s line cause = (e : Event) × Tries s line e × IsWithinLimits s.machine.journal × IsUntimely s.machine.journal e cause
 
 -- how a line ends the run, after n lines of so many bytes: it holds the byte after the limit, or it is refused, or a
 -- limit is reached
 abbrev pub EndsLine : Progress → ℕ → ℕ → List ℕ → Status → Type 0
-EndsLine s n bytes line (Limit number what.Input) = (number ≡ n + 1) × (input_limit < bytes + (length line + 1))
-EndsLine s n bytes line (Limit number w) = (number ≡ n + 1) × (bytes + (length line + 1) ≤ input_limit) × ((e : Event) × Tries s line e × Reaches s.machine e w)
-EndsLine s n bytes line (Refused number cause) = (number ≡ n + 1) × (bytes + (length line + 1) ≤ input_limit) × Refuses s line cause
+EndsLine s n bytes line (Limit number what.Input) = (number ≡ n + 1) × (2 ^ 26 < bytes + (length line + 1))
+EndsLine s n bytes line (Limit number w) = (number ≡ n + 1) × (bytes + (length line + 1) ≤ 2 ^ 26) × ((e : Event) × Tries s line e × Reaches s.machine e w)
+EndsLine s n bytes line (Refused number cause) = (number ≡ n + 1) × (bytes + (length line + 1) ≤ 2 ^ 26) × Refuses s line cause
 EndsLine s n bytes line _ = ⊥
 
 -- how the text behind the line feed of the last line ends it: it is to be empty, and `go` is to have passed
 abbrev pub EndsText : Progress → ℕ → ℕ → List ℕ → Status → Type 0
 EndsText s n bytes last Done = (last ≡ []) × (s.reader.stage ≡ Running)
-EndsText s n bytes last (Refused line why.Syntax) = (line ≡ n + 1) × (bytes + length last ≤ input_limit) × ((last ≢ []) ⊎ (s.reader.stage ≢ Running))
-EndsText s n bytes last (Limit line what.Input) = (line ≡ n + 1) × (input_limit < bytes + length last)
+EndsText s n bytes last (Refused line why.Syntax) = (line ≡ n + 1) × (bytes + length last ≤ 2 ^ 26) × ((last ≢ []) ⊎ (s.reader.stage ≢ Running))
+EndsText s n bytes last (Limit line what.Input) = (line ≡ n + 1) × (2 ^ 26 < bytes + length last)
 EndsText s n bytes last _ = ⊥
 
 -- the lines pass, one after another, and lead from one state to another

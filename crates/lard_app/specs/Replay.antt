@@ -2,12 +2,14 @@
 use Rattle.std.specs.Prelude.{◌≡◌, ℕ, ◌+◌, ◌≤◌, ◌^◌, Bool, List, [], ◌∷◌, ◌++◌, length, map, drop, Option, Some, None, Result, Ok, Err, nat_eq, nat_lt, if◌then◌else◌}
 use Rattle.std.specs.List.{slice_split, flat_map}
 use Rattle.std.specs.Io.KnownBytes.{Appends}
+use Rattle.lard_base.specs.Causes.{Rose}
 use Rattle.lard_base.specs.Config.{config_check, range_check, set_key, standard}
 use Rattle.lard_base.specs.declared.config.Config.{Config}
 use Rattle.lard_base.specs.declared.config.ConfigFault.{ConfigFault}
 use Rattle.lard_base.specs.declared.config.Key.{Key}
 use Rattle.lard_base.specs.Outside.{Front}
 use Rattle.lard_base.specs.declared.event.Event.{Event}
+use Rattle.lard_base.specs.declared.limits.TheConstants.{MAX_INPUT_BYTES}
 use Rattle.lard_files.specs.Files.{add_check}
 use Rattle.lard_files.specs.declared.fault.FileFault.{FileFault}
 use Rattle.lard_files.specs.declared.fault.FileFault.TheVariants as file_fault
@@ -33,10 +35,6 @@ use Rattle.lard_app.specs.declared.status.Why.{Why}
 use Rattle.lard_app.specs.declared.status.Why.TheVariants as why
 use Rattle.lard_app.specs.Forms.{missing, unbuilt}
 
--- an input has at most 2^26 bytes
-abbrev pub input_limit : ℕ
-input_limit = 2 ^ 26
-
 -- What was read of a schedule so far, and what it led to.
 pub record Progress : Type 0 where
   pub reader : Reader  -- what may follow
@@ -60,10 +58,10 @@ config_set s key value (Err fault) = Err (Refused s.lines (why.Config fault))
 
 -- how a fault of a file ends the run at a line
 abbrev pub file_ends : ℕ → FileFault → Status
-file_ends line file_fault.Repeated = Refused line why.Repeated
-file_ends line (file_fault.TooLong n) = Refused line (why.TooLong n)
-file_ends line (file_fault.TooMany n) = Refused line (why.TooMany n)
-file_ends line (file_fault.TooMuch n) = Refused line (why.TooMuch n)
+file_ends line file_fault.Repeated = Refused line (why.File file_fault.Repeated)
+file_ends line (file_fault.TooLong n) = Refused line (why.File (file_fault.TooLong n))
+file_ends line (file_fault.TooMany n) = Refused line (why.File (file_fault.TooMany n))
+file_ends line (file_fault.TooMuch n) = Refused line (why.File (file_fault.TooMuch n))
 file_ends line file_fault.NoMemory = NoMemory
 
 -- a file is added, if it may be
@@ -128,7 +126,7 @@ item_taken s (Ok x) = taken (followed s x) x
 
 -- a line that goes past the limit is not read as anything
 abbrev pub is_past : Progress → List ℕ → Bool
-is_past s line = nat_lt input_limit (s.read + length line + 1)
+is_past s line = nat_lt MAX_INPUT_BYTES (s.read + length line + 1)
 
 -- what a line leads to: it is passed, or it ends the run
 unfoldable pub passed : Progress → List ℕ → Result Progress Status
@@ -148,7 +146,7 @@ ended_at lines Files = Refused (lines + 1) why.Syntax
 -- what comes after the last line feed: nothing, or a line without its end
 abbrev pub ending : Progress → List ℕ → Status
 ending s [] = ended_at s.lines s.reader.stage
-ending s (b ∷ bs) = if nat_lt input_limit (s.read + length (b ∷ bs)) then Limit (s.lines + 1) Input else Refused (s.lines + 1) why.Syntax
+ending s (b ∷ bs) = if nat_lt MAX_INPUT_BYTES (s.read + length (b ∷ bs)) then Limit (s.lines + 1) Input else Refused (s.lines + 1) why.Syntax
 
 -- ---- the whole text
 
@@ -247,7 +245,7 @@ gain s line = if is_past s line then [] else judged_gain (counted s line) (judge
 -- there are no more lines than bytes, and no more bytes than an input may have
 pub record IsSound (s : Progress) : Type 0 where
   pub lines : s.lines ≤ s.read
-  pub read : s.read ≤ input_limit
+  pub read : s.read ≤ MAX_INPUT_BYTES
 
 -- a text is written, or a front of it
 abbrev pub Writes : List ℕ → Option (List ℕ) → Option (List ℕ) → Result (Unit {0}) Status → Type 0
@@ -255,6 +253,16 @@ Writes text old new (Ok _) = Appends old new text
 Writes text old new (Err WriteFault) = Front old new text
 Writes text old new (Err NoMemory) = Front old new text
 Writes text old new (Err _) = ⊥
+
+-- a sink's count of faults once a run has ended: it rose where that was a write fault, and is as before else
+abbrev pub EndsCount : ℕ → ℕ → Status → Type 0
+EndsCount before now WriteFault = Rose before now
+EndsCount before now _ = now ≡ before
+
+-- the same after a call that writes
+abbrev pub CountsFault : ℕ → ℕ → Result (Unit {0}) Status → Type 0
+CountsFault before now (Ok _) = now ≡ before
+CountsFault before now (Err status) = EndsCount before now status
 
 -- What a call did that passed a line: the state and the text are those that the rules give, or the line ended the
 -- run; a write that failed and want of memory leave a front of the text.

@@ -3,12 +3,14 @@ use Rattle.std.specs.Prelude.{ℕ, List, [], ◌++◌, codes, decimal}
 use Rattle.lard_base.specs.Spelling.{key_word}
 use Rattle.lard_base.specs.declared.config.ConfigFault.{ConfigFault}
 use Rattle.lard_base.specs.declared.config.ConfigFault.TheVariants.{Range, LowHigh, NoRoom}
+use Rattle.lard_files.specs.declared.fault.FileFault.{FileFault}
+use Rattle.lard_files.specs.declared.fault.FileFault.TheVariants as file_fault
 use Rattle.lard_machine.specs.declared.fault.What.{What}
 use Rattle.lard_machine.specs.declared.fault.What.TheVariants.{Input, Packets, PacketBytes, Records, Answers, Stream}
 use Rattle.lard_app.specs.declared.status.Form.{Form}
-use Rattle.lard_app.specs.declared.status.Form.TheVariants.{Timer, Disk, Clock, Settle, Inject, Key}
+use Rattle.lard_app.specs.declared.status.Form.TheVariants as form
 use Rattle.lard_app.specs.declared.status.Why.{Why}
-use Rattle.lard_app.specs.declared.status.Why.TheVariants.{Syntax, Config, Repeated, TooLong, TooMany, TooMuch, NotSent, WasLost, NoClient, Used, FormNotBuilt}
+use Rattle.lard_app.specs.declared.status.Why.TheVariants.{Syntax, Config, File, NotSent, WasLost, NoClient, Used, FormNotBuilt}
 use Rattle.lard_app.specs.declared.status.Status.{Status}
 use Rattle.lard_app.specs.declared.status.Status.TheVariants.{Done, Usage, Refused, ReadFault, WriteFault, NoMemory, Limit}
 
@@ -23,12 +25,23 @@ code_of (Limit line what) = 6
 
 -- the first word of a form's lines
 abbrev pub form_word : Form → List ℕ
-form_word Timer = codes "timer"
-form_word Disk = codes "disk"
-form_word Clock = codes "clock"
-form_word Settle = codes "settle"
-form_word Inject = codes "inject"
-form_word (Key key) = key_word key
+form_word form.File = codes "file"
+form_word form.Fill = codes "fill"
+form_word form.Open = codes "open"
+form_word form.Get = codes "get"
+form_word form.Write = codes "write"
+form_word form.Shut = codes "shut"
+form_word form.Abort = codes "abort"
+form_word form.Hold = codes "hold"
+form_word form.Take = codes "take"
+form_word form.Deliver = codes "deliver"
+form_word form.Lose = codes "lose"
+form_word form.Timer = codes "timer"
+form_word form.Disk = codes "disk"
+form_word form.Clock = codes "clock"
+form_word form.Settle = codes "settle"
+form_word form.Inject = codes "inject"
+form_word (form.Key key) = key_word key
 
 -- the line's number, before what is wrong with it
 abbrev pub line_prefix : ℕ → List ℕ
@@ -40,13 +53,18 @@ with_fault text (Range key value) = text ++ key_word key ++ codes " out of range
 with_fault text (LowHigh low high) = text ++ codes "low " ++ decimal low ++ codes " above high " ++ decimal high
 with_fault text NoRoom = text ++ codes "no connection can be admitted"
 
+-- why a file is not added, behind a text; want of memory is told as a status of its own, and never so
+abbrev pub with_file_fault : List ℕ → FileFault → List ℕ
+with_file_fault text file_fault.Repeated = text ++ codes "file repeated"
+with_file_fault text (file_fault.TooLong n) = text ++ codes "file too long: " ++ decimal n
+with_file_fault text (file_fault.TooMany n) = text ++ codes "too many files: " ++ decimal n
+with_file_fault text (file_fault.TooMuch n) = text ++ codes "files too large: " ++ decimal n
+with_file_fault text file_fault.NoMemory = text ++ codes "no memory"
+
 abbrev pub why_text : ℕ → Why → List ℕ
 why_text line Syntax = line_prefix line ++ codes "not a line of the schedule"
 why_text line (Config fault) = with_fault (line_prefix line) fault
-why_text line Repeated = line_prefix line ++ codes "file repeated"
-why_text line (TooLong n) = line_prefix line ++ codes "file too long: " ++ decimal n
-why_text line (TooMany n) = line_prefix line ++ codes "too many files: " ++ decimal n
-why_text line (TooMuch n) = line_prefix line ++ codes "files too large: " ++ decimal n
+why_text line (File fault) = with_file_fault (line_prefix line) fault
 why_text line (NotSent k sent) = line_prefix line ++ codes "packet " ++ decimal k ++ codes " of " ++ decimal sent ++ codes " sent"
 why_text line (WasLost k) = line_prefix line ++ codes "packet " ++ decimal k ++ codes " was lost"
 why_text line (NoClient c) = line_prefix line ++ codes "client " ++ decimal c ++ codes " not opened"

@@ -11,12 +11,13 @@ ghost use Rattle.lard_laws_quiet.specs.Quiet.{IsCompleteWhenQuiet};
 ghost use Rattle.lard_machine.specs.Machine.{Passes, start};
 ghost use Rattle.lard_app.specs.Causes.{Ends};
 ghost use Rattle.lard_app.specs.declared.status.Status.{Status};
-ghost use Rattle.lard_app.specs.Replay.{begin, config_of, events_of, files_of, input_limit, is_feed, journal_of, lines_of, machine_of, report_of, sizes, whole};
+ghost use Rattle.lard_app.specs.Replay.{EndsCount, begin, config_of, events_of, files_of, is_feed, journal_of, lines_of, machine_of, report_of, sizes, whole};
 ghost use Rattle.lard_app.specs.Run.{IsReplay, IsSettled, Ran, Replays};
 ghost use Rattle.lard_app.specs.Seen.{seen};
 
-use crate::replay::{INPUT_LIMIT, Replay};
+use crate::replay::Replay;
 use crate::status::Status;
+use lard_base::limits::MAX_INPUT_BYTES;
 use lard_base::{InputFault, Sink, Source, read_up_to};
 use lard_journal::report_tells_all;
 use lard_laws_bytes::every_run_is_true;
@@ -40,8 +41,11 @@ pub fn run<S: Source, K: Sink>(
 
     ensures replay { IsReplay words.now → Ran result (S.left source.old) (S.left source.new) (K.written sink.old) (K.written sink.new) }
 
+    // The first fault ends the run: where it ends otherwise, the count of faults is as it was.
     ensures read_fault { result ≡ Status.ReadFault → Rose (S.faults source.old) (S.faults source.new) }
+    ensures no_read_fault { ¬ (result ≡ Status.ReadFault) → S.faults source.new ≡ S.faults source.old }
     ensures write_fault { result ≡ Status.WriteFault → Rose (K.faults sink.old) (K.faults sink.new) }
+    ensures no_write_fault { ¬ (result ≡ Status.WriteFault) → K.faults sink.new ≡ K.faults sink.old }
 
     // Where no count of faults rose, the input alone decides how the run ends, unless memory runs out.
     ensures complete { IsReplay words.now → ¬ Rose (S.faults source.old) (S.faults source.new) → ¬ Rose (K.faults sink.old) (K.faults sink.new)
@@ -101,10 +105,11 @@ fn is_replay(word: &str) -> bool
 fn replay<S: Source, K: Sink>(alloc: Global, source: &mut S, sink: &mut K) -> Status
     ensures ran { Ran result (S.left source.old) (S.left source.new) (K.written sink.old) (K.written sink.new) }
     ensures read_fault { result ≡ Status.ReadFault → Rose (S.faults source.old) (S.faults source.new) }
-    ensures write_fault { result ≡ Status.WriteFault → Rose (K.faults sink.old) (K.faults sink.new) }
+    ensures no_read_fault { ¬ (result ≡ Status.ReadFault) → S.faults source.new ≡ S.faults source.old }
+    ensures faults { EndsCount (K.faults sink.old) (K.faults sink.new) result }
 {
     let mut text = Vec::new(alloc);
-    match read_up_to(source, &mut text, INPUT_LIMIT) {
+    match read_up_to(source, &mut text, MAX_INPUT_BYTES) {
         Ok(()) => return replay_text(alloc, sink, text.as_slice()),
         Err(InputFault::Failed) => return Status::ReadFault,
         Err(InputFault::NoMemory) => return Status::NoMemory,
@@ -113,10 +118,9 @@ fn replay<S: Source, K: Sink>(alloc: Global, source: &mut S, sink: &mut K) -> St
 
 /// Replays a text, and writes its report.
 fn replay_text<K: Sink>(alloc: Global, sink: &mut K, text: &[u8]) -> Status
-    requires { length text.now ≤ input_limit + 1 }
+    requires { length text.now ≤ MAX_INPUT_BYTES + 1 }
     ensures replayed { Replays result text.now (K.written sink.old) (K.written sink.new) }
-    ensures later { K.faults sink.old ≤ K.faults sink.new }
-    ensures write_fault { result ≡ Status.WriteFault → Rose (K.faults sink.old) (K.faults sink.new) }
+    ensures faults { EndsCount (K.faults sink.old) (K.faults sink.new) result }
 {
     let mut replay = Replay::new(alloc);
     let status = replay_lines(&mut replay, alloc, sink, text);
@@ -128,10 +132,9 @@ fn replay_text<K: Sink>(alloc: Global, sink: &mut K, text: &[u8]) -> Status
 fn replay_lines<K: Sink>(replay: &mut Replay, alloc: Global, sink: &mut K, text: &[u8]) -> Status
     requires begins { seen replay.old ≡ begin }
     requires usable { replay.old.world.spoiled ≡ false }
-    requires short { length text.now ≤ input_limit + 1 }
+    requires short { length text.now ≤ MAX_INPUT_BYTES + 1 }
     ensures replayed { Replays result text.now (K.written sink.old) (K.written sink.new) }
-    ensures later { K.faults sink.old ≤ K.faults sink.new }
-    ensures write_fault { result ≡ Status.WriteFault → Rose (K.faults sink.old) (K.faults sink.new) }
+    ensures faults { EndsCount (K.faults sink.old) (K.faults sink.new) result }
 {
     let mut rest = text;
     while let Some(at) = feed_in(rest) {

@@ -1,10 +1,12 @@
-//! The top call `run`: it reads a schedule, replays it through the core, and writes the report.
+//! The top call `run`: it reads a schedule, replays it through the core, and writes the report. `flush_report` passes on
+//! what a sink of standard output still holds back behind it.
 //!
 //! It stands at the top of the path. `run` reads its words and the input, the reader of `lard_schedule` makes an item
 //! of each line, the world of `lard_world` does the step of an event, and the step's records go to the sink as lines.
 #![tactic(auto)]
 
 mod commands;
+mod flush;
 mod forms;
 mod replay;
 mod status;
@@ -12,5 +14,7 @@ mod status;
 mod tests;
 
 pub use commands::run;
+pub use flush::flush_report;
+pub use lard_files::FileFault;
 pub use lard_machine::What;
 pub use status::{Form, Status, Why};

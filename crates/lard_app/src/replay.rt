@@ -1,8 +1,7 @@
 //! A replay: what was read of a schedule so far, and the world that its events have led to.
 
-ghost use Rattle.std.specs.Prelude.{◌≡◌, ◌+◌, ◌++◌, ◌≤◌, ◌<◌, ◌^◌, true, false, length, drop, IfOk, OnOk, IsErrOf};
+ghost use Rattle.std.specs.Prelude.{◌≡◌, ◌+◌, ◌++◌, ◌≤◌, ◌<◌, ◌^◌, true, false, length, drop, IfOk, OnOk};
 ghost use Rattle.std.specs.List.{flat_map};
-ghost use Rattle.lard_base.specs.Causes.{Rose};
 ghost use Rattle.lard_base.specs.Config.{range_check};
 ghost use Rattle.lard_files.specs.Files.{add_check};
 ghost use Rattle.lard_journal.specs.Report.{file_text, heading_line, rec_line};
@@ -10,11 +9,12 @@ ghost use Rattle.lard_schedule.specs.Events.{IsInRange};
 ghost use Rattle.lard_schedule.specs.Files.{is_file_path};
 ghost use Rattle.lard_schedule.specs.Reader.{HasRange};
 ghost use Rattle.lard_app.specs.Forms.{missing};
-ghost use Rattle.lard_app.specs.Replay.{IsSound, Passes, Writes, begin, config_set, ending, filed, gain, item_gain, passed, stepped, taken};
+ghost use Rattle.lard_app.specs.Replay.{CountsFault, IsSound, Passes, Writes, begin, config_set, ended_by, ending, file_ends, filed, gain, item_gain, passed, stepped, taken};
 ghost use Rattle.lard_app.specs.Seen.{Adds, Sets, seen};
 
 use crate::forms::{missing, unbuilt};
 use crate::status::{Status, Why};
+use lard_base::limits::MAX_INPUT_BYTES;
 use lard_base::{Bytes, Config, Event, Failed, Key, NoMemory, Path, Sink, write_all};
 use lard_files::{FileFault, Files};
 use lard_journal::{Journal, Rec, file_line, heading, push_line};
@@ -23,9 +23,6 @@ use lard_schedule::{Item, LineFault, Reader, Stage};
 use lard_world::World;
 use std::alloc::Global;
 use std::mem;
-
-/// The most bytes of an input.
-pub const INPUT_LIMIT: usize = 1 << 26;
 
 /// What was read so far, and what it led to. It holds a world, and so has to be spent, by `finish`.
 pub struct Replay {
@@ -71,12 +68,11 @@ impl Replay {
         requires small { length line.now < 2 ^ 32 }
         ensures passed { Passes (passed (seen self.old) line.now) (gain (seen self.old) line.now) (K.written sink.old) (K.written sink.new) (seen self.new) result }
         ensures usable { OnOk result (self.new.world.spoiled ≡ false) }
-        ensures later { K.faults sink.old ≤ K.faults sink.new }
-        ensures cause { IsErrOf result Status.WriteFault → Rose (K.faults sink.old) (K.faults sink.new) }
+        ensures faults { CountsFault (K.faults sink.old) (K.faults sink.new) result }
     {
         let number = self.lines + 1;
         let read = self.read + line.len() as u64 + 1;
-        if read > INPUT_LIMIT as u64 {
+        if read > MAX_INPUT_BYTES as u64 {
             return Err(Status::Limit {
                 line: number,
                 what: What::Input,
@@ -102,8 +98,7 @@ impl Replay {
         requires range { HasRange item }
         ensures taken { Passes (taken (seen self.old) item) (item_gain (seen self.old) item) (K.written sink.old) (K.written sink.new) (seen self.new) result }
         ensures usable { OnOk result (self.new.world.spoiled ≡ false) }
-        ensures later { K.faults sink.old ≤ K.faults sink.new }
-        ensures cause { IsErrOf result Status.WriteFault → Rose (K.faults sink.old) (K.faults sink.new) }
+        ensures faults { CountsFault (K.faults sink.old) (K.faults sink.new) result }
     {
         match item {
             Item::Header => return Ok(()),
@@ -131,13 +126,8 @@ impl Replay {
         ensures filed { Adds (filed (seen self.old) path bytes (add_check self.old.files path (length bytes))) (seen self.new) result }
         ensures world { self.new.world ≡ self.old.world }
     {
-        match self.files.add(path.as_slice(), bytes.as_slice()) {
-            Ok(()) => {}
-            Err(FileFault::Repeated) => return Err(refused(self.lines, Why::Repeated)),
-            Err(FileFault::TooLong(n)) => return Err(refused(self.lines, Why::TooLong(n))),
-            Err(FileFault::TooMany(n)) => return Err(refused(self.lines, Why::TooMany(n))),
-            Err(FileFault::TooMuch(n)) => return Err(refused(self.lines, Why::TooMuch(n))),
-            Err(FileFault::NoMemory) => return Err(Status::NoMemory),
+        if let Err(fault) = self.files.add(path.as_slice(), bytes.as_slice()) {
+            return Err(file_ends(self.lines, fault));
         }
         match list(alloc, &mut self.listed, path.as_slice(), bytes.len() as u64) {
             Ok(()) => Ok(()),
@@ -149,8 +139,7 @@ impl Replay {
     fn go<K: Sink>(&mut self, alloc: Global, sink: &mut K) -> Result<(), Status>
         ensures taken { Passes (taken (seen self.old) Item.Go) (item_gain (seen self.old) Item.Go) (K.written sink.old) (K.written sink.new) (seen self.new) result }
         ensures usable { OnOk result (self.new.world.spoiled ≡ false) }
-        ensures later { K.faults sink.old ≤ K.faults sink.new }
-        ensures cause { IsErrOf result Status.WriteFault → Rose (K.faults sink.old) (K.faults sink.new) }
+        ensures faults { CountsFault (K.faults sink.old) (K.faults sink.new) result }
     {
         if let Err(fault) = self.config.check() {
             return Err(refused(self.lines, Why::Config(fault)));
@@ -171,8 +160,7 @@ impl Replay {
         requires range { IsInRange event }
         ensures taken { Passes (stepped (seen self.old) event (missing event)) (item_gain (seen self.old) (Item.Event event)) (K.written sink.old) (K.written sink.new) (seen self.new) result }
         ensures usable { OnOk result (self.new.world.spoiled ≡ false) }
-        ensures later { K.faults sink.old ≤ K.faults sink.new }
-        ensures cause { IsErrOf result Status.WriteFault → Rose (K.faults sink.old) (K.faults sink.new) }
+        ensures faults { CountsFault (K.faults sink.old) (K.faults sink.new) result }
     {
         if let Some(form) = missing(&event) {
             return Err(refused(self.lines, Why::FormNotBuilt(form)));
@@ -180,19 +168,7 @@ impl Replay {
         let before = self.world.journal().len() as usize;
         match self.world.step(alloc, event) {
             Ok(()) => return write_records(alloc, sink, self.world.journal(), before),
-            Err(StepFault::NotSent { k, sent }) => {
-                return Err(refused(self.lines, Why::NotSent { k, sent }));
-            }
-            Err(StepFault::WasLost(k)) => return Err(refused(self.lines, Why::WasLost(k))),
-            Err(StepFault::NoClient(c)) => return Err(refused(self.lines, Why::NoClient(c))),
-            Err(StepFault::Used(c)) => return Err(refused(self.lines, Why::Used(c))),
-            Err(StepFault::Limit(what)) => {
-                return Err(Status::Limit {
-                    line: self.lines,
-                    what,
-                });
-            }
-            Err(StepFault::NoMemory) => return Err(Status::NoMemory),
+            Err(fault) => return Err(ended_by(self.lines, fault)),
         }
     }
 
@@ -203,7 +179,7 @@ impl Replay {
         ensures { result ≡ ending (seen self.now) rest.now }
     {
         let number = self.lines + 1;
-        if self.read + rest.len() as u64 > INPUT_LIMIT as u64 && !rest.is_empty() {
+        if self.read + rest.len() as u64 > MAX_INPUT_BYTES as u64 && !rest.is_empty() {
             return Status::Limit {
                 line: number,
                 what: What::Input,
@@ -236,6 +212,33 @@ fn refused(line: u64, why: Why) -> Status
     Status::Refused { line, why }
 }
 
+/// How a fault of a file ends the run at a line.
+fn file_ends(line: u64, fault: FileFault) -> Status
+    ensures { result ≡ file_ends line fault }
+{
+    match fault {
+        FileFault::Repeated => refused(line, Why::File(fault)),
+        FileFault::TooLong(_) => refused(line, Why::File(fault)),
+        FileFault::TooMany(_) => refused(line, Why::File(fault)),
+        FileFault::TooMuch(_) => refused(line, Why::File(fault)),
+        FileFault::NoMemory => Status::NoMemory,
+    }
+}
+
+/// How a fault of a step ends the run at a line.
+fn ended_by(line: u64, fault: StepFault) -> Status
+    ensures { result ≡ ended_by line fault }
+{
+    match fault {
+        StepFault::NotSent { k, sent } => refused(line, Why::NotSent { k, sent }),
+        StepFault::WasLost(k) => refused(line, Why::WasLost(k)),
+        StepFault::NoClient(c) => refused(line, Why::NoClient(c)),
+        StepFault::Used(c) => refused(line, Why::Used(c)),
+        StepFault::Limit(what) => Status::Limit { line, what },
+        StepFault::NoMemory => Status::NoMemory,
+    }
+}
+
 /// Appends the line of a file.
 fn list(alloc: Global, listed: &mut Vec<u8>, path: &[u8], len: u64) -> Result<(), NoMemory>
     ensures { OnOk result (listed.new.items ≡ listed.old.items ++ file_text (path.now, len)) }
@@ -264,8 +267,7 @@ fn write_records<K: Sink>(
 ) -> Result<(), Status>
     requires { from ≤ length journal.now }
     ensures written { Writes (flat_map rec_line (drop from journal.now)) (K.written sink.old) (K.written sink.new) result }
-    ensures later { K.faults sink.old ≤ K.faults sink.new }
-    ensures cause { IsErrOf result Status.WriteFault → Rose (K.faults sink.old) (K.faults sink.new) }
+    ensures faults { CountsFault (K.faults sink.old) (K.faults sink.new) result }
 {
     match lines_of(alloc, &journal.as_slice()[from..]) {
         Ok(text) => return write(sink, text.as_slice()),
@@ -286,8 +288,7 @@ fn lines_of(alloc: Global, recs: &[Rec]) -> Result<Vec<u8>, NoMemory>
 
 fn write<K: Sink>(sink: &mut K, text: &[u8]) -> Result<(), Status>
     ensures written { Writes text.now (K.written sink.old) (K.written sink.new) result }
-    ensures later { K.faults sink.old ≤ K.faults sink.new }
-    ensures cause { IsErrOf result Status.WriteFault → Rose (K.faults sink.old) (K.faults sink.new) }
+    ensures faults { CountsFault (K.faults sink.old) (K.faults sink.new) result }
 {
     match write_all(sink, text) {
         Ok(()) => return Ok(()),

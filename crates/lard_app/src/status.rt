@@ -2,18 +2,29 @@
 
 ghost use Rattle.std.specs.Prelude.{◌≡◌, ◌++◌, IfOk, OnOk, codes, decimal};
 ghost use Rattle.std.specs.String.{string_bytes};
-ghost use Rattle.lard_app.specs.Status.{code_of, form_word, line_prefix, line_text, what_word, why_text, with_fault};
+ghost use Rattle.lard_app.specs.Status.{code_of, form_word, line_prefix, line_text, what_word, why_text, with_fault, with_file_fault};
 
 use itoa::Buffer;
 use lard_base::{ConfigFault, Key, NoMemory};
+use lard_files::FileFault;
 use lard_machine::What;
 use lard_schedule::key_word;
 use std::alloc::Global;
 
-/// The forms of line of which all, or one use, is not built, by their first words. `Key` stands for a configuration
-/// line.
+/// The forms of line, by their first words. `Key` stands for a configuration line; `lard` and `go` are none.
 #[derive(Clone, Copy, Debug, PartialEq, Eq)]
 pub enum Form {
+    File,
+    Fill,
+    Open,
+    Get,
+    Write,
+    Shut,
+    Abort,
+    Hold,
+    Take,
+    Deliver,
+    Lose,
     Timer,
     Disk,
     Clock,
@@ -29,14 +40,8 @@ pub enum Why {
     Syntax,
     /// It gives a number that the configuration can't have, or `go` follows numbers that don't go together.
     Config(ConfigFault),
-    /// It adds a file whose path is there already.
-    Repeated,
-    /// It adds a file of so many bytes, above 2^20.
-    TooLong(u64),
-    /// There would be so many files with it, above 65,536.
-    TooMany(u64),
-    /// All files would have so many bytes with it, above 2^26.
-    TooMuch(u64),
+    /// It adds a file that may not be added, for another cause than want of memory, which is `Status::NoMemory`.
+    File(FileFault),
     /// It delivers or loses packet `k` where only `sent` were sent.
     NotSent { k: u32, sent: u32 },
     /// It delivers or loses the packet with this number, which was lost.
@@ -74,6 +79,17 @@ impl Form {
         ensures { result.now ≡ form_word self }
     {
         match self {
+            Form::File => "file",
+            Form::Fill => "fill",
+            Form::Open => "open",
+            Form::Get => "get",
+            Form::Write => "write",
+            Form::Shut => "shut",
+            Form::Abort => "abort",
+            Form::Hold => "hold",
+            Form::Take => "take",
+            Form::Deliver => "deliver",
+            Form::Lose => "lose",
             Form::Timer => "timer",
             Form::Disk => "disk",
             Form::Clock => "clock",
@@ -132,10 +148,7 @@ fn refusal(alloc: Global, line: u64, why: Why) -> Result<String, NoMemory>
     match why {
         Why::Syntax => return ended(text, "not a line of the schedule"),
         Why::Config(fault) => return faulty(text, fault),
-        Why::Repeated => return ended(text, "file repeated"),
-        Why::TooLong(n) => return counted(text, "file too long: ", n),
-        Why::TooMany(n) => return counted(text, "too many files: ", n),
-        Why::TooMuch(n) => return counted(text, "files too large: ", n),
+        Why::File(fault) => return not_added(text, fault),
         Why::NotSent { k, sent } => return not_sent(text, k, sent),
         Why::WasLost(k) => return of_packet(text, k, " was lost"),
         Why::NoClient(c) => return of_client(text, c, " not opened"),
@@ -175,6 +188,19 @@ fn faulty(mut text: String, fault: ConfigFault) -> Result<String, NoMemory>
             return counted(text, " above high ", u64::from(high));
         }
         ConfigFault::NoRoom => return ended(text, "no connection can be admitted"),
+    }
+}
+
+/// A text, and then why a file is not added.
+fn not_added(text: String, fault: FileFault) -> Result<String, NoMemory>
+    ensures { IfOk result (λ longer. string_bytes longer ≡ with_file_fault (string_bytes text) fault) }
+{
+    match fault {
+        FileFault::Repeated => return ended(text, "file repeated"),
+        FileFault::TooLong(n) => return counted(text, "file too long: ", n),
+        FileFault::TooMany(n) => return counted(text, "too many files: ", n),
+        FileFault::TooMuch(n) => return counted(text, "files too large: ", n),
+        FileFault::NoMemory => return ended(text, "no memory"),
     }
 }
 

@@ -1,8 +1,28 @@
 //! Each public call once: what `run` writes for the shortest schedule, and the code and the line of each status.
 
-use crate::{Form, Status, What, Why, run};
-use lard_base::{Bytes, Calls, ConfigFault, Key, MemSink, MemSource};
+use crate::{FileFault, Form, Status, What, Why, flush_report, run};
+use lard_base::{Bytes, Calls, ConfigFault, Key, MemSink, MemSource, Sink, StdSink};
+use std::io::{self, Error, ErrorKind, Write};
 use std::test::Fail;
+
+/// A writer that takes all bytes, and whose flush fails where it is to.
+#[derive(Drop)]
+struct Held {
+    fails: bool,
+}
+
+impl Write for Held {
+    fn write(&mut self, buf: &[u8]) -> io::Result<usize> {
+        Ok(buf.len())
+    }
+
+    fn flush(&mut self) -> io::Result<()> {
+        if self.fails {
+            return Err(Error::from(ErrorKind::Other));
+        }
+        Ok(())
+    }
+}
 
 const HEADING: &[u8] =
     b"report 1 nodes 2 low 25 high 65 age 20000 idle 25 over 130 miss 50 cache 1048576 stream 1073741824\n";
@@ -55,19 +75,23 @@ fn each_status_has_its_code_and_line(rt: HostRuntime) -> Result<(), Fail> {
             2,
             "line 4: no connection can be admitted",
         ),
-        (refused(Why::Repeated), 2, "line 4: file repeated"),
         (
-            refused(Why::TooLong(1_048_577)),
+            refused(Why::File(FileFault::Repeated)),
+            2,
+            "line 4: file repeated",
+        ),
+        (
+            refused(Why::File(FileFault::TooLong(1_048_577))),
             2,
             "line 4: file too long: 1048577",
         ),
         (
-            refused(Why::TooMany(65_537)),
+            refused(Why::File(FileFault::TooMany(65_537))),
             2,
             "line 4: too many files: 65537",
         ),
         (
-            refused(Why::TooMuch(67_108_865)),
+            refused(Why::File(FileFault::TooMuch(67_108_865))),
             2,
             "line 4: files too large: 67108865",
         ),
@@ -83,6 +107,11 @@ fn each_status_has_its_code_and_line(rt: HostRuntime) -> Result<(), Fail> {
             "line 4: client 16384 not opened",
         ),
         (refused(Why::Used(1)), 2, "line 4: client 1 opened before"),
+        (
+            refused(Why::FormNotBuilt(Form::Open)),
+            2,
+            "line 4: not built yet: open",
+        ),
         (
             refused(Why::FormNotBuilt(Form::Disk)),
             2,
@@ -105,6 +134,21 @@ fn each_status_has_its_code_and_line(rt: HostRuntime) -> Result<(), Fail> {
     ] {
         assert_eq!(rt; status.code(), code);
         assert_eq!(rt; status.line(rt.alloc())?.as_str(), line);
+    }
+    Ok(())
+}
+
+#[test]
+fn a_flush_that_fails_is_a_write_fault(rt: HostRuntime) -> Result<(), Fail> {
+    for (fails, status, wanted) in [
+        (false, Status::Done, Status::Done),
+        (false, Status::Usage, Status::Usage),
+        (true, Status::Done, Status::WriteFault),
+        (true, Status::ReadFault, Status::WriteFault),
+    ] {
+        let mut sink = StdSink::new(rt.alloc(), Held { fails })?;
+        assert_eq!(rt; sink.write(b"report"), Ok(6));
+        assert_eq!(rt; flush_report(&mut sink, status), wanted);
     }
     Ok(())
 }

@@ -19,7 +19,8 @@ pub enum InputFault {
 }
 
 /// Adds the source's bytes to the end of the text, until they end or the text has `limit + 1` bytes. It takes no
-/// byte more than that from the source, and keeps each that it takes, also where it fails.
+/// byte more than that from the source, and keeps each that it takes, also where it fails. The first call that fails
+/// ends it.
 pub fn read_up_to<S: Source>(
     source: &mut S,
     text: &mut Vec<u8>,
@@ -32,6 +33,7 @@ pub fn read_up_to<S: Source>(
     ensures ok { OnOk result (IsAtEnd (S.left source.new) ⊎ (vec_len text.new ≡ limit + 1)) }
     ensures failed { IsErrOf result InputFault.Failed → Rose (S.faults source.old) (S.faults source.new) }
     ensures later { S.faults source.old ≤ S.faults source.new }
+    ensures same { ¬ (IsErrOf result InputFault.Failed) → S.faults source.new ≡ S.faults source.old }
 {
     while text.len() <= limit {
         let room = PIECE.min(limit + 1 - text.len());
@@ -58,6 +60,7 @@ fn read_piece<S: Source>(
     ensures err { OnErr result (vec_len text.new ≡ vec_len text.old) }
     ensures failed { IsErrOf result InputFault.Failed → Rose (S.faults source.old) (S.faults source.new) }
     ensures later { S.faults source.old ≤ S.faults source.new }
+    ensures same { ¬ (IsErrOf result InputFault.Failed) → S.faults source.new ≡ S.faults source.old }
 {
     let len = text.len();
     if text.resize(len + room, 0).is_err() {

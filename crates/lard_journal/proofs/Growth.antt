@@ -4,14 +4,8 @@ use Rattle.std.specs.List.{flat_map}
 use Rattle.std.proofs.lemmas.Grind.{flat_map-append}
 use Rattle.std.proofs.lemmas.List.{flat_map_more}
 use Rattle.lard_base.specs.declared.config.Config.{Config}
-use Rattle.lard_base.specs.Spelling.{line_of}
 use Rattle.lard_journal.specs.declared.rec.Rec.{Rec}
-use Rattle.lard_journal.specs.Report.{rec_line, heading_words, heading_line, file_text, report}
-
--- the heading is the line of its words
-pub heading_line-words : (config : Config) → heading_line config ≡ line_of (heading_words config)
-unfolding heading_line
-heading_line-words config = refl
+use Rattle.lard_journal.specs.Report.{rec_line, heading_line, file_text, report}
 
 -- a report without files and records is its heading
 pub report-heading : (config : Config) → report config [] [] ≡ heading_line config

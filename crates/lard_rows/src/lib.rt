@@ -5,6 +5,7 @@
 #![tactic(auto)]
 
 pub mod report;
+pub mod rows;
 pub mod slow;
 #[cfg(test)]
 mod tests;

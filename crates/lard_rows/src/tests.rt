@@ -1,8 +1,9 @@
 //! The rows: for each input the status and the report that the rules give, worked out by hand.
 
 use crate::report::{HEADING, PARTS};
+use crate::rows::{ROWS, TOLD};
 use crate::slow::{Drip, Trickle};
-use lard_app::{Form, Status, What, Why, run};
+use lard_app::{FileFault, Form, Status, What, Why, run};
 use lard_base::{Bytes, Calls, Key, MemSink, MemSource, NoMemory};
 use std::alloc::Global;
 use std::process::Abort;
@@ -20,6 +21,29 @@ deliver 4
 deliver 5
 ";
 
+/// A client whose connection is established.
+const ESTABLISHED: &str = "\
+lard 1
+go
+open 1 1000 5000 65535 1460
+deliver 1
+deliver 2
+deliver 3
+";
+
+/// A request is answered by 404, in 45 bytes.
+const NOT_FOUND: [&str; 2] = [
+    "served front 1 1 404 45 own",
+    "accepted 1 485454502f312e3120343034204e6f7420466f756e640d0a436f6e74656e742d4c656e6774683a20300d0a0d0a",
+];
+
+/// A head is answered by 431, in 86 bytes, and the connection closes.
+const TOO_LONG: [&str; 3] = [
+    "served front 1 1 431 86 own",
+    "accepted 1 485454502f312e3120343331205265717565737420486561646572204669656c647320546f6f204c617267650d0a436f6e74656e742d4c656e6774683a20300d0a436f6e6e656374696f6e3a20636c6f73650d0a0d0a",
+    "eof 1",
+];
+
 /// The words of a command line, as `run` takes them.
 fn words_of(alloc: Global, line: &str) -> Result<Vec<String>, NoMemory> {
     let mut all = Vec::new(alloc);
@@ -33,7 +57,7 @@ fn words_of(alloc: Global, line: &str) -> Result<Vec<String>, NoMemory> {
 fn replayed(alloc: Global, input: &[u8], failing: Calls) -> Result<(Status, Bytes), NoMemory> {
     let words = words_of(alloc, "replay")?;
     let mut source = MemSource::new(Bytes::from_slice(alloc, input)?, Calls::new(alloc));
-    let mut sink = MemSink::new(alloc, 10_000, failing)?;
+    let mut sink = MemSink::new(alloc, 100_000, failing)?;
     let status = run(alloc, words.as_slice(), &mut source, &mut sink);
     Ok((status, Bytes::from_slice(alloc, sink.bytes())?))
 }
@@ -74,61 +98,89 @@ fn refused(line: u64, why: Why) -> Status {
 }
 
 #[test]
-fn the_worked_example(rt: HostRuntime) -> Result<(), Fail> {
-    check(
-        &rt,
-        &[
-            (WORKED, Status::Done, 8),
-            ("lard 1\ngo\n", Status::Done, 1),
-            ("", refused(1, Why::Syntax), 0),
-            ("lard 1\n", refused(2, Why::Syntax), 0),
-        ],
+fn the_worked_rows(rt: HostRuntime) -> Result<(), Fail> {
+    let alloc = rt.alloc();
+    for row in &ROWS {
+        let (status, report) = replayed(alloc, row.input.as_bytes(), Calls::new(alloc))?;
+        assert_eq!(rt; status, row.status, "at {:?}", row.input);
+        assert_eq!(rt;
+            report.as_slice(),
+            row.report.as_bytes(),
+            "at {:?}",
+            row.input
+        );
+    }
+    Ok(())
+}
+
+/// These lines stand in the report, in this order.
+fn check_lines(rt: &impl Abort, report: &[u8], lines: &[&str]) {
+    let mut left = report.split(|byte| *byte == b'\n');
+    for line in lines {
+        assert!(rt;
+            left.any(|part| part == line.as_bytes()),
+            "no line {line:?}"
+        );
+    }
+}
+
+#[test]
+fn several_requests_in_one_write(rt: HostRuntime) -> Result<(), Fail> {
+    let alloc = rt.alloc();
+    for row in &TOLD {
+        let (status, report) = replayed(alloc, row.input.as_bytes(), Calls::new(alloc))?;
+        assert_eq!(rt; status, Status::Done);
+        check_lines(&rt, report.as_slice(), row.lines);
+    }
+    Ok(())
+}
+
+/// A client writes a head for an unknown path, of 35 bytes, so many more, and this end. All its packets are delivered,
+/// and the answer.
+fn long_head(alloc: Global, filled: usize, end: &str) -> Result<Vec<u8>, NoMemory> {
+    let mut text = joined(
+        alloc,
+        ESTABLISHED,
+        "write 1 474554202f7820485454502f312e310d0a486f73743a206c6172640d0a46696c6c3a20",
     )?;
+    for _ in 0..filled {
+        text.extend_from_slice(b"66")?;
+    }
+    text.extend_from_slice(end.as_bytes())?;
+    text.extend_from_slice(
+        b"\ndeliver 4\ndeliver 5\ndeliver 6\ndeliver 7\ndeliver 8\ndeliver 9\ndeliver 15\n",
+    )?;
+    Ok(text)
+}
+
+/// The longest head that is answered has 8,192 bytes with the empty line that ends it. One that has not ended by then is
+/// too long.
+#[test]
+fn heads_of_8192_bytes(rt: HostRuntime) -> Result<(), Fail> {
+    let alloc = rt.alloc();
+    let whole = long_head(alloc, 8_192 - 35 - 4, "0d0a0d0a")?;
+    let (status, report) = replayed(alloc, whole.as_slice(), Calls::new(alloc))?;
+    assert_eq!(rt; status, Status::Done);
+    check_lines(&rt, report.as_slice(), &NOT_FOUND);
+    let unended = long_head(alloc, 8_192 - 35, "")?;
+    let (status, report) = replayed(alloc, unended.as_slice(), Calls::new(alloc))?;
+    assert_eq!(rt; status, Status::Done);
+    check_lines(&rt, report.as_slice(), &TOO_LONG);
     Ok(())
 }
 
 #[test]
-fn packets_that_were_not_sent(rt: HostRuntime) -> Result<(), Fail> {
-    let not_sent = |k| refused(5, Why::NotSent { k, sent: 1 });
+fn what_does_not_depend_on_a_world(rt: HostRuntime) -> Result<(), Fail> {
     check(
         &rt,
         &[
-            (
-                "lard 1\ngo\nopen 1 1000 5000 65535 1460\nget 1 /x\ndeliver 0\n",
-                not_sent(0),
-                3,
-            ),
-            (
-                "lard 1\ngo\nopen 1 1000 5000 65535 1460\nget 1 /x\ndeliver 2\n",
-                not_sent(2),
-                3,
-            ),
+            ("lard 1\n", refused(2, Why::Syntax), 0),
             (
                 "lard 1\ngo\ndeliver 1\n",
                 refused(3, Why::NotSent { k: 1, sent: 0 }),
                 1,
             ),
-        ],
-    )?;
-    Ok(())
-}
-
-#[test]
-fn clients_that_may_not(rt: HostRuntime) -> Result<(), Fail> {
-    check(
-        &rt,
-        &[
-            (
-                "lard 1\ngo\nopen 1 1000 5000 65535 1460\nopen 1 1 1 45 45\n",
-                refused(4, Why::Used(1)),
-                2,
-            ),
             ("lard 1\ngo\nget 1 /x\n", refused(3, Why::NoClient(1)), 1),
-            (
-                "lard 1\ngo\nopen 1 1000 5000 65535 1460\nget 2 /x\n",
-                refused(4, Why::NoClient(2)),
-                2,
-            ),
         ],
     )?;
     Ok(())
@@ -170,12 +222,12 @@ fn files_that_may_not_be_added(rt: HostRuntime) -> Result<(), Fail> {
         &[
             (
                 "lard 1\nfile /a -\nfile /a 00\n",
-                refused(3, Why::Repeated),
+                refused(3, Why::File(FileFault::Repeated)),
                 0,
             ),
             (
                 "lard 1\nfill /a 1048577 00\n",
-                refused(2, Why::TooLong(1_048_577)),
+                refused(2, Why::File(FileFault::TooLong(1_048_577))),
                 0,
             ),
             ("lard 1\nfile /a 0\n", refused(2, Why::Syntax), 0),

@@ -1,6 +1,6 @@
 -- Words with single spaces between them, and their line.
 use Rattle.std.proofs.Common.{◌≡◌, inl, inr, ℕ, ◌≤◌, ◌<◌, ◌^◌, List, [], ◌∷◌, ◌++◌, length, Bool, true, false, cond, ◌&&◌, Ok, refl, sym, ap, ◌∙◌, append_assoc, subst, arith}
-use Rattle.std.specs.Prelude.{nat_eq, nat_le, decimal, codes}
+use Rattle.std.specs.Prelude.{nat_eq, nat_le, nat_lt, decimal, codes}
 use Rattle.std.specs.List.{fold, list_all, onto_first, AllPass}
 use Rattle.std.specs.Str.Parse.{AllDigits}
 use Rattle.std.proofs.lemmas.Bool.Decides.{nat_tests}
@@ -46,7 +46,7 @@ no_space_visible (b ∷ bs) all = go (no_space_visible bs) (is_visible b) refl a
 
 no_space_path : (path : List ℕ) → is_path path ≡ true → HasNoSpace path
 no_space_path [] e = let none : false ≡ true = e in cc
-no_space_path (b ∷ bs) e = go (nat_eq b 47) refl (nat_le (length bs) 1023) e where
+no_space_path (b ∷ bs) e = go (nat_eq b 47) refl (nat_lt (length bs) 1024) e where
   go : (t : Bool) → nat_eq b 47 ≡ t → (s : Bool) → t && s && list_all is_visible bs ≡ true → HasNoSpace (b ∷ bs)
   go false f s g = let none : false ≡ true = g in cc
   go true f false g = let none : false ≡ true = g in cc

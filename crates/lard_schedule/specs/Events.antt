@@ -1,5 +1,5 @@
 -- What the words of an event's line stand for, and the ranges of what they name.
-use Rattle.std.specs.Prelude.{◌≡◌, ℕ, ◌-◌, ◌<◌, ◌≤◌, ◌^◌, Bool, true, false, ◌&&◌, nat_eq, nat_le, List, [], ◌∷◌, length, Option, Some, None, codes, bytes_eq, if◌then◌else◌}
+use Rattle.std.specs.Prelude.{◌≡◌, ℕ, ◌-◌, ◌<◌, ◌≤◌, ◌^◌, Bool, true, false, ◌&&◌, nat_eq, nat_le, nat_lt, List, [], ◌∷◌, length, Option, Some, None, codes, bytes_eq, if◌then◌else◌}
 use Rattle.std.specs.List.{find, list_all}
 use Rattle.std.specs.Result.{result_ok}
 use Rattle.hex.specs.Hex.{decode_of}
@@ -7,6 +7,7 @@ use Rattle.lard_base.specs.declared.place.Place.{Place}
 use Rattle.lard_base.specs.declared.place.Place.TheVariants.{Front, Node, Client}
 use Rattle.lard_base.specs.declared.event.Event.{Event}
 use Rattle.lard_base.specs.declared.event.Event.TheVariants.{Open, Get, Write, Shut, Abort, Hold, Take, Deliver, Lose, Timer, Disk, Clock, Settle, Inject}
+use Rattle.lard_base.specs.declared.limits.TheConstants.{MAX_PATH_BYTES, MAX_SEGMENT_BYTES, MAX_SEGMENT_DATA}
 use Rattle.lard_schedule.specs.declared.verbs.Verb.{Verb}
 use Rattle.lard_schedule.specs.declared.verbs.Verb.TheVariants as verb
 use Rattle.lard_schedule.specs.Words.{◌>>=◌, word_then, number_then, count_of, count_then, client_then, ended}
@@ -47,10 +48,10 @@ verb_of word = verb_among verbs word
 abbrev pub is_visible : ℕ → Bool
 is_visible b = nat_le 33 b && nat_le b 126
 
--- a path: a slash, and at most 1,023 visible bytes
+-- a path: a slash and visible bytes, at most 1,024 bytes in all
 abbrev pub is_path : List ℕ → Bool
 is_path [] = false
-is_path (b ∷ bs) = nat_eq b 47 && nat_le (length bs) 1023 && list_all is_visible bs
+is_path (b ∷ bs) = nat_eq b 47 && nat_lt (length bs) MAX_PATH_BYTES && list_all is_visible bs
 
 -- the bytes of hexadecimal digits, in both cases: two digits a byte
 abbrev pub bytes_of : List ℕ → Option (List ℕ)
@@ -106,7 +107,7 @@ open_of words = do
   isn ← number_then (2 ^ 32 - 1) c.1
   iss ← number_then (2 ^ 32 - 1) isn.1
   wnd ← count_then 65535 iss.1
-  mss ← count_then 1460 wnd.1
+  mss ← count_then MAX_SEGMENT_DATA wnd.1
   ended mss.1 (Open c.0 isn.0 iss.0 wnd.0 mss.0)
 
 unfoldable pub get_of : List (List ℕ) → Option Event
@@ -142,7 +143,7 @@ unfoldable pub inject_of : List (List ℕ) → Option Event
 inject_of words = do
   sent ← client_and_word words
   bytes ← some_bytes_of sent.1
-  if nat_le (length bytes) 1520 then Some (Inject sent.0 bytes) else None
+  if nat_le (length bytes) MAX_SEGMENT_BYTES then Some (Inject sent.0 bytes) else None
 
 -- ---- events
 
@@ -182,7 +183,7 @@ IsPlace (Client c) = IsUpTo 16384 c
 
 -- the numbers, the path, the place and the bytes of an event are ones that a line can have
 abbrev pub IsInRange : Event → Type 0
-IsInRange (Open c isn iss wnd mss) = IsUpTo 16384 c × (isn < 2 ^ 32) × (iss < 2 ^ 32) × IsUpTo 65535 wnd × IsUpTo 1460 mss
+IsInRange (Open c isn iss wnd mss) = IsUpTo 16384 c × (isn < 2 ^ 32) × (iss < 2 ^ 32) × IsUpTo 65535 wnd × IsUpTo MAX_SEGMENT_DATA mss
 IsInRange (Get c path) = IsUpTo 16384 c × (is_path path ≡ true)
 IsInRange (Write c bytes) = IsUpTo 16384 c × (1 ≤ length bytes)
 IsInRange (Shut c) = IsUpTo 16384 c
@@ -195,4 +196,4 @@ IsInRange (Timer place c) = IsPlace place × IsUpTo 16384 c × (may_keep place c
 IsInRange (Disk n j) = (n < 2 ^ 32) × (j < 2 ^ 32)
 IsInRange (Clock ms) = ms < 2 ^ 32
 IsInRange (Settle rounds) = (1 ≤ rounds) × (rounds < 2 ^ 32)
-IsInRange (Inject c bytes) = IsUpTo 16384 c × IsUpTo 1520 (length bytes)
+IsInRange (Inject c bytes) = IsUpTo 16384 c × IsUpTo MAX_SEGMENT_BYTES (length bytes)

@@ -1,8 +1,9 @@
 -- What the words of a file's line stand for.
-use Rattle.std.specs.Prelude.{ℕ, ◌^◌, Bool, ◌&&◌, not, nat_eq, List, [], ◌∷◌, Option, Some, None, Result, Ok, codes, bytes_eq, replicate, if◌then◌else◌}
+use Rattle.std.specs.Prelude.{ℕ, Bool, ◌&&◌, not, nat_eq, List, [], ◌∷◌, Option, Some, None, Result, Ok, codes, bytes_eq, replicate, if◌then◌else◌}
 use Rattle.std.specs.List.{list_all}
 use Rattle.hex.specs.Hex.{decode_sized}
 use Rattle.hex.specs.declared.error.FromHexError.{FromHexError}
+use Rattle.lard_base.specs.declared.limits.TheConstants.{MAX_ALL_FILES_BYTES}
 use Rattle.lard_schedule.specs.declared.item.Item.{Item}
 use Rattle.lard_schedule.specs.declared.item.Item.TheVariants.{File, Go}
 use Rattle.lard_schedule.specs.Words.{◌>>=◌, word_then, number_then, ended}
@@ -49,7 +50,7 @@ byte_of word = first_byte (decode_sized word 1)
 -- how often a byte is repeated, and the byte
 unfoldable pub run_of : List (List ℕ) → Option (ℕ × ℕ)
 run_of words = do
-  n ← number_then (2 ^ 26) words
+  n ← number_then MAX_ALL_FILES_BYTES words
   word ← word_then n.1
   byte ← byte_of word.0
   ended word.1 (n.0, byte)

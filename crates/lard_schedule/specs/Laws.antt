@@ -1,6 +1,7 @@
 -- What spells an event or a line, and where a line may stand.
 use Rattle.std.specs.Prelude.{◌≡◌, ◌⊎◌, ℕ, ◌≤◌, ◌^◌, false, List, [], ◌∷◌, length, Ok, codes, decimal, replicate}
 use Rattle.hex.specs.Hex.{IsBytes, decode_of}
+use Rattle.lard_base.specs.declared.limits.TheConstants.{MAX_ALL_FILES_BYTES}
 use Rattle.lard_base.specs.declared.event.Event.{Event}
 use Rattle.lard_base.specs.declared.event.Event.TheVariants.{Write, Inject}
 use Rattle.lard_base.specs.Spelling.{event_words, key_word, sentence}
@@ -33,7 +34,7 @@ SpellsEmpty words path bytes = (words ≡ codes "file" ∷ path ∷ codes "-" �
 -- a file that repeats a byte, to 2^26 times
 abbrev pub SpellsRun : List (List ℕ) → List ℕ → List ℕ → Type 0
 SpellsRun words path bytes =
-    (n : ℕ) × (byte : ℕ) × (digits : List ℕ) × (words ≡ codes "fill" ∷ path ∷ decimal n ∷ digits ∷ []) × (n ≤ 2 ^ 26) × (decode_of digits ≡ Ok (byte ∷ []))
+    (n : ℕ) × (byte : ℕ) × (digits : List ℕ) × (words ≡ codes "fill" ∷ path ∷ decimal n ∷ digits ∷ []) × (n ≤ MAX_ALL_FILES_BYTES) × (decode_of digits ≡ Ok (byte ∷ []))
     × (bytes ≡ replicate n byte)
 
 abbrev pub SpellsFile : List (List ℕ) → List ℕ → List ℕ → Type 0

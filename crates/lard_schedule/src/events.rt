@@ -10,6 +10,7 @@ use crate::numbers::{client, client_in, conn, count, node_in, number};
 use crate::verbs::{Verb, verb_in};
 use crate::words::{Words, end, is, next};
 use hex::FromHexError;
+use lard_base::limits::{MAX_PATH_BYTES, MAX_SEGMENT_BYTES, MAX_SEGMENT_DATA};
 use lard_base::{Bytes, ConnId, Event, Path, Place};
 use std::alloc::Global;
 
@@ -86,7 +87,7 @@ fn open(words: Words<'_>) -> Option<Event>
     let (isn, words) = number(words)?;
     let (iss, words) = number(words)?;
     let (wnd, words) = count(words, 65_535)?;
-    let (mss, words) = count(words, 1_460)?;
+    let (mss, words) = count(words, u32::from(MAX_SEGMENT_DATA))?;
     end(words)?;
     Some(Event::Open {
         c: conn(c),
@@ -161,7 +162,7 @@ fn inject(alloc: Global, words: Words<'_>) -> Result<Event, LineFault>
 {
     let (c, word) = client_and_word(words).ok_or(LineFault::Syntax)?;
     let bytes = some_bytes(alloc, word)?;
-    if bytes.len() > 1_520 {
+    if bytes.len() > MAX_SEGMENT_BYTES {
         return Err(LineFault::Syntax);
     }
     Ok(Event::Inject { c: conn(c), bytes })
@@ -216,12 +217,12 @@ fn may_keep(place: &Place, c: ConnId) -> bool
     }
 }
 
-/// A slash, and at most 1,023 visible bytes.
+/// A slash and visible bytes, at most 1,024 bytes in all.
 pub fn is_path(text: &[u8]) -> bool
     ensures { result ≡ is_path text.now }
 {
     match text {
-        [b'/', rest @ ..] => { rest.len() <= 1_023 && all_visible(rest) }
+        [b'/', rest @ ..] => rest.len() < MAX_PATH_BYTES && all_visible(rest),
         _ => false,
     }
 }

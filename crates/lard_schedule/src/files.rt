@@ -9,11 +9,9 @@ use crate::events::{is_path, some_bytes};
 use crate::item::{Item, LineFault};
 use crate::numbers::number_to;
 use crate::words::{Words, end, is, next};
+use lard_base::limits::MAX_ALL_FILES_BYTES;
 use lard_base::{Bytes, NoMemory, Path};
 use std::alloc::Global;
-
-/// The most bytes that a `fill` line gives.
-const MOST_FILLED: u64 = 1 << 26;
 
 /// A file, or `go` behind the last one.
 #[tactic(auto, unfolding(crate::specs::Files::file_item))]
@@ -74,12 +72,12 @@ fn path_and_word(words: Words<'_>) -> Option<(&[u8], &[u8])>
     Some((path, word))
 }
 
-/// How often a byte is repeated, to 2^26, and the byte.
+/// How often a byte is repeated, at most as often as all files together may have bytes, and the byte.
 #[tactic(auto, unfolding(crate::specs::Files::run_of))]
 fn run(words: Words<'_>) -> Option<(u64, u8)>
     ensures { result ≡ run_of (left_of words.entry) }
 {
-    let (n, words) = number_to(words, MOST_FILLED)?;
+    let (n, words) = number_to(words, MAX_ALL_FILES_BYTES as u64)?;
     let (word, words) = next(words)?;
     let byte = byte_in(word)?;
     end(words)?;

@@ -74,24 +74,11 @@ impl Keys {
     }
 }
 
-/// All keys.
-const KEYS: [Key; 9] = [
-    Key::Nodes,
-    Key::Low,
-    Key::High,
-    Key::Age,
-    Key::Idle,
-    Key::Over,
-    Key::Miss,
-    Key::Cache,
-    Key::Stream,
-];
-
 /// The key that this word names.
 pub fn key_in(word: &[u8]) -> Option<Key>
     ensures { result ≡ key_of word.now }
 {
-    key_among(&KEYS, word)
+    key_among(&Key::ALL, word)
 }
 
 fn key_among(keys: &[Key], word: &[u8]) -> Option<Key>

@@ -4,8 +4,8 @@
 //! status is said in a line on standard error, and is the exit status.
 #![tactic(auto)]
 
-use lard_app::{Status, run};
-use lard_base::{Failed, StdSink, StdSource};
+use lard_app::{Status, flush_report, run};
+use lard_base::{StdSink, StdSource};
 use std::env;
 use std::io::{self, ErrorKind};
 use std::process::ExitCode;
@@ -90,10 +90,7 @@ fn run_all(rt: &(impl Input + Print + AllocGlobal), words: &[String]) -> Status 
         return Status::NoMemory;
     };
     let status = run(rt.alloc(), words, &mut source, &mut sink);
-    match sink.flush() {
-        Ok(()) => status,
-        Err(Failed) => Status::WriteFault,
-    }
+    flush_report(&mut sink, status)
 }
 
 /// Says the status on standard error. Nothing is said for `Done`, nor where the line finds no memory.

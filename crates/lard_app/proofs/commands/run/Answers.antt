@@ -1,4 +1,5 @@
 use Rattle.lard_app.proofs.Endings.{caused}
+use Rattle.lard_app.proofs.Faults.{fault-rose, no_fault-same}
 use Rattle.lard_app.proofs.Lawful.{follows, machine, network, ownership, prefix, quiet, resets, service, sole_sender, takers, tells, tells_all, writers}
 use Rattle.lard_app.proofs.Settled.{settled}
 use Rattle.lard_app.proofs.commands.run.Goals as goal
@@ -87,5 +88,12 @@ returns-clause-quiet g c = λ text. quiet text c.quiet_connections_are_complete.
 pub returns-clause-tells_all : goal.returns-clause-tells_all
 returns-clause-tells_all g c = tells_all c.records_are_in_range.ensures c.report_tells_all.ensures.whole
 
+pub returns-clause-write_fault : goal.returns-clause-write_fault
+returns-clause-write_fault g c = fault-rose _ _ c.replay.result c.replay.ensures.faults
+
+pub returns-clause-no_write_fault : goal.returns-clause-no_write_fault
+returns-clause-no_write_fault g c = no_fault-same _ _ c.replay.result c.replay.ensures.faults
+
 pub returns-clause-complete : goal.returns-clause-complete
-returns-clause-complete g c = λ asked read written. settled c.replay.result _ _ _ _ c.replay.ensures.ran (λ e. read (c.replay.ensures.read_fault e)) (λ e. written (c.replay.ensures.write_fault e))
+returns-clause-complete g c = λ asked read written.
+    settled c.replay.result _ _ _ _ c.replay.ensures.ran (λ e. read (c.replay.ensures.read_fault e)) (λ e. written (fault-rose _ _ c.replay.result c.replay.ensures.faults e))

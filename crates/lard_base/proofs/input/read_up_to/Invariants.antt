@@ -1,5 +1,5 @@
 -- What was read so far.
-use Rattle.std.proofs.Common.{◌+◌, ◌≤◌, ◌-◌, vec_len}
+use Rattle.std.proofs.Common.{◌≡◌, ◌+◌, ◌≤◌, ◌-◌, vec_len}
 use Rattle.lard_base.specs.Outside.{TakesIn}
 use Rattle.lard_base.proofs.input.read_up_to.Given as goal
 
@@ -7,7 +7,7 @@ abbrev pub invariant-loop-text : goal.invariant-loop-text
 invariant-loop-text g l = record {
   taken : TakesIn (g.S.Source.left l.fn.source) (g.S.Source.left l.source) l.fn.text.items l.text.items;
   bound : vec_len l.text ≤ l.limit + 1;
-  faults : g.S.Source.faults l.fn.source ≤ g.S.Source.faults l.source;
+  faults : g.S.Source.faults l.source ≡ g.S.Source.faults l.fn.source;
 }
 
 abbrev pub decreases-loop-text : goal.decreases-loop-text

@@ -1,5 +1,5 @@
 -- A front was written, and each call writes more of it.
-use Rattle.std.proofs.Common.{take, drop, arith}
+use Rattle.std.proofs.Common.{take, drop, ◌∙◌}
 use Rattle.std.proofs.KnownBytes.{Appends-kept}
 use Rattle.std.proofs.lemmas.List.{take-append-drop}
 use Rattle.lard_base.proofs.Pieces.{on_err_from, rest_length, written_more}
@@ -17,5 +17,5 @@ pub loop-done-preserved : goal.loop-done-preserved
 loop-done-preserved g c = record {
   within = rest_length c.args.bytes.now c.loop-done.done _ c.loop-done.invariant.within c.in_ok-done.ensures.bound;
   written = written_more _ _ _ c.args.bytes.now c.loop-done.done _ c.loop-done.invariant.written c.in_ok-done.ensures.bytes;
-  faults = omega (arith, c.in_ok-done.ensures.cause.later);
+  faults = c.in_ok-done.ensures.cause.same ∙ c.loop-done.invariant.faults;
 }

@@ -1,0 +1,652 @@
+//! The worked rows: inputs with the status and the whole report that the rules give, worked out apart from the program.
+
+use lard_app::{FileFault, Status, What, Why};
+
+/// An input, how its run ends, and what it writes.
+pub struct Row {
+    pub input: &'static str,
+    pub status: Status,
+    pub report: &'static str,
+}
+
+/// The heading alone.
+pub const HEADING_ALONE: Row = Row {
+    input: "\
+lard 1
+go
+",
+    status: Status::Done,
+    report: "\
+report 1 nodes 2 low 25 high 65 age 20000 idle 25 over 130 miss 50 cache 1048576 stream 1073741824
+",
+};
+
+/// An empty input.
+pub const NO_INPUT: Row = Row {
+    input: "",
+    status: Status::Refused {
+        line: 1,
+        why: Why::Syntax,
+    },
+    report: "",
+};
+
+/// One client and one request, answered 404.
+pub const ONE_REQUEST: Row = Row {
+    input: "\
+lard 1
+go
+open 1 1000 5000 65535 1460
+get 1 /x
+deliver 1
+deliver 2
+deliver 3
+deliver 4
+deliver 5
+",
+    status: Status::Done,
+    report: "\
+report 1 nodes 2 low 25 high 65 age 20000 idle 25 over 130 miss 50 cache 1048576 stream 1073741824
+event 1 open 1 1000 5000 65535 1460
+opened 1 1000 5000 65535 1460
+sent 1 c1 front 9c400050000003e8000000006002ffffe3ab0000020405b4
+armed c1 1 tcp
+event 2 get 1 /x
+wrote 1 474554202f7820485454502f312e310d0a486f73743a206c6172640d0a0d0a
+event 3 deliver 1
+got 1
+took front 1 1
+sent 2 front c1 00509c4000001388000003e96012400090120000020405b4
+armed front 1 tcp
+event 4 deliver 2
+got 2
+sent 3 c1 front 9c400050000003e9000013895018ffff0dd50000474554202f7820485454502f312e310d0a486f73743a206c6172640d0a0d0a
+event 5 deliver 3
+got 3
+served front 1 1 404 45 own
+sent 4 front c1 00509c4000001389000004085018400089300000485454502f312e3120343034204e6f7420466f756e640d0a436f6e74656e742d4c656e6774683a20300d0a0d0a
+event 6 deliver 4
+got 4
+accepted 1 485454502f312e3120343034204e6f7420466f756e640d0a436f6e74656e742d4c656e6774683a20300d0a0d0a
+sent 5 c1 front 9c40005000000408000013b65010ffffe7830000
+cleared c1 1 tcp
+event 7 deliver 5
+got 5
+cleared front 1 tcp
+",
+};
+
+/// Packet 0, which is never sent.
+pub const NONE_SENT: Row = Row {
+    input: "\
+lard 1
+go
+open 1 1000 5000 65535 1460
+get 1 /x
+deliver 0
+",
+    status: Status::Refused {
+        line: 5,
+        why: Why::NotSent { k: 0, sent: 1 },
+    },
+    report: "\
+report 1 nodes 2 low 25 high 65 age 20000 idle 25 over 130 miss 50 cache 1048576 stream 1073741824
+event 1 open 1 1000 5000 65535 1460
+opened 1 1000 5000 65535 1460
+sent 1 c1 front 9c400050000003e8000000006002ffffe3ab0000020405b4
+armed c1 1 tcp
+event 2 get 1 /x
+wrote 1 474554202f7820485454502f312e310d0a486f73743a206c6172640d0a0d0a
+",
+};
+
+/// A packet that was not sent.
+pub const NOT_SENT: Row = Row {
+    input: "\
+lard 1
+go
+open 1 1000 5000 65535 1460
+get 1 /x
+deliver 2
+",
+    status: Status::Refused {
+        line: 5,
+        why: Why::NotSent { k: 2, sent: 1 },
+    },
+    report: "\
+report 1 nodes 2 low 25 high 65 age 20000 idle 25 over 130 miss 50 cache 1048576 stream 1073741824
+event 1 open 1 1000 5000 65535 1460
+opened 1 1000 5000 65535 1460
+sent 1 c1 front 9c400050000003e8000000006002ffffe3ab0000020405b4
+armed c1 1 tcp
+event 2 get 1 /x
+wrote 1 474554202f7820485454502f312e310d0a486f73743a206c6172640d0a0d0a
+",
+};
+
+/// A request of a client that has not opened.
+pub const NOT_OPENED: Row = Row {
+    input: "\
+lard 1
+go
+open 1 1000 5000 65535 1460
+get 1 /x
+get 2 /x
+",
+    status: Status::Refused {
+        line: 5,
+        why: Why::NoClient(2),
+    },
+    report: "\
+report 1 nodes 2 low 25 high 65 age 20000 idle 25 over 130 miss 50 cache 1048576 stream 1073741824
+event 1 open 1 1000 5000 65535 1460
+opened 1 1000 5000 65535 1460
+sent 1 c1 front 9c400050000003e8000000006002ffffe3ab0000020405b4
+armed c1 1 tcp
+event 2 get 1 /x
+wrote 1 474554202f7820485454502f312e310d0a486f73743a206c6172640d0a0d0a
+",
+};
+
+/// A packet that was lost is delivered.
+pub const LOST: Row = Row {
+    input: "\
+lard 1
+go
+open 1 1000 5000 65535 1460
+get 1 /x
+lose 1
+deliver 1
+",
+    status: Status::Refused {
+        line: 6,
+        why: Why::WasLost(1),
+    },
+    report: "\
+report 1 nodes 2 low 25 high 65 age 20000 idle 25 over 130 miss 50 cache 1048576 stream 1073741824
+event 1 open 1 1000 5000 65535 1460
+opened 1 1000 5000 65535 1460
+sent 1 c1 front 9c400050000003e8000000006002ffffe3ab0000020405b4
+armed c1 1 tcp
+event 2 get 1 /x
+wrote 1 474554202f7820485454502f312e310d0a486f73743a206c6172640d0a0d0a
+event 3 lose 1
+lost 1
+",
+};
+
+/// A client opens twice.
+pub const OPENED_TWICE: Row = Row {
+    input: "\
+lard 1
+go
+open 1 1 1 1 1
+open 1 1 1 1 1
+",
+    status: Status::Refused {
+        line: 4,
+        why: Why::Used(1),
+    },
+    report: "\
+report 1 nodes 2 low 25 high 65 age 20000 idle 25 over 130 miss 50 cache 1048576 stream 1073741824
+event 1 open 1 1 1 1 1
+opened 1 1 1 1 1
+sent 1 c1 front 9c400050000000010000000060020001ed44000002040001
+armed c1 1 tcp
+",
+};
+
+/// The SYN comes twice, and the SYN with ACK is lost and sent again by the timer.
+pub const SYN_TWICE: Row = Row {
+    input: "\
+lard 1
+go
+open 1 1000 5000 65535 1460
+deliver 1
+deliver 1
+lose 2
+timer front 1
+",
+    status: Status::Done,
+    report: "\
+report 1 nodes 2 low 25 high 65 age 20000 idle 25 over 130 miss 50 cache 1048576 stream 1073741824
+event 1 open 1 1000 5000 65535 1460
+opened 1 1000 5000 65535 1460
+sent 1 c1 front 9c400050000003e8000000006002ffffe3ab0000020405b4
+armed c1 1 tcp
+event 2 deliver 1
+got 1
+took front 1 1
+sent 2 front c1 00509c4000001388000003e96012400090120000020405b4
+armed front 1 tcp
+event 3 deliver 1
+got 1
+sent 3 front c1 00509c4000001389000003e950104000a7cf0000
+event 4 lose 2
+lost 2
+event 5 timer front 1
+sent 4 front c1 00509c4000001388000003e96012400090120000020405b4
+",
+};
+
+/// A request longer than the stream limit.
+pub const WRITTEN_PAST_THE_LIMIT: Row = Row {
+    input: "\
+lard 1
+stream 30
+go
+open 1 1000 5000 65535 1460
+get 1 /x
+",
+    status: Status::Limit {
+        line: 5,
+        what: What::Stream,
+    },
+    report: "\
+report 1 nodes 2 low 25 high 65 age 20000 idle 25 over 130 miss 50 cache 1048576 stream 30
+event 1 open 1 1000 5000 65535 1460
+opened 1 1000 5000 65535 1460
+sent 1 c1 front 9c400050000003e8000000006002ffffe3ab0000020405b4
+armed c1 1 tcp
+",
+};
+
+/// The third response would pass the stream limit, and the connection is reset.
+pub const RESET_AT_THE_LIMIT: Row = Row {
+    input: "\
+lard 1
+stream 100
+go
+open 1 1000 5000 65535 1460
+get 1 /x
+deliver 1
+deliver 2
+deliver 3
+deliver 4
+get 1 /x
+deliver 6
+get 1 /x
+deliver 8
+",
+    status: Status::Done,
+    report: "\
+report 1 nodes 2 low 25 high 65 age 20000 idle 25 over 130 miss 50 cache 1048576 stream 100
+event 1 open 1 1000 5000 65535 1460
+opened 1 1000 5000 65535 1460
+sent 1 c1 front 9c400050000003e8000000006002ffffe3ab0000020405b4
+armed c1 1 tcp
+event 2 get 1 /x
+wrote 1 474554202f7820485454502f312e310d0a486f73743a206c6172640d0a0d0a
+event 3 deliver 1
+got 1
+took front 1 1
+sent 2 front c1 00509c4000001388000003e96012400090120000020405b4
+armed front 1 tcp
+event 4 deliver 2
+got 2
+sent 3 c1 front 9c400050000003e9000013895018ffff0dd50000474554202f7820485454502f312e310d0a486f73743a206c6172640d0a0d0a
+event 5 deliver 3
+got 3
+served front 1 1 404 45 own
+sent 4 front c1 00509c4000001389000004085018400089300000485454502f312e3120343034204e6f7420466f756e640d0a436f6e74656e742d4c656e6774683a20300d0a0d0a
+event 6 deliver 4
+got 4
+accepted 1 485454502f312e3120343034204e6f7420466f756e640d0a436f6e74656e742d4c656e6774683a20300d0a0d0a
+sent 5 c1 front 9c40005000000408000013b65010ffffe7830000
+cleared c1 1 tcp
+event 7 get 1 /x
+wrote 1 474554202f7820485454502f312e310d0a486f73743a206c6172640d0a0d0a
+sent 6 c1 front 9c40005000000408000013b65018ffff0d890000474554202f7820485454502f312e310d0a486f73743a206c6172640d0a0d0a
+armed c1 1 tcp
+event 8 deliver 6
+got 6
+served front 1 2 404 45 own
+sent 7 front c1 00509c40000013b6000004275018400088e40000485454502f312e3120343034204e6f7420466f756e640d0a436f6e74656e742d4c656e6774683a20300d0a0d0a
+event 9 get 1 /x
+wrote 1 474554202f7820485454502f312e310d0a486f73743a206c6172640d0a0d0a
+sent 8 c1 front 9c40005000000427000013b65018ffff0d6a0000474554202f7820485454502f312e310d0a486f73743a206c6172640d0a0d0a
+event 10 deliver 8
+got 8
+reset front 1 135
+sent 9 front c1 00509c40000013e30000044650140000e7140000
+cleared front 1 tcp
+",
+};
+
+/// Then a challenge ACK for an old segment, and the reset comes.
+pub const RESET_IS_DELIVERED: Row = Row {
+    input: "\
+lard 1
+stream 100
+go
+open 1 1000 5000 65535 1460
+get 1 /x
+deliver 1
+deliver 2
+deliver 3
+deliver 4
+get 1 /x
+deliver 6
+get 1 /x
+deliver 8
+deliver 9
+deliver 7
+deliver 9
+",
+    status: Status::Done,
+    report: "\
+report 1 nodes 2 low 25 high 65 age 20000 idle 25 over 130 miss 50 cache 1048576 stream 100
+event 1 open 1 1000 5000 65535 1460
+opened 1 1000 5000 65535 1460
+sent 1 c1 front 9c400050000003e8000000006002ffffe3ab0000020405b4
+armed c1 1 tcp
+event 2 get 1 /x
+wrote 1 474554202f7820485454502f312e310d0a486f73743a206c6172640d0a0d0a
+event 3 deliver 1
+got 1
+took front 1 1
+sent 2 front c1 00509c4000001388000003e96012400090120000020405b4
+armed front 1 tcp
+event 4 deliver 2
+got 2
+sent 3 c1 front 9c400050000003e9000013895018ffff0dd50000474554202f7820485454502f312e310d0a486f73743a206c6172640d0a0d0a
+event 5 deliver 3
+got 3
+served front 1 1 404 45 own
+sent 4 front c1 00509c4000001389000004085018400089300000485454502f312e3120343034204e6f7420466f756e640d0a436f6e74656e742d4c656e6774683a20300d0a0d0a
+event 6 deliver 4
+got 4
+accepted 1 485454502f312e3120343034204e6f7420466f756e640d0a436f6e74656e742d4c656e6774683a20300d0a0d0a
+sent 5 c1 front 9c40005000000408000013b65010ffffe7830000
+cleared c1 1 tcp
+event 7 get 1 /x
+wrote 1 474554202f7820485454502f312e310d0a486f73743a206c6172640d0a0d0a
+sent 6 c1 front 9c40005000000408000013b65018ffff0d890000474554202f7820485454502f312e310d0a486f73743a206c6172640d0a0d0a
+armed c1 1 tcp
+event 8 deliver 6
+got 6
+served front 1 2 404 45 own
+sent 7 front c1 00509c40000013b6000004275018400088e40000485454502f312e3120343034204e6f7420466f756e640d0a436f6e74656e742d4c656e6774683a20300d0a0d0a
+event 9 get 1 /x
+wrote 1 474554202f7820485454502f312e310d0a486f73743a206c6172640d0a0d0a
+sent 8 c1 front 9c40005000000427000013b65018ffff0d6a0000474554202f7820485454502f312e310d0a486f73743a206c6172640d0a0d0a
+event 10 deliver 8
+got 8
+reset front 1 135
+sent 9 front c1 00509c40000013e30000044650140000e7140000
+cleared front 1 tcp
+event 11 deliver 9
+got 9
+sent 10 c1 front 9c40005000000446000013b65010ffffe7450000
+event 12 deliver 7
+got 7
+accepted 1 485454502f312e3120343034204e6f7420466f756e640d0a436f6e74656e742d4c656e6774683a20300d0a0d0a
+sent 11 c1 front 9c40005000000446000013e35010ffffe7180000
+event 13 deliver 9
+got 9
+cleared c1 1 tcp
+",
+};
+
+/// A request in three writes, whose packets come out of order.
+pub const REQUEST_IN_PARTS: Row = Row {
+    input: "\
+lard 1
+go
+open 1 1000 5000 65535 1460
+deliver 1
+deliver 2
+deliver 3
+write 1 474554202f7820485454
+write 1 502f312e310d0a486f73
+write 1 743a206c6172640d0a0d0a
+deliver 6
+deliver 4
+deliver 5
+deliver 4
+timer c1 1
+deliver 11
+",
+    status: Status::Done,
+    report: "\
+report 1 nodes 2 low 25 high 65 age 20000 idle 25 over 130 miss 50 cache 1048576 stream 1073741824
+event 1 open 1 1000 5000 65535 1460
+opened 1 1000 5000 65535 1460
+sent 1 c1 front 9c400050000003e8000000006002ffffe3ab0000020405b4
+armed c1 1 tcp
+event 2 deliver 1
+got 1
+took front 1 1
+sent 2 front c1 00509c4000001388000003e96012400090120000020405b4
+armed front 1 tcp
+event 3 deliver 2
+got 2
+sent 3 c1 front 9c400050000003e9000013895010ffffe7cf0000
+cleared c1 1 tcp
+event 4 deliver 3
+got 3
+cleared front 1 tcp
+event 5 write 1 474554202f7820485454
+wrote 1 474554202f7820485454
+sent 4 c1 front 9c400050000003e9000013895018ffffa8430000474554202f7820485454
+armed c1 1 tcp
+event 6 write 1 502f312e310d0a486f73
+wrote 1 502f312e310d0a486f73
+sent 5 c1 front 9c400050000003f3000013895018ffffbb8d0000502f312e310d0a486f73
+event 7 write 1 743a206c6172640d0a0d0a
+wrote 1 743a206c6172640d0a0d0a
+sent 6 c1 front 9c400050000003fd000013895018ffff79750000743a206c6172640d0a0d0a
+event 8 deliver 6
+got 6
+sent 7 front c1 00509c4000001389000003e950104000a7cf0000
+event 9 deliver 4
+got 4
+sent 8 front c1 00509c4000001389000003f350103ff6a7cf0000
+event 10 deliver 5
+got 5
+sent 9 front c1 00509c4000001389000003fd50103feca7cf0000
+event 11 deliver 4
+got 4
+sent 10 front c1 00509c4000001389000003fd50103feca7cf0000
+event 12 timer c1 1
+sent 11 c1 front 9c400050000003e9000013895018ffff0dd50000474554202f7820485454502f312e310d0a486f73743a206c6172640d0a0d0a
+event 13 deliver 11
+got 11
+served front 1 1 404 45 own
+sent 12 front c1 00509c4000001389000004085018400089300000485454502f312e3120343034204e6f7420466f756e640d0a436f6e74656e742d4c656e6774683a20300d0a0d0a
+armed front 1 tcp
+",
+};
+
+/// A file is added twice.
+pub const FILE_REPEATED: Row = Row {
+    input: "\
+lard 1
+file /a -
+file /a 00
+",
+    status: Status::Refused {
+        line: 3,
+        why: Why::File(FileFault::Repeated),
+    },
+    report: "",
+};
+
+/// A file of 3,000 bytes is asked for, with numbers near 2^32.
+pub const LARGE_FILE_ASKED: Row = Row {
+    input: "\
+lard 1
+fill /a 3000 78
+go
+open 1 4294967290 4294967290 65535 1460
+get 1 /a
+",
+    status: Status::Done,
+    report: "\
+report 1 nodes 2 low 25 high 65 age 20000 idle 25 over 130 miss 50 cache 1048576 stream 1073741824
+file /a 3000
+event 1 open 1 4294967290 4294967290 65535 1460
+opened 1 4294967290 4294967290 65535 1460
+sent 1 c1 front 9c400050fffffffa000000006002ffffe7980000020405b4
+armed c1 1 tcp
+event 2 get 1 /a
+wrote 1 474554202f6120485454502f312e310d0a486f73743a206c6172640d0a0d0a
+",
+};
+
+/// Files of 160 and 161 bytes, under a stream limit of 200.
+pub const TWO_FILES_ASKED: Row = Row {
+    input: "\
+lard 1
+stream 200
+fill /a 160 41
+fill /b 161 42
+go
+open 1 1 1 65535 1460
+get 1 /a
+open 2 1 1 65535 1460
+get 2 /b
+",
+    status: Status::Done,
+    report: "\
+report 1 nodes 2 low 25 high 65 age 20000 idle 25 over 130 miss 50 cache 1048576 stream 200
+file /a 160
+file /b 161
+event 1 open 1 1 1 65535 1460
+opened 1 1 1 65535 1460
+sent 1 c1 front 9c40005000000001000000006002ffffe7920000020405b4
+armed c1 1 tcp
+event 2 get 1 /a
+wrote 1 474554202f6120485454502f312e310d0a486f73743a206c6172640d0a0d0a
+event 3 open 2 1 1 65535 1460
+opened 2 1 1 65535 1460
+sent 2 c2 front 9c40005000000001000000006002ffffe7910000020405b4
+armed c2 2 tcp
+event 4 get 2 /b
+wrote 2 474554202f6220485454502f312e310d0a486f73743a206c6172640d0a0d0a
+",
+};
+
+/// Three requests in one write, and a fourth.
+pub const FOUR_REQUESTS_WRITTEN: Row = Row {
+    input: "\
+lard 1
+file /a 68656c6c6f
+go
+open 1 1000 5000 65535 1460
+write 1 474554202f6120485454502f312e310d0a486f73743a206c6172640d0a0d0a474554202f6120485454502f312e310d0a486f73743a206c6172640d0a0d0a474554202f6120485454502f312e310d0a486f73743a206c6172640d0a486f73743a20620d0a0d0a
+write 1 474554202f6120485454502f312e310d0a486f73743a206c6172640d0a0d0a
+",
+    status: Status::Done,
+    report: "\
+report 1 nodes 2 low 25 high 65 age 20000 idle 25 over 130 miss 50 cache 1048576 stream 1073741824
+file /a 5
+event 1 open 1 1000 5000 65535 1460
+opened 1 1000 5000 65535 1460
+sent 1 c1 front 9c400050000003e8000000006002ffffe3ab0000020405b4
+armed c1 1 tcp
+event 2 write 1 474554202f6120485454502f312e310d0a486f73743a206c6172640d0a0d0a474554202f6120485454502f312e310d0a486f73743a206c6172640d0a0d0a474554202f6120485454502f312e310d0a486f73743a206c6172640d0a486f73743a20620d0a0d0a
+wrote 1 474554202f6120485454502f312e310d0a486f73743a206c6172640d0a0d0a474554202f6120485454502f312e310d0a486f73743a206c6172640d0a0d0a474554202f6120485454502f312e310d0a486f73743a206c6172640d0a486f73743a20620d0a0d0a
+event 3 write 1 474554202f6120485454502f312e310d0a486f73743a206c6172640d0a0d0a
+wrote 1 474554202f6120485454502f312e310d0a486f73743a206c6172640d0a0d0a
+",
+};
+
+/// A request before its connection is established.
+pub const REQUEST_ON_ITS_WAY: Row = Row {
+    input: "\
+lard 1
+go
+open 1 1000 5000 65535 1460
+get 1 /x
+",
+    status: Status::Done,
+    report: "\
+report 1 nodes 2 low 25 high 65 age 20000 idle 25 over 130 miss 50 cache 1048576 stream 1073741824
+event 1 open 1 1000 5000 65535 1460
+opened 1 1000 5000 65535 1460
+sent 1 c1 front 9c400050000003e8000000006002ffffe3ab0000020405b4
+armed c1 1 tcp
+event 2 get 1 /x
+wrote 1 474554202f7820485454502f312e310d0a486f73743a206c6172640d0a0d0a
+",
+};
+
+/// All rows.
+pub const ROWS: [Row; 18] = [
+    HEADING_ALONE,
+    NO_INPUT,
+    ONE_REQUEST,
+    NONE_SENT,
+    NOT_SENT,
+    NOT_OPENED,
+    LOST,
+    OPENED_TWICE,
+    SYN_TWICE,
+    WRITTEN_PAST_THE_LIMIT,
+    RESET_AT_THE_LIMIT,
+    RESET_IS_DELIVERED,
+    REQUEST_IN_PARTS,
+    FILE_REPEATED,
+    LARGE_FILE_ASKED,
+    TWO_FILES_ASKED,
+    FOUR_REQUESTS_WRITTEN,
+    REQUEST_ON_ITS_WAY,
+];
+
+/// An input that ends well, and lines that stand in its report, in this order.
+pub struct Told {
+    pub input: &'static str,
+    pub lines: &'static [&'static str],
+}
+
+/// A file of no bytes, by GET and by HEAD, and HEAD of a file of five.
+pub const EMPTY_FILE_AND_HEAD: Told = Told {
+    input: "\
+lard 1
+file /empty -
+file /a 68656c6c6f
+go
+open 1 1000 5000 65535 1460
+deliver 1
+deliver 2
+deliver 3
+write 1 474554202f656d70747920485454502f312e310d0a486f73743a206c6172640d0a0d0a48454144202f656d70747920485454502f312e310d0a486f73743a206c6172640d0a0d0a48454144202f6120485454502f312e310d0a486f73743a206c6172640d0a0d0a
+deliver 4
+deliver 5
+",
+    lines: &[
+        "served front 1 1 200 38 own",
+        "served front 1 2 200 38 own",
+        "served front 1 3 200 38 own",
+        "accepted 1 485454502f312e3120323030204f4b0d0a436f6e74656e742d4c656e6774683a20300d0a0d0a485454502f312e3120323030204f4b0d0a436f6e74656e742d4c656e6774683a20300d0a0d0a485454502f312e3120323030204f4b0d0a436f6e74656e742d4c656e6774683a20350d0a0d0a",
+    ],
+};
+
+/// Three requests in one write, of which the third has two Host fields, and a fourth that is not answered.
+pub const THREE_REQUESTS: Told = Told {
+    input: "\
+lard 1
+file /a 68656c6c6f
+go
+open 1 1000 5000 65535 1460
+deliver 1
+deliver 2
+deliver 3
+write 1 474554202f6120485454502f312e310d0a486f73743a206c6172640d0a0d0a474554202f6120485454502f312e310d0a486f73743a206c6172640d0a0d0a474554202f6120485454502f312e310d0a486f73743a206c6172640d0a486f73743a20620d0a0d0a
+write 1 474554202f6120485454502f312e310d0a486f73743a206c6172640d0a0d0a
+deliver 4
+deliver 5
+deliver 6
+",
+    lines: &[
+        "served front 1 1 200 43 own",
+        "served front 1 2 200 43 own",
+        "served front 1 3 400 66 own",
+        "accepted 1 485454502f312e3120323030204f4b0d0a436f6e74656e742d4c656e6774683a20350d0a0d0a68656c6c6f485454502f312e3120323030204f4b0d0a436f6e74656e742d4c656e6774683a20350d0a0d0a68656c6c6f485454502f312e31203430302042616420526571756573740d0a436f6e74656e742d4c656e6774683a20300d0a436f6e6e656374696f6e3a20636c6f73650d0a0d0a",
+        "eof 1",
+    ],
+};
+
+/// Both.
+pub const TOLD: [Told; 2] = [EMPTY_FILE_AND_HEAD, THREE_REQUESTS];
