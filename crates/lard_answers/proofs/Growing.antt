@@ -9,18 +9,18 @@ use Rattle.lard_block.specs.Blocks.{cut_of, Piece, Head, moved, pieces, blocks}
 use Rattle.lard_block.proofs.Division.{grows, block-first}
 use Rattle.lard_request.specs.declared.verdict.Verdict.{Verdict}
 use Rattle.lard_request.specs.Verdict.{closes, verdict}
-use Rattle.lard_answers.specs.Answers.{FilesAt, answer, piece_verdict, until_close, verdicts, answers, answer_bytes, IsFront}
+use Rattle.lard_answers.specs.Answers.{FilesAt, answer, piece_verdict, until_close, verdicts, answers, answer_bytes, IsPrefix}
 
 -- ---- fronts
 
-pub map-IsFront : {A B : Type 0} (f : A → B) (xs ys : List A) → IsFront xs ys → IsFront (map f xs) (map f ys)
-map-IsFront f xs ys h = (map f h.0, ap (map f) h.1 ∙ map-append f xs h.0)
+pub map-IsPrefix : {A B : Type 0} (f : A → B) (xs ys : List A) → IsPrefix xs ys → IsPrefix (map f xs) (map f ys)
+map-IsPrefix f xs ys h = (map f h.0, ap (map f) h.1 ∙ map-append f xs h.0)
 
-pub concat-IsFront : (xs ys : List (List ℕ)) → IsFront xs ys → IsFront (concat xs) (concat ys)
-concat-IsFront xs ys h = (concat h.0, ap concat h.1 ∙ concat-append xs h.0)
+pub concat-IsPrefix : (xs ys : List (List ℕ)) → IsPrefix xs ys → IsPrefix (concat xs) (concat ys)
+concat-IsPrefix xs ys h = (concat h.0, ap concat h.1 ∙ concat-append xs h.0)
 
-pub IsFront-trans : {A : Type 0} (xs ys zs : List A) → IsFront xs ys → IsFront ys zs → IsFront xs zs
-IsFront-trans xs ys zs h k = (h.0 ++ k.0, k.1 ∙ ap (λ w. w ++ k.0) h.1 ∙ append_assoc xs h.0 k.0)
+pub IsPrefix-trans : {A : Type 0} (xs ys zs : List A) → IsPrefix xs ys → IsPrefix ys zs → IsPrefix xs zs
+IsPrefix-trans xs ys zs h k = (h.0 ++ k.0, k.1 ∙ ap (λ w. w ++ k.0) h.1 ∙ append_assoc xs h.0 k.0)
 
 -- ---- the definitions, unfolded once
 
@@ -48,18 +48,18 @@ answers-are files q = refl
 
 -- ---- more bytes
 
-pub until_close-grows : (vs ws : List Verdict) → IsFront (until_close vs) (until_close (vs ++ ws))
+pub until_close-grows : (vs ws : List Verdict) → IsPrefix (until_close vs) (until_close (vs ++ ws))
 until_close-grows [] ws = (until_close ws, ap (λ w. w ++ until_close ws) (sym until_close-nil))
 until_close-grows (v ∷ vs) ws = go (until_close-grows vs ws) (closes v) refl where
-  go : IsFront (until_close vs) (until_close (vs ++ ws)) → (b : Bool) → closes v ≡ b → IsFront (until_close (v ∷ vs)) (until_close (v ∷ (vs ++ ws)))
+  go : IsPrefix (until_close vs) (until_close (vs ++ ws)) → (b : Bool) → closes v ≡ b → IsPrefix (until_close (v ∷ vs)) (until_close (v ∷ (vs ++ ws)))
   go ih true e = ([], until_close-closed v (vs ++ ws) e ∙ ap (λ w. w ++ []) (sym (until_close-closed v vs e)))
   go ih false e = (ih.0, until_close-open v (vs ++ ws) e ∙ ap (λ w. v ∷ w) ih.1 ∙ ap (λ w. w ++ ih.0) (sym (until_close-open v vs e)))
 
 -- the verdicts on more bytes begin with those on fewer
-pub verdicts-grow : (q z : List ℕ) → IsFront (verdicts q) (verdicts (q ++ z))
+pub verdicts-grow : (q z : List ℕ) → IsPrefix (verdicts q) (verdicts (q ++ z))
 verdicts-grow q z =
     let g : (later : List Piece) × (blocks (q ++ z) ≡ blocks q ++ later) = grows q z in
-    let k : IsFront (until_close (map piece_verdict (blocks q))) (until_close (map piece_verdict (blocks q) ++ map piece_verdict g.0)) =
+    let k : IsPrefix (until_close (map piece_verdict (blocks q))) (until_close (map piece_verdict (blocks q) ++ map piece_verdict g.0)) =
     until_close-grows (map piece_verdict (blocks q)) (map piece_verdict g.0) in (
       k.0,
       verdicts-are (q ++ z) ∙ ap (λ ps. until_close (map piece_verdict ps)) g.1 ∙ ap until_close (map-append piece_verdict (blocks q) g.0) ∙ k.1
@@ -67,14 +67,14 @@ verdicts-grow q z =
     )
 
 -- so do the answers
-pub answers-grow : (files : FilesAt) (q z : List ℕ) → IsFront (answers files q) (answers files (q ++ z))
+pub answers-grow : (files : FilesAt) (q z : List ℕ) → IsPrefix (answers files q) (answers files (q ++ z))
 answers-grow files q z =
-    let h : IsFront (map (answer files) (verdicts q)) (map (answer files) (verdicts (q ++ z))) = map-IsFront (answer files) (verdicts q) (verdicts (q ++ z)) (verdicts-grow q z) in
+    let h : IsPrefix (map (answer files) (verdicts q)) (map (answer files) (verdicts (q ++ z))) = map-IsPrefix (answer files) (verdicts q) (verdicts (q ++ z)) (verdicts-grow q z) in
     (h.0, answers-are files (q ++ z) ∙ h.1 ∙ ap (λ w. w ++ h.0) (sym (answers-are files q)))
 
 -- and their bytes
-pub answer_bytes-grow : (files : FilesAt) (q z : List ℕ) → IsFront (answer_bytes files q) (answer_bytes files (q ++ z))
-answer_bytes-grow files q z = concat-IsFront (answers files q) (answers files (q ++ z)) (answers-grow files q z)
+pub answer_bytes-grow : (files : FilesAt) (q z : List ℕ) → IsPrefix (answer_bytes files q) (answer_bytes files (q ++ z))
+answer_bytes-grow files q z = concat-IsPrefix (answers files q) (answers files (q ++ z)) (answers-grow files q z)
 
 -- ---- nothing, and one block alone
 

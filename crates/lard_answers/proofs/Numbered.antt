@@ -2,7 +2,7 @@
 use Rattle.std.proofs.Common.{◌≡◌, ℕ, zero, suc, ◌+◌, ◌<◌, ◌⊎◌, ◌↔◌, List, [], ◌∷◌, ◌++◌, length, Option, Some, None, get_or, refl, sym, ap, ◌∙◌, subst, inl, inr, arith}
 use Rattle.std.specs.List.{Contains, slice_get}
 use Rattle.lard_request.specs.declared.verdict.Verdict.{Verdict}
-use Rattle.lard_answers.specs.Answers.{FilesAt, verdicts, good_path, numbered, goods_from, goods, IsGoodAt, Rises, IsFront}
+use Rattle.lard_answers.specs.Answers.{FilesAt, verdicts, good_path, numbered, goods_from, goods, IsGoodAt, Rises, IsPrefix}
 use Rattle.lard_answers.proofs.Growing.{verdicts-grow}
 
 pub goods-are : (files : FilesAt) (q : List ℕ) → goods files q ≡ goods_from files 1 (verdicts q)
@@ -100,9 +100,9 @@ goods_from-append files n (v ∷ vs) ws =
     ∙ ap (λ m. numbered n (good_path files v) (goods_from files (n + 1) vs) ++ goods_from files m ws) e
 
 -- those of more bytes begin with those of fewer
-pub goods-grow : (files : FilesAt) (q z : List ℕ) → IsFront (goods files q) (goods files (q ++ z))
+pub goods-grow : (files : FilesAt) (q z : List ℕ) → IsPrefix (goods files q) (goods files (q ++ z))
 goods-grow files q z =
-    let g : IsFront (verdicts q) (verdicts (q ++ z)) = verdicts-grow q z in (
+    let g : IsPrefix (verdicts q) (verdicts (q ++ z)) = verdicts-grow q z in (
       goods_from files (1 + length (verdicts q)) g.0,
       goods-are files (q ++ z) ∙ ap (goods_from files 1) g.1 ∙ goods_from-append files 1 (verdicts q) g.0
           ∙ ap (λ w. w ++ goods_from files (1 + length (verdicts q)) g.0) (sym (goods-are files q)),

@@ -99,5 +99,5 @@ closes_any vs = list_any closes vs
 -- ---- what begins with what
 
 -- a list is the front of another
-abbrev pub IsFront : {A : Type 0} → List A → List A → Type 0
-IsFront {A} front whole = (rest : List A) × (whole ≡ front ++ rest)
+abbrev pub IsPrefix : {A : Type 0} → List A → List A → Type 0
+IsPrefix {A} front whole = (rest : List A) × (whole ≡ front ++ rest)

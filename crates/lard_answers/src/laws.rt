@@ -4,16 +4,16 @@ ghost use Rattle.std.specs.Prelude.{◌≡◌, ◌↔◌, ℕ, false, true, List
 ghost use Rattle.std.specs.List.{Contains};
 ghost use Rattle.lard_block.specs.Blocks.{cut_of, Piece, Cuts};
 ghost use Rattle.lard_request.specs.Verdict.{verdict};
-ghost use Rattle.lard_answers.specs.Answers.{FilesAt, answer, verdicts_on, until_close, verdicts, answers, answer_bytes, closes_any, goods, IsGoodAt, Rises, IsFront};
+ghost use Rattle.lard_answers.specs.Answers.{FilesAt, answer, verdicts_on, until_close, verdicts, answers, answer_bytes, closes_any, goods, IsGoodAt, Rises, IsPrefix};
 
 use lard_block::Found;
 
 /// What a client writes later changes nothing of what its earlier bytes are answered (RFC 9112, 9.3.2): the verdicts,
 /// the answers and their bytes only grow at their end.
 pub fn answers_of_a_prefix_come_first()
-    ensures verdicts { (q z : List ℕ) → IsFront (verdicts q) (verdicts (q ++ z)) }
-    ensures answers { (files : FilesAt) (q z : List ℕ) → IsFront (answers files q) (answers files (q ++ z)) }
-    ensures bytes { (files : FilesAt) (q z : List ℕ) → IsFront (answer_bytes files q) (answer_bytes files (q ++ z)) }
+    ensures verdicts { (q z : List ℕ) → IsPrefix (verdicts q) (verdicts (q ++ z)) }
+    ensures answers { (files : FilesAt) (q z : List ℕ) → IsPrefix (answers files q) (answers files (q ++ z)) }
+    ensures bytes { (files : FilesAt) (q z : List ℕ) → IsPrefix (answer_bytes files q) (answer_bytes files (q ++ z)) }
 {}
 
 /// No bytes have no answer, and bytes that are one whole block have the answer to it.
@@ -37,5 +37,5 @@ pub fn cut_bytes_are_answered_first()
 pub fn goods_are_requests_for_files()
     ensures each { (files : FilesAt) (q : List ℕ) (r : ℕ) (path : List ℕ) → Contains (goods files q) (r, path) ↔ IsGoodAt files (verdicts q) r path }
     ensures order { (files : FilesAt) (q : List ℕ) → Rises 0 (goods files q) }
-    ensures prefix { (files : FilesAt) (q z : List ℕ) → IsFront (goods files q) (goods files (q ++ z)) }
+    ensures prefix { (files : FilesAt) (q z : List ℕ) → IsPrefix (goods files q) (goods files (q ++ z)) }
 {}

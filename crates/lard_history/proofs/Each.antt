@@ -25,7 +25,7 @@ module _ (may : List Rec → Rec → Type 0) where
   each_append past [] ys e f = subst (λ (zs : List Rec). EachMay may zs ys) (append-nil past) f
   each_append past (x ∷ xs) ys e f = (e.0, each_append (past ++ x ∷ []) xs ys e.1 (subst (λ (zs : List Rec). EachMay may zs ys) (sym (append_assoc past (x ∷ []) xs)) f))
 
-  -- a front of what may be said
+  -- a prefix of what may be said
   pub each_front : (past xs ys : List Rec) → EachMay may past (xs ++ ys) → EachMay may past xs
   each_front past [] ys e = tt
   each_front past (x ∷ xs) ys e = (e.0, each_front (past ++ x ∷ []) xs ys e.1)

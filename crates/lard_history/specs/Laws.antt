@@ -2,7 +2,7 @@
 use Rattle.std.specs.Prelude.{◌≡◌, ◌⊎◌, ℕ, ◌+◌, ◌<◌, ◌≤◌, Bool, true, false, not, List, [], ◌∷◌, ◌++◌, length, Some, None, Ok, IsSome}
 use Rattle.std.specs.List.{list_all}
 use Rattle.std.specs.Option.{option_map}
-use Rattle.lard_answers.specs.Answers.{FilesAt, IsFront, answer_bytes, answer_code}
+use Rattle.lard_answers.specs.Answers.{FilesAt, IsPrefix, answer_bytes, answer_code}
 use Rattle.lard_arrival.specs.Arrival.{IsPartAt}
 use Rattle.lard_base.specs.declared.event.Event.{Event}
 use Rattle.lard_base.specs.declared.event.Event.TheVariants as event
@@ -124,7 +124,7 @@ ResetsAtTheLimit stream J = EachMay (MayReset stream) [] J
 -- At every moment, the bytes that a client accepted are a prefix of the responses to what it wrote until then, which
 -- are sent in the order of its requests (RFC 9112, 9.3.2).
 abbrev pub AcceptsOnlyAnswers : FilesAt → List Rec → Type 0
-AcceptsOnlyAnswers files J = (past later : List Rec) (c : ℕ) → J ≡ past ++ later → IsFront (accepted past c) (answer_bytes files (wrote past c))
+AcceptsOnlyAnswers files J = (past later : List Rec) (c : ℕ) → J ≡ past ++ later → IsPrefix (accepted past c) (answer_bytes files (wrote past c))
 
 -- ---- clients
 

@@ -3,7 +3,7 @@ use Rattle.std.proofs.Common.{◌≡◌, ◌≢◌, ℕ, ◌+◌, List, [], ◌�
 use Rattle.std.specs.FinMap as table
 use Rattle.std.proofs.lemmas.List.{take-append-drop}
 use Rattle.std.specs.List.{list_any}
-use Rattle.lard_answers.specs.Answers.{FilesAt, IsFront}
+use Rattle.lard_answers.specs.Answers.{FilesAt, IsPrefix}
 use Rattle.lard_base.specs.declared.event.Event.{Event}
 use Rattle.lard_base.specs.declared.place.Place.{Place}
 use Rattle.lard_base.specs.declared.place.Place.TheVariants as place
@@ -101,14 +101,14 @@ module _ (files : FilesAt) (m : Machine) (T : IsTruthful files m) (e : Event) (o
     before_is : tale (m.journal ++ (rec.Event (m.events + 1) e ∷ own)) c ≡ tale_step c (tale m.journal c) (rec.Event (m.events + 1) e)
     before_is = own-tale (m.events + 1) e own notes sents timers c m.journal aside.quiet
 
-    wrote_so : IsFront (T.talks c).w.bytes (tale (m.journal ++ (rec.Event (m.events + 1) e ∷ own)) c).wrote
+    wrote_so : IsPrefix (T.talks c).w.bytes (tale (m.journal ++ (rec.Event (m.events + 1) e ∷ own)) c).wrote
     wrote_so = ([], ap (λ (u : Tale). u.wrote) before_is ∙ agreed.tale.wrote ∙ sym (append-nil (T.talks c).w.bytes))
 
-    accepted_so : IsFront ((tale (m.journal ++ (rec.Event (m.events + 1) e ∷ own)) c).accepted ++ accepted_in notes) (T.talks c).out.bytes
+    accepted_so : IsPrefix ((tale (m.journal ++ (rec.Event (m.events + 1) e ∷ own)) c).accepted ++ accepted_in notes) (T.talks c).out.bytes
     accepted_so =
         let same : take given.0.accepted (T.talks c).out.bytes ≡ (tale (m.journal ++ (rec.Event (m.events + 1) e ∷ own)) c).accepted ++ accepted_in notes =
         k.accepted ∙ ap (λ (l : List ℕ). l ++ accepted_in notes) (sym (ap (λ (u : Tale). u.accepted) before_is ∙ agreed.tale.accepted)) in
-        subst (λ (l : List ℕ). IsFront l (T.talks c).out.bytes) same
+        subst (λ (l : List ℕ). IsPrefix l (T.talks c).out.bytes) same
         (drop given.0.accepted (T.talks c).out.bytes, sym (take-append-drop given.0.accepted (T.talks c).out.bytes))
 
     moves : Moves files m T c l (table.insert m.clients c after) m.conns (packets_of (place.Client c) given.1.segments) rs after (table.get m.conns c)

@@ -1,7 +1,7 @@
 -- Where the front end has read all that a client wrote, it has answered all of it.
 use Rattle.std.proofs.Common.{◌≡◌, ℕ, ◌||◌, Bool, true, false, List, [], ◌∷◌, ◌++◌, length, take, drop, arith, refl, ap, ◌∙◌, sym, append-nil}
 use Rattle.std.proofs.Math.ListN.{drop_of_length-le}
-use Rattle.lard_answers.specs.Answers.{FilesAt, IsFront, closes_any, until_close, verdicts, verdicts_on}
+use Rattle.lard_answers.specs.Answers.{FilesAt, IsPrefix, closes_any, until_close, verdicts, verdicts_on}
 use Rattle.lard_answers.proofs.Following.{until_close-behind}
 use Rattle.lard_answers.proofs.Growing.{until_close-nil, until_close-closed, until_close-open, verdicts-are}
 use Rattle.lard_block.specs.Blocks.{blocks}
@@ -21,11 +21,11 @@ front-nothing [] rest e = refl
 front-nothing (v ∷ vs) rest e = absurd (cc)
 
 -- verdicts that are answered up to the first that closes are no more than their front that closes
-front-closes : (us vs : List Verdict) → closes_any vs ≡ true → IsFront vs (until_close us) → until_close us ≡ vs
+front-closes : (us vs : List Verdict) → closes_any vs ≡ true → IsPrefix vs (until_close us) → until_close us ≡ vs
 front-closes us [] shut h = absurd (cc)
 front-closes [] (v ∷ vs) shut h = absurd (let e : [] ≡ v ∷ (vs ++ h.0) = sym until_close-nil ∙ h.1 in cc)
 front-closes (u ∷ us) (v ∷ vs) shut h = go (front-closes us vs) (closes u) refl where
-  go : (closes_any vs ≡ true → IsFront vs (until_close us) → until_close us ≡ vs) → (b : Bool) → closes u ≡ b → until_close (u ∷ us) ≡ v ∷ vs
+  go : (closes_any vs ≡ true → IsPrefix vs (until_close us) → until_close us ≡ vs) → (b : Bool) → closes u ≡ b → until_close (u ∷ us) ≡ v ∷ vs
   go later true e =
       let both : u ∷ [] ≡ v ∷ (vs ++ h.0) = sym (until_close-closed u us e) ∙ h.1 in
       let same : u ≡ v = cc in
@@ -48,7 +48,7 @@ all-answered w out vs b count files says h all = go b.recv.discarding refl where
   r : Received
   r = b.recv
 
-  front : IsFront vs (until_close (verdicts_on (blocks w.bytes)))
+  front : IsPrefix vs (until_close (verdicts_on (blocks w.bytes)))
   front =
       let first = says.fronts [] in
       (first.0, sym (verdicts-are w.bytes) ∙ ap verdicts (sym (append-nil w.bytes)) ∙ first.1)

@@ -2,8 +2,8 @@
 use Rattle.std.proofs.Common.{◌≡◌, ℕ, List, [], ◌∷◌, ◌++◌, Bool, true, false, cond, refl, sym, ap, ◌∙◌, subst, append_assoc, append-nil, nat_eq}
 use Rattle.std.proofs.lemmas.Bool.{eqb-true}
 use Rattle.std.proofs.lemmas.List.Sums.{fold-append}
-use Rattle.lard_answers.specs.Answers.{FilesAt, IsFront, answer_bytes}
-use Rattle.lard_answers.proofs.Growing.{IsFront-trans, answer_bytes-grow}
+use Rattle.lard_answers.specs.Answers.{FilesAt, IsPrefix, answer_bytes}
+use Rattle.lard_answers.proofs.Growing.{IsPrefix-trans, answer_bytes-grow}
 use Rattle.lard_history.specs.Journal.{Tale, accepted, accepted_step, tale, tale_step, wrote, wrote_step}
 use Rattle.lard_history.specs.Laws.{AcceptsOnlyAnswers, EachMay}
 use Rattle.lard_history.proofs.Each.{each_then}
@@ -23,23 +23,23 @@ module _ (files : FilesAt) where
 
   -- what a client accepted is answered
   abbrev IsAnswered : List Rec → ℕ → Type 0
-  IsAnswered J c = IsFront (accepted J c) (answer_bytes files (wrote J c))
+  IsAnswered J c = IsPrefix (accepted J c) (answer_bytes files (wrote J c))
 
-  same_answered : (J : List Rec) (r : Rec) (c : ℕ) (a w : List ℕ) → accepted_step c (accepted J c) r ≡ a → wrote_step c (wrote J c) r ≡ w → IsFront a (answer_bytes files w) → IsAnswered (J ++ r ∷ []) c
+  same_answered : (J : List Rec) (r : Rec) (c : ℕ) (a w : List ℕ) → accepted_step c (accepted J c) r ≡ a → wrote_step c (wrote J c) r ≡ w → IsPrefix a (answer_bytes files w) → IsAnswered (J ++ r ∷ []) c
   same_answered J r c a w e f front =
-      subst (λ (xs : List ℕ). IsFront xs (answer_bytes files (wrote (J ++ r ∷ []) c))) (sym (accepted-more J r c ∙ e))
-      (subst (λ (xs : List ℕ). IsFront a (answer_bytes files xs)) (sym (wrote-more J r c ∙ f)) front)
+      subst (λ (xs : List ℕ). IsPrefix xs (answer_bytes files (wrote (J ++ r ∷ []) c))) (sym (accepted-more J r c ∙ e))
+      (subst (λ (xs : List ℕ). IsPrefix a (answer_bytes files xs)) (sym (wrote-more J r c ∙ f)) front)
 
   one_more : (J : List Rec) (r : Rec) (c : ℕ) → MayAccept files J r → IsAnswered J c → IsAnswered (J ++ r ∷ []) c
   one_more J (rec.Accepted d bytes) c may front = go (nat_eq d c) refl where
     go : (b : Bool) → nat_eq d c ≡ b → IsAnswered (J ++ rec.Accepted d bytes ∷ []) c
     go true e = same_answered J (rec.Accepted d bytes) c (accepted J c ++ bytes) (wrote J c) (ap (λ b. cond b (accepted J c ++ bytes) (accepted J c)) e) refl
-        (subst (λ k. IsFront (accepted J k ++ bytes) (answer_bytes files (wrote J k))) (eqb-true d c e) may)
+        (subst (λ k. IsPrefix (accepted J k ++ bytes) (answer_bytes files (wrote J k))) (eqb-true d c e) may)
     go false e = same_answered J (rec.Accepted d bytes) c (accepted J c) (wrote J c) (ap (λ b. cond b (accepted J c ++ bytes) (accepted J c)) e) refl front
   one_more J (rec.Wrote d bytes) c may front = go (nat_eq d c) refl where
     go : (b : Bool) → nat_eq d c ≡ b → IsAnswered (J ++ rec.Wrote d bytes ∷ []) c
     go true e = same_answered J (rec.Wrote d bytes) c (accepted J c) (wrote J c ++ bytes) refl (ap (λ b. cond b (wrote J c ++ bytes) (wrote J c)) e)
-        (IsFront-trans (accepted J c) (answer_bytes files (wrote J c)) (answer_bytes files (wrote J c ++ bytes)) front (answer_bytes-grow files (wrote J c) bytes))
+        (IsPrefix-trans (accepted J c) (answer_bytes files (wrote J c)) (answer_bytes files (wrote J c ++ bytes)) front (answer_bytes-grow files (wrote J c) bytes))
     go false e = same_answered J (rec.Wrote d bytes) c (accepted J c) (wrote J c) refl (ap (λ b. cond b (wrote J c ++ bytes) (wrote J c)) e) front
   one_more J r c may front = same_answered J r c (accepted J c) (wrote J c) refl refl front
 
@@ -61,49 +61,49 @@ module _ (files : FilesAt) where
 
   -- ---- a client's notes
 
-  -- what it accepts is a front of what was said, and that of the answers to what it wrote at some time
-  pub client-accepts : (c : ℕ) (said w : List ℕ) → IsFront said (answer_bytes files w) → (past rs : List Rec) → AreClientNotes c rs → IsFront w (tale past c).wrote
-      → IsFront ((tale past c).accepted ++ accepted_in rs) said → EachMay (MayAccept files) past rs
+  -- what it accepts is a prefix of what was said, and that of the answers to what it wrote at some time
+  pub client-accepts : (c : ℕ) (said w : List ℕ) → IsPrefix said (answer_bytes files w) → (past rs : List Rec) → AreClientNotes c rs → IsPrefix w (tale past c).wrote
+      → IsPrefix ((tale past c).accepted ++ accepted_in rs) said → EachMay (MayAccept files) past rs
   client-accepts c said w front past [] n wr ac = tt
   client-accepts c said w front past (rec.Accepted d bytes ∷ rs) n wr ac =
       let a : List ℕ = (tale past c).accepted in
       let e : (a ++ bytes) ++ accepted_in rs ≡ a ++ (bytes ++ accepted_in rs) = append_assoc a bytes (accepted_in rs) in
-      let whole : IsFront ((a ++ bytes) ++ accepted_in rs) said = subst (λ (l : List ℕ). IsFront l said) (sym e) ac in
-      let first : IsFront (a ++ bytes) said = IsFront-trans (a ++ bytes) ((a ++ bytes) ++ accepted_in rs) said (accepted_in rs, refl) whole in
-      let longer : IsFront (answer_bytes files w) (answer_bytes files (tale past c).wrote) =
-      subst (λ (l : List ℕ). IsFront (answer_bytes files w) (answer_bytes files l)) (sym wr.1) (answer_bytes-grow files w wr.0) in
-      let here : IsFront (a ++ bytes) (answer_bytes files (tale past c).wrote) =
-      IsFront-trans (a ++ bytes) (answer_bytes files w) (answer_bytes files (tale past c).wrote) (IsFront-trans (a ++ bytes) said (answer_bytes files w) first front) longer in
+      let whole : IsPrefix ((a ++ bytes) ++ accepted_in rs) said = subst (λ (l : List ℕ). IsPrefix l said) (sym e) ac in
+      let first : IsPrefix (a ++ bytes) said = IsPrefix-trans (a ++ bytes) ((a ++ bytes) ++ accepted_in rs) said (accepted_in rs, refl) whole in
+      let longer : IsPrefix (answer_bytes files w) (answer_bytes files (tale past c).wrote) =
+      subst (λ (l : List ℕ). IsPrefix (answer_bytes files w) (answer_bytes files l)) (sym wr.1) (answer_bytes-grow files w wr.0) in
+      let here : IsPrefix (a ++ bytes) (answer_bytes files (tale past c).wrote) =
+      IsPrefix-trans (a ++ bytes) (answer_bytes files w) (answer_bytes files (tale past c).wrote) (IsPrefix-trans (a ++ bytes) said (answer_bytes files w) first front) longer in
       let may : MayAccept files past (rec.Accepted d bytes) =
       subst (λ (q : ℕ). MayAccept files past (rec.Accepted q bytes)) (sym n.0)
-      (subst (λ (l : List ℕ). IsFront (l ++ bytes) (answer_bytes files (wrote past c))) (sym (accepted-tale past c))
-      (subst (λ (l : List ℕ). IsFront (a ++ bytes) (answer_bytes files l)) (sym (wrote-tale past c)) here)) in
+      (subst (λ (l : List ℕ). IsPrefix (l ++ bytes) (answer_bytes files (wrote past c))) (sym (accepted-tale past c))
+      (subst (λ (l : List ℕ). IsPrefix (a ++ bytes) (answer_bytes files l)) (sym (wrote-tale past c)) here)) in
       let next : tale (past ++ rec.Accepted d bytes ∷ []) c ≡ tale_step c (tale past c) (rec.Accepted d bytes) = tale-append past (rec.Accepted d bytes ∷ []) c in (
         may,
         client-accepts c said w front (past ++ rec.Accepted d bytes ∷ []) rs n.1
-            (subst (λ (u : Tale). IsFront w u.wrote) (sym next) wr)
-            (subst (λ (u : Tale). IsFront (u.accepted ++ accepted_in rs) said) (sym next)
-            (subst (λ (b : Bool). IsFront (cond b (a ++ bytes) a ++ accepted_in rs) said) (sym (same-number d c n.0)) whole)),
+            (subst (λ (u : Tale). IsPrefix w u.wrote) (sym next) wr)
+            (subst (λ (u : Tale). IsPrefix (u.accepted ++ accepted_in rs) said) (sym next)
+            (subst (λ (b : Bool). IsPrefix (cond b (a ++ bytes) a ++ accepted_in rs) said) (sym (same-number d c n.0)) whole)),
       )
   client-accepts c said w front past (rec.Wrote d bytes ∷ rs) n wr ac =
       let next : tale (past ++ rec.Wrote d bytes ∷ []) c ≡ tale_step c (tale past c) (rec.Wrote d bytes) = tale-append past (rec.Wrote d bytes ∷ []) c in (
         tt,
         client-accepts c said w front (past ++ rec.Wrote d bytes ∷ []) rs n.1
-            (subst (λ (u : Tale). IsFront w u.wrote) (sym next)
-            (subst (λ (b : Bool). IsFront w (cond b ((tale past c).wrote ++ bytes) (tale past c).wrote)) (sym (same-number d c n.0))
-            (IsFront-trans w (tale past c).wrote ((tale past c).wrote ++ bytes) wr (bytes, refl))))
-            (subst (λ (u : Tale). IsFront (u.accepted ++ accepted_in rs) said) (sym next) ac),
+            (subst (λ (u : Tale). IsPrefix w u.wrote) (sym next)
+            (subst (λ (b : Bool). IsPrefix w (cond b ((tale past c).wrote ++ bytes) (tale past c).wrote)) (sym (same-number d c n.0))
+            (IsPrefix-trans w (tale past c).wrote ((tale past c).wrote ++ bytes) wr (bytes, refl))))
+            (subst (λ (u : Tale). IsPrefix (u.accepted ++ accepted_in rs) said) (sym next) ac),
       )
   client-accepts c said w front past (rec.Eof d ∷ rs) n wr ac =
       let next : tale (past ++ rec.Eof d ∷ []) c ≡ tale_step c (tale past c) (rec.Eof d) = tale-append past (rec.Eof d ∷ []) c in (
         tt,
-        client-accepts c said w front (past ++ rec.Eof d ∷ []) rs n.1 (subst (λ (u : Tale). IsFront w u.wrote) (sym next) wr)
-            (subst (λ (u : Tale). IsFront (u.accepted ++ accepted_in rs) said) (sym next) ac),
+        client-accepts c said w front (past ++ rec.Eof d ∷ []) rs n.1 (subst (λ (u : Tale). IsPrefix w u.wrote) (sym next) wr)
+            (subst (λ (u : Tale). IsPrefix (u.accepted ++ accepted_in rs) said) (sym next) ac),
       )
   client-accepts c said w front past (rec.Aborted d ∷ rs) n wr ac =
       let next : tale (past ++ rec.Aborted d ∷ []) c ≡ tale_step c (tale past c) (rec.Aborted d) = tale-append past (rec.Aborted d ∷ []) c in (
         tt,
-        client-accepts c said w front (past ++ rec.Aborted d ∷ []) rs n.1 (subst (λ (u : Tale). IsFront w u.wrote) (sym next) wr)
-            (subst (λ (u : Tale). IsFront (u.accepted ++ accepted_in rs) said) (sym next) ac),
+        client-accepts c said w front (past ++ rec.Aborted d ∷ []) rs n.1 (subst (λ (u : Tale). IsPrefix w u.wrote) (sym next) wr)
+            (subst (λ (u : Tale). IsPrefix (u.accepted ++ accepted_in rs) said) (sym next) ac),
       )
   client-accepts c said w front past (_ ∷ rs) n wr ac = absurd n.0

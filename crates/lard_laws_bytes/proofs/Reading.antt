@@ -4,7 +4,7 @@ use Rattle.std.specs.List.{concat, list_any}
 use Rattle.std.proofs.lemmas.Bool.{cond_both, and_parts, not-true, ltb-false}
 use Rattle.std.proofs.lemmas.List.{map-append}
 use Rattle.std.proofs.lemmas.List.Folds.{concat-append, list_any-append}
-use Rattle.lard_answers.specs.Answers.{FilesAt, IsFront, answer, closes_any, verdicts}
+use Rattle.lard_answers.specs.Answers.{FilesAt, IsPrefix, answer, closes_any, verdicts}
 use Rattle.lard_base.specs.declared.place.Place.TheVariants as place_
 use Rattle.lard_block.specs.declared.block.Found.{Found}
 use Rattle.lard_block.specs.declared.block.Found.TheVariants.{Block, More, TooLong}
@@ -50,7 +50,7 @@ still-open x y g e = go x.ended refl where
 
 -- one more answer
 says-more : (files : FilesAt) (w out next : Stream) (vs : List Verdict) (v : Verdict) → SaysAnswers files w out vs → GoesOn out next → next.bytes ≡ out.bytes ++ answer files v
-    → length out.bytes + length (answer files v) ≤ 2 ^ 30 → ((z : List ℕ) → IsFront (vs ++ v ∷ []) (verdicts (w.bytes ++ z))) → SaysAnswers files w next (vs ++ v ∷ [])
+    → length out.bytes + length (answer files v) ≤ 2 ^ 30 → ((z : List ℕ) → IsPrefix (vs ++ v ∷ []) (verdicts (w.bytes ++ z))) → SaysAnswers files w next (vs ++ v ∷ [])
 says-more files w out next vs v h g e le fronts = record {
   spoken = e
       ∙ ap (λ x. x ++ answer files v) h.spoken
@@ -91,7 +91,7 @@ Goes env w out vs s = (h : Serves env w out vs s) × IsReading w h.vs_now s.bloc
 
 -- The verdict that comes next of all that is answered. Where it does not close, what was read with it is cut.
 pub record IsNext (w : Stream) (vs : List Verdict) (v : Verdict) (b : ControlBlock) : Type 0 where
-  pub fronts : (z : List ℕ) → IsFront (vs ++ v ∷ []) (verdicts (w.bytes ++ z))
+  pub fronts : (z : List ℕ) → IsPrefix (vs ++ v ∷ []) (verdicts (w.bytes ++ z))
   pub cut : closes v ≡ false → IsJudged (take (place b.recv) w.bytes) (vs ++ v ∷ [])
   pub open_ : closes_any vs ≡ false
   pub unfinished : b.send.finished ≡ false
@@ -146,8 +146,8 @@ closed-read w vs v b n = cond_both (closes v) (finishing (discarding_on b)) b (�
 -- ---- a verdict is answered
 module _ (env : FrontEnv) (w out : Stream) (vs : List Verdict) where
   -- what comes next of all on what the client wrote so far
-  next-now : (us : List Verdict) (v : Verdict) (b : ControlBlock) → IsNext w us v b → IsFront (us ++ v ∷ []) (verdicts w.bytes)
-  next-now us v b n = subst (λ (q : List ℕ). IsFront (us ++ v ∷ []) (verdicts q)) (append-nil w.bytes) (n.fronts [])
+  next-now : (us : List Verdict) (v : Verdict) (b : ControlBlock) → IsNext w us v b → IsPrefix (us ++ v ∷ []) (verdicts w.bytes)
+  next-now us v b n = subst (λ (q : List ℕ). IsPrefix (us ++ v ∷ []) (verdicts q)) (append-nil w.bytes) (n.fronts [])
 
   -- it would pass the stream limit
   passed-goes : (v : Verdict) (s : Service) (h : Serves env w out vs s) → IsNext w h.vs_now v s.block → Goes env w out vs (passed_over env (s.block.send.total + length (answer env.files v)) s)

@@ -2,7 +2,7 @@
 use Rattle.std.proofs.Common.{◌≡◌, min, nat_lt, Option, Some, None, ◌+◌, ◌-◌, ℕ, false, cond, List, [], ◌∷◌, ◌++◌, map, length, take, drop, arith, ap, ◌∙◌, sym, subst, append_assoc, length-drop}
 use Rattle.std.proofs.Math.Seq.{take-add, drop-append_seam}
 use Rattle.std.proofs.lemmas.List.{take_min, drop-take, length-take-le, map-append, take-append-drop, take-append-le}
-use Rattle.lard_answers.specs.Answers.{IsFront, piece_verdict, verdicts_on, until_close, verdicts, closes_any}
+use Rattle.lard_answers.specs.Answers.{IsPrefix, piece_verdict, verdicts_on, until_close, verdicts, closes_any}
 use Rattle.lard_answers.proofs.Following.{verdicts_on-moved, until_close-behind}
 use Rattle.lard_answers.proofs.Growing.{until_close-cons, verdicts-are}
 use Rattle.lard_block.specs.declared.block.Found.{Found}
@@ -60,7 +60,7 @@ begins-long q skip e z =
     (verdicts_on more.0, ap verdicts_on (more.1 ∙ ap (λ ps. ps ++ more.0) (long-last q skip e)))
 
 -- it comes next of all that is answered, where none before it closes
-pub next-front : (x y z : List ℕ) (vs : List Verdict) (v : Verdict) → IsJudged x vs → closes_any vs ≡ false → BeginsWith y v → IsFront (vs ++ v ∷ []) (verdicts (x ++ (y ++ z)))
+pub next-front : (x y z : List ℕ) (vs : List Verdict) (v : Verdict) → IsJudged x vs → closes_any vs ≡ false → BeginsWith y v → IsPrefix (vs ++ v ∷ []) (verdicts (x ++ (y ++ z)))
 next-front x y z vs v c open_ first =
     let later = first z in
     let rest : List Verdict = cond (closes v) [] (until_close later.0) in (
@@ -108,9 +108,9 @@ module _ (x : Stream) (r : Received) (h : Hears x r) (kept : r.discarding ≡ fa
 
   -- the next verdict on the unread bytes comes next of all, however the stream goes on
   pub next-verdict : (vs : List Verdict) (v : Verdict) → IsJudged (take (place r) x.bytes) vs → closes_any vs ≡ false → BeginsWith r.unread v
-      → (z : List ℕ) → IsFront (vs ++ v ∷ []) (verdicts (x.bytes ++ z))
+      → (z : List ℕ) → IsPrefix (vs ++ v ∷ []) (verdicts (x.bytes ++ z))
   next-verdict vs v judged open_ first z =
-      let P : List ℕ → Type 0 = λ w. IsFront (vs ++ v ∷ []) (verdicts w) in
+      let P : List ℕ → Type 0 = λ w. IsPrefix (vs ++ v ∷ []) (verdicts w) in
       let read = take (place r) x.bytes in
       let rest = drop r.got x.bytes in
       let split : x.bytes ++ z ≡ read ++ (r.unread ++ (rest ++ z)) =

@@ -3,7 +3,7 @@ use Rattle.std.proofs.Common.{◌≡◌, ◌⊎◌, ℕ, ◌+◌, List, [], ◌�
 use Rattle.std.proofs.lemmas.Option.{slice_get-map}
 use Rattle.std.specs.List.{list_any, slice_get}
 use Rattle.std.specs.Option.{option_map}
-use Rattle.lard_answers.specs.Answers.{FilesAt, IsFront, answer, answer_code, verdicts}
+use Rattle.lard_answers.specs.Answers.{FilesAt, IsPrefix, answer, answer_code, verdicts}
 use Rattle.lard_answers.proofs.Growing.{answers-are}
 use Rattle.lard_base.specs.declared.place.Place.{Place}
 use Rattle.lard_base.specs.declared.place.Via.TheVariants.{Own}
@@ -25,7 +25,7 @@ at-place [] x ys = refl
 at-place (y ∷ xs) x ys = at-place xs x ys
 
 -- the verdict v comes next on what was written
-module _ (files : FilesAt) (c : ℕ) (w said : List ℕ) (vs : List Verdict) (past : List Rec) (t : TellsOf w said vs (tale past c)) (v : Verdict) (next : IsFront (vs ++ v ∷ []) (verdicts w)) where
+module _ (files : FilesAt) (c : ℕ) (w said : List ℕ) (vs : List Verdict) (past : List Rec) (t : TellsOf w said vs (tale past c)) (v : Verdict) (next : IsPrefix (vs ++ v ∷ []) (verdicts w)) where
   verdict-is : next_verdict past c ≡ Some v
   verdict-is =
       ap (λ (q : List ℕ). slice_get (verdicts q) (served past c)) (wrote-tale past c ∙ t.wrote)
@@ -102,7 +102,7 @@ module _ (files : FilesAt) (c : ℕ) (w out : Stream) (vs : List Verdict) where
         }
 
     -- a response to the next verdict is queued
-    pub noted-served : (place : Place) (r : ℕ) (v : Verdict) (said_next : List ℕ) → IsFront (us ++ v ∷ []) (verdicts w.bytes) → r ≡ length us + 1 → out.ended ≡ false
+    pub noted-served : (place : Place) (r : ℕ) (v : Verdict) (said_next : List ℕ) → IsPrefix (us ++ v ∷ []) (verdicts w.bytes) → r ≡ length us + 1 → out.ended ≡ false
         → said_next ≡ said ++ answer files v → Noted (us ++ v ∷ []) said_next (notes ++ rec.Served place c r (answer_code files v) (length (answer files v)) Own ∷ [])
     noted-served place r v said_next next e open_ is =
         let bytes : List ℕ = answer files v in
@@ -112,7 +112,7 @@ module _ (files : FilesAt) (c : ℕ) (w out : Stream) (vs : List Verdict) where
         (λ past t. served-may files c w.bytes said us past t v next place r e)
 
     -- it would pass the stream limit
-    pub noted-reset : (place : Place) (total : ℕ) (v : Verdict) → IsFront (us ++ v ∷ []) (verdicts w.bytes) → total ≡ length said + length (answer files v)
+    pub noted-reset : (place : Place) (total : ℕ) (v : Verdict) → IsPrefix (us ++ v ∷ []) (verdicts w.bytes) → total ≡ length said + length (answer files v)
         → Noted us said (notes ++ rec.Reset place c total ∷ [])
     noted-reset place total v next e =
         noted-more us said (rec.Reset place c total) refl (omega arith) (omega arith) (inr refl)

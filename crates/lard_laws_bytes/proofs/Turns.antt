@@ -2,7 +2,7 @@
 use Rattle.std.proofs.Common.{◌≡◌, ◌⊎◌, inl, inr, ℕ, ◌+◌, ◌-◌, ◌≤◌, List, [], ◌∷◌, ◌++◌, length, Bool, true, false, ◌||◌, Option, Some, None, refl, sym, ap, ◌∙◌, subst, arith, append_assoc, append-nil}
 use Rattle.std.proofs.lemmas.Bool.{both_ways}
 use Rattle.std.specs.List.{list_any}
-use Rattle.lard_answers.specs.Answers.{FilesAt, IsFront, verdicts, verdicts_on}
+use Rattle.lard_answers.specs.Answers.{FilesAt, IsPrefix, verdicts, verdicts_on}
 use Rattle.lard_block.specs.Blocks.{blocks}
 use Rattle.lard_client.specs.Control.{ClientBlock}
 use Rattle.lard_endpoint.specs.Control.{ControlBlock}
@@ -81,8 +81,8 @@ module _ (files : FilesAt) (c : ℕ) (w out : Stream) (vs : List Verdict) (x : S
     begins = a.begins;
     says = record {
       spoken = a.says.spoken;
-      fronts = λ z. subst (λ (l : List ℕ). IsFront vs (verdicts (l ++ z))) (sym k.wrote)
-          (subst (λ (l : List ℕ). IsFront vs (verdicts l)) (sym (append_assoc w.bytes (written_in given.1.notes) z)) (a.says.fronts (written_in given.1.notes ++ z)));
+      fronts = λ z. subst (λ (l : List ℕ). IsPrefix vs (verdicts (l ++ z))) (sym k.wrote)
+          (subst (λ (l : List ℕ). IsPrefix vs (verdicts l)) (sym (append_assoc w.bytes (written_in given.1.notes) z)) (a.says.fronts (written_in given.1.notes ++ z)));
       number = a.says.number;
       most = a.says.most;
     };

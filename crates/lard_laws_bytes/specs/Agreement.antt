@@ -2,7 +2,7 @@
 -- it, and what every segment that was ever sent says, agree.
 use Rattle.std.specs.Prelude.{◌≡◌, ℕ, ◌+◌, ◌-◌, ◌^◌, ◌<◌, ◌≤◌, Bool, true, false, List, [], ◌∷◌, ◌++◌, map, length, take, Option, Some, None}
 use Rattle.std.specs.List.{concat}
-use Rattle.lard_answers.specs.Answers.{FilesAt, IsFront, answer, closes_any, verdicts, verdicts_on}
+use Rattle.lard_answers.specs.Answers.{FilesAt, IsPrefix, answer, closes_any, verdicts, verdicts_on}
 use Rattle.lard_base.specs.declared.limits.TheConstants.{MAX_STREAM_BYTES}
 use Rattle.lard_base.specs.declared.place.Place.{Place}
 use Rattle.lard_base.specs.declared.place.Place.TheVariants as place
@@ -100,7 +100,7 @@ FrontAgrees w out vs was_reset (Some (Closed last)) = EndedIt w out vs was_reset
 -- that goes on.
 pub record SaysAnswers (files : FilesAt) (w out : Stream) (vs : List Verdict) : Type 0 where
   pub spoken : out.bytes ≡ concat (map (answer files) vs)
-  pub fronts : (z : List ℕ) → IsFront vs (verdicts (w.bytes ++ z))
+  pub fronts : (z : List ℕ) → IsPrefix vs (verdicts (w.bytes ++ z))
   pub number : out.first < 2 ^ 32
   pub most : length out.bytes ≤ MAX_STREAM_BYTES
 

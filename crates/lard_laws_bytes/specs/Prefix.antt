@@ -1,7 +1,7 @@
 -- What follows from the agreement of one connection, for its client.
 use Rattle.std.specs.Prelude.{◌≡◌, ℕ, List, take, Option}
 use Rattle.std.specs.List.{concat}
-use Rattle.lard_answers.specs.Answers.{FilesAt, IsFront, answer_bytes, answers}
+use Rattle.lard_answers.specs.Answers.{FilesAt, IsPrefix, answer_bytes, answers}
 use Rattle.lard_history.specs.Journal.{Tale}
 use Rattle.lard_machine.specs.declared.places.FrontConn.{FrontConn}
 use Rattle.lard_machine.specs.declared.places.Station.{Station}
@@ -12,7 +12,7 @@ use Rattle.lard_laws_bytes.specs.Agreement.{Agrees}
 -- What it accepted is the front of the answers to what it wrote.
 abbrev pub AcceptedAreAnswers : Type 0
 AcceptedAreAnswers = (files : FilesAt) (c : ℕ) (w out : Stream) (vs : List Verdict) (x : Station) (f : Option FrontConn) (t : Tale)
-    → Agrees files c w out vs x f t → IsFront t.accepted (answer_bytes files t.wrote)
+    → Agrees files c w out vs x f t → IsPrefix t.accepted (answer_bytes files t.wrote)
 
 -- And what was said to it are as many of these answers as were queued.
 abbrev pub SaidAreAnswers : Type 0

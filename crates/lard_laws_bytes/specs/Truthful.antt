@@ -1,7 +1,7 @@
 -- What holds of the whole machine between any two steps, as far as bytes go.
 use Rattle.std.specs.Prelude.{◌≡◌, ℕ, Bool, true, List, [], ◌∷◌, ◌++◌, Option, Some, None, is_some}
 use Rattle.std.specs.FinMap as table
-use Rattle.lard_answers.specs.Answers.{FilesAt, IsFront, answer_bytes}
+use Rattle.lard_answers.specs.Answers.{FilesAt, IsPrefix, answer_bytes}
 use Rattle.lard_base.specs.declared.place.Place.{Place}
 use Rattle.lard_base.specs.declared.place.Place.TheVariants.{Front, Client}
 use Rattle.lard_history.specs.Journal.{Tale, accepted, tale, untold, wrote}
@@ -42,7 +42,7 @@ AreFair k xs (p ∷ ps) = IsFair k xs p.from p.to p.bytes × AreFair k xs ps
 
 -- What a client accepts goes on as the answers to what it wrote do.
 abbrev pub MayAccept : FilesAt → List Rec → Rec → Type 0
-MayAccept files past (rec.Accepted c bytes) = IsFront (accepted past c ++ bytes) (answer_bytes files (wrote past c))
+MayAccept files past (rec.Accepted c bytes) = IsPrefix (accepted past c ++ bytes) (answer_bytes files (wrote past c))
 MayAccept files past _ = Unit {0}
 
 pub record IsTruthful (files : FilesAt) (m : Machine) : Type 0 where

@@ -1,7 +1,7 @@
 -- What was true, heard and accepted stays so as a stream goes on.
 use Rattle.std.proofs.Common.{◌≡◌, ◌≤◌, ◌+◌, ℕ, List, [], ◌++◌, length, take, drop, arith, ap, ◌∙◌, sym, subst, refl, inl, inr, ⊎_elim, length-append, length-drop, append-nil}
 use Rattle.std.proofs.lemmas.List.{drop-append-le, take-append-le}
-use Rattle.lard_answers.specs.Answers.{IsFront}
+use Rattle.lard_answers.specs.Answers.{IsPrefix}
 use Rattle.lard_arrival.specs.Arrival.{IsPartAt}
 use Rattle.lard_client.specs.Control.{ClientBlock}
 use Rattle.lard_recv.specs.Recv.{Received, IsUnusedPart}
@@ -17,7 +17,7 @@ pub goes_on-equal : (x y : Stream) → y ≡ x → GoesOn x y
 goes_on-equal x y e = subst (λ (z : Stream). GoesOn x z) (sym e) (goes_on-same x)
 
 -- a part stays one where more bytes follow
-part-grown : (place : ℕ) (part xs ys : List ℕ) → IsFront xs ys → IsPartAt place part xs → IsPartAt place part ys
+part-grown : (place : ℕ) (part xs ys : List ℕ) → IsPrefix xs ys → IsPartAt place part xs → IsPartAt place part ys
 part-grown place part xs ys f p =
     let within = p.within in
     let longer : IsPartAt place part (xs ++ f.0) = record {
@@ -43,10 +43,10 @@ truth-grown x y s g t = record {
 }
 
 -- ---- what was taken
-pub front-length : (xs ys : List ℕ) → IsFront xs ys → length xs ≤ length ys
+pub front-length : (xs ys : List ℕ) → IsPrefix xs ys → length xs ≤ length ys
 front-length xs ys f = omega (arith, ap length f.1, length-append xs f.0)
 
-pub front-take : (n : ℕ) (xs ys : List ℕ) → IsFront xs ys → n ≤ length xs → take n ys ≡ take n xs
+pub front-take : (n : ℕ) (xs ys : List ℕ) → IsPrefix xs ys → n ≤ length xs → take n ys ≡ take n xs
 front-take n xs ys f le = ap (take n) f.1 ∙ take-append-le n xs f.0 le
 
 pub heard-grown : (x y : Stream) (r : Received) → GoesOn x y → Hears x r → Hears y r

@@ -15,7 +15,7 @@ use Rattle.lard_truth.specs.Truth.{Stream, IsStream, IsTrueOf, GoesOn, stream_of
 abbrev pub TruthStays : Type 0
 TruthStays = (x y : Stream) (s : Said) → GoesOn x y → IsTrueOf x s → IsTrueOf y s
 
--- And what was heard and accepted stays a front of what is sent.
+-- And what was heard and accepted stays a prefix of what is sent.
 abbrev pub HearingStays : Type 0
 HearingStays = (x y : Stream) (b : ControlBlock) → GoesOn x y → Hears x b.recv → Hears y b.recv
 

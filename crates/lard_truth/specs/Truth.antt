@@ -1,6 +1,6 @@
 -- What the segments of one side of a connection say of the bytes that it sends, and what the other side may rely on.
 use Rattle.std.specs.Prelude.{◌≡◌, ◌⊎◌, ℕ, ◌+◌, ◌^◌, ◌<◌, ◌≤◌, Bool, true, false, List, [], length, take}
-use Rattle.lard_answers.specs.Answers.{IsFront}
+use Rattle.lard_answers.specs.Answers.{IsPrefix}
 use Rattle.lard_arrival.specs.Arrival.{IsPartAt}
 use Rattle.lard_client.specs.Control.{ClientBlock, is_established}
 use Rattle.lard_recv.specs.Recv.{Received, IsReceived, IsUnusedPart}
@@ -35,7 +35,7 @@ pub record IsTrueOf (x : Stream) (s : Said) : Type 0 where
 -- A stream goes on: bytes follow the old ones, and none once it has ended.
 pub record GoesOn (x y : Stream) : Type 0 where
   pub first : y.first ≡ x.first
-  pub bytes : IsFront x.bytes y.bytes
+  pub bytes : IsPrefix x.bytes y.bytes
   pub ended : x.ended ≡ true → y ≡ x
 
 -- ---- the two sides
