@@ -17,23 +17,21 @@ use Rattle.lard_machine.specs.declared.places.Turn.{Turn}
 use Rattle.lard_machine.specs.Client.{client_aborts, client_gets, client_holds, client_opens, client_shuts, client_takes, client_timer, client_writes}
 use Rattle.lard_machine.specs.Front.{FrontEnv, front_gets, front_timer}
 use Rattle.lard_recv.specs.Recv.{Received}
-use Rattle.lard_recv.specs.Recv as recv
 use Rattle.lard_request.specs.declared.verdict.Verdict.{Verdict}
 use Rattle.lard_segment.specs.declared.segment.Dir.TheVariants.{ToClient, ToCluster}
 use Rattle.lard_segment.specs.Segment.{IsSendable, Said, spelled}
-use Rattle.lard_send.specs.Send as send
-use Rattle.lard_seq.specs.Seq.{seq_add, seq_offset}
+use Rattle.lard_seq.specs.Seq.{one_if, seq_add, seq_offset}
 use Rattle.lard_truth.specs.Truth.{IsStream, IsTrueOf, Stream}
 
 -- ---- how much was taken
 
 -- how many of the cluster's symbols a client took: its SYN, bytes and FIN; none before the client is established
 abbrev pub taken_by : ClientBlock → ℕ
-taken_by x = if is_established x then 1 + x.accepted + send.one_if x.eof else 0
+taken_by x = if is_established x then 1 + x.accepted + one_if x.eof else 0
 
 -- how many of the client's symbols a receiving half took
 abbrev pub heard_by : Received → ℕ
-heard_by r = 1 + r.got + recv.one_if r.fin
+heard_by r = 1 + r.got + one_if r.fin
 
 -- and how many the front end did, by the client's first number
 abbrev pub heard_of : ℕ → Option FrontConn → ℕ

@@ -22,7 +22,6 @@ use Rattle.lard_machine.specs.declared.places.FrontConn.{FrontConn}
 use Rattle.lard_machine.specs.declared.places.FrontConn.TheVariants.{Held, Lent, Closed}
 use Rattle.lard_machine.specs.declared.places.Station.{Station}
 use Rattle.lard_machine.specs.Machine.{front_armed}
-use Rattle.lard_recv.specs.Recv as recv
 use Rattle.lard_request.specs.declared.verdict.Verdict.{Verdict}
 use Rattle.lard_send.specs.Send.{Sending, is_clear, symbols}
 use Rattle.lard_seq.specs.Seq.{one_if, seq_add}
@@ -47,7 +46,7 @@ taken-all out x a le = go (is_established x) le where
 heard-all : (w : Stream) (b : ControlBlock) → Hears w b.recv → 1 + length w.bytes + one_if w.ended ≤ heard_by b.recv
     → (b.recv.got ≡ length w.bytes) × (w.ended ≡ true → b.recv.fin ≡ true)
 heard-all w b h le = counted b.recv.fin refl w.ended refl le where
-  counted : (e : Bool) → b.recv.fin ≡ e → (t : Bool) → w.ended ≡ t → 1 + length w.bytes + one_if t ≤ 1 + b.recv.got + recv.one_if e → (b.recv.got ≡ length w.bytes) × (t ≡ true → e ≡ true)
+  counted : (e : Bool) → b.recv.fin ≡ e → (t : Bool) → w.ended ≡ t → 1 + length w.bytes + one_if t ≤ 1 + b.recv.got + one_if e → (b.recv.got ≡ length w.bytes) × (t ≡ true → e ≡ true)
   counted true is t at n = ((h.final is).0, λ _. refl)
   counted false is true at n = let within = h.within in absurd (omega (arith, n, within))
   counted false is false at n = let within = h.within in (omega (arith, n, within), λ e. e)
@@ -101,7 +100,7 @@ module _ (files : FilesAt) (w out : Stream) (vs : List Verdict) (x : ClientBlock
         let done = e.held.hears.final both.2 in
         let got : b.recv.got ≡ length w.bytes = done.0 in
         let one : one_if w.ended ≡ 1 = ap one_if done.1 in
-        let fin : recv.one_if b.recv.fin ≡ 1 = ap recv.one_if both.2 in
+        let fin : one_if b.recv.fin ≡ 1 = ap one_if both.2 in
         omega (arith, got, one, fin)
 
     -- all that was sent was acknowledged

@@ -50,7 +50,9 @@ fn the_window_is_what_fits(rt: HostRuntime) -> Result<(), Fail> {
     assert_eq!(rt; half.next(), Seq(16_396));
     let mut last = RecvHalf::restore(rt.alloc(), Seq(0), (1 << 30) - 1, false, b"")?;
     assert_eq!(rt; last.window(), 1);
+    assert_eq!(rt; (last.irs(), last.discarding()), (Seq(0), false));
     last.discard_on();
+    assert!(rt; last.discarding());
     assert_eq!(rt; last.arrive(Seq(1 << 30), b"ab", false), Took::Bytes(1));
     assert_eq!(rt; last.window(), 0);
     assert!(rt; last.unread().is_empty());

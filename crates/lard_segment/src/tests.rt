@@ -7,15 +7,6 @@ use lard_base::ConnId;
 use lard_seq::Seq;
 use std::process::Abort;
 
-/// No control bit.
-const NONE: Flags = Flags {
-    syn: false,
-    ack: false,
-    fin: false,
-    rst: false,
-    psh: false,
-};
-
 /// The SYN of client 1, from 1000 on.
 const OPENING: &[u8] =
     b"\x9c\x40\x00\x50\x00\x00\x03\xe8\x00\x00\x00\x00\x60\x02\xff\xff\xe3\xab\x00\x00\x02\x04\x05\xb4";
@@ -222,7 +213,10 @@ fn writes_and_reads(rt: HostRuntime) {
     let opening = Segment {
         seq: Seq(1000),
         ack: Seq(0),
-        flags: Flags { syn: true, ..NONE },
+        flags: Flags {
+            syn: true,
+            ..Flags::NONE
+        },
         wnd: 65535,
         mss: Some(1460),
         payload: b"",
@@ -234,7 +228,7 @@ fn writes_and_reads(rt: HostRuntime) {
         flags: Flags {
             syn: true,
             ack: true,
-            ..NONE
+            ..Flags::NONE
         },
         wnd: 16384,
         mss: Some(1460),
@@ -253,7 +247,7 @@ fn writes_and_reads(rt: HostRuntime) {
         flags: Flags {
             ack: true,
             psh: true,
-            ..NONE
+            ..Flags::NONE
         },
         wnd: 65535,
         mss: None,
@@ -269,7 +263,10 @@ fn writes_and_reads(rt: HostRuntime) {
     let plain = Segment {
         seq: Seq(1032),
         ack: Seq(5046),
-        flags: Flags { ack: true, ..NONE },
+        flags: Flags {
+            ack: true,
+            ..Flags::NONE
+        },
         wnd: 65535,
         mss: None,
         payload: b"",
@@ -288,7 +285,7 @@ fn writes_and_reads(rt: HostRuntime) {
             ack: true,
             fin: true,
             psh: true,
-            ..NONE
+            ..Flags::NONE
         },
         wnd: 0,
         mss: None,
@@ -304,7 +301,10 @@ fn writes_and_reads(rt: HostRuntime) {
     let reset = Segment {
         seq: Seq(77),
         ack: Seq(0),
-        flags: Flags { rst: true, ..NONE },
+        flags: Flags {
+            rst: true,
+            ..Flags::NONE
+        },
         wnd: 0,
         mss: None,
         payload: b"",
@@ -319,7 +319,10 @@ fn writes_and_reads(rt: HostRuntime) {
     let without_sum = Segment {
         seq: Seq(7),
         ack: Seq(0),
-        flags: Flags { ack: true, ..NONE },
+        flags: Flags {
+            ack: true,
+            ..Flags::NONE
+        },
         wnd: 65338,
         mss: None,
         payload: b"",
@@ -341,7 +344,10 @@ fn reads_options(rt: HostRuntime) {
         let segment = Segment {
             seq: Seq(7),
             ack: Seq(0),
-            flags: Flags { syn: true, ..NONE },
+            flags: Flags {
+                syn: true,
+                ..Flags::NONE
+            },
             wnd: 9,
             mss,
             payload: b"",
@@ -359,4 +365,19 @@ fn refuses(rt: HostRuntime) {
     }
     let other = ConnId::new(2).expect(&rt, "the number of a connection");
     assert_eq!(rt; decode(OPENING, other, Dir::ToCluster), Err(SegFault::Sum));
+}
+
+#[test]
+fn segments_without_data(rt: HostRuntime) {
+    let reset = Segment::control(Seq(7), Seq(9), Flags::RST_ACK, 3);
+    assert_eq!(rt; (reset.seq, reset.ack, reset.wnd), (Seq(7), Seq(9), 3));
+    assert_eq!(rt;
+        (reset.flags.rst, reset.flags.ack, reset.flags.syn),
+        (true, true, false)
+    );
+    assert!(rt; reset.payload.is_empty() && reset.mss.is_none());
+    let ready = Ready::control(Seq(7), Seq(9), Flags::ACK, 3, 31);
+    assert_eq!(rt; (ready.seq, ready.ack, ready.wnd), (Seq(7), Seq(9), 3));
+    assert_eq!(rt; (ready.at, ready.len), (31, 0));
+    assert_eq!(rt; (ready.flags.ack, ready.flags.rst), (true, false));
 }

@@ -79,5 +79,6 @@ fn bytes_are_written_until_they_are_acknowledged(rt: HostRuntime) -> Result<(), 
     let mut client = SendHalf::make(rt.alloc(), Seq(1), Seq(0), 9, 536);
     client.peer(Seq(5), 20);
     assert_eq!(rt; (client.mss(), client.finished()), (20, false));
+    assert_eq!(rt; (client.iss(), client.irs()), (Seq(1), Seq(5)));
     Ok(())
 }
