@@ -1,7 +1,7 @@
 -- A line ends a replay with a status exactly where it gives its cause.
-use Rattle.std.proofs.Common.{◌≡◌, ℕ, ◌+◌, ◌^◌, ◌≤◌, ◌<◌, List, length, Bool, true, false, cond, Option, Some, None, Result, Ok, Err, refl, sym, ap, ◌∙◌, subst, inl, inr, ⊎_elim, arith}
+use Rattle.std.proofs.Common.{◌≡◌, ℕ, ◌+◌, ◌≤◌, ◌<◌, List, length, Bool, true, false, Option, Some, None, Result, Ok, Err, refl, sym, ap, ◌∙◌, subst, inl, inr, ⊎_elim, arith}
 use Rattle.std.proofs.lemmas.Bool.Decides.{nat_tests}
-use Rattle.std.specs.Prelude.{is_some, nat_le, nat_lt}
+use Rattle.std.specs.Prelude.{nat_lt}
 use Rattle.lard_base.specs.declared.limits.TheConstants.{MAX_INPUT_BYTES}
 use Rattle.lard_base.specs.Config.{config_check, range_check}
 use Rattle.lard_base.specs.declared.config.ConfigFault.{ConfigFault}
