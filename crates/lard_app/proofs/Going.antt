@@ -7,7 +7,7 @@ use Rattle.std.proofs.lemmas.List.Quantifiers.{position-Some}
 use Rattle.std.specs.List.{position}
 use Rattle.std.specs.Prelude.{nat_lt}
 use Rattle.lard_base.specs.declared.limits.TheConstants.{MAX_INPUT_BYTES}
-use Rattle.lard_base.specs.Outside.{Front}
+use Rattle.lard_base.specs.Outside.{WrotePrefix}
 use Rattle.lard_base.specs.declared.event.Event.{Event}
 use Rattle.lard_machine.specs.declared.fault.What.TheVariants.{Input}
 use Rattle.lard_schedule.specs.declared.reader.Stage.{Stage}
@@ -45,7 +45,7 @@ going_first text s old e = record {
 }
 
 -- a front of what was to be written is one of all that is
-front_on : (a b c : Option (List ℕ)) (xs ys zs all : List ℕ) → Appends a b xs → Front b c ys → all ≡ (xs ++ ys) ++ zs → Front a c all
+front_on : (a b c : Option (List ℕ)) (xs ys zs all : List ℕ) → Appends a b xs → WrotePrefix b c ys → all ≡ (xs ++ ys) ++ zs → WrotePrefix a c all
 front_on a b c xs ys zs all h f e = record {
   front = xs ++ f.front;
   rest = f.rest ++ zs;
@@ -103,7 +103,7 @@ module _ (text rest : List ℕ) (s : Progress) (old now : Option (List ℕ)) (g 
           let from : BeginsWith t (lines_of (drop (at + 1) rest)) (report_of t) = begins t (lines_of (drop (at + 1) rest)) (g.events ++ event_listed (judged s.reader (take at rest))) keeps in
           (from.more, ap (λ (p : Progress × Status). report_of p.0) (when_passed t e) ∙ from.is ∙ ap (λ xs. xs ++ from.more) (passed-grown s t (take at rest) g.keeps.listed e))
 
-    stops_within : (next : Option (List ℕ)) → Front now next (gain s (take at rest)) → Front old next (report_of (whole text).0)
+    stops_within : (next : Option (List ℕ)) → WrotePrefix now next (gain s (take at rest)) → WrotePrefix old next (report_of (whole text).0)
     stops_within next f = let w = whole_begins in front_on old now next (report_of s) (gain s (take at rest)) w.0 (report_of (whole text).0) g.written f w.1
 
     refused_here : (status : Status) (next : Option (List ℕ)) → passed s (take at rest) ≡ Err status → Appends now next [] → Completes status text old next

@@ -7,7 +7,7 @@ use Rattle.lard_base.specs.Config.{config_check, range_check, set_key, standard}
 use Rattle.lard_base.specs.declared.config.Config.{Config}
 use Rattle.lard_base.specs.declared.config.ConfigFault.{ConfigFault}
 use Rattle.lard_base.specs.declared.config.Key.{Key}
-use Rattle.lard_base.specs.Outside.{Front}
+use Rattle.lard_base.specs.Outside.{WrotePrefix}
 use Rattle.lard_base.specs.declared.event.Event.{Event}
 use Rattle.lard_base.specs.declared.limits.TheConstants.{MAX_INPUT_BYTES}
 use Rattle.lard_files.specs.Files.{add_check}
@@ -247,11 +247,11 @@ pub record IsSound (s : Progress) : Type 0 where
   pub lines : s.lines ≤ s.read
   pub read : s.read ≤ MAX_INPUT_BYTES
 
--- a text is written, or a front of it
+-- a text is written, or a prefix of it
 abbrev pub Writes : List ℕ → Option (List ℕ) → Option (List ℕ) → Result (Unit {0}) Status → Type 0
 Writes text old new (Ok _) = Appends old new text
-Writes text old new (Err WriteFault) = Front old new text
-Writes text old new (Err NoMemory) = Front old new text
+Writes text old new (Err WriteFault) = WrotePrefix old new text
+Writes text old new (Err NoMemory) = WrotePrefix old new text
 Writes text old new (Err _) = ⊥
 
 -- a sink's count of faults once a run has ended: it rose where that was a write fault, and is as before else
@@ -265,11 +265,11 @@ CountsFault before now (Ok _) = now ≡ before
 CountsFault before now (Err status) = EndsCount before now status
 
 -- What a call did that passed a line: the state and the text are those that the rules give, or the line ended the
--- run; a write that failed and want of memory leave a front of the text.
+-- run; a write that failed and running out of memory leave a prefix of the text.
 abbrev pub Passes : Result Progress Status → List ℕ → Option (List ℕ) → Option (List ℕ) → Progress → Result (Unit {0}) Status → Type 0
 Passes given text old new t (Ok _) = (given ≡ Ok t) × Appends old new text
-Passes given text old new t (Err WriteFault) = Front old new text
-Passes given text old new t (Err NoMemory) = Front old new text
+Passes given text old new t (Err WriteFault) = WrotePrefix old new text
+Passes given text old new t (Err NoMemory) = WrotePrefix old new text
 Passes given text old new t (Err (Refused line why)) = (given ≡ Err (Refused line why)) × Appends old new []
 Passes given text old new t (Err (Limit line what)) = (given ≡ Err (Limit line what)) × Appends old new []
 Passes given text old new t (Err Done) = ⊥

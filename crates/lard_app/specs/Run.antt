@@ -5,7 +5,7 @@ use Rattle.std.specs.String.{string_bytes}
 use Rattle.std.specs.declared.string.String.{String}
 use Rattle.std.specs.declared.alloc.Global.{Global}
 use Rattle.lard_base.specs.declared.limits.TheConstants.{MAX_INPUT_BYTES}
-use Rattle.lard_base.specs.Outside.{Front}
+use Rattle.lard_base.specs.Outside.{WrotePrefix}
 use Rattle.lard_app.specs.declared.status.Status.{Status}
 use Rattle.lard_app.specs.declared.status.Status.TheVariants.{Done, Usage, Refused, ReadFault, WriteFault, NoMemory, Limit}
 use Rattle.lard_app.specs.Replay.{whole, report_of}
@@ -24,8 +24,8 @@ abbrev pub Replays : Status → List ℕ → Option (List ℕ) → Option (List 
 Replays Done text old new = (length text ≤ MAX_INPUT_BYTES) × Completes Done text old new
 Replays (Refused line why) text old new = Completes (Refused line why) text old new
 Replays (Limit line what) text old new = Completes (Limit line what) text old new
-Replays WriteFault text old new = Front old new (report_of (whole text).0)
-Replays NoMemory text old new = Front old new (report_of (whole text).0)
+Replays WriteFault text old new = WrotePrefix old new (report_of (whole text).0)
+Replays NoMemory text old new = WrotePrefix old new (report_of (whole text).0)
 Replays ReadFault text old new = ⊥
 Replays Usage text old new = ⊥
 
@@ -34,17 +34,17 @@ abbrev pub IsRead : List ℕ → Option (List ℕ) → Type 0
 IsRead text left = IsAtEnd left ⊎ (length text ≡ MAX_INPUT_BYTES + 1)
 
 -- How a run ends over the text that it read. A fault of reading ends it before anything is written; a fault of
--- writing and want of memory leave a front of the report.
+-- writing and running out of memory leave a prefix of the report.
 abbrev pub Ended : Status → List ℕ → Option (List ℕ) → Option (List ℕ) → Option (List ℕ) → Type 0
 Ended Done text left old new = IsAtEnd left × (length text ≤ MAX_INPUT_BYTES) × Completes Done text old new
 Ended (Refused line why) text left old new = IsRead text left × Completes (Refused line why) text old new
 Ended (Limit line what) text left old new = IsRead text left × Completes (Limit line what) text old new
-Ended WriteFault text left old new = IsRead text left × Front old new (report_of (whole text).0)
+Ended WriteFault text left old new = IsRead text left × WrotePrefix old new (report_of (whole text).0)
 Ended ReadFault text left old new = Appends old new []
-Ended NoMemory text left old new = Front old new (report_of (whole text).0)
+Ended NoMemory text left old new = WrotePrefix old new (report_of (whole text).0)
 Ended Usage text left old new = ⊥
 
--- The text that was read, and what came of it. Where no fault of reading and no want of memory came, it is the whole
+-- The text that was read, and what came of it. Where no fault of reading came and memory did not run out, it is the whole
 -- input, or the first 2^26 + 1 bytes of a longer one.
 pub record Ran (status : Status) (left left_now old new : Option (List ℕ)) : Type 0 where
   pub text : List ℕ

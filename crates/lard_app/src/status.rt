@@ -40,7 +40,7 @@ pub enum Why {
     Syntax,
     /// It gives a number that the configuration can't have, or `go` follows numbers that don't go together.
     Config(ConfigFault),
-    /// It adds a file that may not be added, for another cause than want of memory, which is `Status::NoMemory`.
+    /// It adds a file that may not be added, for another cause than running out of memory, which is `Status::NoMemory`.
     File(FileFault),
     /// It delivers or loses packet `k` where only `sent` were sent.
     NotSent { k: u32, sent: u32 },

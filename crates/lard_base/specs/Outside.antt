@@ -2,8 +2,8 @@
 use Rattle.std.specs.Prelude.{◌≡◌, ℕ, List, ◌++◌, Option}
 use Rattle.std.specs.Io.KnownBytes.{Appends, Consumes, append_known}
 
--- a front of the bytes was written
-pub record Front (old new : Option (List ℕ)) (all : List ℕ) : Type 0 where
+-- a prefix of the bytes was written
+pub record WrotePrefix (old new : Option (List ℕ)) (all : List ℕ) : Type 0 where
   pub front : List ℕ
   pub rest : List ℕ
   pub is : front ++ rest ≡ all

@@ -4,7 +4,7 @@ ghost use Rattle.std.specs.Prelude.{◌≡◌, ℕ, ◌≤◌, ◌<◌, List, le
 ghost use Rattle.std.specs.Io.{ReadsAtMost, WritesAtMost};
 ghost use Rattle.std.specs.Io.KnownBytes.{ReadConsumes, WriteAppends, Appends};
 ghost use Rattle.lard_base.specs.Causes.{HasCause};
-ghost use Rattle.lard_base.specs.Outside.{Front};
+ghost use Rattle.lard_base.specs.Outside.{WrotePrefix};
 
 use crate::errors::Failed;
 
@@ -41,11 +41,11 @@ pub trait Sink {
         ensures cause { HasCause (faults self.old) (faults self.new) result };
 }
 
-/// Writes all bytes, in as many calls as it takes. The first of them that fails ends it, and a front of the bytes was
+/// Writes all bytes, in as many calls as it takes. The first of them that fails ends it, and a prefix of the bytes was
 /// written then.
 pub fn write_all<K: Sink>(sink: &mut K, bytes: &[u8]) -> Result<(), Failed>
     ensures ok { OnOk result (Appends (K.written sink.old) (K.written sink.new) bytes.now) }
-    ensures err { OnErr result (Front (K.written sink.old) (K.written sink.new) bytes.now) }
+    ensures err { OnErr result (WrotePrefix (K.written sink.old) (K.written sink.new) bytes.now) }
     ensures cause { HasCause (K.faults sink.old) (K.faults sink.new) result }
 {
     let mut done = 0;
