@@ -1,17 +1,17 @@
 -- What the front end sends at the end of its turn: true replies, call by call, and the streams stay as they were.
-use Rattle.std.proofs.Common.{◌≡◌, ◌≤◌, ◌+◌, ℕ, zero, suc, Bool, false, cond, List, [], ◌∷◌, length, Option, Some, None, IfSome, arith, refl, ap, ◌∙◌, sym, subst}
+use Rattle.std.proofs.Common.{◌≡◌, ◌≤◌, ◌+◌, ℕ, zero, suc, Bool, false, cond, List, [], ◌∷◌, length, Option, Some, None, arith, refl, ap, ◌∙◌, sym, subst}
 use Rattle.std.proofs.lemmas.Bool.{cond_both}
 use Rattle.lard_base.specs.declared.place.Place.{Place}
 use Rattle.lard_endpoint.proofs.Windows.{emitted-tells, timed-tells}
 use Rattle.lard_endpoint.specs.Control.{ControlBlock, rcv_nxt}
-use Rattle.lard_endpoint.specs.Leaving.{ack_ready, owes, owed_ready, ready_of, advanced, retried, emitted, after_emit, timed, after_timer, filled, after_piece, after_owed, told}
+use Rattle.lard_endpoint.specs.Leaving.{owes, advanced, emitted, after_emit, timed, after_timer, filled, after_piece, after_owed, told}
 use Rattle.lard_laws_bytes.specs.Agreement.{AreReplies, IsReply}
 use Rattle.lard_laws_bytes.proofs.FrontEndpoint.{IsBetween, between-emitted}
 use Rattle.lard_machine.specs.Speaking.{to_client, emits, has_symbol, emits_symbols}
 use Rattle.lard_segment.specs.declared.segment.Ready.{Ready}
 use Rattle.lard_segment.specs.Segment.{Said}
 use Rattle.lard_send.specs.declared.piece.Piece.{Piece}
-use Rattle.lard_send.specs.Send.{next_piece, resent_piece}
+use Rattle.lard_send.specs.Send.{next_piece}
 use Rattle.lard_seq.specs.Seq.{one_if, seq_add}
 use Rattle.lard_truth.specs.Truth.{Stream}
 use Rattle.lard_truth.proofs.Endpoint.{emitted-fair, timed-fair, emit-left}

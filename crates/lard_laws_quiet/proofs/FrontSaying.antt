@@ -1,10 +1,10 @@
 -- What an endpoint sends acknowledges what it took, and no more; and sending moves neither.
-use Rattle.std.proofs.Common.{◌≡◌, ℕ, List, [], ◌∷◌, ◌++◌, Option, Some, None, IfSome, arith, refl, ap, ◌∙◌, subst}
+use Rattle.std.proofs.Common.{◌≡◌, ℕ, List, [], ◌∷◌, ◌++◌, Option, Some, None, arith, refl, ap, ◌∙◌, subst}
 use Rattle.std.proofs.lemmas.Bool.{cond_both}
 use Rattle.lard_base.specs.declared.place.Place.{Place}
 use Rattle.lard_endpoint.proofs.Windows.{emitted-tells, timed-tells}
 use Rattle.lard_endpoint.specs.Control.{ControlBlock, rcv_nxt}
-use Rattle.lard_endpoint.specs.Leaving.{ack_ready, owes, owed_ready, after_owed, ready_of, after_piece, advanced, retried, emitted, after_emit, timed, after_timer, told, filled}
+use Rattle.lard_endpoint.specs.Leaving.{owes, after_owed, after_piece, advanced, retried, emitted, after_emit, timed, after_timer, told, filled}
 use Rattle.lard_laws_bytes.proofs.FrontEndpoint.{IsBetween, between-emitted}
 use Rattle.lard_laws_bytes.proofs.FrontSpeaking.{emits-all, emits_symbols-all}
 use Rattle.lard_laws_quiet.proofs.Acked.{Acks, RepliesMay, ReplyMay, heard_by}

@@ -1,5 +1,5 @@
 -- What an endpoint and a client say, segment by segment.
-use Rattle.std.proofs.Common.{◌≡◌, ℕ, ◌==◌, ◌+◌, ◌-◌, ◌≤◌, ◌<◌, ◌^◌, [], ◌∷◌, Bool, true, false, cond, not, refl, ap, subst, arith}
+use Rattle.std.proofs.Common.{◌≡◌, ℕ, ◌==◌, ◌+◌, ◌≤◌, ◌<◌, ◌^◌, [], ◌∷◌, Bool, true, false, cond, not, refl, ap, subst, arith}
 use Rattle.std.specs.Prelude.{Option, Some, None, OnSome, if◌then◌else◌}
 use Rattle.lard_client.specs.Control.{ClientBlock, is_open}
 use Rattle.lard_client.specs.Leaving as client
@@ -13,7 +13,7 @@ use Rattle.lard_machine.proofs.Draining.{Drains, nothing_more, one_more}
 use Rattle.lard_segment.specs.declared.segment.Ready.{Ready}
 use Rattle.lard_send.specs.declared.piece.Piece.{Piece}
 use Rattle.lard_send.proofs.Sent.{next-rests}
-use Rattle.lard_send.specs.Send.{Sending, IsSending, syn_piece, byte_piece, may_send, next_len, next_fin, next_piece, after_next}
+use Rattle.lard_send.specs.Send.{Sending, IsSending, may_send, next_piece, after_next}
 use Rattle.lard_seq.specs.Seq.{one_if}
 
 abbrev always : Ready → Bool
