@@ -1,6 +1,6 @@
 -- Words with single spaces between them, and their line.
 use Rattle.std.proofs.Common.{◌≡◌, inl, inr, ℕ, ◌≤◌, ◌<◌, ◌^◌, List, [], ◌∷◌, ◌++◌, length, Bool, true, false, cond, ◌&&◌, Ok, refl, sym, ap, ◌∙◌, append_assoc, subst, arith}
-use Rattle.std.specs.Prelude.{nat_eq, nat_le, nat_lt, decimal, codes}
+use Rattle.std.specs.Prelude.{nat_eq, nat_lt, decimal, codes}
 use Rattle.std.specs.List.{fold, list_all, onto_first, AllPass}
 use Rattle.std.specs.Str.Parse.{AllDigits}
 use Rattle.std.proofs.lemmas.Bool.Decides.{nat_tests}

@@ -1,5 +1,5 @@
 -- What spells an event or a line, and where a line may stand.
-use Rattle.std.specs.Prelude.{◌≡◌, ◌⊎◌, ℕ, ◌≤◌, ◌^◌, false, List, [], ◌∷◌, length, Ok, codes, decimal, replicate}
+use Rattle.std.specs.Prelude.{◌≡◌, ◌⊎◌, ℕ, ◌≤◌, false, List, [], ◌∷◌, length, Ok, codes, decimal, replicate}
 use Rattle.hex.specs.Hex.{IsBytes, decode_of}
 use Rattle.lard_base.specs.declared.limits.TheConstants.{MAX_ALL_FILES_BYTES}
 use Rattle.lard_base.specs.declared.event.Event.{Event}
