@@ -24,15 +24,6 @@ use lard_segment::{Dir, Flags, Ready, Segment, decode};
 use lard_seq::Seq;
 use std::alloc::Global;
 
-/// No control bit is set.
-const BARE: Flags = Flags {
-    syn: false,
-    ack: false,
-    fin: false,
-    rst: false,
-    psh: false,
-};
-
 /// A connection, and the front end's turn, where memory sufficed for it.
 pub type Rests = (FrontConn, Result<Turn, NoMemory>);
 
@@ -140,18 +131,7 @@ fn told(alloc: Global, env: &Env<'_>, segment: &Segment<'_>) -> Result<(Place, B
 fn limit_segment(last: Final) -> Segment<'static>
     ensures { said result ≡ limit_said last }
 {
-    Segment {
-        seq: last.snd,
-        ack: last.rcv,
-        flags: Flags {
-            ack: true,
-            rst: true,
-            ..BARE
-        },
-        wnd: 0,
-        mss: None,
-        payload: &[],
-    }
+    Segment::control(last.snd, last.rcv, Flags::RST_ACK, 0)
 }
 
 /// The end of a turn in which the front end read: the stream limit ends the connection, else it goes on.
@@ -322,27 +302,13 @@ fn is_telling(segment: &Segment<'_>) -> bool
 fn last_ack(last: Final) -> Segment<'static>
     ensures { said result ≡ last_ack last }
 {
-    Segment {
-        seq: last.snd,
-        ack: last.rcv,
-        flags: Flags { ack: true, ..BARE },
-        wnd: RECEIVE_WINDOW,
-        mss: None,
-        payload: &[],
-    }
+    Segment::control(last.snd, last.rcv, Flags::ACK, RECEIVE_WINDOW)
 }
 
 fn refusal(ack: Seq) -> Segment<'static>
     ensures { said result ≡ refusal ack.0 }
 {
-    Segment {
-        seq: ack,
-        ack: Seq(0),
-        flags: Flags { rst: true, ..BARE },
-        wnd: 0,
-        mss: None,
-        payload: &[],
-    }
+    Segment::control(ack, Seq(0), Flags::RST, 0)
 }
 
 // ---- timers
