@@ -1,1 +1,2 @@
 pub mod Map
+mod Ordered

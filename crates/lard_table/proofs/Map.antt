@@ -8,10 +8,14 @@ use Rattle.std.specs.FinMap.{FinMap, find, get-from_entries, get-insert, get-rem
 use Rattle.std.specs.BTreeMap as tree
 use Rattle.std.specs.BTreeMap.{BTreeMap, is_at, UpdatesBy}
 use Rattle.std.specs.Map.{lookup}
+use Rattle.lard_table.specs.Table.{put_or}
 
 -- two numbers are one key where they are equal
 not_at : (q k : ℕ) → (q ≡ k → ⊥) → eq_by_cmp nat_cmp q k ≡ false
 not_at q k n = grind (arith, nat_tests, n)
+
+same_at : (q k : ℕ) → eq_by_cmp nat_cmp q k ≡ true → q ≡ k
+same_at q k h = grind (arith, nat_tests, h)
 
 module _ {X : Type 0} where
   abbrev pub map_of : BTreeMap ℕ X → FinMap nat_cmp X
@@ -61,18 +65,43 @@ module _ {X : Type 0} where
   no_none o p (Some v) i e f = let h : None ≡ Some v = e ∙ f in cc
   no_none o p None i e f = search (rules, i)
 
+  -- ---- a number is set to a value, or to none
+
+  -- what is found at any number: the other laws follow from it
+  pub get_put : (m : FinMap nat_cmp X) (k q : ℕ) (o : Option X) → map.get (put_or m k o) q ≡ cond (eq_by_cmp nat_cmp q k) o (map.get m q)
+  get_put m k q None = get-remove nat_cmp_total m k q
+  get_put m k q (Some v) = get-insert nat_cmp_total m k v q
+
+  pub get_put_same : (m : FinMap nat_cmp X) (k : ℕ) (o : Option X) → map.get (put_or m k o) k ≡ o
+  get_put_same m k o = get_put m k k o ∙ ap (λ b. cond b o (map.get m k)) ((eq_by_cmp_equiv nat_cmp_total).refl k)
+
+  pub get_put_other : (m : FinMap nat_cmp X) (k q : ℕ) (o : Option X) → (q ≡ k → ⊥) → map.get (put_or m k o) q ≡ map.get m q
+  get_put_other m k q o n = get_put m k q o ∙ ap (λ b. cond b o (map.get m q)) (not_at q k n)
+
+  -- the second put counts
+  pub put_twice : (m : FinMap nat_cmp X) (k : ℕ) (o p : Option X) → put_or (put_or m k o) k p ≡ put_or m k p
+  put_twice m k o p = same_map nat_cmp_total nat_cmp-IsAntisymmetric _ _ (λ q.
+      get_put (put_or m k o) k q p ∙ ap (cond (eq_by_cmp nat_cmp q k) p) (get_put m k q o) ∙ over (eq_by_cmp nat_cmp q k) (map.get m q) ∙ sym (get_put m k q p)) where
+        over : (t : Bool) (r : Option X) → cond t p (cond t o r) ≡ cond t p r
+        over true r = refl
+        over false r = refl
+
+  -- what was got is put back
+  pub put_got : (m : FinMap nat_cmp X) (k : ℕ) → put_or m k (map.get m k) ≡ m
+  put_got m k = same_map nat_cmp_total nat_cmp-IsAntisymmetric _ _ (λ q. get_put m k q (map.get m k) ∙ go q (eq_by_cmp nat_cmp q k) refl) where
+    go : (q : ℕ) (t : Bool) → eq_by_cmp nat_cmp q k ≡ t → cond t (map.get m k) (map.get m q) ≡ map.get m q
+    go q true h = ap (map.get m) (sym (same_at q k h))
+    go q false h = refl
+
+  -- ---- a number is set to a value
+
   -- a second value in place of the first
   pub insert_twice : (m : FinMap nat_cmp X) (k : ℕ) (v w : X) → map.insert (map.insert m k v) k w ≡ map.insert m k w
-  insert_twice m k v w = same_map nat_cmp_total nat_cmp-IsAntisymmetric _ _ (λ q.
-      get-insert nat_cmp_total (map.insert m k v) k w q ∙ ap (cond (eq_by_cmp nat_cmp q k) (Some w)) (get-insert nat_cmp_total m k v q)
-      ∙ over (eq_by_cmp nat_cmp q k) v w (map.get m q) ∙ sym (get-insert nat_cmp_total m k w q)) where
-        over : (t : Bool) (a b : X) (o : Option X) → cond t (Some b) (cond t (Some a) o) ≡ cond t (Some b) o
-        over true a b o = refl
-        over false a b o = refl
+  insert_twice m k v w = put_twice m k (Some v) (Some w)
 
   pub get_inserted : (m : FinMap nat_cmp X) (k : ℕ) (v : X) → map.get (map.insert m k v) k ≡ Some v
-  get_inserted m k v = get-insert nat_cmp_total m k v k ∙ ap (λ b. cond b (Some v) (map.get m k)) ((eq_by_cmp_equiv nat_cmp_total).refl k)
+  get_inserted m k v = get_put_same m k (Some v)
 
   -- the other numbers are as before
   pub get_other : (m : FinMap nat_cmp X) (k q : ℕ) (v : X) → (q ≡ k → ⊥) → map.get (map.insert m k v) q ≡ map.get m q
-  get_other m k q v n = get-insert nat_cmp_total m k v q ∙ ap (λ b. cond b (Some v) (map.get m q)) (not_at q k n)
+  get_other m k q v n = get_put_other m k q (Some v) n

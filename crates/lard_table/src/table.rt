@@ -2,12 +2,13 @@
 
 ghost use Rattle.std.specs.Prelude.{◌≡◌, ◌<◌, Some, IsSome, IfSome, IfNone, IfOk, IfErr, OnOk, OnErr, option_copied};
 ghost use Rattle.std.specs.FinMap as map;
-ghost use Rattle.lard_table.specs.Table.{TakesOut};
+ghost use Rattle.lard_table.specs.Table.{IsLast, IsNextAbove, TakesOut};
 
 use std::alloc::{AllocFailed, Global};
 use std::collections::BTreeMap;
 use std::marker::Model;
 use std::mem;
+use std::ops::Bound;
 
 /// Values by their numbers, seen as a finite map. A value is handed out again in each case, so it may be of a type that
 /// has to be spent; so has the table itself, by `pop` until nothing is left and then `destroy_empty`.
@@ -65,6 +66,36 @@ impl<V> Table<V> {
             Some(slot) => mem::replace(slot, value),
             None => unreachable!(),
         }
+    }
+
+    /// Takes out the value of a number, where it has one.
+    pub fn remove(&mut self, number: u32) -> Option<V>
+        ensures before { result ≡ map.get self.old number }
+        ensures after { self.new ≡ map.remove self.old number }
+    {
+        self.all.remove(&number)
+    }
+
+    /// The least number above this one that has a value, and its value, lent; none where no number above has one.
+    pub fn next_above(&self, number: u32) -> Option<(u32, &V)>
+        ensures some { IfSome result (λ next. IsNextAbove self.now number next.0 next.1.now) }
+        ensures none { IfNone result (IsLast self.now number) }
+    {
+        match self
+            .all
+            .range((Bound::Excluded(number), Bound::Unbounded))
+            .next()
+        {
+            Some((next, value)) => Some((*next, value)),
+            None => None,
+        }
+    }
+
+    /// How many numbers have a value.
+    pub fn len(&self) -> usize
+        ensures { result ≡ map.len self.now }
+    {
+        self.all.len()
     }
 
     /// Takes out the value of some number, or none where nothing is left.

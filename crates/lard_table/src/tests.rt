@@ -62,3 +62,41 @@ fn values_are_kept_by_their_numbers(rt: HostRuntime) {
     assert_eq!(rt; found, (Some(71), Some(20), None));
     assert_eq!(rt; (first, second, none), (Some(20), Some(71), None));
 }
+
+/// The least number above this one, and its value.
+fn above(table: &Table<Ticket>, number: u32) -> Option<(u32, u32)> {
+    match table.next_above(number) {
+        Some((next, Ticket(value))) => Some((next, *value)),
+        None => None,
+    }
+}
+
+#[test]
+fn numbers_come_in_their_order(rt: HostRuntime) {
+    let mut table = Table::new(rt.alloc());
+    let before = (
+        set(&mut table, 7, 70),
+        set(&mut table, 2, 20),
+        set(&mut table, 4_294_967_295, 1),
+        set(&mut table, 5, 50),
+    );
+    let all = table.len();
+    let removed = (spent(table.remove(5)), spent(table.remove(5)));
+    let left = table.len();
+    let next = (
+        above(&table, 0),
+        above(&table, 2),
+        above(&table, 6),
+        above(&table, 7),
+        above(&table, 4_294_967_295),
+    );
+    finish(table);
+    assert_eq!(rt; before, (None, None, None, None));
+    assert_eq!(rt; (all, left), (4, 3));
+    assert_eq!(rt; removed, (Some(50), None));
+    let last = Some((4_294_967_295, 1));
+    assert_eq!(rt;
+        next,
+        (Some((2, 20)), Some((7, 70)), Some((7, 70)), last, None)
+    );
+}
