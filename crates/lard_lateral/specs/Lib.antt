@@ -1,0 +1,2 @@
+pub mod Lateral
+pub mod Laws

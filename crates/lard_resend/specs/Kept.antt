@@ -1,0 +1,37 @@
+-- Messages that await their answers, in order.
+use Rattle.std.specs.Prelude.{◌≡◌, ℕ, ◌+◌, Bool, true, ◌==◌, nat_lt, not, ◌&&◌, List, [], ◌∷◌, insert, filter, if◌then◌else◌}
+use Rattle.std.specs.List.{AllByRecursion}
+use Rattle.lard_base.specs.declared.place.TimerKind.{TimerKind}
+use Rattle.lard_base.specs.declared.place.TimerKind.TheVariants.{Tcp, Offer, Ask, Fetch, Ended}
+use Rattle.lard_resend.specs.declared.kept.Kept.{Kept}
+
+-- the order of kinds
+abbrev pub rank : TimerKind → ℕ
+rank Tcp = 0
+rank Offer = 1
+rank Ask = 2
+rank Fetch = 3
+rank Ended = 4
+
+abbrev pub is_under : TimerKind → ℕ → Kept → Bool
+is_under kind r k = rank k.kind == rank kind && k.r == r
+
+-- k stands before what has this kind and number: by the order of kinds, and among one kind by the number
+abbrev pub comes_before : TimerKind → ℕ → Kept → Bool
+comes_before kind r k = if rank k.kind == rank kind then nat_lt k.r r else nat_lt (rank k.kind) (rank kind)
+
+-- the place behind those that stand before it
+abbrev pub place_of : TimerKind → ℕ → List Kept → ℕ
+place_of kind r [] = 0
+place_of kind r (x ∷ xs) = if comes_before kind r x then place_of kind r xs + 1 else 0
+
+abbrev pub put_in : Kept → List Kept → List Kept
+put_in k ks = insert ks (place_of k.kind k.r ks) k
+
+abbrev pub without : TimerKind → ℕ → List Kept → List Kept
+without kind r ks = filter (λ k. not (is_under kind r k)) ks
+
+-- each stands before those behind it
+abbrev pub AreInOrder : List Kept → Type 0
+AreInOrder [] = Unit {0}
+AreInOrder (k ∷ ks) = AllByRecursion (λ later. comes_before later.kind later.r k ≡ true) ks × AreInOrder ks

@@ -1,0 +1,38 @@
+-- What is held of each connection.
+use Rattle.std.specs.Prelude.{ℕ, List, [], ◌∷◌, Option, Some, None, is_some, if◌then◌else◌}
+use Rattle.std.specs.FinMap.{FinMap, get, insert}
+use Rattle.std.specs.FinMap as map
+use Rattle.std.specs.List.{find}
+use Rattle.std.specs.Ordering.{nat_cmp}
+use Rattle.lard_base.specs.declared.place.Place.{Place}
+use Rattle.lard_base.specs.declared.place.TimerKind.{TimerKind}
+use Rattle.lard_resend.specs.declared.kept.Kept.{Kept}
+use Rattle.lard_resend.specs.Kept.{is_under, put_in, without}
+
+abbrev pub list_of : Option (List Kept) → List Kept
+list_of None = []
+list_of (Some ks) = ks
+
+abbrev pub held : FinMap nat_cmp (List Kept) → ℕ → List Kept
+held m c = list_of (get m c)
+
+-- what is held of a connection under a kind and a number
+abbrev pub under : FinMap nat_cmp (List Kept) → ℕ → TimerKind → ℕ → Option Kept
+under m c kind r = find (is_under kind r) (held m c)
+
+-- one message more
+abbrev pub holding : FinMap nat_cmp (List Kept) → ℕ → Kept → FinMap nat_cmp (List Kept)
+holding m c k = insert m c (put_in k (held m c))
+
+-- a connection of which nothing is held is not in the map
+abbrev pub put_list : FinMap nat_cmp (List Kept) → ℕ → List Kept → FinMap nat_cmp (List Kept)
+put_list m c [] = map.remove m c
+put_list m c (k ∷ ks) = insert m c (k ∷ ks)
+
+-- what is held under a kind and a number is dropped
+abbrev pub settled : FinMap nat_cmp (List Kept) → ℕ → TimerKind → ℕ → FinMap nat_cmp (List Kept)
+settled m c kind r = if is_some (under m c kind r) then put_list m c (without kind r (held m c)) else m
+
+-- a message, and the place that it goes to
+abbrev pub sent_of : Kept → Place × List ℕ
+sent_of k = (k.to, k.bytes)

@@ -1,0 +1,14 @@
+//! Messages that are sent again until they are answered.
+//!
+//! It stands on `lard_table`. The front end keeps its Offers here, and a node its Asks, Fetches and Ended; a timer sends
+//! what is held of its connection once more.
+#![tactic(auto)]
+
+mod kept;
+pub mod laws;
+mod pending;
+#[cfg(test)]
+mod tests;
+
+pub use kept::{Kept, PendingKey};
+pub use pending::Pending;
