@@ -8,7 +8,12 @@ use lard_base::limits::{MAX_PACKET_BYTES, MAX_PACKETS, MAX_RECORDS, MAX_RESPONSE
 
 /// The first limit that a run has reached: of so many packets, bytes of packets, records of the journal, and bytes of
 /// responses.
-pub fn first_limit(packets: u32, packet_bytes: u64, records: u64, response_bytes: u64) -> Option<What>
+pub fn first_limit(
+    packets: u32,
+    packet_bytes: u64,
+    records: u64,
+    response_bytes: u64,
+) -> Option<What>
     ensures { result ≡ limit_of packets packet_bytes records response_bytes }
 {
     if packets >= MAX_PACKETS {

@@ -145,7 +145,12 @@ pub fn fire(alloc: Global, client: &mut Client) -> Result<Turn, NoMemory>
 }
 
 /// A packet comes (RFC 9293, 3.10.7). What does not decode is dropped.
-pub fn receive(alloc: Global, c: ConnId, client: &mut Client, bytes: &[u8]) -> Result<Turn, NoMemory>
+pub fn receive(
+    alloc: Global,
+    c: ConnId,
+    client: &mut Client,
+    bytes: &[u8],
+) -> Result<Turn, NoMemory>
     requires { length bytes.now ≤ MAX_SEGMENT_BYTES }
     ensures turn { IfOk result (λ turn. (client.new, turn) ≡ client_gets client.old (decoded bytes.now c Dir.ToClient)) }
     ensures fits { IfOk result IsTurn }

@@ -152,7 +152,12 @@ fn begin(
 }
 
 /// The client writes a plain request for a path.
-pub fn write_request(machine: &mut Machine, alloc: Global, c: ConnId, path: Path) -> Result<(), StepFault>
+pub fn write_request(
+    machine: &mut Machine,
+    alloc: Global,
+    c: ConnId,
+    path: Path,
+) -> Result<(), StepFault>
     requires room { HasRoom machine.old }
     requires stream { machine.old.config.stream ≤ MAX_STREAM_BYTES }
     ensures { Steps (wrote machine.old (Event.Get c path) c (request path) (table.get machine.old.clients c)) machine.old machine.new result }
@@ -172,7 +177,12 @@ fn request(alloc: Global, path: &Path) -> Result<Bytes, NoMemory>
 }
 
 /// The client writes these bytes.
-pub fn write_bytes(machine: &mut Machine, alloc: Global, c: ConnId, bytes: Bytes) -> Result<(), StepFault>
+pub fn write_bytes(
+    machine: &mut Machine,
+    alloc: Global,
+    c: ConnId,
+    bytes: Bytes,
+) -> Result<(), StepFault>
     requires room { HasRoom machine.old }
     requires stream { machine.old.config.stream ≤ MAX_STREAM_BYTES }
     ensures { Steps (wrote machine.old (Event.Write c bytes) c bytes (table.get machine.old.clients c)) machine.old machine.new result }
