@@ -1,6 +1,6 @@
 -- An endpoint that is taken out to be ended, and put back where it may not end.
-use Rattle.std.proofs.Common.{◌≡◌, ℕ, Bool, true, false, cond, Option, Some, None, IsSome, OnSome, option_map, ◌==◌, nat_lt, ◌&&◌, ◌≤◌, arith, ltb-true, refl, sym, ap, ◌∙◌, subst}
-use Rattle.std.specs.FinMap.{FinMap, get, insert}
+use Rattle.std.proofs.Common.{◌≡◌, ℕ, Bool, true, false, cond, Option, Some, None, IsSome, OnSome, option_map, ◌==◌, nat_lt, ◌&&◌, arith, ltb-true, refl, sym, ap, ◌∙◌, subst}
+use Rattle.std.specs.FinMap.{get, insert}
 use Rattle.std.proofs.lemmas.Bool.{cond-false}
 use Rattle.lard_endpoint.specs.Control.{ControlBlock}
 use Rattle.lard_endpoint.specs.Moving.{may_end}
@@ -12,7 +12,7 @@ use Rattle.lard_handoff_back.specs.declared.row.BackRow.{BackRow}
 use Rattle.lard_handoff_back.specs.Row.{held_in, is_out, is_gone}
 use Rattle.lard_handoff_back.specs.Laws.{AdoptsOnce, StagesKeepTheEpoch}
 use Rattle.lard_handoff_back.specs.declared.table.Adopt.TheVariants.{New, Again, Stale}
-use Rattle.lard_handoff_back.specs.Back.{Backs, endpoint_of, ends, given, last_of, may_put, with_stage}
+use Rattle.lard_handoff_back.specs.Back.{Backs, endpoint_of, ends, given, may_put, with_stage}
 
 -- a row stays where its stage is set
 pub still_there : (m : Backs) (c : ℕ) (stage before : BackConn) → option_map (λ row. row.stage) (get m c) ≡ Some before → IsSome (get (with_stage m c stage (get m c)) c)

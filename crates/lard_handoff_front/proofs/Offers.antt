@@ -1,7 +1,6 @@
 -- An endpoint that is taken out to be offered, and what then becomes of its row.
-use Rattle.std.proofs.Common.{◌≡◌, ℕ, ◌+◌, ◌<◌, ◌≤◌, Bool, true, false, cond, arith, Option, Some, None, IsSome, option_map, ◌==◌, eq-eqb, refl, sym, ap, ◌∙◌, subst}
-use Rattle.std.specs.FinMap.{FinMap, get, insert}
-use Rattle.std.specs.Ordering.{nat_cmp}
+use Rattle.std.proofs.Common.{◌≡◌, ℕ, ◌<◌, Bool, arith, Option, Some, None, IsSome, option_map, ◌==◌, eq-eqb, refl, sym, ap, ◌∙◌, subst}
+use Rattle.std.specs.FinMap.{get, insert}
 use Rattle.lard_base.specs.declared.ids.Epoch.{Epoch}
 use Rattle.lard_endpoint.specs.Control.{ControlBlock}
 use Rattle.lard_table.proofs.Map.{get_inserted, insert_twice, put_got}
@@ -9,10 +8,9 @@ use Rattle.lard_table.specs.Table.{put_or}
 use Rattle.lard_handoff_front.specs.declared.row.FrontConn.{FrontConn}
 use Rattle.lard_handoff_front.specs.declared.row.FrontConn.TheVariants.{Held, Waiting, Lent, Offering, Moved, Closed}
 use Rattle.lard_handoff_front.specs.declared.row.FrontRow.{FrontRow}
-use Rattle.lard_handoff_front.specs.Row.{IsRow, held_in, is_away, is_waiting}
+use Rattle.lard_handoff_front.specs.Row.{held_in, is_away, is_waiting}
 use Rattle.lard_handoff_front.specs.Front.{Fronts, AreRows, after_ended, end_answer, ended_row, IsSmall, MayBeOffered, in_stage, leaving_of, next_epoch, offered, with_stage}
 use Rattle.std.proofs.lemmas.Bool.{cond-true}
-use Rattle.lard_endpoint.specs.declared.control.moving.Final.{Final}
 use Rattle.lard_handoff_front.specs.Laws.{EndsOnce}
 use Rattle.lard_handoff_front.proofs.Rows.{row_put}
 
