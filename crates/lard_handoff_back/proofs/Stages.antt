@@ -1,6 +1,6 @@
 -- An endpoint that is taken out to be ended, and put back where it may not end.
-use Rattle.std.proofs.Common.{◌≡◌, ℕ, Bool, true, false, cond, Option, Some, None, IsSome, OnSome, option_map, refl, sym, ap, ◌∙◌, subst}
-use Rattle.std.specs.FinMap.{FinMap, get, insert}
+use Rattle.std.proofs.Common.{◌≡◌, ℕ, Bool, true, false, cond, Option, Some, None, IsSome, OnSome, option_map, ◌==◌, nat_lt, ◌&&◌, arith, ltb-true, refl, sym, ap, ◌∙◌, subst}
+use Rattle.std.specs.FinMap.{get, insert}
 use Rattle.std.proofs.lemmas.Bool.{cond-false}
 use Rattle.lard_endpoint.specs.Control.{ControlBlock}
 use Rattle.lard_endpoint.specs.Moving.{may_end}
@@ -9,8 +9,10 @@ use Rattle.lard_table.specs.Table.{put_or}
 use Rattle.lard_handoff_back.specs.declared.row.BackConn.{BackConn}
 use Rattle.lard_handoff_back.specs.declared.row.BackConn.TheVariants.{Here, Out, Ended, Gone}
 use Rattle.lard_handoff_back.specs.declared.row.BackRow.{BackRow}
-use Rattle.lard_handoff_back.specs.Row.{held_in, is_out}
-use Rattle.lard_handoff_back.specs.Back.{Backs, endpoint_of, ends, given, last_of, may_put, with_stage}
+use Rattle.lard_handoff_back.specs.Row.{held_in, is_out, is_gone}
+use Rattle.lard_handoff_back.specs.Laws.{AdoptsOnce, StagesKeepTheEpoch}
+use Rattle.lard_handoff_back.specs.declared.table.Adopt.TheVariants.{New, Again, Stale}
+use Rattle.lard_handoff_back.specs.Back.{Backs, endpoint_of, ends, given, may_put, with_stage}
 
 -- a row stays where its stage is set
 pub still_there : (m : Backs) (c : ℕ) (stage before : BackConn) → option_map (λ row. row.stage) (get m c) ≡ Some before → IsSome (get (with_stage m c stage (get m c)) c)
@@ -54,3 +56,15 @@ pub out_is : (o : Option BackRow) (r : Option ControlBlock) → option_map (λ r
 out_is None r h = let none : None ≡ Some Out = h in absurd cc
 out_is (Some row) None h = tt
 out_is (Some row) (Some b) h = let stages : Some row.stage ≡ Some Out = h in let same : row.stage ≡ Out = cc in ap is_out same
+
+-- ---- laws
+
+pub adopts : AdoptsOnce
+adopts e row le h = go (row.epoch.0 == e) (nat_lt row.epoch.0 e) refl (is_gone row.stage) h where
+  go : (t u : Bool) → nat_lt row.epoch.0 e ≡ u → (g : Bool) → cond t Again (cond (u && g) New Stale) ≡ New → ⊥
+  go true u p g h = cc
+  go false true p g h = omega (arith, ltb-true row.epoch.0 e p, le)
+  go false false p g h = cc
+
+pub stages_keep : StagesKeepTheEpoch
+stages_keep m c stage row h = ap (λ (o : Option BackRow). get (with_stage m c stage o) c) h ∙ get_inserted m c (record row { stage = stage })

@@ -1,10 +1,9 @@
 -- What the calls of a node's table answer, and what they leave. What is looked up is an argument of its own.
-use Rattle.std.specs.Prelude.{◌≡◌, ℕ, Bool, true, false, ◌==◌, nat_lt, ◌&&◌, Option, Some, None, is_some, option_map, if◌then◌else◌}
-use Rattle.std.specs.FinMap.{FinMap, get, insert}
+use Rattle.std.specs.Prelude.{ℕ, Bool, false, ◌==◌, nat_lt, ◌&&◌, Option, Some, None, option_map, if◌then◌else◌}
+use Rattle.std.specs.FinMap.{FinMap, insert}
 use Rattle.std.specs.Ordering.{nat_cmp}
 use Rattle.lard_base.specs.declared.ids.Epoch.{Epoch}
 use Rattle.lard_base.specs.declared.parts.EndpointParts.{EndpointParts}
-use Rattle.lard_base.specs.declared.place.Reason.TheVariants.{Limit}
 use Rattle.lard_endpoint.specs.Control.{ControlBlock}
 use Rattle.lard_endpoint.specs.Moving.{adopted, may_end, final_of, end_reason}
 use Rattle.lard_endpoint.specs.declared.control.moving.Final.{Final}

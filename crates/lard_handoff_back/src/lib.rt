@@ -4,6 +4,7 @@
 //! Offer, and leaves it only by `take`, for a while, or by its end.
 #![tactic(auto)]
 
+pub mod laws;
 mod row;
 mod table;
 #[cfg(test)]

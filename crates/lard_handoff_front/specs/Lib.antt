@@ -1,2 +1,3 @@
 pub mod Row
 pub mod Front
+pub mod Laws

@@ -4,6 +4,7 @@
 //! only by `take`, for a while, or as the parts of an Offer.
 #![tactic(auto)]
 
+pub mod laws;
 mod row;
 mod table;
 #[cfg(test)]

@@ -1,18 +1,16 @@
 -- What is awaited after a Fetch, and after its Content.
-use Rattle.std.proofs.Common.{◌≡◌, ℕ, ◌+◌, ◌*◌, ◌/◌, ◌%◌, ◌<◌, ◌^◌, Bool, true, false, cond, ◌==◌, ◌&&◌, nat_lt, List, [], ◌∷◌, length, find, Option, Some, None, is_some, refl, sym, ap, ◌∙◌, arith, le-ltb}
-use Rattle.std.specs.FinMap.{FinMap, get, insert}
-use Rattle.std.specs.FinMap as map
+use Rattle.std.proofs.Common.{◌≡◌, ℕ, ◌+◌, ◌*◌, ◌/◌, ◌%◌, ◌<◌, ◌^◌, Bool, true, ◌==◌, ◌&&◌, nat_lt, List, [], ◌∷◌, length, find, Option, Some, None, is_some, refl, ap, ◌∙◌, arith, le-ltb}
+use Rattle.std.specs.FinMap.{FinMap}
 use Rattle.std.specs.Ordering.{nat_cmp}
 use Rattle.std.proofs.lemmas.Bool.{cond-true, cond-false}
-use Rattle.lard_base.specs.declared.place.TimerKind.{TimerKind}
 use Rattle.lard_base.specs.declared.place.TimerKind.TheVariants as kind
 use Rattle.lard_message.specs.Message.{spelled_message}
 use Rattle.lard_resend.specs.declared.kept.Kept.{Kept}
 use Rattle.lard_resend.specs.Kept.{is_under, put_in, without}
-use Rattle.lard_resend.specs.Pending.{held, list_of, under, put_list, settled}
+use Rattle.lard_resend.specs.Pending.{held, list_of, under, put_list}
 use Rattle.lard_resend.proofs.Ordered.{holds, drops}
 use Rattle.lard_table.proofs.Map.{get_inserted, get_put_same}
-use Rattle.lard_lateral.specs.Lateral.{fetching, fetch_kept, wanting, is_node, names_epoch, is_from, is_awaited, after_content}
+use Rattle.lard_lateral.specs.Lateral.{fetching, fetch_kept, wanting, names_epoch, is_from, is_awaited, after_content}
 use Rattle.lard_lateral.specs.Laws.{AwaitsWhatIsWanted, AwaitsItOnce}
 
 -- a spelling names its epoch

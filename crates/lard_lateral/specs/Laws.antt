@@ -1,10 +1,10 @@
 -- What holds of contents that are awaited.
-use Rattle.std.specs.Prelude.{◌≡◌, ℕ, ◌<◌, ◌^◌, ◌==◌, ◌&&◌, true, false, List, None, is_some}
+use Rattle.std.specs.Prelude.{◌≡◌, ℕ, ◌<◌, ◌^◌, ◌==◌, ◌&&◌, true, false, List, None}
 use Rattle.std.specs.FinMap.{FinMap}
 use Rattle.std.specs.Ordering.{nat_cmp}
 use Rattle.lard_base.specs.declared.place.TimerKind.TheVariants as kind
 use Rattle.lard_resend.specs.declared.kept.Kept.{Kept}
-use Rattle.lard_resend.specs.Pending.{settled, under}
+use Rattle.lard_resend.specs.Pending.{under}
 use Rattle.lard_lateral.specs.Lateral.{wanting, is_awaited, after_content}
 
 -- What is wanted of a node in an epoch is awaited from that node in that epoch, and from no other.

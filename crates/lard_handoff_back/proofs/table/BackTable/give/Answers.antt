@@ -1,5 +1,5 @@
 -- An endpoint that may not end is put back as it was.
-use Rattle.std.proofs.Common.{◌≡◌, ℕ, IsSome, sym, ap, subst, ◌∙◌}
+use Rattle.std.proofs.Common.{ℕ, IsSome, sym, ap, subst, ◌∙◌}
 use Rattle.std.specs.FinMap.{get}
 use Rattle.lard_handoff_back.specs.declared.row.BackConn.TheVariants as stage
 use Rattle.lard_handoff_back.specs.Back.{Backs, endpoint_of, ends, given, with_stage}

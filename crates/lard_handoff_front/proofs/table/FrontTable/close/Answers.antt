@@ -1,8 +1,8 @@
 -- A stage that is not away fits every row.
 use Rattle.std.proofs.Common.{sym, subst}
 use Rattle.lard_handoff_front.specs.declared.row.FrontConn.TheVariants as stage
-use Rattle.lard_handoff_front.specs.Front.{AreRows, in_stage}
-use Rattle.lard_handoff_front.proofs.Rows.{stage_put, here_fits}
+use Rattle.lard_handoff_front.specs.Front.{AreRows}
+use Rattle.lard_handoff_front.proofs.Rows.{stage_put}
 use Rattle.lard_handoff_front.proofs.table.FrontTable.close.Goals as goal
 
 pub invariant_of-self : goal.invariant_of-self

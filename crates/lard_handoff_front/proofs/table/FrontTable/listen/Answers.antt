@@ -1,7 +1,7 @@
 -- The first epoch is 1.
-use Rattle.std.proofs.Common.{IfOk, Result, Ok, Err, arith, ◌≡◌, sym, subst}
-use Rattle.lard_handoff_front.specs.Front.{AreRows, begun}
-use Rattle.lard_handoff_front.proofs.Rows.{row_put, kept_or_same}
+use Rattle.std.proofs.Common.{arith}
+use Rattle.lard_handoff_front.specs.Front.{begun}
+use Rattle.lard_handoff_front.proofs.Rows.{kept_or_same}
 use Rattle.lard_handoff_front.proofs.table.FrontTable.listen.Goals as goal
 
 pub invariant_of-self : goal.invariant_of-self

@@ -1,8 +1,7 @@
 -- The endpoint leaves with the Offer, or is put back as it was.
-use Rattle.std.proofs.Common.{◌≡◌, ℕ, IsSome, Some, sym, ap, subst, ◌∙◌}
+use Rattle.std.proofs.Common.{ℕ, IsSome, sym, ap, subst, ◌∙◌}
 use Rattle.std.specs.FinMap.{get}
 use Rattle.lard_handoff_front.specs.declared.row.FrontConn.TheVariants as stage
-use Rattle.lard_handoff_front.specs.Row.{held_in}
 use Rattle.lard_handoff_front.specs.Front.{AreRows, Fronts, IsSmall, in_stage, offered, with_stage}
 use Rattle.lard_handoff_front.proofs.Offers.{still_there, small_of, offered_put, offered_is, put_back}
 use Rattle.lard_handoff_front.proofs.table.FrontTable.offer.Goals as goal

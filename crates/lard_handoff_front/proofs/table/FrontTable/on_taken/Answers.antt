@@ -1,5 +1,5 @@
 -- It moves in the epoch of its row.
-use Rattle.std.proofs.Common.{sym, subst, ◌∙◌}
+use Rattle.std.proofs.Common.{sym, subst}
 use Rattle.lard_handoff_front.specs.Front.{AreRows}
 use Rattle.lard_handoff_front.proofs.Rows.{moved_put}
 use Rattle.lard_handoff_front.proofs.table.FrontTable.on_taken.Goals as goal

@@ -1,0 +1,8 @@
+//! What holds of the table over its calls.
+
+ghost use Rattle.lard_handoff_front.specs.Laws.{EndsOnce};
+
+/// An end is new once: behind it the same epoch is answered by Again, and changes nothing.
+pub fn ends_once()
+    ensures { EndsOnce }
+{}
