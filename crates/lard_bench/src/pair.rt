@@ -4,6 +4,7 @@ ghost use Rattle.std.specs.Prelude.{◌≡◌, ◌≤◌, length};
 ghost use Rattle.lard_base.specs.Parts.{IsValidParts};
 ghost use Rattle.lard_endpoint.specs.Leaving.{IsReady};
 
+use lard_base::limits::{MAX_SEGMENT_BYTES, MAX_SEGMENT_DATA, MAX_STREAM_BYTES, RECEIVE_WINDOW};
 use lard_base::{Bytes, ConnId, EndpointParts, NoMemory};
 use lard_endpoint::Endpoint;
 use lard_segment::{Dir, Ready, decode, encode};
@@ -19,10 +20,10 @@ pub struct Pushed {
 }
 
 /// The bytes that are queued at a time, which fill the window.
-const CHUNK: u32 = 16_384;
+const CHUNK: u32 = RECEIVE_WINDOW as u32;
 
-/// The most bytes that one direction carries.
-const MOST_BYTES: u32 = 1 << 30;
+/// The most bytes of data in a segment, as the length of a buffer.
+const DATA: usize = MAX_SEGMENT_DATA as usize;
 
 /// Two endpoints of one connection.
 struct Pair {
@@ -48,10 +49,10 @@ fn parts(alloc: Global, irs: u32, iss: u32) -> EndpointParts
         got: 0,
         fin: false,
         una: 1,
-        wnd: 16_384,
+        wnd: RECEIVE_WINDOW,
         wl1: irs,
         wl2: iss,
-        mss: 1_460,
+        mss: MAX_SEGMENT_DATA,
         served: 0,
         unread: Bytes::from_vec(Vec::new(alloc)),
     }
@@ -79,8 +80,8 @@ impl Pair {
     /// Pushes the bytes, a segment and its acknowledgement at a time.
     fn push(&mut self, bytes: u32) -> Result<Pushed, NoMemory> {
         let chunk = [b'x'; CHUNK as usize];
-        let mut payload = [0; 1_460];
-        let mut wire = [0; 1_520];
+        let mut payload = [0; DATA];
+        let mut wire = [0; MAX_SEGMENT_BYTES];
         let mut pushed = Pushed {
             segments: 0,
             bytes: 0,
@@ -113,9 +114,12 @@ impl Pair {
 
     /// Queues a chunk where all that was queued is acknowledged.
     fn fill(&mut self, chunk: &[u8]) -> Result<(), NoMemory>
-        requires { length chunk.now ≤ 16384 }
+        requires { length chunk.now ≤ RECEIVE_WINDOW }
     {
-        if !self.from.clear() || self.from.finished() || self.from.total() > MOST_BYTES - CHUNK {
+        if !self.from.clear()
+            || self.from.finished()
+            || self.from.total() > MAX_STREAM_BYTES - CHUNK
+        {
             return Ok(());
         }
         self.from.queue(chunk)
@@ -130,8 +134,8 @@ fn cross(
     wire: &mut [u8],
     dir: Dir,
 ) -> bool
-    requires room { length payload.old ≡ 1460 }
-    requires wire { length wire.old ≡ 1520 }
+    requires room { length payload.old ≡ MAX_SEGMENT_DATA }
+    requires wire { length wire.old ≡ MAX_SEGMENT_BYTES }
 {
     match from.emit() {
         Some(ready) => {
@@ -152,8 +156,8 @@ fn carry(
     dir: Dir,
 )
     requires ready { IsReady from.now ready }
-    requires room { length payload.old ≡ 1460 }
-    requires wire { length wire.old ≡ 1520 }
+    requires room { length payload.old ≡ MAX_SEGMENT_DATA }
+    requires wire { length wire.old ≡ MAX_SEGMENT_BYTES }
 {
     let Some(c) = ConnId::new(1) else {
         return;

@@ -236,7 +236,7 @@ impl Client {
 
     /// What holds of every client, by the law of its sending half too. It is called where a proof wants it, and does
     /// nothing.
-    fn law(&self)
+    pub fn law(&self)
         ensures block { IsClientBlock self.now }
         ensures sending { IsSending self.now.send }
     {

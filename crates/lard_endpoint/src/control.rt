@@ -153,7 +153,7 @@ impl Endpoint {
     }
 
     /// What holds of every endpoint, by the laws of its halves. It is called where a proof wants it, and does nothing.
-    fn law(&self)
+    pub fn law(&self)
         ensures { IsControlBlock self.now }
     {
         let _received = self.recv.got();

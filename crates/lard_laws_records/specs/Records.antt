@@ -4,6 +4,7 @@ use Rattle.hex.specs.Hex.{IsBytes}
 use Rattle.lard_base.specs.declared.config.Config.{Config}
 use Rattle.lard_base.specs.declared.event.Event.{Event}
 use Rattle.lard_base.specs.declared.event.Event.TheVariants as event
+use Rattle.lard_base.specs.declared.limits.TheConstants.{MAX_STREAM_BYTES}
 use Rattle.lard_files.specs.Files.{IsContent}
 use Rattle.lard_journal.specs.Range.{IsEventInRange, IsInRange}
 use Rattle.lard_machine.specs.declared.machine.Machine.{Machine}
@@ -24,5 +25,5 @@ IsGiven e = IsEventInRange e × HasBytes e
 
 -- In every run of such files and events, where the stream limit is within what one direction of a connection carries.
 abbrev pub RecordsAreInRange : Type 0
-RecordsAreInRange = (config : Config) (files : List (List ℕ × List ℕ)) (es : List Event) (m : Machine) → config.stream ≤ 2 ^ 30 → All IsFile files → All IsGiven es
+RecordsAreInRange = (config : Config) (files : List (List ℕ × List ℕ)) (es : List Event) (m : Machine) → config.stream ≤ MAX_STREAM_BYTES → All IsFile files → All IsGiven es
     → Passes (start config files) es m → All IsInRange m.journal

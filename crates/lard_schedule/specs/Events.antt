@@ -3,6 +3,7 @@ use Rattle.std.specs.Prelude.{◌≡◌, ℕ, ◌-◌, ◌<◌, ◌≤◌, ◌^�
 use Rattle.std.specs.List.{find, list_all}
 use Rattle.std.specs.Result.{result_ok}
 use Rattle.hex.specs.Hex.{decode_of}
+use Rattle.lard_base.specs.declared.ids.TheConstants.ConnId as conn_id
 use Rattle.lard_base.specs.declared.place.Place.{Place}
 use Rattle.lard_base.specs.declared.place.Place.TheVariants.{Front, Node, Client}
 use Rattle.lard_base.specs.declared.event.Event.{Event}
@@ -67,7 +68,7 @@ some_bytes_of word = do
 abbrev pub numbered_place : ℕ → List ℕ → Option Place
 numbered_place b word =
     if nat_eq b 110 then count_of 64 word >>= (λ n. Some (Node n))
-    else (if nat_eq b 99 then count_of 16384 word >>= (λ c. Some (Client c)) else None)
+    else (if nat_eq b 99 then count_of conn_id.MAX word >>= (λ c. Some (Client c)) else None)
 
 -- a place: front, n1 to n64, c1 to c16384
 unfoldable pub place_of : List ℕ → Option Place
@@ -179,21 +180,21 @@ IsUpTo most n = (1 ≤ n) × (n ≤ most)
 abbrev pub IsPlace : Place → Type 0
 IsPlace Front = Unit {0}
 IsPlace (Node n) = IsUpTo 64 n
-IsPlace (Client c) = IsUpTo 16384 c
+IsPlace (Client c) = IsUpTo conn_id.MAX c
 
 -- the numbers, the path, the place and the bytes of an event are ones that a line can have
 abbrev pub IsInRange : Event → Type 0
-IsInRange (Open c isn iss wnd mss) = IsUpTo 16384 c × (isn < 2 ^ 32) × (iss < 2 ^ 32) × IsUpTo 65535 wnd × IsUpTo MAX_SEGMENT_DATA mss
-IsInRange (Get c path) = IsUpTo 16384 c × (is_path path ≡ true)
-IsInRange (Write c bytes) = IsUpTo 16384 c × (1 ≤ length bytes)
-IsInRange (Shut c) = IsUpTo 16384 c
-IsInRange (Abort c) = IsUpTo 16384 c
-IsInRange (Hold c) = IsUpTo 16384 c
-IsInRange (Take c) = IsUpTo 16384 c
+IsInRange (Open c isn iss wnd mss) = IsUpTo conn_id.MAX c × (isn < 2 ^ 32) × (iss < 2 ^ 32) × IsUpTo 65535 wnd × IsUpTo MAX_SEGMENT_DATA mss
+IsInRange (Get c path) = IsUpTo conn_id.MAX c × (is_path path ≡ true)
+IsInRange (Write c bytes) = IsUpTo conn_id.MAX c × (1 ≤ length bytes)
+IsInRange (Shut c) = IsUpTo conn_id.MAX c
+IsInRange (Abort c) = IsUpTo conn_id.MAX c
+IsInRange (Hold c) = IsUpTo conn_id.MAX c
+IsInRange (Take c) = IsUpTo conn_id.MAX c
 IsInRange (Deliver k) = k < 2 ^ 32
 IsInRange (Lose k) = k < 2 ^ 32
-IsInRange (Timer place c) = IsPlace place × IsUpTo 16384 c × (may_keep place c ≡ true)
+IsInRange (Timer place c) = IsPlace place × IsUpTo conn_id.MAX c × (may_keep place c ≡ true)
 IsInRange (Disk n j) = (n < 2 ^ 32) × (j < 2 ^ 32)
 IsInRange (Clock ms) = ms < 2 ^ 32
 IsInRange (Settle rounds) = (1 ≤ rounds) × (rounds < 2 ^ 32)
-IsInRange (Inject c bytes) = IsUpTo 16384 c × IsUpTo MAX_SEGMENT_BYTES (length bytes)
+IsInRange (Inject c bytes) = IsUpTo conn_id.MAX c × IsUpTo MAX_SEGMENT_BYTES (length bytes)

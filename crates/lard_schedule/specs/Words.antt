@@ -3,6 +3,7 @@
 use Rattle.std.specs.Prelude.{◌≡◌, ℕ, ◌+◌, ◌-◌, ◌*◌, ◌^◌, Bool, true, false, ◌&&◌, not, nat_eq, nat_le, List, [], ◌∷◌, Option, Some, None, Result, Ok, Err, if◌then◌else◌}
 use Rattle.std.specs.List.{slice_split}
 use Rattle.std.specs.Borrow.{Bor}
+use Rattle.lard_base.specs.declared.ids.TheConstants.ConnId as conn_id
 use Rattle.lard_schedule.specs.declared.words.Words.{Words}
 use Rattle.lard_schedule.specs.declared.item.LineFault.{LineFault}
 use Rattle.lard_schedule.specs.declared.item.LineFault.TheVariants.{Syntax, NoMemory}
@@ -110,4 +111,4 @@ count_then most words = do
 
 -- a client's number, from 1 to 16,384
 abbrev pub client_then : List (List ℕ) → Option (ℕ × List (List ℕ))
-client_then words = count_then 16384 words
+client_then words = count_then conn_id.MAX words

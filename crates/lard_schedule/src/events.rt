@@ -70,7 +70,7 @@ fn number_alone(words: Words<'_>) -> Option<u32>
 #[tactic(auto, unfolding(crate::specs::Events::client_and_word))]
 fn client_and_word(words: Words<'_>) -> Option<(u32, &[u8])>
     ensures found { Finds seen_pair result (client_and_word (left_of words.entry)) }
-    ensures within { IfSome result (λ found. (1 ≤ found.0) × (found.0 ≤ 16384)) }
+    ensures within { IfSome result (λ found. (1 ≤ found.0) × (found.0 ≤ ConnId.MAX)) }
 {
     let (c, words) = client(words)?;
     let (word, words) = next(words)?;

@@ -58,7 +58,7 @@ pub fn count_in(word: &[u8], most: u32) -> Option<u32>
 
 /// A client's number: 1 to 16,384.
 pub fn client_in(word: &[u8]) -> Option<ConnId>
-    ensures { result ≡ count_of 16384 word.now }
+    ensures { result ≡ count_of ConnId.MAX word.now }
 {
     ConnId::new(count_in(word, ConnId::MAX)?)
 }
@@ -103,14 +103,14 @@ pub fn count(words: Words<'_>, most: u32) -> Option<(u32, Words<'_>)>
 /// A client's number, 1 to 16,384, as the next word.
 pub fn client(words: Words<'_>) -> Option<(u32, Words<'_>)>
     ensures found { Finds seen result (client_then (left_of words.entry)) }
-    ensures within { IfSome result (λ found. (1 ≤ found.0) × (found.0 ≤ 16384)) }
+    ensures within { IfSome result (λ found. (1 ≤ found.0) × (found.0 ≤ ConnId.MAX)) }
 {
     count(words, ConnId::MAX)
 }
 
 /// The connection with a number that was tested.
 pub fn conn(number: u32) -> ConnId
-    requires { (1 ≤ number) × (number ≤ 16384) }
+    requires { (1 ≤ number) × (number ≤ ConnId.MAX) }
     ensures { result ≡ number }
 {
     match ConnId::new(number) {

@@ -1,6 +1,7 @@
 -- Each operation of an endpoint and of a client sends the truth of its own stream, and takes that of the other's.
 use Rattle.std.specs.Prelude.{◌≡◌, ℕ, ◌+◌, ◌^◌, ◌<◌, ◌≤◌, true, false, List, [], ◌++◌, length, take, drop, Some}
 use Rattle.lard_arrival.specs.Arrival.{IsPartAt}
+use Rattle.lard_base.specs.declared.limits.TheConstants.{MAX_STREAM_BYTES}
 use Rattle.lard_client.specs.Control.{ClientBlock, IsClientBlock, opened, written, is_writing, shut_down, held_on, taken, aborted}
 use Rattle.lard_client.specs.Arriving.{arrived}
 use Rattle.lard_client.specs.Leaving as client
@@ -54,7 +55,7 @@ ArrivingHears = (x : Stream) (b : ControlBlock) (s : Said) → IsStream x → He
 
 -- Its owner's calls.
 abbrev pub QueueingSpeaks : Type 0
-QueueingSpeaks = (b : ControlBlock) (bytes more : List ℕ) → b.send.finished ≡ false → length bytes + length more ≤ 2 ^ 30 → Speaks b.send bytes
+QueueingSpeaks = (b : ControlBlock) (bytes more : List ℕ) → b.send.finished ≡ false → length bytes + length more ≤ MAX_STREAM_BYTES → Speaks b.send bytes
     → Speaks (queueing b more).send (bytes ++ more) × GoesOn (stream_of b.send bytes) (stream_of (queueing b more).send (bytes ++ more))
 
 abbrev pub FinishingSpeaks : Type 0
@@ -105,7 +106,7 @@ ClientArrivingAccepts = (x : Stream) (b : ClientBlock) (s : Said) → IsStream x
 
 -- Its owner's calls: bytes follow while it writes, and the other calls leave both streams as they are, but for the FIN.
 abbrev pub WritingSpeaks : Type 0
-WritingSpeaks = (b : ClientBlock) (bytes more : List ℕ) → is_writing b ≡ true → length bytes + length more ≤ 2 ^ 30 → Speaks b.send bytes
+WritingSpeaks = (b : ClientBlock) (bytes more : List ℕ) → is_writing b ≡ true → length bytes + length more ≤ MAX_STREAM_BYTES → Speaks b.send bytes
     → Speaks (written b more).send (bytes ++ more) × GoesOn (stream_of b.send bytes) (stream_of (written b more).send (bytes ++ more))
 
 abbrev pub ClosingSpeaks : Type 0

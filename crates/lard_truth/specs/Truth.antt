@@ -2,6 +2,7 @@
 use Rattle.std.specs.Prelude.{◌≡◌, ◌⊎◌, ℕ, ◌+◌, ◌^◌, ◌<◌, ◌≤◌, Bool, true, false, List, [], length, take}
 use Rattle.lard_answers.specs.Answers.{IsPrefix}
 use Rattle.lard_arrival.specs.Arrival.{IsPartAt}
+use Rattle.lard_base.specs.declared.limits.TheConstants.{MAX_STREAM_BYTES}
 use Rattle.lard_client.specs.Control.{ClientBlock, is_established}
 use Rattle.lard_recv.specs.Recv.{Received, IsReceived, IsUnusedPart}
 use Rattle.lard_segment.specs.Segment.{Said}
@@ -67,4 +68,4 @@ pub record Accepts (x : Stream) (b : ClientBlock) : Type 0 where
 -- One direction carries at most 2^30 bytes, and its numbers have 32 bits.
 pub record IsStream (x : Stream) : Type 0 where
   pub number : x.first < 2 ^ 32
-  pub most : length x.bytes ≤ 2 ^ 30
+  pub most : length x.bytes ≤ MAX_STREAM_BYTES

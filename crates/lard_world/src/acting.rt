@@ -1,6 +1,7 @@
 //! The end of a step: its packets are sent, and all of its records are appended at once.
 
 ghost use Rattle.std.specs.Prelude.{◌≡◌, ◌+◌, ◌^◌, ◌≤◌, ◌<◌, ◌-◌, [], ◌∷◌, ◌++◌, length, IfOk, OnOk, OnErr};
+ghost use Rattle.lard_base.specs.declared.limits.TheConstants.{MAX_SEGMENT_BYTES};
 ghost use Rattle.lard_machine.specs.Machine.{acted, packets_of, passed, sent_records, timer_change};
 ghost use Rattle.lard_machine.specs.Speaking.{AreShort, listed};
 ghost use Rattle.lard_world.specs.Acting.{act_of};
@@ -105,7 +106,7 @@ fn send_one(
     bytes: Bytes,
 ) -> Result<Rec, NoMemory>
     requires room { length net.old < 2 ^ 32 - 1 }
-    requires short { length bytes ≤ 1520 }
+    requires short { length bytes ≤ MAX_SEGMENT_BYTES }
     ensures net { OnOk result (net.new ≡ net.old ++ packets_of from.now ((to.now, bytes) ∷ [])) }
     ensures rec { IfOk result (λ rec. rec ≡ Rec.Sent (length net.old + 1) from.now to.now bytes) }
 {

@@ -2,6 +2,7 @@
 
 ghost use Rattle.std.specs.Prelude.{◌≡◌, ◌^◌, ◌≤◌, ◌∷◌, [], length, false, OnOk, OnErr};
 ghost use Rattle.std.specs.FinMap as table;
+ghost use Rattle.lard_base.specs.declared.limits.TheConstants.{MAX_SEGMENT_BYTES, MAX_STREAM_BYTES};
 ghost use Rattle.lard_net.specs.Net.{IsSized, packet_at};
 ghost use Rattle.lard_machine.specs.Bounds.{HasTimer};
 ghost use Rattle.lard_machine.specs.Machine.{Steps, delivered, from_place, lost, timer, to_client, to_front, to_place};
@@ -20,7 +21,7 @@ use std::alloc::Global;
 pub fn deliver(machine: &mut Machine, alloc: Global, k: u32) -> Result<(), StepFault>
     requires room { HasRoom machine.old }
     requires counts { HasCounts machine.old }
-    requires stream { machine.old.config.stream ≤ 2 ^ 30 }
+    requires stream { machine.old.config.stream ≤ MAX_STREAM_BYTES }
     ensures { Steps (delivered machine.old k (packet_at machine.old.net k)) machine.old machine.new result }
 {
     let Some(packet) = machine.net.get(k) else {
@@ -49,7 +50,7 @@ fn bring(
     requires sized { IsSized from to (length bytes.now) }
     requires room { HasRoom machine.old }
     requires counts { HasCounts machine.old }
-    requires stream { machine.old.config.stream ≤ 2 ^ 30 }
+    requires stream { machine.old.config.stream ≤ MAX_STREAM_BYTES }
     ensures ok { OnOk result (machine.new ≡ to_place machine.old k (record { from = from; to = to; bytes = bytes.now; lost = false }) to) }
     ensures err { OnErr result (machine.new.journal ≡ machine.old.journal) }
 {
@@ -68,10 +69,10 @@ fn to_front(
     c: ConnId,
     bytes: &[u8],
 ) -> Result<(), NoMemory>
-    requires short { length bytes.now ≤ 1520 }
+    requires short { length bytes.now ≤ MAX_SEGMENT_BYTES }
     requires room { HasRoom machine.old }
     requires counts { HasCounts machine.old }
-    requires stream { machine.old.config.stream ≤ 2 ^ 30 }
+    requires stream { machine.old.config.stream ≤ MAX_STREAM_BYTES }
     ensures ok { OnOk result (machine.new ≡ to_front machine.old k bytes.now c (table.get machine.old.clients c)) }
     ensures err { OnErr result (machine.new.journal ≡ machine.old.journal) }
 {
@@ -90,7 +91,7 @@ fn to_client(
     c: ConnId,
     bytes: &[u8],
 ) -> Result<(), NoMemory>
-    requires short { length bytes.now ≤ 1520 }
+    requires short { length bytes.now ≤ MAX_SEGMENT_BYTES }
     requires room { HasRoom machine.old }
     ensures ok { OnOk result (machine.new ≡ to_client machine.old k bytes.now c (table.get machine.old.clients c)) }
     ensures err { OnErr result (machine.new.journal ≡ machine.old.journal) }

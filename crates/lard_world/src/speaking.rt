@@ -75,10 +75,10 @@ pub fn speak(
     ensures few { IfOk result (λ sends. length sends ≤ length before + MAX_STREAM_BYTES + 3) }
 {
     let mut sends = before;
-    let _total = endpoint.total();
+    endpoint.law();
     while let Some(ready) = endpoint.emit() {
         sends.push(to_client(alloc, c, endpoint, ready)?)?;
-        let _total = endpoint.total();
+        endpoint.law();
     }
     Ok(sends)
 }
@@ -91,13 +91,13 @@ pub fn speak_symbols(alloc: Global, c: ConnId, endpoint: &mut Endpoint) -> Resul
     ensures few { IfOk result (λ sends. length sends ≤ MAX_STREAM_BYTES + 3) }
 {
     let mut sends = Sends::new(alloc);
-    let _total = endpoint.total();
+    endpoint.law();
     while let Some(ready) = endpoint.emit() {
         if !has_symbol(ready) {
             return Ok(sends);
         }
         sends.push(to_client(alloc, c, endpoint, ready)?)?;
-        let _total = endpoint.total();
+        endpoint.law();
     }
     Ok(sends)
 }
@@ -118,10 +118,10 @@ pub fn client_speak(alloc: Global, client: &mut Client, before: Sends) -> Result
     ensures few { IfOk result (λ sends. length sends ≤ length before + MAX_STREAM_BYTES + 3) }
 {
     let mut sends = before;
-    let _written = client.written();
+    client.law();
     while let Some(ready) = client.emit() {
         sends.push(to_front(alloc, client, ready)?)?;
-        let _written = client.written();
+        client.law();
     }
     Ok(sends)
 }

@@ -24,7 +24,7 @@ loop-ready-preserved c =
     record {
       said = more.0 ∙ c.loop-ready.invariant.said;
       after = more.1 ∙ c.loop-ready.invariant.after;
-      sound = c.total-total-in-Some.ensures.law;
+      sound = c.law-in-Some.ensures;
       short = subst AreShort (sym c.in_ok-push.ensures.ok) (short_push c.loop-ready.sends packet c.loop-ready.invariant.short c.in_ok-to_client.ensures.short);
       few = omega (arith, c.loop-ready.invariant.few, c.in-Some.ensures.ends, ap length c.in_ok-push.ensures.ok, length-append c.loop-ready.sends (packet ∷ []));
     }
