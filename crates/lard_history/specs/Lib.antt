@@ -1,2 +1,4 @@
 pub mod Journal
 pub mod Laws
+pub mod Own
+pub mod Steps
