@@ -1,5 +1,5 @@
 -- What a connection sees of a journal: the records that are about it, and the packets that came on it.
-use Rattle.std.specs.Prelude.{ℕ, ◌+◌, ◌-◌, ◌*◌, false, List, [], ◌∷◌, ◌++◌, Option, Some, None, nat_eq, if◌then◌else◌}
+use Rattle.std.specs.Prelude.{◌≡◌, ◌⊎◌, ℕ, ◌+◌, ◌-◌, ◌*◌, false, List, [], ◌∷◌, ◌++◌, Option, Some, None, nat_eq, if◌then◌else◌}
 use Rattle.std.specs.List.{fold}
 use Rattle.lard_base.specs.declared.event.Event.{Event}
 use Rattle.lard_base.specs.declared.event.Event.TheVariants as event
@@ -100,6 +100,11 @@ abbrev pub plain : Rec → Rec
 plain (rec.Event i e) = rec.Event 0 e
 plain (rec.Sent k from to bytes) = rec.Sent 0 from to bytes
 plain r = r
+
+-- it is one of the list
+abbrev pub Has : {A : Type 0} → A → List A → Type 0
+Has a [] = ⊥
+Has a (x ∷ xs) = (x ≡ a) ⊎ Has a xs
 
 -- this one, where it is of connection q
 abbrev pub one_of : {B : Type 0} → ℕ → Option ℕ → B → List B

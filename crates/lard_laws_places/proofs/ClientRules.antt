@@ -11,8 +11,8 @@ use Rattle.lard_history.proofs.Each.{Each, Each-append}
 use Rattle.lard_journal.specs.declared.rec.Rec.{Rec}
 use Rattle.lard_journal.specs.declared.rec.Rec.TheVariants as rec
 use Rattle.lard_laws_places.specs.Places.{ClientTale, IsOpened, client_tale, front_tale}
-use Rattle.lard_laws_places.proofs.ClientTurns.{GoesOn, aborted-on, arrived-hears, held-on, ready-to, shut-on, speaks-on, taken-on, timer-on, written-on}
-use Rattle.lard_laws_places.proofs.Endpoints.{AllTo}
+use Rattle.lard_view.proofs.ClientTurns.{GoesOn, aborted-on, arrived-hears, held-on, ready-to, shut-on, speaks-on, taken-on, timer-on, written-on}
+use Rattle.lard_view.proofs.Endpoints.{AllTo}
 use Rattle.lard_laws_places.proofs.Telling.{Tells}
 use Rattle.lard_machine.specs.declared.places.Turn.{Turn}
 use Rattle.lard_machine.specs.Client.{client_aborts, client_gets, client_holds, client_opens, client_shuts, client_takes, client_timer, client_writes, ready_of, silent, speaking}

@@ -1,6 +1,4 @@
 pub mod ClientRules
-pub mod ClientTurns
-pub mod Endpoints
 pub mod Following
 pub mod FrontRules
 pub mod Keeping
@@ -8,6 +6,5 @@ pub mod Kept
 pub mod Linked
 pub mod Lookups
 pub mod Reached
-pub mod Sides
 pub mod Steps
 pub mod Telling

@@ -13,7 +13,7 @@ use Rattle.lard_history.proofs.Tales.{tale-append, tale-others, told_on-append}
 use Rattle.lard_journal.specs.declared.rec.Rec.{Rec}
 use Rattle.lard_journal.specs.declared.rec.Rec.TheVariants as rec
 use Rattle.lard_laws_places.specs.Places.{ClientStands, FrontStands, IsBetween, Stands, client_tale, front_tale}
-use Rattle.lard_laws_places.proofs.Endpoints.{AllTo}
+use Rattle.lard_view.proofs.Endpoints.{AllTo}
 use Rattle.lard_laws_places.proofs.Linked.{Linked}
 use Rattle.lard_laws_places.proofs.Telling.{IsLawful, Tells, Tells-append, told-others}
 use Rattle.lard_machine.specs.declared.machine.Machine.{Machine}

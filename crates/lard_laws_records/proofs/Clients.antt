@@ -11,7 +11,7 @@ use Rattle.lard_journal.specs.declared.rec.Rec.{Rec}
 use Rattle.lard_journal.specs.declared.rec.Rec.TheVariants as rec
 use Rattle.lard_journal.specs.Range.{IsInRange, IsNumber}
 use Rattle.lard_laws_bytes.specs.Agreement.{ClientAgrees}
-use Rattle.lard_laws_places.proofs.ClientTurns.{arrived-hears}
+use Rattle.lard_view.proofs.ClientTurns.{arrived-hears}
 use Rattle.lard_machine.proofs.Saying.{unsaid-most}
 use Rattle.lard_machine.specs.Client.{accepted_note, client_aborts, client_gets, client_holds, client_opens, client_shuts, client_takes, client_timer, client_writes, eof_note, ready_of, silent, speaking}
 use Rattle.lard_machine.specs.declared.places.Turn.{Turn}

@@ -16,7 +16,7 @@ use Rattle.lard_endpoint.specs.Moving.{final_of}
 use Rattle.lard_history.proofs.Each.{Each, Each-append}
 use Rattle.lard_journal.specs.declared.rec.Rec.TheVariants as rec
 use Rattle.lard_journal.specs.Range.{IsInRange, IsNumber}
-use Rattle.lard_laws_places.proofs.Endpoints.{segment-many, timer-many}
+use Rattle.lard_view.proofs.Endpoints.{segment-many, timer-many}
 use Rattle.lard_laws_places.proofs.FrontRules.{answer-some}
 use Rattle.lard_laws_places.specs.Places.{FrontStands, FrontTale}
 use Rattle.lard_machine.specs.Client.{silent}

@@ -1,5 +1,6 @@
 pub mod Draining
 pub mod Forms
+pub mod Loops
 pub mod Packets
 pub mod Reading
 pub mod Runs

@@ -10,8 +10,8 @@ use Rattle.lard_client.specs.declared.phase.Phase.TheVariants.{Open, Aborted, Re
 use Rattle.lard_client.specs.Arriving.{accepting, answers_syn, arrived, begins_after, ends, established, fresh_len, heard_in, nothing, on_ack, on_fresh, on_greeting, on_rst, on_segment, on_syn, on_text, on_unacceptable, owing, part_of, reply_to, reset_by_peer}
 use Rattle.lard_client.specs.Control.{ClientBlock, aborted, held_on, is_established, is_open, is_open_in, is_writing, rcv_nxt, rcv_wnd, shut_down, taken, written}
 use Rattle.lard_client.specs.Leaving.{after_emit, after_owed, after_piece, after_timer, emitted, owes, told, unsaid}
-use Rattle.lard_laws_places.proofs.Endpoints.{AllTo}
-use Rattle.lard_laws_places.proofs.Sides.{IsSameSide, ack-side, next-side, resend-side, same_side}
+use Rattle.lard_view.proofs.Endpoints.{AllTo}
+use Rattle.lard_view.proofs.Sides.{IsSameSide, ack-side, next-side, resend-side, same_side}
 use Rattle.lard_machine.specs.Client.{ready_of}
 use Rattle.lard_machine.specs.Speaking.{client_emits, client_speaks, to_front}
 use Rattle.lard_segment.specs.declared.segment.Ready.{Ready}

@@ -10,7 +10,7 @@ use Rattle.lard_endpoint.specs.Arriving.{owing, on_text, on_acked, on_ack, on_sy
 use Rattle.lard_endpoint.specs.Control.{ControlBlock, rcv_nxt, rcv_wnd}
 use Rattle.lard_endpoint.specs.Leaving.{advanced, after_emit, after_owed, after_piece, after_timer, emits_left, emitted, owes, retried, told}
 use Rattle.lard_history.proofs.Each.{Each}
-use Rattle.lard_laws_places.proofs.Sides.{ack-side, next-side, resend-side}
+use Rattle.lard_view.proofs.Sides.{ack-side, next-side, resend-side}
 use Rattle.lard_machine.specs.Front.{FrontEnv, ready_of}
 use Rattle.lard_machine.specs.Speaking.{emits, emits_symbols, has_symbol, speaks, speaks_symbols, to_client}
 use Rattle.lard_recv.specs.Recv.{arrived}

@@ -1,0 +1,267 @@
+-- What each rule notes and sends is of its connection, and its client stays its own.
+use Rattle.std.proofs.Common.{◌≡◌, ℕ, ◌+◌, nat_lt, Bool, true, false, cond, List, [], ◌∷◌, ◌++◌, length, take, drop, map, Option, Some, None, Result, Ok, Err, refl, sym, ap, ◌∙◌, subst}
+use Rattle.std.proofs.lemmas.Bool.{cond_both}
+use Rattle.lard_answers.specs.Answers.{answer, answer_code}
+use Rattle.lard_base.specs.declared.event.Event.TheVariants as event
+use Rattle.lard_base.specs.declared.place.Place.{Place}
+use Rattle.lard_base.specs.declared.place.Place.TheVariants.{Front, Node, Client}
+use Rattle.lard_base.specs.declared.place.Reason.TheVariants as reason
+use Rattle.lard_base.specs.declared.place.Via.TheVariants.{Own}
+use Rattle.lard_client.specs.Arriving.{arrived}
+use Rattle.lard_client.specs.Control.{ClientBlock, aborted, held_on, is_writing, opened, shut_down, taken, written}
+use Rattle.lard_client.specs.Leaving.{abort_ready, after_timer, timed}
+use Rattle.lard_endpoint.specs.declared.control.moving.Final.{Final}
+use Rattle.lard_endpoint.specs.Arriving.{on_segment}
+use Rattle.lard_endpoint.specs.Control.{ControlBlock, listening}
+use Rattle.lard_endpoint.specs.Leaving as leaving
+use Rattle.lard_endpoint.specs.Moving.{end_reason, final_of, may_end}
+use Rattle.lard_history.specs.Journal.{request}
+use Rattle.lard_history.specs.Own.{Letter, Seen, conn_of, plain, whose}
+use Rattle.lard_history.proofs.Each.{Each, Each-append, Each-weaker}
+use Rattle.lard_journal.specs.declared.rec.Rec.{Rec}
+use Rattle.lard_journal.specs.declared.rec.Rec.TheVariants as rec
+use Rattle.lard_machine.specs.declared.places.FrontConn.{FrontConn}
+use Rattle.lard_machine.specs.declared.places.FrontConn.TheVariants.{Held, Lent, Closed}
+use Rattle.lard_machine.specs.declared.places.Station.{Station}
+use Rattle.lard_machine.specs.declared.places.Turn.{Turn}
+use Rattle.lard_machine.specs.Client.{client_aborts, client_gets, client_holds, client_opens, client_shuts, client_takes, client_timer, client_writes, ready_of, silent, speaking}
+use Rattle.lard_machine.specs.Front.{FrontEnv, Service, answered, begun, closed_behind, consumed, cut_off, ended_at_fin, front_gets, front_hears, front_timer, is_plain_syn, last_words, limit_said, met, passed_over, queued, reads, rested, settled, spoken, told, tombstone}
+use Rattle.lard_machine.specs.Front as front
+use Rattle.lard_machine.specs.Speaking.{client_speaks, speaks, speaks_symbols}
+use Rattle.lard_machine.proofs.Loops.{KeptByReading, reads_keep}
+use Rattle.lard_request.specs.declared.verdict.Code.TheVariants as code
+use Rattle.lard_request.specs.declared.verdict.Verdict.{Verdict}
+use Rattle.lard_request.specs.declared.verdict.Verdict.TheVariants.{Fault}
+use Rattle.lard_request.specs.Verdict.{verdict}
+use Rattle.lard_segment.specs.declared.fault.SegFault.{SegFault}
+use Rattle.lard_segment.specs.declared.segment.Dir.TheVariants.{ToClient, ToCluster}
+use Rattle.lard_segment.specs.Segment.{Said, decoded}
+use Rattle.lard_view.specs.View.{AreBetween, Conn, GoesBetween, IsSound, Move, Rules, Setting, client_begins, client_does, env_at, event_seen, front_does, grown, ignoring, letter, letters_of, packet_seen}
+use Rattle.lard_view.proofs.ClientTurns.{aborted-on, arrived-hears, held-on, ready-to, shut-on, speaks-on, taken-on, timer-on, written-on}
+use Rattle.lard_view.proofs.Endpoints.{AllTo, speaks-to, speaks_symbols-to}
+use Rattle.lard_view.proofs.Endpoints as ends
+
+-- what a place may note of connection c
+abbrev pub NotedAt : Place → ℕ → Rec → Type 0
+NotedAt (Client e) c (rec.Wrote d bytes) = d ≡ c
+NotedAt (Client e) c (rec.Accepted d bytes) = d ≡ c
+NotedAt (Client e) c (rec.Eof d) = d ≡ c
+NotedAt (Client e) c (rec.Aborted d) = d ≡ c
+NotedAt Front c (rec.Took Front d epoch) = d ≡ c
+NotedAt Front c (rec.Served Front d r code size via) = d ≡ c
+NotedAt Front c (rec.Reset Front d total) = d ≡ c
+NotedAt _ _ _ = ⊥
+
+pub record IsTurn (place : Place) (c : ℕ) (t : Turn) : Type 0 where
+  pub notes : Each (NotedAt place c) t.notes
+  pub segments : Each (λ s. GoesBetween c place s.0) t.segments
+
+-- ---- clients
+
+pub record IsClientTurn (c : ℕ) (given : ClientBlock × Turn) : Type 0 where
+  pub number : given.0.c ≡ c
+  pub notes : Each (NotedAt (Client c) c) given.1.notes
+  pub to : AllTo Front given.1.segments
+
+speaking-turn : (c : ℕ) (x : ClientBlock) (notes : List Rec) (segments : List (Place × List ℕ)) → x.c ≡ c → Each (NotedAt (Client c) c) notes → AllTo Front segments
+    → IsClientTurn c (speaking notes segments x)
+speaking-turn c x notes segments n of to = let spoken = speaks-on x in record {
+  number = spoken.on.number ∙ n;
+  notes = of;
+  to = Each-append (λ s. s.0 ≡ Front) segments (client_speaks x).0 to spoken.to;
+}
+
+silent-turn : (c : ℕ) (x : ClientBlock) → x.c ≡ c → IsClientTurn c (x, silent)
+silent-turn c x n = record { number = n; notes = tt; to = tt }
+
+module _ (c : ℕ) (x : ClientBlock) (n : x.c ≡ c) where
+  writes-turn : (bytes : List ℕ) → IsClientTurn c (client_writes x bytes)
+  writes-turn bytes = cond_both {A = ClientBlock × Turn} (is_writing x) (speaking (rec.Wrote x.c bytes ∷ []) [] (written x bytes)) (x, silent) (IsClientTurn c)
+      (λ t. speaking-turn c (written x bytes) (rec.Wrote x.c bytes ∷ []) [] ((written-on x bytes).number ∙ n) (n, tt) tt)
+      (λ t. silent-turn c x n)
+
+  shuts-turn : IsClientTurn c (client_shuts x)
+  shuts-turn = speaking-turn c (shut_down x) [] [] ((shut-on x).0.number ∙ n) tt tt
+
+  holds-turn : IsClientTurn c (client_holds x)
+  holds-turn = speaking-turn c (held_on x) [] [] ((held-on x).number ∙ n) tt tt
+
+  takes-turn : IsClientTurn c (client_takes x)
+  takes-turn = speaking-turn c (taken x) [] [] ((taken-on x).number ∙ n) tt tt
+
+  fires-turn : IsClientTurn c (client_timer x)
+  fires-turn = speaking-turn c (after_timer x) [] (ready_of (after_timer x) (timed x)) ((timer-on x).number ∙ n) tt (ready-to (after_timer x) (timed x))
+
+  aborts-turn : IsClientTurn c (client_aborts x)
+  aborts-turn = record { number = (aborted-on x).0.number ∙ n; notes = (n, tt); to = ready-to (aborted x) (abort_ready x) }
+
+  noted-turn : (b : Bool) (bytes : List ℕ) (d : Bool) (y : ClientBlock) (segments : List (Place × List ℕ)) → y.c ≡ c → AllTo Front segments
+      → IsClientTurn c (speaking (cond b (rec.Accepted y.c bytes ∷ []) [] ++ cond d (rec.Eof y.c ∷ []) []) segments y)
+  noted-turn false bytes false y segments k to = speaking-turn c y [] segments k tt to
+  noted-turn true bytes false y segments k to = speaking-turn c y (rec.Accepted y.c bytes ∷ []) segments k (k, tt) to
+  noted-turn false bytes true y segments k to = speaking-turn c y (rec.Eof y.c ∷ []) segments k (k, tt) to
+  noted-turn true bytes true y segments k to = speaking-turn c y (rec.Accepted y.c bytes ∷ rec.Eof y.c ∷ []) segments k (k, (k, tt)) to
+
+  hears-turn : (r : Result Said SegFault) → IsClientTurn c (client_gets x r)
+  hears-turn (Err fault) = silent-turn c x n
+  hears-turn (Ok s) =
+      let r = arrived x s in
+      noted-turn (nat_lt 0 r.0.len) (take r.0.len (drop r.0.from s.payload)) r.0.eof r.1 (ready_of r.1 r.0.reply) ((arrived-hears x s).on.number ∙ n) (ready-to r.1 r.0.reply)
+
+-- ---- the front end
+
+-- a connection that has no row after a rule had none before
+abbrev pub KeepsRow : Option FrontConn → Option FrontConn → Type 0
+KeepsRow x None = x ≡ None
+KeepsRow x (Some conn) = Unit {0}
+
+pub record IsFrontTurn (c : ℕ) (x : Option FrontConn) (given : Option FrontConn × Turn) : Type 0 where
+  pub notes : Each (NotedAt Front c) given.1.notes
+  pub to : AllTo (Client c) given.1.segments
+  pub row : KeepsRow x given.0
+
+module _ (env : FrontEnv) where
+  abbrev AreNoted : Service → Type 0
+  AreNoted w = Each (NotedAt Front env.c) w.notes
+
+  answered-noted : (v : Verdict) (w : Service) → AreNoted w → AreNoted (answered env v w)
+  answered-noted v w h =
+      let bytes : List ℕ = answer env.files v in
+      let total : ℕ = w.block.send.total + length bytes in
+      cond_both (nat_lt env.stream total) (passed_over env total w) (queued env v bytes w) AreNoted
+      (λ t. Each-append (NotedAt Front env.c) w.notes (rec.Reset Front env.c total ∷ []) h (refl, tt))
+      (λ t. Each-append (NotedAt Front env.c) w.notes (rec.Served Front env.c (w.count + 1) (answer_code env.files v) (length bytes) Own ∷ []) h (refl, tt))
+
+  reading-notes : KeptByReading env AreNoted
+  reading-notes = record {
+    more = λ w skip may is h. cond_both (consumed skip w).block.recv.fin (record (consumed skip w) { block = _ }) (consumed skip w) AreNoted (λ t. h) (λ t. h);
+    block = λ w skip len may is h. answered-noted (verdict (take len (drop skip w.block.recv.unread))) (consumed (skip + len) w) h;
+    long = λ w skip may is h. answered-noted (Fault code.FieldsTooLarge) (consumed (length w.block.recv.unread) w) h;
+  }
+
+  spoken-turn : (x : Option FrontConn) (w : Service) (before : List (Place × List ℕ)) → AllTo (Client env.c) before → AreNoted w → IsFrontTurn env.c x (spoken env w before)
+  spoken-turn x w before to h = record { notes = h; to = Each-append (λ s. s.0 ≡ Client env.c) before (speaks env.c w.block).0 to (speaks-to env.c w.block).to; row = tt }
+
+  cut_off-turn : (x : Option FrontConn) (w : Service) → AreNoted w → IsFrontTurn env.c x (cut_off env w)
+  cut_off-turn x w h = record {
+    notes = h;
+    to = Each-append (λ s. s.0 ≡ Client env.c) (speaks_symbols env.c w.block).0 (told env (limit_said (final_of (speaks_symbols env.c w.block).1 reason.Limit)) ∷ [])
+        (speaks_symbols-to env.c w.block).to (refl, tt);
+    row = tt;
+  }
+
+  settled-turn : (x : Option FrontConn) (w : Service) → AreNoted w → IsFrontTurn env.c x (settled env w)
+  settled-turn x w h = go w.over where
+    go : (o : Option ℕ) → IsFrontTurn env.c x (elim o [ None ↦ spoken env w [] | Some total ↦ cut_off env w ])
+    go None = spoken-turn x w [] tt h
+    go (Some total) = cut_off-turn x w h
+
+  quiet-turn : (x : Option FrontConn) → IsFrontTurn env.c x (x, silent)
+  quiet-turn None = record { notes = tt; to = tt; row = refl }
+  quiet-turn (Some conn) = record { notes = tt; to = tt; row = tt }
+
+  tombstone-turn : (last : Final) (o : Option Said) → IsFrontTurn env.c (Some (Closed last)) (Some (Closed last), tombstone env o)
+  tombstone-turn last None = quiet-turn (Some (Closed last))
+  tombstone-turn last (Some s) = record { notes = tt; to = (refl, tt); row = tt }
+
+  pub segment-turn : (x : Option FrontConn) (s : Said) → IsFrontTurn env.c x (front_hears env x s)
+  segment-turn None s = cond_both {A = Option FrontConn × Turn} (is_plain_syn s) (begun env s) (None, silent) (IsFrontTurn env.c None)
+      (λ t. spoken-turn None (record { block = listening s env.iss; count = 0; notes = rec.Took Front env.c (record { 0 = 1 }) ∷ []; answered = 0; over = None }) [] tt (refl, tt))
+      (λ t. quiet-turn None)
+  segment-turn (Some (Held b count)) s =
+      let w : Service = record { block = (on_segment b s).1; count = count; notes = []; answered = 0; over = None } in
+      settled-turn (Some (Held b count)) (reads env w) (reads_keep env AreNoted reading-notes w tt)
+  segment-turn (Some Lent) s = quiet-turn (Some Lent)
+  segment-turn (Some (Closed last)) s = tombstone-turn last (last_words last.reason last s)
+
+  pub front_gets-turn : (x : Option FrontConn) (r : Result Said SegFault) → IsFrontTurn env.c x (front_gets env x r)
+  front_gets-turn x (Err fault) = quiet-turn x
+  front_gets-turn x (Ok s) = segment-turn x s
+
+  pub front_fires-turn : (x : Option FrontConn) → IsFrontTurn env.c x (front_timer env x)
+  front_fires-turn None = quiet-turn None
+  front_fires-turn (Some (Held b count)) =
+      spoken-turn (Some (Held b count)) (record { block = leaving.after_timer b; count = count; notes = []; answered = 0; over = None }) (front.ready_of env (leaving.after_timer b) (leaving.timed b))
+      (ends.ready-to env (leaving.after_timer b) (leaving.timed b)) tt
+  front_fires-turn (Some Lent) = quiet-turn (Some Lent)
+  front_fires-turn (Some (Closed last)) = quiet-turn (Some (Closed last))
+
+-- ---- a move keeps what is sound
+
+-- between its client and the front end
+abbrev pub AllBetween : ℕ → Place → List (Place × List ℕ) → Type 0
+AllBetween c place ss = Each (λ s. GoesBetween c place s.0) ss
+
+to-front : (c : ℕ) (ss : List (Place × List ℕ)) → AllTo Front ss → AllBetween c (Client c) ss
+to-front c ss to = Each-weaker (λ s. s.0 ≡ Front) (λ s. GoesBetween c (Client c) s.0) (λ s e. subst (GoesBetween c (Client c)) (sym e) refl) ss to
+
+to-client : (c : ℕ) (ss : List (Place × List ℕ)) → AllTo (Client c) ss → AllBetween c Front ss
+to-client c ss to = Each-weaker (λ s. s.0 ≡ Client c) (λ s. GoesBetween c Front s.0) (λ s e. subst (GoesBetween c Front) (sym e) refl) ss to
+
+between-append : (c : ℕ) (xs ys : List Letter) → AreBetween c xs → AreBetween c ys → AreBetween c (xs ++ ys)
+between-append c [] ys e f = f
+between-append c (x ∷ xs) ys e f = (e.0, between-append c xs ys e.1 f)
+
+between-sent : (c : ℕ) (place : Place) (ss : List (Place × List ℕ)) → AllBetween c place ss → AreBetween c (map (letter place) ss)
+between-sent c place [] e = tt
+between-sent c place (s ∷ ss) e = (e.0, between-sent c place ss e.1)
+
+-- a move's turn is of its connection, and what is sound stays so
+abbrev pub IsFine : Conn → Move → Type 0
+IsFine x v = IsSound x → IsTurn v.place x.c v.turn × IsSound (grown x v)
+
+between-grown : (x : Conn) (v : Move) → IsSound x → IsTurn v.place x.c v.turn → AreBetween x.c (grown x v).letters
+between-grown x v h t = between-append x.c x.letters (letters_of v) h.between (between-sent x.c v.place v.turn.segments t.segments)
+
+some-same : {A : Type 0} (a b : A) → Some a ≡ Some b → a ≡ b
+some-same a b e = cc
+
+-- what a client's rule owes
+client-fine : (x : Conn) (s : Station) (heads : List Seen) (given : ClientBlock × Turn) → (IsSound x → IsClientTurn x.c given) → IsFine x (client_does x s heads given)
+client-fine x s heads given turn h =
+    let t : IsClientTurn x.c given = turn h in
+    let fine : IsTurn (Client x.c) x.c given.1 = record { notes = t.notes; segments = to-front x.c given.1.segments t.to } in (
+      fine,
+      record {
+        between = between-grown x (client_does x s heads given) h fine;
+        number = λ y e. sym (ap (λ (z : Station). z.client.c) (some-same (record { client = given.0; iss = s.iss }) y e)) ∙ t.number;
+      },
+    )
+
+front-fine : (x : Conn) (heads : List Seen) (given : Option FrontConn × Turn) → IsFrontTurn x.c x.part.front given → IsFine x (front_does x heads given)
+front-fine x heads given t h =
+    let fine : IsTurn Front x.c given.1 = record { notes = t.notes; segments = to-client x.c given.1.segments t.to } in
+    (fine, record { between = between-grown x (front_does x heads given) h fine; number = h.number })
+
+begins-fine : (x : Conn) (isn iss wnd mss : ℕ) → IsFine x (client_begins x isn iss wnd mss)
+begins-fine x isn iss wnd mss h =
+    let given : ClientBlock × Turn = client_opens x.c isn wnd mss in
+    let t : IsClientTurn x.c given = speaking-turn x.c (opened x.c isn wnd mss) [] [] refl tt tt in
+    let fine : IsTurn (Client x.c) x.c given.1 = record { notes = t.notes; segments = to-front x.c given.1.segments t.to } in (
+      fine,
+      record {
+        between = between-grown x (client_begins x isn iss wnd mss) h fine;
+        number = λ y e. sym (ap (λ (z : Station). z.client.c) (some-same (record { client = given.0; iss = iss }) y e)) ∙ t.number;
+      },
+    )
+
+-- each rule is fine
+pub fine : (k : Setting) → Rules k IsFine
+fine k = record {
+  opens = λ x isn iss wnd mss rule none. begins-fine x isn iss wnd mss;
+  gets = λ x s path there le. client-fine x s (event_seen (event.Get x.c path)) (client_writes s.client (request path)) (λ h. writes-turn x.c s.client (h.number s there) (request path));
+  writes = λ x s bytes there le. client-fine x s (event_seen (event.Write x.c bytes)) (client_writes s.client bytes) (λ h. writes-turn x.c s.client (h.number s there) bytes);
+  shuts = λ x s there. client-fine x s (event_seen (event.Shut x.c)) (client_shuts s.client) (λ h. shuts-turn x.c s.client (h.number s there));
+  aborts = λ x s there. client-fine x s (event_seen (event.Abort x.c)) (client_aborts s.client) (λ h. aborts-turn x.c s.client (h.number s there));
+  holds = λ x s there. client-fine x s (event_seen (event.Hold x.c)) (client_holds s.client) (λ h. holds-turn x.c s.client (h.number s there));
+  takes = λ x s there. client-fine x s (event_seen (event.Take x.c)) (client_takes s.client) (λ h. takes-turn x.c s.client (h.number s there));
+  client_fires = λ x s there. client-fine x s (event_seen (event.Timer (Client x.c) x.c)) (client_timer s.client) (λ h. fires-turn x.c s.client (h.number s there));
+  client_hears = λ x s bytes there was. client-fine x s (packet_seen Front (Client x.c) bytes) (client_gets s.client (decoded bytes x.c ToClient))
+      (λ h. hears-turn x.c s.client (h.number s there) (decoded bytes x.c ToClient));
+  front_fires = λ x s there. front-fine x (event_seen (event.Timer Front x.c)) (front_timer (env_at k x s) x.part.front) (front_fires-turn (env_at k x s) x.part.front);
+  front_hears = λ x s bytes there was. front-fine x (packet_seen (Client x.c) Front bytes) (front_gets (env_at k x s) x.part.front (decoded bytes x.c ToCluster))
+      (front_gets-turn (env_at k x s) x.part.front (decoded bytes x.c ToCluster));
+  ignores = λ x from to bytes was h.
+      let fine : IsTurn to x.c silent = record { notes = tt; segments = tt } in
+      (fine, record { between = between-grown x (ignoring x from to bytes) h fine; number = h.number });
+}
