@@ -1,6 +1,9 @@
+pub mod Carried
 pub mod ClientTurns
 pub mod Endpoints
+pub mod InSteps
 pub mod Moving
+pub mod Shapes
 pub mod Sides
 pub mod Steps
 pub mod Turns

@@ -74,25 +74,28 @@ speaking-turn c x notes segments n of to = let spoken = speaks-on x in record {
 silent-turn : (c : ℕ) (x : ClientBlock) → x.c ≡ c → IsClientTurn c (x, silent)
 silent-turn c x n = record { number = n; notes = tt; to = tt }
 
+pub opens-turn : (c isn wnd mss : ℕ) → IsClientTurn c (client_opens c isn wnd mss)
+opens-turn c isn wnd mss = speaking-turn c (opened c isn wnd mss) [] [] refl tt tt
+
 module _ (c : ℕ) (x : ClientBlock) (n : x.c ≡ c) where
-  writes-turn : (bytes : List ℕ) → IsClientTurn c (client_writes x bytes)
+  pub writes-turn : (bytes : List ℕ) → IsClientTurn c (client_writes x bytes)
   writes-turn bytes = cond_both {A = ClientBlock × Turn} (is_writing x) (speaking (rec.Wrote x.c bytes ∷ []) [] (written x bytes)) (x, silent) (IsClientTurn c)
       (λ t. speaking-turn c (written x bytes) (rec.Wrote x.c bytes ∷ []) [] ((written-on x bytes).number ∙ n) (n, tt) tt)
       (λ t. silent-turn c x n)
 
-  shuts-turn : IsClientTurn c (client_shuts x)
+  pub shuts-turn : IsClientTurn c (client_shuts x)
   shuts-turn = speaking-turn c (shut_down x) [] [] ((shut-on x).0.number ∙ n) tt tt
 
-  holds-turn : IsClientTurn c (client_holds x)
+  pub holds-turn : IsClientTurn c (client_holds x)
   holds-turn = speaking-turn c (held_on x) [] [] ((held-on x).number ∙ n) tt tt
 
-  takes-turn : IsClientTurn c (client_takes x)
+  pub takes-turn : IsClientTurn c (client_takes x)
   takes-turn = speaking-turn c (taken x) [] [] ((taken-on x).number ∙ n) tt tt
 
-  fires-turn : IsClientTurn c (client_timer x)
+  pub fires-turn : IsClientTurn c (client_timer x)
   fires-turn = speaking-turn c (after_timer x) [] (ready_of (after_timer x) (timed x)) ((timer-on x).number ∙ n) tt (ready-to (after_timer x) (timed x))
 
-  aborts-turn : IsClientTurn c (client_aborts x)
+  pub aborts-turn : IsClientTurn c (client_aborts x)
   aborts-turn = record { number = (aborted-on x).0.number ∙ n; notes = (n, tt); to = ready-to (aborted x) (abort_ready x) }
 
   noted-turn : (b : Bool) (bytes : List ℕ) (d : Bool) (y : ClientBlock) (segments : List (Place × List ℕ)) → y.c ≡ c → AllTo Front segments
@@ -102,7 +105,7 @@ module _ (c : ℕ) (x : ClientBlock) (n : x.c ≡ c) where
   noted-turn false bytes true y segments k to = speaking-turn c y (rec.Eof y.c ∷ []) segments k (k, tt) to
   noted-turn true bytes true y segments k to = speaking-turn c y (rec.Accepted y.c bytes ∷ rec.Eof y.c ∷ []) segments k (k, (k, tt)) to
 
-  hears-turn : (r : Result Said SegFault) → IsClientTurn c (client_gets x r)
+  pub hears-turn : (r : Result Said SegFault) → IsClientTurn c (client_gets x r)
   hears-turn (Err fault) = silent-turn c x n
   hears-turn (Ok s) =
       let r = arrived x s in
@@ -236,7 +239,7 @@ front-fine x heads given t h =
 begins-fine : (x : Conn) (isn iss wnd mss : ℕ) → IsFine x (client_begins x isn iss wnd mss)
 begins-fine x isn iss wnd mss h =
     let given : ClientBlock × Turn = client_opens x.c isn wnd mss in
-    let t : IsClientTurn x.c given = speaking-turn x.c (opened x.c isn wnd mss) [] [] refl tt tt in
+    let t : IsClientTurn x.c given = opens-turn x.c isn wnd mss in
     let fine : IsTurn (Client x.c) x.c given.1 = record { notes = t.notes; segments = to-front x.c given.1.segments t.to } in (
       fine,
       record {

@@ -1,0 +1,55 @@
+-- Laws of a step: from the move of each connection in it to the steps of the whole journal. And laws of a record.
+use Rattle.std.proofs.Common.{◌≡◌, ℕ, List, [], ◌∷◌, ◌++◌, Ok, refl, sym, ap, ◌∙◌, subst, ⊎_elim, append-nil}
+use Rattle.lard_base.specs.declared.config.Config.{Config}
+use Rattle.lard_base.specs.declared.event.Event.{Event}
+use Rattle.lard_history.specs.Laws.{EachMay}
+use Rattle.lard_history.specs.Own.{Seen, net_of, own, seen_on}
+use Rattle.lard_history.specs.Steps.{EachStep, steps}
+use Rattle.lard_history.proofs.Lifting.{EachRow, IsLocal, each_from_own}
+use Rattle.lard_history.proofs.Seeing.{own-append}
+use Rattle.lard_history.proofs.Stepping.{AreLawful, cancel, one-more}
+use Rattle.lard_journal.specs.declared.rec.Rec.{Rec}
+use Rattle.lard_machine.specs.declared.machine.Machine.{Machine}
+use Rattle.lard_machine.specs.Bounds.{HasRule}
+use Rattle.lard_machine.specs.Machine.{IsReached, machine_step, start}
+use Rattle.lard_view.specs.Carry.{IsStepLaw, OfEach, setting}
+use Rattle.lard_view.specs.View.{Conn, Goes, IsSound, Move, Rules, Setting, conn, grown, seen_in, setting_of}
+use Rattle.lard_view.proofs.Carried.{IsOn, IsViewed, after, carried-keep, moves, on-setting}
+
+-- what a connection sees of a step is what its move says
+pub seen-step : (P : Conn → Move → Type 0) (Q : List Seen → Type 0) (m n : Machine) (s : List Rec) (q : ℕ) → n.journal ≡ m.journal ++ s → Q []
+    → ((v : Move) → P (conn m q) v → Q (seen_in (conn m q) v)) → Goes P (conn m q) (conn n q) → Q (seen_on q (net_of m.journal) s)
+unfolding conn
+seen-step P Q m n s q is still moves g = ⊎_elim
+    (λ (same : conn n q ≡ conn m q).
+    let e : own q m.journal ++ seen_on q (net_of m.journal) s ≡ own q m.journal ++ [] =
+    sym (own-append q m.journal s) ∙ ap (own q) (sym is) ∙ ap (λ (x : Conn). x.seen) same ∙ sym (append-nil (own q m.journal)) in
+    subst Q (sym (cancel (own q m.journal) (seen_on q (net_of m.journal) s) [] e)) still)
+    (λ (k : (v : Move) × P (conn m q) v × (conn n q ≡ grown (conn m q) v)).
+    let e : own q m.journal ++ seen_on q (net_of m.journal) s ≡ own q m.journal ++ seen_in (conn m q) k.0 =
+    sym (own-append q m.journal s) ∙ ap (own q) (sym is) ∙ ap (λ (x : Conn). x.seen) k.2 in
+    subst Q (sym (cancel (own q m.journal) (seen_on q (net_of m.journal) s) (seen_in (conn m q) k.0) e)) (moves k.0 k.1))
+    g
+
+module _ (config : Config) (files : List (List ℕ × List ℕ)) where
+  -- what the move of each rule must hold, each step of the journal holds
+  pub carried-steps : (Given : Conn → Type 0) (must : List Rec → List Rec → Type 0) (own_must : ℕ → List Seen → List Seen → Type 0)
+      → ((past s : List Rec) → ((c : ℕ) → own_must c (own c past) (seen_on c (net_of past) s)) → must past s)
+      → IsStepLaw (setting config files) Given own_must → OfEach config files Given
+      → (m : Machine) → IsReached config files m → EachStep must [] (steps m.journal)
+  unfolding conn
+  carried-steps Given must own_must local law given m r = (carried-keep config files (λ k. AreLawful must k.journal) (refl, tt) step m r).1 where
+    step : (k n : Machine) (e : Event) → IsOn config files k → IsViewed k → AreLawful must k.journal → HasRule e → machine_step k e ≡ Ok n → AreLawful must n.journal
+    step k n e on view h rule is =
+        let shape = after k n e view rule is in
+        let P : Conn → Move → Type 0 = λ x v. IsSound x → Given x → own_must x.c x.seen (seen_in x v) in
+        let goes : (q : ℕ) → Goes P (conn k q) (conn n q) = moves k n e view rule is P (subst (λ (s : Setting). Rules s P) (on-setting config files k on) law.moves) in
+        subst (AreLawful must) (sym shape.is)
+        (one-more must k.journal shape.step shape.one h
+        (local k.journal shape.step (λ q. seen-step P (own_must q (own q k.journal)) k n shape.step q shape.is (law.still q (own q k.journal)) (λ v does. does (view.sound q) (given k on.reached q)) (goes q))))
+
+  -- what each connection's own records may say, the journal may say
+  pub carried-records : (may : List Rec → Rec → Type 0) (mine : ℕ → List Seen → Rec → Type 0) → IsLocal may mine
+      → ((m : Machine) → IsReached config files m → (q : ℕ) → EachRow (mine q) [] (conn m q).seen) → (m : Machine) → IsReached config files m → EachMay may [] m.journal
+  unfolding conn
+  carried-records may mine local each m r = each_from_own may mine local m.journal (λ q. each m r q)
