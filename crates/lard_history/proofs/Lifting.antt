@@ -99,6 +99,7 @@ about-other c d (rec.Took place q epoch) n h = let same : q ≡ d = cc in ap (λ
 about-other c d (rec.Gave place q epoch) n h = let same : q ≡ d = cc in ap (λ k. nat_eq k c) same ∙ other_number d c n
 about-other c d (rec.Served place q r code size via) n h = let same : q ≡ d = cc in ap (λ k. nat_eq k c) same ∙ other_number d c n
 about-other c d (rec.Reset place q total) n h = let same : q ≡ d = cc in ap (λ k. nat_eq k c) same ∙ other_number d c n
+about-other c d (rec.Injected q) n h = let same : q ≡ d = cc in ap (λ k. nat_eq k c) same ∙ other_number d c n
 about-other c d _ n h = refl
 
 about-nobody : (c : ℕ) (r : Rec) → whose r ≡ None → about c r ≡ false
@@ -114,6 +115,7 @@ about-nobody c (rec.Took place q epoch) h = let no : Some q ≡ None = h in absu
 about-nobody c (rec.Gave place q epoch) h = let no : Some q ≡ None = h in absurd cc
 about-nobody c (rec.Served place q r code size via) h = let no : Some q ≡ None = h in absurd cc
 about-nobody c (rec.Reset place q total) h = let no : Some q ≡ None = h in absurd cc
+about-nobody c (rec.Injected q) h = let no : Some q ≡ None = h in absurd cc
 about-nobody c _ h = refl
 
 plain-tells : (c : ℕ) (t : Tale) (r : Rec) → tale_step c t (plain r) ≡ tale_step c t r

@@ -5,7 +5,7 @@ use Rattle.std.proofs.lemmas.List.Sums.{fold-append}
 use Rattle.std.specs.List.{fold}
 use Rattle.lard_base.specs.declared.place.Place.{Place}
 use Rattle.lard_base.specs.declared.place.Place.TheVariants.{Front, Node, Client}
-use Rattle.lard_history.specs.Journal.{Tale, about, accepted, accepted_step, closed_step, epoch_step, event_shuts, fin_sent, fin_step, fin_to, goes_to, has_closed, is_cluster, last_epoch, numbers_of, numbers_step, owner, owner_step, reset_step, said_fin, served, served_bytes, served_bytes_step, served_step, tale, tale_step, told_on, untold, was_reset, wrote, wrote_step}
+use Rattle.lard_history.specs.Journal.{Tale, about, accepted, accepted_step, closed_step, epoch_step, event_shuts, fin_sent, fin_step, fin_to, goes_to, has_closed, is_cluster, is_touched, last_epoch, numbers_of, numbers_step, owner, owner_step, reset_step, said_fin, served, served_bytes, served_bytes_step, served_step, tale, tale_step, told_on, touched_step, untold, was_reset, wrote, wrote_step}
 use Rattle.lard_history.proofs.Each.{Each}
 use Rattle.lard_journal.specs.declared.rec.Rec.{Rec}
 use Rattle.lard_journal.specs.declared.rec.Rec.TheVariants as rec
@@ -74,6 +74,10 @@ module _ (J : List Rec) (c : ℕ) where
   unfolding tale
   closed-tale = field_of (λ t. t.has_closed) (closed_step c) c (λ t r. refl) untold J
 
+  pub touched-tale : is_touched J c ≡ (tale J c).touched
+  unfolding tale
+  touched-tale = field_of (λ t. t.touched) (touched_step c) c (λ t r. refl) untold J
+
 -- ---- records about others
 
 cond-not : {A : Type 0} (b : Bool) (x y : A) → b ≡ false → cond b x y ≡ y
@@ -106,6 +110,7 @@ other c t (rec.Gave place d epoch) n = ap (λ v. record t { owner = v }) (cond-n
 other c t (rec.Served place d r code size via) n =
     λ i. record t { served = cond-not (nat_eq d c) (t.served + 1) t.served n i; served_bytes = cond-not (nat_eq d c) (t.served_bytes + size) t.served_bytes n i }
 other c t (rec.Reset place d total) n = ap (λ b. record t { was_reset = b }) (cond-not (nat_eq d c) true t.was_reset n)
+other c t (rec.Injected d) n = ap (λ b. record t { touched = b }) (cond-not (nat_eq d c) true t.touched n)
 other c t (rec.Sent k from to bytes) n = ap (λ b. record t { fin_sent = b }) (or-not t.fin_sent (is_cluster from && fin_to c to bytes) (fin-not c from to bytes n))
 other c t _ n = refl
 

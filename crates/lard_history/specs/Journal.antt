@@ -227,6 +227,16 @@ closed_step c was _ = was
 abbrev pub has_closed : List Rec → ℕ → Bool
 has_closed J c = fold (closed_step c) false J
 
+-- ---- packets that a schedule puts on the way
+
+abbrev pub touched_step : ℕ → Bool → Rec → Bool
+touched_step c was (rec.Injected d) = if nat_eq d c then true else was
+touched_step c was _ = was
+
+-- a packet was put on the way from client c that its table did not give
+abbrev pub is_touched : List Rec → ℕ → Bool
+is_touched J c = fold (touched_step c) false J
+
 -- ---- one connection
 
 -- What a journal says of one connection.
@@ -241,6 +251,7 @@ pub record Tale : Type 0 where
   pub was_reset : Bool
   pub fin_sent : Bool
   pub has_closed : Bool
+  pub touched : Bool
 
 abbrev pub untold : Tale
 untold = record {
@@ -254,6 +265,7 @@ untold = record {
   was_reset = false;
   fin_sent = false;
   has_closed = false;
+  touched = false;
 }
 
 abbrev pub tale_step : ℕ → Tale → Rec → Tale
@@ -268,6 +280,7 @@ tale_step c t r = record {
   was_reset = reset_step c t.was_reset r;
   fin_sent = fin_step c t.fin_sent r;
   has_closed = closed_step c t.has_closed r;
+  touched = touched_step c t.touched r;
 }
 
 -- a tale goes on by records
@@ -297,5 +310,6 @@ about c (rec.Took place d epoch) = nat_eq d c
 about c (rec.Gave place d epoch) = nat_eq d c
 about c (rec.Served place d r code size via) = nat_eq d c
 about c (rec.Reset place d total) = nat_eq d c
+about c (rec.Injected d) = nat_eq d c
 about c (rec.Sent k from to bytes) = is_cluster from && goes_to c to
 about c _ = false

@@ -9,7 +9,7 @@ use Rattle.lard_base.specs.declared.event.Event.TheVariants as event
 use Rattle.lard_base.specs.declared.place.Place.{Place}
 use Rattle.lard_base.specs.declared.place.Place.TheVariants.{Front, Node, Client}
 use Rattle.lard_base.specs.declared.place.Via.TheVariants.{Own}
-use Rattle.lard_history.specs.Journal.{Numbers, accepted, acting, fin_sent, goal_of, has_closed, is_lost, last_epoch, next_answer, next_verdict, numbers_of, owner, request, said_to, sent_count, served, served_bytes, was_reset, wrote}
+use Rattle.lard_history.specs.Journal.{Numbers, accepted, acting, fin_sent, goal_of, has_closed, is_lost, is_touched, last_epoch, next_answer, next_verdict, numbers_of, owner, request, said_to, sent_count, served, served_bytes, was_reset, wrote}
 use Rattle.lard_journal.specs.declared.rec.Rec.{Rec}
 use Rattle.lard_journal.specs.declared.rec.Rec.TheVariants as rec
 use Rattle.lard_segment.specs.declared.segment.Dir.TheVariants.{ToClient}
@@ -78,15 +78,16 @@ pub record IsTold (files : FilesAt) (past : List Rec) (c : ℕ) (bytes : List �
   pub final : said.flags.fin ≡ true → (k : ℕ) × (said.seq ≡ seq_add numbers.iss (1 + k)) × (k + length said.payload ≡ length (said_to files past c))
   pub acknowledges : said.flags.rst ≡ false → (n : ℕ) × (said.ack ≡ seq_add numbers.isn n) × (n ≤ 2 + length (wrote past c))
 
+-- so it is of each client whose connection the schedule did not touch
 abbrev pub ToldTo : FilesAt → List Rec → Place → Place → List ℕ → Type 0
-ToldTo files past Front (Client c) bytes = IsTold files past c bytes
-ToldTo files past (Node n) (Client c) bytes = IsTold files past c bytes
+ToldTo files past Front (Client c) bytes = is_touched past c ≡ false → IsTold files past c bytes
+ToldTo files past (Node n) (Client c) bytes = is_touched past c ≡ false → IsTold files past c bytes
 ToldTo files past _ _ bytes = Unit {0}
 
 -- No response is queued behind the FIN.
 abbrev pub MayTell : FilesAt → List Rec → Rec → Type 0
 MayTell files past (rec.Sent k from to bytes) = ToldTo files past from to bytes
-MayTell files past (rec.Served place c r code size via) = fin_sent past c ≡ false
+MayTell files past (rec.Served place c r code size via) = is_touched past c ≡ false → fin_sent past c ≡ false
 MayTell files past _ = Unit {0}
 
 abbrev pub TellsTheTruth : FilesAt → List Rec → Type 0
@@ -96,11 +97,13 @@ TellsTheTruth files J = EachMay (MayTell files) [] J
 
 -- A response answers the client's next request: it has the number of that, and the code and the length of the answer to
 -- it. Its content is the place's own, since the front end answers all. A reset stands where the next response would be,
--- which is there, and counts the bytes of that with those of all before it.
+-- which is there, and counts the bytes of that with those of all before it. So it is of each client whose connection the
+-- schedule did not touch.
 abbrev pub MayServe : FilesAt → List Rec → Rec → Type 0
 MayServe files past (rec.Served place c r code size via) =
-    (r ≡ served past c + 1) × (option_map (answer_code files) (next_verdict past c) ≡ Some code) × (option_map length (next_answer files past c) ≡ Some size) × (via ≡ Own)
-MayServe files past (rec.Reset place c total) = option_map (λ bytes. served_bytes past c + length bytes) (next_answer files past c) ≡ Some total
+    is_touched past c ≡ false
+    → (r ≡ served past c + 1) × (option_map (answer_code files) (next_verdict past c) ≡ Some code) × (option_map length (next_answer files past c) ≡ Some size) × (via ≡ Own)
+MayServe files past (rec.Reset place c total) = is_touched past c ≡ false → option_map (λ bytes. served_bytes past c + length bytes) (next_answer files past c) ≡ Some total
 MayServe files past _ = Unit {0}
 
 abbrev pub ServesTheAnswers : FilesAt → List Rec → Type 0
@@ -122,9 +125,10 @@ ResetsAtTheLimit stream J = EachMay (MayReset stream) [] J
 -- ---- the prefix law
 
 -- At every moment, the bytes that a client accepted are a prefix of the responses to what it wrote until then, which
--- are sent in the order of its requests (RFC 9112, 9.3.2).
+-- are sent in the order of its requests (RFC 9112, 9.3.2), as long as the schedule did not touch its connection.
 abbrev pub AcceptsOnlyAnswers : FilesAt → List Rec → Type 0
-AcceptsOnlyAnswers files J = (past later : List Rec) (c : ℕ) → J ≡ past ++ later → IsPrefix (accepted past c) (answer_bytes files (wrote past c))
+AcceptsOnlyAnswers files J =
+    (past later : List Rec) (c : ℕ) → J ≡ past ++ later → is_touched past c ≡ false → IsPrefix (accepted past c) (answer_bytes files (wrote past c))
 
 -- ---- clients
 
@@ -147,6 +151,7 @@ is_own (rec.Wrote c bytes) = true
 is_own (rec.Got k) = true
 is_own (rec.Lost k) = true
 is_own (rec.Aborted c) = true
+is_own (rec.Injected c) = true
 is_own _ = false
 
 -- the own records of an event's step; a client that writes no longer writes none
@@ -157,6 +162,7 @@ AreOwn (event.Write c bytes) own = (own ≡ rec.Wrote c bytes ∷ []) ⊎ (own �
 AreOwn (event.Abort c) own = own ≡ rec.Aborted c ∷ []
 AreOwn (event.Deliver k) own = own ≡ rec.Got k ∷ []
 AreOwn (event.Lose k) own = own ≡ rec.Lost k ∷ []
+AreOwn (event.Inject c bytes) own = own ≡ rec.Injected c ∷ []
 AreOwn _ own = own ≡ []
 
 -- the records of the i-th event's step: the event, its own records, and others

@@ -15,9 +15,9 @@ use Rattle.lard_machine.specs.declared.fault.What.TheVariants.{Stream}
 use Rattle.lard_machine.specs.declared.machine.Machine.{Machine}
 use Rattle.lard_machine.specs.declared.places.Station.{Station}
 use Rattle.lard_machine.specs.Bounds.{HasRule}
-use Rattle.lard_machine.specs.Client.{client_opens, client_writes, client_shuts, client_holds, client_takes, client_aborts, client_timer, client_gets}
+use Rattle.lard_machine.specs.Client.{client_opens, client_writes, client_shuts, client_holds, client_takes, client_aborts, client_timer, client_gets, client_injects}
 use Rattle.lard_machine.specs.Front.{front_gets, front_timer}
-use Rattle.lard_machine.specs.Machine.{aborts, client_acted, client_goes_on, delivered, env_of, from_place, front_acted, happens, holds, limit_reached, lost, machine_step, opened, passed, shut, takes, timer, to_client, to_front, to_place, unless_limit, wrote}
+use Rattle.lard_machine.specs.Machine.{aborts, client_acted, client_goes_on, delivered, env_of, from_place, front_acted, happens, holds, injects, limit_reached, lost, machine_step, opened, passed, shut, takes, timer, to_client, to_front, to_place, unless_limit, wrote}
 use Rattle.lard_net.specs.Net.{Packet, lose_at, packet_at}
 use Rattle.lard_segment.specs.declared.segment.Dir.TheVariants.{ToClient, ToCluster}
 use Rattle.lard_segment.specs.Segment.{decoded}
@@ -34,6 +34,8 @@ pub record Forms (m : Machine) (P : Event → Machine → Type 0) : Type 0 where
   pub aborts : (c : ℕ) (x : Station) → table.get m.clients c ≡ Some x → P (event.Abort c) (client_goes_on m (event.Abort c) [] c x (client_aborts x.client))
   pub holds : (c : ℕ) (x : Station) → table.get m.clients c ≡ Some x → P (event.Hold c) (client_goes_on m (event.Hold c) [] c x (client_holds x.client))
   pub takes : (c : ℕ) (x : Station) → table.get m.clients c ≡ Some x → P (event.Take c) (client_goes_on m (event.Take c) [] c x (client_takes x.client))
+  pub injects : (c : ℕ) (bytes : List ℕ) (x : Station) → HasRule (event.Inject c bytes) → table.get m.clients c ≡ Some x
+      → P (event.Inject c bytes) (client_goes_on m (event.Inject c bytes) (rec.Injected c ∷ []) c x (client_injects x.client bytes))
   pub client_timer : (d c : ℕ) (x : Station) → d ≡ c → table.get m.clients c ≡ Some x
       → P (event.Timer (place.Client d) c) (client_goes_on m (event.Timer (place.Client d) c) [] c x (client_timer x.client))
   pub front_timer : (c : ℕ) (x : Station) → table.get m.clients c ≡ Some x
@@ -86,6 +88,11 @@ module _ (m n : Machine) (P : Event → Machine → Type 0) (f : Forms m P) wher
   unfolding takes
   takes-is c None at is = cc
   takes-is c (Some x) at is = done _ _ (f.takes c x at) is
+
+  injects-is : (c : ℕ) (bytes : List ℕ) (o : Option Station) → HasRule (event.Inject c bytes) → table.get m.clients c ≡ o → injects m c bytes o ≡ Ok n → P (event.Inject c bytes) n
+  unfolding injects
+  injects-is c bytes None h at is = cc
+  injects-is c bytes (Some x) h at is = done _ _ (f.injects c bytes x h at) is
 
   timer-is : (p : Place) (c : ℕ) (o : Option Station) → HasRule (event.Timer p c) → table.get m.clients c ≡ o → timer m p c o ≡ Ok n → P (event.Timer p c) n
   unfolding timer
@@ -146,7 +153,7 @@ module _ (m n : Machine) (P : Event → Machine → Type 0) (f : Forms m P) wher
   happens-is (event.Disk i j) h is = absurd h
   happens-is (event.Clock ms) h is = absurd h
   happens-is (event.Settle rounds) h is = absurd h
-  happens-is (event.Inject c bytes) h is = absurd h
+  happens-is (event.Inject c bytes) h is = injects-is c bytes (table.get m.clients c) h refl is
 
 -- no limit was reached before a step that is done
 pub below_limits : (m n : Machine) (e : Event) → machine_step m e ≡ Ok n → (limit_reached m ≡ None) × (happens m e ≡ Ok n)

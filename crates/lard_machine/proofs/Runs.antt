@@ -41,6 +41,7 @@ forms-set m = record {
   aborts = λ c x is. client-set m _ _ c x.iss _ _;
   holds = λ c x is. client-set m _ _ c x.iss _ _;
   takes = λ c x is. client-set m _ _ c x.iss _ _;
+  injects = λ c bytes x rule is. client-set m _ _ c x.iss _ _;
   client_timer = λ d c x same is. client-set m _ _ c x.iss _ _;
   front_timer = λ c x is. front-set m _ _ c _;
   front_gets = λ k c p x at on from to is. front-set m _ _ c _;

@@ -3,7 +3,7 @@ use Rattle.std.specs.Prelude.{◌≡◌, ℕ, ◌≤◌, ◌<◌, ◌^◌, lengt
 use Rattle.std.specs.FinMap as table
 use Rattle.lard_base.specs.declared.event.Event.{Event}
 use Rattle.lard_base.specs.declared.event.Event.TheVariants.{Open, Get, Write, Shut, Abort, Hold, Take, Deliver, Lose, Timer, Disk, Clock, Settle, Inject}
-use Rattle.lard_base.specs.declared.limits.TheConstants.{MAX_SEGMENT_DATA}
+use Rattle.lard_base.specs.declared.limits.TheConstants.{MAX_SEGMENT_BYTES, MAX_SEGMENT_DATA}
 use Rattle.lard_base.specs.declared.place.Place.{Place}
 use Rattle.lard_base.specs.declared.place.Place.TheVariants.{Front, Node, Client}
 use Rattle.lard_endpoint.specs.Control.{ControlBlock}
@@ -36,4 +36,4 @@ HasRule (Timer p c) = HasTimer p c
 HasRule (Disk n j) = ⊥
 HasRule (Clock ms) = ⊥
 HasRule (Settle rounds) = ⊥
-HasRule (Inject c bytes) = ⊥
+HasRule (Inject c bytes) = (1 ≤ length bytes) × (length bytes ≤ MAX_SEGMENT_BYTES)

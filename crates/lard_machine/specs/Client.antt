@@ -2,6 +2,7 @@
 -- may, until none.
 use Rattle.std.specs.Prelude.{ℕ, nat_lt, List, [], ◌∷◌, ◌++◌, take, drop, if◌then◌else◌, Option, Some, None, Result, Ok, Err}
 use Rattle.lard_base.specs.declared.place.Place.{Place}
+use Rattle.lard_base.specs.declared.place.Place.TheVariants.{Front}
 use Rattle.lard_client.specs.declared.heard.Heard.{Heard}
 use Rattle.lard_client.specs.Control.{ClientBlock, opened, written, is_writing, shut_down, held_on, taken, aborted}
 use Rattle.lard_client.specs.Arriving.{arrived}
@@ -70,3 +71,7 @@ client_heard payload heard = speaking (accepted_note heard.1.c heard.0 payload +
 abbrev pub client_gets : ClientBlock → Result Said SegFault → ClientBlock × Turn
 client_gets x (Err fault) = (x, silent)
 client_gets x (Ok s) = client_heard s.payload (arrived x s)
+
+-- The schedule puts a packet with these bytes on the way from it; the client itself does nothing.
+abbrev pub client_injects : ClientBlock → List ℕ → ClientBlock × Turn
+client_injects x bytes = (x, record { notes = []; segments = (Front, bytes) ∷ []; answered = 0 })

@@ -24,7 +24,7 @@ use Rattle.lard_machine.specs.declared.places.FrontConn.TheVariants.{Held, Lent,
 use Rattle.lard_machine.specs.declared.places.Station.{Station}
 use Rattle.lard_machine.specs.declared.places.Turn.{Turn}
 use Rattle.lard_machine.specs.Bounds.{HasRule}
-use Rattle.lard_machine.specs.Client.{client_opens, client_writes, client_shuts, client_holds, client_takes, client_aborts, client_timer, client_gets}
+use Rattle.lard_machine.specs.Client.{client_opens, client_writes, client_shuts, client_holds, client_takes, client_aborts, client_timer, client_gets, client_injects}
 use Rattle.lard_machine.specs.Front.{FrontEnv, front_gets, front_timer}
 use Rattle.lard_net.specs.Net.{Packet, bytes_in, lose_at, packet_at}
 use Rattle.lard_segment.specs.declared.segment.Dir.TheVariants.{ToClient, ToCluster}
@@ -136,6 +136,10 @@ unfoldable pub takes : Machine → ℕ → Option Station → Result Machine Ste
 takes m c None = Err (NoClient c)
 takes m c (Some x) = Ok (client_goes_on m (event.Take c) [] c x (client_takes x.client))
 
+unfoldable pub injects : Machine → ℕ → List ℕ → Option Station → Result Machine StepFault
+injects m c bytes None = Err (NoClient c)
+injects m c bytes (Some x) = Ok (client_goes_on m (event.Inject c bytes) (rec.Injected c ∷ []) c x (client_injects x.client bytes))
+
 -- ---- the front end
 
 abbrev pub front_put : Machine → ℕ → Option FrontConn → Machine
@@ -216,7 +220,7 @@ limit_of packets bytes records answered =
 abbrev pub limit_reached : Machine → Option What
 limit_reached m = limit_of (length m.net) (bytes_in m.net) (length m.journal) m.answered
 
--- the step of an event; those of the disks, of the clock and of settling, and injections, have no rule yet
+-- the step of an event; those of the disks, of the clock and of settling have no rule yet
 abbrev pub happens : Machine → Event → Result Machine StepFault
 happens m (event.Open c isn iss wnd mss) = opened m c isn iss wnd mss (table.get m.clients c)
 happens m (event.Get c path) = wrote m (event.Get c path) c (request path) (table.get m.clients c)
@@ -228,6 +232,7 @@ happens m (event.Take c) = takes m c (table.get m.clients c)
 happens m (event.Deliver k) = delivered m k (packet_at m.net k)
 happens m (event.Lose k) = lost m k (packet_at m.net k)
 happens m (event.Timer p c) = timer m p c (table.get m.clients c)
+happens m (event.Inject c bytes) = injects m c bytes (table.get m.clients c)
 happens m _ = Ok m
 
 abbrev pub unless_limit : Option What → Result Machine StepFault → Result Machine StepFault

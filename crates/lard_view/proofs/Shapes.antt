@@ -21,7 +21,7 @@ use Rattle.lard_machine.specs.declared.places.FrontConn.{FrontConn}
 use Rattle.lard_machine.specs.declared.places.Station.{Station}
 use Rattle.lard_machine.specs.declared.places.Turn.{Turn}
 use Rattle.lard_machine.specs.Bounds.{HasRule}
-use Rattle.lard_machine.specs.Client.{client_aborts, client_gets, client_holds, client_opens, client_shuts, client_takes, client_timer, client_writes}
+use Rattle.lard_machine.specs.Client.{client_aborts, client_gets, client_holds, client_injects, client_opens, client_shuts, client_takes, client_timer, client_writes}
 use Rattle.lard_machine.specs.Front.{front_gets, front_timer}
 use Rattle.lard_machine.specs.Machine.{Act, acted, client_acted, client_goes_on, client_put, env_of, front_acted, front_armed, front_put, machine_step, packets_of, passed, records, sent_records, timer_change}
 use Rattle.lard_machine.proofs.Forms.{Forms, step_has}
@@ -29,7 +29,7 @@ use Rattle.lard_net.specs.Net.{Packet, lose_at}
 use Rattle.lard_segment.specs.declared.segment.Dir.TheVariants.{ToClient, ToCluster}
 use Rattle.lard_segment.specs.Segment.{decoded}
 use Rattle.lard_view.proofs.Moving.{notes-net, sents-net, timer-net}
-use Rattle.lard_view.proofs.Turns.{IsClientTurn, IsFrontTurn, NotedAt, aborts-turn, fires-turn, front_fires-turn, front_gets-turn, hears-turn, holds-turn, opens-turn, shuts-turn, takes-turn, writes-turn}
+use Rattle.lard_view.proofs.Turns.{IsClientTurn, IsFrontTurn, NotedAt, aborts-turn, fires-turn, front_fires-turn, front_gets-turn, hears-turn, holds-turn, injects-turn, opens-turn, shuts-turn, takes-turn, writes-turn}
 
 -- Behind m comes one step, and the journal tells of the packets that there are.
 pub record IsAfter (m n : Machine) : Type 0 where
@@ -128,6 +128,7 @@ module _ (m : Machine) (told : net_of m.journal ≡ m.net) where
     aborts = λ c x is. client-after (event.Abort c) [] c x.iss (is_armed x.client) (client_aborts x.client) tt (aborts-turn c x.client (number c x is));
     holds = λ c x is. client-after (event.Hold c) [] c x.iss (is_armed x.client) (client_holds x.client) tt (holds-turn c x.client (number c x is));
     takes = λ c x is. client-after (event.Take c) [] c x.iss (is_armed x.client) (client_takes x.client) tt (takes-turn c x.client (number c x is));
+    injects = λ c bytes x rule is. client-after (event.Inject c bytes) (rec.Injected c ∷ []) c x.iss (is_armed x.client) (client_injects x.client bytes) ((refl, λ net. refl), tt) (injects-turn c x.client (number c x is) bytes);
     client_timer = λ d c x same is. client-after (event.Timer (Client d) c) [] c x.iss (is_armed x.client) (client_timer x.client) tt (fires-turn c x.client (number c x is));
     front_timer = λ c x is. front-after (event.Timer Front c) [] c (front_timer (env_of m c x.iss) (table.get m.conns c)) tt (front_fires-turn (env_of m c x.iss) (table.get m.conns c));
     front_gets = λ k c p x at on from to is. front-after (event.Deliver k) (rec.Got k ∷ []) c (front_gets (env_of m c x.iss) (table.get m.conns c) (decoded p.bytes c ToCluster)) ((refl, λ net. refl), tt)

@@ -16,7 +16,7 @@ use Rattle.lard_machine.specs.declared.places.FrontConn.{FrontConn}
 use Rattle.lard_machine.specs.declared.places.Station.{Station}
 use Rattle.lard_machine.specs.declared.places.Turn.{Turn}
 use Rattle.lard_machine.specs.Bounds.{HasRule}
-use Rattle.lard_machine.specs.Client.{client_aborts, client_gets, client_holds, client_opens, client_shuts, client_takes, client_timer, client_writes}
+use Rattle.lard_machine.specs.Client.{client_aborts, client_gets, client_holds, client_injects, client_opens, client_shuts, client_takes, client_timer, client_writes}
 use Rattle.lard_machine.specs.Front.{front_gets, front_timer}
 use Rattle.lard_machine.specs.Machine.{Act, client_acted, client_goes_on, client_put, env_of, front_acted, front_armed, front_put, machine_step, passed}
 use Rattle.lard_machine.proofs.Forms.{Forms, step_has}
@@ -24,7 +24,7 @@ use Rattle.lard_net.specs.Net.{Packet, lose_at, packet_at}
 use Rattle.lard_segment.specs.declared.segment.Dir.TheVariants.{ToClient, ToCluster}
 use Rattle.lard_segment.specs.Segment.{decoded}
 use Rattle.lard_table.proofs.Map.{get_inserted, get_other}
-use Rattle.lard_view.specs.View.{AreBetween, Conn, Goes, GoesBetween, IsSound, Move, Part, Rules, Was, client_begins, client_does, conn, env_at, event_seen, front_does, ignoring, packet_seen, part_of, setting_of, station_armed, with_front, with_station}
+use Rattle.lard_view.specs.View.{AreBetween, Conn, Goes, GoesBetween, IsSound, Move, Part, Rules, Was, client_begins, client_does, conn, env_at, event_seen, front_does, ignoring, inject_seen, packet_seen, part_of, setting_of, station_armed, with_front, with_station}
 use Rattle.lard_view.proofs.Moving.{ignores, moved, passes, stays}
 use Rattle.lard_view.proofs.Turns.{IsTurn, KeepsRow, fine, front_fires-turn, front_gets-turn}
 
@@ -54,6 +54,15 @@ module _ (m : Machine) (P : Conn → Move → Type 0) (R : Rules (setting_of m) 
   open-heads c isn iss wnd mss =
       let e : Rec = rec.Event (m.events + 1) (event.Open c isn iss wnd mss) in
       let o : Rec = rec.Opened c isn iss wnd mss in
+      record {
+        seen = λ i. seen-mine c m.net e refl i ++ (seen-mine c m.net o refl i ++ []);
+        others = λ q n i. seen-other c q m.net e n refl i ++ (seen-other c q m.net o n refl i ++ []);
+      }
+
+  inject-heads : (c : ℕ) (bytes : List ℕ) → Heads c (event.Inject c bytes) (rec.Injected c ∷ []) (inject_seen c bytes)
+  inject-heads c bytes =
+      let e : Rec = rec.Event (m.events + 1) (event.Inject c bytes) in
+      let o : Rec = rec.Injected c in
       record {
         seen = λ i. seen-mine c m.net e refl i ++ (seen-mine c m.net o refl i ++ []);
         others = λ q n i. seen-other c q m.net e n refl i ++ (seen-other c q m.net o n refl i ++ []);
@@ -198,6 +207,8 @@ module _ (m : Machine) (P : Conn → Move → Type 0) (R : Rules (setting_of m) 
         ((fine (setting_of m)).holds (conn m c) x is (sound c)).0 (R.holds (conn m c) x is);
     takes = λ c x is. goes-on (event.Take c) [] c x (client_takes x.client) (event_seen (event.Take c)) is (event-heads c (event.Take c) refl)
         ((fine (setting_of m)).takes (conn m c) x is (sound c)).0 (R.takes (conn m c) x is);
+    injects = λ c bytes x rule is. goes-on (event.Inject c bytes) (rec.Injected c ∷ []) c x (client_injects x.client bytes) (inject_seen c bytes) is (inject-heads c bytes)
+        ((fine (setting_of m)).injects (conn m c) x bytes is rule (sound c)).0 (R.injects (conn m c) x bytes is rule);
     client_timer = λ d c x same is.
         let e : ℕ → Event = λ z. event.Timer (Client z) c in
         subst (λ (z : ℕ). To (client_goes_on m (e z) [] c x (client_timer x.client))) (sym same)

@@ -24,7 +24,7 @@ use Rattle.lard_machine.specs.declared.places.FrontConn.{FrontConn}
 use Rattle.lard_machine.specs.declared.places.FrontConn.TheVariants.{Held, Lent, Closed}
 use Rattle.lard_machine.specs.declared.places.Station.{Station}
 use Rattle.lard_machine.specs.declared.places.Turn.{Turn}
-use Rattle.lard_machine.specs.Client.{client_aborts, client_gets, client_holds, client_opens, client_shuts, client_takes, client_timer, client_writes, ready_of, silent, speaking}
+use Rattle.lard_machine.specs.Client.{client_aborts, client_gets, client_holds, client_injects, client_opens, client_shuts, client_takes, client_timer, client_writes, ready_of, silent, speaking}
 use Rattle.lard_machine.specs.Front.{FrontEnv, Service, answered, begun, closed_behind, consumed, cut_off, ended_at_fin, front_gets, front_hears, front_timer, is_plain_syn, last_words, limit_said, met, passed_over, queued, reads, rested, settled, spoken, told, tombstone}
 use Rattle.lard_machine.specs.Front as front
 use Rattle.lard_machine.specs.Speaking.{client_speaks, speaks, speaks_symbols}
@@ -36,7 +36,7 @@ use Rattle.lard_request.specs.Verdict.{verdict}
 use Rattle.lard_segment.specs.declared.fault.SegFault.{SegFault}
 use Rattle.lard_segment.specs.declared.segment.Dir.TheVariants.{ToClient, ToCluster}
 use Rattle.lard_segment.specs.Segment.{Said, decoded}
-use Rattle.lard_view.specs.View.{AreBetween, Conn, GoesBetween, IsSound, Move, Rules, Setting, client_begins, client_does, env_at, event_seen, front_does, grown, ignoring, letter, letters_of, packet_seen}
+use Rattle.lard_view.specs.View.{AreBetween, Conn, GoesBetween, IsSound, Move, Rules, Setting, client_begins, client_does, env_at, event_seen, front_does, grown, ignoring, inject_seen, letter, letters_of, packet_seen}
 use Rattle.lard_view.proofs.ClientTurns.{aborted-on, arrived-hears, held-on, ready-to, shut-on, speaks-on, taken-on, timer-on, written-on}
 use Rattle.lard_view.proofs.Endpoints.{AllTo, speaks-to, speaks_symbols-to}
 use Rattle.lard_view.proofs.Endpoints as ends
@@ -97,6 +97,9 @@ module _ (c : ℕ) (x : ClientBlock) (n : x.c ≡ c) where
 
   pub aborts-turn : IsClientTurn c (client_aborts x)
   aborts-turn = record { number = (aborted-on x).0.number ∙ n; notes = (n, tt); to = ready-to (aborted x) (abort_ready x) }
+
+  pub injects-turn : (bytes : List ℕ) → IsClientTurn c (client_injects x bytes)
+  injects-turn bytes = record { number = n; notes = tt; to = (refl, tt) }
 
   noted-turn : (b : Bool) (bytes : List ℕ) (d : Bool) (y : ClientBlock) (segments : List (Place × List ℕ)) → y.c ≡ c → AllTo Front segments
       → IsClientTurn c (speaking (cond b (rec.Accepted y.c bytes ∷ []) [] ++ cond d (rec.Eof y.c ∷ []) []) segments y)
@@ -258,6 +261,7 @@ fine k = record {
   aborts = λ x s there. client-fine x s (event_seen (event.Abort x.c)) (client_aborts s.client) (λ h. aborts-turn x.c s.client (h.number s there));
   holds = λ x s there. client-fine x s (event_seen (event.Hold x.c)) (client_holds s.client) (λ h. holds-turn x.c s.client (h.number s there));
   takes = λ x s there. client-fine x s (event_seen (event.Take x.c)) (client_takes s.client) (λ h. takes-turn x.c s.client (h.number s there));
+  injects = λ x s bytes there rule. client-fine x s (inject_seen x.c bytes) (client_injects s.client bytes) (λ h. injects-turn x.c s.client (h.number s there) bytes);
   client_fires = λ x s there. client-fine x s (event_seen (event.Timer (Client x.c) x.c)) (client_timer s.client) (λ h. fires-turn x.c s.client (h.number s there));
   client_hears = λ x s bytes there was. client-fine x s (packet_seen Front (Client x.c) bytes) (client_gets s.client (decoded bytes x.c ToClient))
       (λ h. hears-turn x.c s.client (h.number s there) (decoded bytes x.c ToClient));

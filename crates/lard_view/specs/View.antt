@@ -18,7 +18,7 @@ use Rattle.lard_machine.specs.declared.places.FrontConn.{FrontConn}
 use Rattle.lard_machine.specs.declared.places.Station.{Station}
 use Rattle.lard_machine.specs.declared.places.Turn.{Turn}
 use Rattle.lard_machine.specs.Bounds.{HasRule}
-use Rattle.lard_machine.specs.Client.{client_opens, client_writes, client_shuts, client_holds, client_takes, client_aborts, client_timer, client_gets, silent}
+use Rattle.lard_machine.specs.Client.{client_opens, client_writes, client_shuts, client_holds, client_takes, client_aborts, client_timer, client_gets, client_injects, silent}
 use Rattle.lard_machine.specs.Front.{FrontEnv, front_gets, front_timer}
 use Rattle.lard_machine.specs.Machine.{front_armed, timer_change}
 use Rattle.lard_segment.specs.declared.segment.Dir.TheVariants.{ToClient, ToCluster}
@@ -120,6 +120,10 @@ with_front p f = record { station = p.station; front = f }
 abbrev pub event_seen : Event → List Seen
 event_seen e = Row (rec.Event 0 e) ∷ []
 
+-- a packet is put on the way
+abbrev pub inject_seen : ℕ → List ℕ → List Seen
+inject_seen c bytes = Row (rec.Event 0 (event.Inject c bytes)) ∷ Row (rec.Injected c) ∷ []
+
 -- a packet is seen as it comes
 abbrev pub packet_seen : Place → Place → List ℕ → List Seen
 packet_seen from to bytes = Came (record { from = from; to = to; bytes = bytes }) ∷ []
@@ -157,6 +161,8 @@ pub record Rules (k : Setting) (P : Conn → Move → Type 0) : Type 0 where
   pub aborts : (x : Conn) (s : Station) → x.part.station ≡ Some s → P x (client_does x s (event_seen (event.Abort x.c)) (client_aborts s.client))
   pub holds : (x : Conn) (s : Station) → x.part.station ≡ Some s → P x (client_does x s (event_seen (event.Hold x.c)) (client_holds s.client))
   pub takes : (x : Conn) (s : Station) → x.part.station ≡ Some s → P x (client_does x s (event_seen (event.Take x.c)) (client_takes s.client))
+  pub injects : (x : Conn) (s : Station) (bytes : List ℕ) → x.part.station ≡ Some s → HasRule (event.Inject x.c bytes)
+      → P x (client_does x s (inject_seen x.c bytes) (client_injects s.client bytes))
   pub client_fires : (x : Conn) (s : Station) → x.part.station ≡ Some s → P x (client_does x s (event_seen (event.Timer (Client x.c) x.c)) (client_timer s.client))
   pub client_hears : (x : Conn) (s : Station) (bytes : List ℕ) → x.part.station ≡ Some s → Was x Front (Client x.c) bytes
       → P x (client_does x s (packet_seen Front (Client x.c) bytes) (client_gets s.client (decoded bytes x.c ToClient)))
