@@ -8,7 +8,7 @@ use Rattle.lard_base.specs.declared.place.Place.{Place}
 use Rattle.lard_base.specs.declared.place.Place.TheVariants.{Front, Node, Client}
 use Rattle.lard_history.specs.Journal.{Tale, about, event_shuts, goes_to, is_cluster, tale, tale_step, untold}
 use Rattle.lard_history.specs.Laws.{EachMay}
-use Rattle.lard_history.specs.Own.{Seen, Row, Came, came, conn_of, event_conn, net_of, net_step, one_of, own, plain, seen_of, seen_on, seen_step, tale_of, whose}
+use Rattle.lard_history.specs.Own.{EachRow, Seen, Row, Came, came, conn_of, event_conn, net_of, net_step, one_of, own, plain, seen_of, seen_on, seen_step, tale_of, whose}
 use Rattle.lard_history.proofs.Seeing.{by_number, other_number, own-append, own-nil, seen-mine, seen-other}
 use Rattle.lard_history.proofs.Tales.{other}
 use Rattle.lard_journal.specs.declared.rec.Rec.{Rec}
@@ -136,12 +136,6 @@ unfolding tale
 tale-own J c = fold-own c (tale_step c) (tale-is-own c) untold J
 
 -- ---- laws of a record that look at what its own connection saw
-
--- each record may stand where it does, after what was seen of the past
-abbrev pub EachRow : (List Seen → Rec → Type 0) → List Seen → List Seen → Type 0
-EachRow mine past [] = Unit {0}
-EachRow mine past (Row r ∷ ss) = mine past r × EachRow mine (past ++ Row r ∷ []) ss
-EachRow mine past (Came l ∷ ss) = EachRow mine (past ++ Came l ∷ []) ss
 
 module _ (mine : List Seen → Rec → Type 0) where
   pub each_row-append : (past xs ys : List Seen) → EachRow mine past xs → EachRow mine (past ++ xs) ys → EachRow mine past (xs ++ ys)

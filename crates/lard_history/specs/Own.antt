@@ -147,3 +147,11 @@ seen_step step a (Came l) = a
 -- its tale
 abbrev pub tale_of : ℕ → List Seen → Tale
 tale_of c ss = fold (seen_step (tale_step c)) untold ss
+
+-- ---- laws of what a connection sees
+
+-- each record may stand where it does, after what was seen of the past
+abbrev pub EachRow : (List Seen → Rec → Type 0) → List Seen → List Seen → Type 0
+EachRow mine past [] = Unit {0}
+EachRow mine past (Row r ∷ ss) = mine past r × EachRow mine (past ++ Row r ∷ []) ss
+EachRow mine past (Came l ∷ ss) = EachRow mine (past ++ Came l ∷ []) ss

@@ -6,6 +6,7 @@ use Rattle.lard_base.specs.declared.place.Place.{Place}
 use Rattle.lard_base.specs.declared.place.Place.TheVariants.{Front, Client}
 use Rattle.lard_history.specs.Journal.{Tale, accepted, tale, untold, wrote}
 use Rattle.lard_history.specs.Laws.{EachMay, ServesTheAnswers, TellsTheTruth}
+use Rattle.lard_history.specs.Own.{Letter}
 use Rattle.lard_journal.specs.declared.rec.Rec.{Rec}
 use Rattle.lard_journal.specs.declared.rec.Rec.TheVariants as rec
 use Rattle.lard_machine.specs.declared.machine.Machine.{Machine}
@@ -16,6 +17,8 @@ use Rattle.lard_request.specs.declared.verdict.Verdict.{Verdict}
 use Rattle.lard_segment.specs.declared.segment.Dir.TheVariants.{ToClient, ToCluster}
 use Rattle.lard_segment.specs.Segment.{Said, spelled}
 use Rattle.lard_truth.specs.Truth.{Stream}
+use Rattle.lard_view.specs.Carry.{tale_at}
+use Rattle.lard_view.specs.View.{Conn}
 use Rattle.lard_laws_bytes.specs.Agreement.{Agrees, IsReply, IsWord}
 
 -- What one connection is about: the client's stream, the cluster's, and the verdicts that were answered.
@@ -52,3 +55,22 @@ pub record IsTruthful (files : FilesAt) (m : Machine) : Type 0 where
   pub tells : TellsTheTruth files m.journal
   pub accepts : EachMay (MayAccept files) [] m.journal
   pub serves : ServesTheAnswers files m.journal
+
+-- ---- of one connection, which the schedule did not touch
+
+-- A packet of the connection is true now: of the client's stream, or of the cluster's.
+abbrev pub IsFairOn : ℕ → Talk → Place → Place → List ℕ → Type 0
+IsFairOn c k (Client d) Front bytes = (d ≡ c) × ((s : Said) × (bytes ≡ spelled c ToCluster s) × IsWord k.w s)
+IsFairOn c k Front (Client d) bytes = (d ≡ c) × ((s : Said) × (bytes ≡ spelled c ToClient s) × IsReply k.w k.out k.was_reset s)
+IsFairOn c k _ _ bytes = ⊥
+
+abbrev pub AreFairOn : ℕ → Talk → List Letter → Type 0
+AreFairOn c k [] = Unit {0}
+AreFairOn c k (l ∷ ls) = IsFairOn c k l.from l.to l.bytes × AreFairOn c k ls
+
+-- What its client, the front end, the journal and all its packets say agrees.
+pub record IsTruthfulAt (files : FilesAt) (x : Conn) : Type 0 where
+  pub talk : Talk
+  pub agrees : ConnAgrees files x.c talk x.part.station x.part.front (tale_at x)
+  pub fresh : x.part.station ≡ None → x.letters ≡ []
+  pub packets : AreFairOn x.c talk x.letters

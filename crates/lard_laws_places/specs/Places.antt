@@ -9,12 +9,15 @@ use Rattle.lard_base.specs.declared.place.Place.TheVariants.{Client, Front}
 use Rattle.lard_base.specs.declared.place.Reason.TheVariants.{Limit}
 use Rattle.lard_client.specs.Control.{is_writing}
 use Rattle.lard_history.specs.Journal.{Numbers, Tale, goal_of, is_lost, packet_bytes, sent_count}
+use Rattle.lard_history.specs.Own.{net_of}
 use Rattle.lard_journal.specs.declared.rec.Rec.{Rec}
 use Rattle.lard_journal.specs.declared.rec.Rec.TheVariants as rec
 use Rattle.lard_machine.specs.declared.places.FrontConn.{FrontConn}
 use Rattle.lard_machine.specs.declared.places.FrontConn.TheVariants.{Held, Lent, Closed}
 use Rattle.lard_machine.specs.declared.places.Station.{Station}
-use Rattle.lard_net.specs.Net.{Packet, bytes_in, lose_at, packet_at}
+use Rattle.lard_net.specs.Net.{Packet, bytes_in, packet_at}
+use Rattle.lard_view.specs.Carry.{tale_at}
+use Rattle.lard_view.specs.View.{Conn, Setting}
 
 -- ---- clients
 
@@ -98,16 +101,11 @@ pub record Stands (stream c : ℕ) (x : Option Station) (conn : Option FrontConn
   pub front : FrontStands stream conn (front_tale t)
   pub opened : TakesOpened conn x
 
+-- of all of one connection
+abbrev pub StandsAt : Setting → Conn → Type 0
+StandsAt k x = Stands k.stream x.c x.part.station x.part.front (tale_at x)
+
 -- ---- packets
-
--- the packets that a journal tells of, each lost or not
-abbrev pub net_step : List Packet → Rec → List Packet
-net_step net (rec.Sent k from to bytes) = net ++ record { from = from; to = to; bytes = bytes; lost = false } ∷ []
-net_step net (rec.Lost k) = lose_at (k - 1) net
-net_step net _ = net
-
-abbrev pub net_of : List Rec → List Packet
-net_of J = fold net_step [] J
 
 -- where a packet goes, and whether it was lost
 abbrev pub goal_in : Option Packet → Option Place

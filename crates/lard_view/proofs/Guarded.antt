@@ -3,13 +3,15 @@ use Rattle.std.proofs.Common.{◌≡◌, ℕ, List, [], ◌∷◌, ◌++◌, map
 use Rattle.std.proofs.lemmas.List.Sums.{fold-append}
 use Rattle.std.specs.List.{fold}
 use Rattle.lard_history.specs.Journal.{Tale, tale_step, touched_step, untold}
-use Rattle.lard_history.specs.Own.{Seen, Row, Came, seen_step}
+use Rattle.lard_base.specs.declared.event.Event.TheVariants as event
+use Rattle.lard_history.specs.Own.{EachRow, Seen, Row, Came, seen_step, tale_of}
+use Rattle.lard_history.proofs.Lifting.{each_row-append}
 use Rattle.lard_history.proofs.Seeing.{same_number}
 use Rattle.lard_journal.specs.declared.rec.Rec.{Rec}
 use Rattle.lard_journal.specs.declared.rec.Rec.TheVariants as rec
 use Rattle.lard_machine.specs.Client.{client_injects}
 use Rattle.lard_machine.specs.declared.places.Station.{Station}
-use Rattle.lard_view.specs.Carry.{IsLaw, IsUntouchedLaw, Untouched, UntouchedRules, tale_at}
+use Rattle.lard_view.specs.Carry.{IsGuardedLaw, IsLaw, IsUntouchedLaw, Untouched, UntouchedRules, WhileUntouched, tale_at}
 use Rattle.lard_view.specs.View.{Conn, IsSound, Move, Rules, Setting, client_does, grown, inject_seen, rows_of, seen_in}
 
 -- less is so of each rule, where more is
@@ -95,3 +97,58 @@ untouched-law k Given Inv law = record {
       law.moves
       (λ x s bytes sound given inv e. let no : true ≡ false = sym (injected-touches x s bytes) ∙ e in absurd cc);
 }
+
+-- ---- with a law of its records
+
+module _ (mine : ℕ → List Seen → Rec → Type 0) (c : ℕ) where
+  -- what holds of records holds of them while untouched
+  while-untouched : (past ss : List Seen) → EachRow (mine c) past ss → EachRow (WhileUntouched mine c) past ss
+  while-untouched past [] e = tt
+  while-untouched past (Row r ∷ ss) e = (λ u. e.0, while-untouched (past ++ Row r ∷ []) ss e.1)
+  while-untouched past (Came l ∷ ss) e = while-untouched (past ++ Came l ∷ []) ss e
+
+  -- once touched, any record may stand
+  any-stands : (past ss : List Seen) → (tale_of c past).touched ≡ true → EachRow (WhileUntouched mine c) past ss
+  any-stands past [] e = tt
+  any-stands past (Row r ∷ ss) e = ((λ u. let no : true ≡ false = sym e ∙ u in absurd cc), any-stands (past ++ Row r ∷ []) ss (later (Row r))) where
+    later : (s : Seen) → (tale_of c (past ++ s ∷ [])).touched ≡ true
+    later s = ap (λ (t : Tale). t.touched) (fold-append (seen_step (tale_step c)) untold past (s ∷ [])) ∙ touched-stays c (tale_of c past) (s ∷ []) e
+  any-stands past (Came l ∷ ss) e = any-stands (past ++ Came l ∷ []) ss
+      (ap (λ (t : Tale). t.touched) (fold-append (seen_step (tale_step c)) untold past (Came l ∷ [])) ∙ touched-stays c (tale_of c past) (Came l ∷ []) e)
+
+module _ (k : Setting) (Given Inv : Conn → Type 0) (mine : ℕ → List Seen → Rec → Type 0) (law : IsGuardedLaw k Given Inv mine) where
+  -- what holds of each connection: Inv while it is untouched, and the law of its records
+  abbrev pub Guarded : Conn → Type 0
+  Guarded x = Untouched Inv x × EachRow (WhileUntouched mine x.c) [] x.seen
+
+  grows : (x : Conn) (v : Move) → EachRow (WhileUntouched mine x.c) [] x.seen → EachRow (WhileUntouched mine x.c) x.seen (seen_in x v) → EachRow (WhileUntouched mine x.c) [] (grown x v).seen
+  grows x v past now = each_row-append (WhileUntouched mine x.c) [] x.seen (seen_in x v) past now
+
+  moved : (x : Conn) (v : Move) → (IsSound x → Given x → (tale_at x).touched ≡ false → Inv x → Inv (grown x v) × EachRow (mine x.c) x.seen (seen_in x v))
+      → IsSound x → Given x → Guarded x → Guarded (grown x v)
+  moved x v moves sound given h = (
+    (λ e. let before : (tale_at x).touched ≡ false = untouched-before x v e in (moves sound given before (h.0 before)).0),
+    grows x v h.1 (by-touch (tale_at x).touched refl),
+  ) where
+    by-touch : (b : Bool) → (tale_at x).touched ≡ b → EachRow (WhileUntouched mine x.c) x.seen (seen_in x v)
+    by-touch true t = any-stands mine x.c x.seen (seen_in x v) t
+    by-touch false t = while-untouched mine x.c x.seen (seen_in x v) (moves sound given t (h.0 t)).1
+
+  injects-guarded : (x : Conn) (s : Station) (bytes : List ℕ) → IsSound x → Given x → Guarded x → Guarded (grown x (client_does x s (inject_seen x.c bytes) (client_injects s.client bytes)))
+  injects-guarded x s bytes sound given h =
+      let v : Move = client_does x s (inject_seen x.c bytes) (client_injects s.client bytes) in
+      let e : Rec = rec.Event 0 (event.Inject x.c bytes) in
+      let one : List Seen = x.seen ++ Row e ∷ [] in
+      let two : List Seen = one ++ Row (rec.Injected x.c) ∷ [] in
+      let touched : (tale_of x.c two).touched ≡ true =
+      ap (λ (t : Tale). t.touched) (fold-append (seen_step (tale_step x.c)) untold one (Row (rec.Injected x.c) ∷ [])) ∙ ap (λ b. cond b true (tale_of x.c one).touched) (same_number x.c) in (
+        (λ u. let no : true ≡ false = sym (injected-touches x s bytes) ∙ u in absurd cc),
+        grows x v h.1 ((λ u. law.events x.c x.seen (event.Inject x.c bytes)), ((λ u. law.injected x.c one), any-stands mine x.c two (map Row (rows_of x v)) touched)),
+      )
+
+  pub guarded-law : IsLaw k Given Guarded
+  guarded-law = record {
+    begins = λ c. ((λ e. law.begins c), tt);
+    moves = with_injects k (λ x v. IsSound x → Given x → (tale_at x).touched ≡ false → Inv x → Inv (grown x v) × EachRow (mine x.c) x.seen (seen_in x v))
+        (λ x v. IsSound x → Given x → Guarded x → Guarded (grown x v)) moved law.moves injects-guarded;
+  }

@@ -3,9 +3,9 @@ use Rattle.std.proofs.Common.{◌≡◌, ℕ, List, [], ◌∷◌, ◌++◌, Ok,
 use Rattle.lard_base.specs.declared.config.Config.{Config}
 use Rattle.lard_base.specs.declared.event.Event.{Event}
 use Rattle.lard_history.specs.Laws.{EachMay}
-use Rattle.lard_history.specs.Own.{Seen, net_of, own, seen_on}
+use Rattle.lard_history.specs.Own.{EachRow, Seen, net_of, own, seen_on}
 use Rattle.lard_history.specs.Steps.{EachStep, steps}
-use Rattle.lard_history.proofs.Lifting.{EachRow, IsLocal, each_from_own}
+use Rattle.lard_history.proofs.Lifting.{IsLocal, each_from_own}
 use Rattle.lard_history.proofs.Seeing.{own-append}
 use Rattle.lard_history.proofs.Stepping.{AreLawful, cancel, one-more}
 use Rattle.lard_journal.specs.declared.rec.Rec.{Rec}

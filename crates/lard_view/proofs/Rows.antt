@@ -6,8 +6,8 @@ use Rattle.std.specs.List.{fold}
 use Rattle.lard_base.specs.declared.place.Place.{Place}
 use Rattle.lard_base.specs.declared.place.Place.TheVariants.{Client}
 use Rattle.lard_history.specs.Journal.{Tale, tale_step, told_on, untold}
-use Rattle.lard_history.specs.Own.{Seen, Row, Came, seen_step, tale_of}
-use Rattle.lard_history.proofs.Lifting.{EachRow, each_row-append}
+use Rattle.lard_history.specs.Own.{EachRow, Seen, Row, Came, seen_step, tale_of}
+use Rattle.lard_history.proofs.Lifting.{each_row-append}
 use Rattle.lard_history.proofs.Tales.{told_on-append}
 use Rattle.lard_journal.specs.declared.rec.Rec.{Rec}
 use Rattle.lard_machine.specs.Machine.{timer_change}

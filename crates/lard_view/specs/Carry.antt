@@ -1,13 +1,16 @@
 -- What a law of one connection owes, to be a law of every run.
 use Rattle.std.specs.Prelude.{◌≡◌, ℕ, nat_lt, false, List, [], Some, None}
 use Rattle.lard_base.specs.declared.config.Config.{Config}
+use Rattle.lard_base.specs.declared.event.Event.{Event}
 use Rattle.lard_base.specs.declared.event.Event.TheVariants as event
 use Rattle.lard_base.specs.declared.place.Place.{Place}
 use Rattle.lard_base.specs.declared.place.Place.TheVariants.{Front, Client}
 use Rattle.lard_client.specs.Control.{written_len}
 use Rattle.lard_files.specs.Files.{file_at}
 use Rattle.lard_history.specs.Journal.{Tale, request}
-use Rattle.lard_history.specs.Own.{Seen, tale_of}
+use Rattle.lard_history.specs.Own.{EachRow, Seen, tale_of}
+use Rattle.lard_journal.specs.declared.rec.Rec.{Rec}
+use Rattle.lard_journal.specs.declared.rec.Rec.TheVariants as rec
 use Rattle.lard_machine.specs.declared.machine.Machine.{Machine}
 use Rattle.lard_machine.specs.declared.places.Station.{Station}
 use Rattle.lard_machine.specs.Bounds.{HasRule}
@@ -69,3 +72,14 @@ pub record IsUntouchedLaw (k : Setting) (Given Inv : Conn → Type 0) : Type 0 w
 -- what holds of each connection that the schedule did not touch
 abbrev pub Untouched : (Conn → Type 0) → Conn → Type 0
 Untouched Inv x = (tale_at x).touched ≡ false → Inv x
+
+-- a record may stand where it does, as long as the schedule did not touch the connection
+abbrev pub WhileUntouched : (ℕ → List Seen → Rec → Type 0) → ℕ → List Seen → Rec → Type 0
+WhileUntouched mine c past r = (tale_of c past).touched ≡ false → mine c past r
+
+-- The same with a law of its records: each rule keeps what holds, and all that is seen of its step may stand.
+pub record IsGuardedLaw (k : Setting) (Given Inv : Conn → Type 0) (mine : ℕ → List Seen → Rec → Type 0) : Type 0 where
+  pub begins : (c : ℕ) → Inv (blank c)
+  pub events : (c : ℕ) (past : List Seen) (e : Event) → mine c past (rec.Event 0 e)
+  pub injected : (c : ℕ) (past : List Seen) → mine c past (rec.Injected c)
+  pub moves : UntouchedRules k (λ x v. IsSound x → Given x → (tale_at x).touched ≡ false → Inv x → Inv (grown x v) × EachRow (mine x.c) x.seen (seen_in x v))
