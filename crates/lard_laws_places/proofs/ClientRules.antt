@@ -15,7 +15,7 @@ use Rattle.lard_view.proofs.ClientTurns.{GoesOn, aborted-on, arrived-hears, held
 use Rattle.lard_view.proofs.Endpoints.{AllTo}
 use Rattle.lard_laws_places.proofs.Telling.{Tells}
 use Rattle.lard_machine.specs.declared.places.Turn.{Turn}
-use Rattle.lard_machine.specs.Client.{client_aborts, client_gets, client_holds, client_opens, client_shuts, client_takes, client_timer, client_writes, ready_of, silent, speaking}
+use Rattle.lard_machine.specs.Client.{client_aborts, client_gets, client_holds, client_injects, client_opens, client_shuts, client_takes, client_timer, client_writes, ready_of, silent, speaking}
 use Rattle.lard_machine.specs.Speaking.{client_speaks}
 use Rattle.lard_segment.specs.declared.fault.SegFault.{SegFault}
 use Rattle.lard_segment.specs.Segment.{Said}
@@ -50,8 +50,7 @@ module _ (stream c iss : ℕ) (u : Tale) where
     pub notes : Each IsOfClient given.1.notes
     pub stands : IsOpened c (record { client = given.0; iss = iss }) (client_tale (told_on c u given.1.notes))
     pub to : AllTo Front given.1.segments
-    pub answered : given.1.answered ≡ 0
-
+  
   goes-at : (x y : ClientBlock) (t : ClientTale) → GoesOn x y → IsClientAt x t → IsClientAt y t
   goes-at x y t on h = record {
     number = on.number ∙ h.number;
@@ -68,11 +67,10 @@ module _ (stream c iss : ℕ) (u : Tale) where
         notes = of;
         stands = goes-at x (client_speaks x).1 (client_tale (told_on c u notes)) spoken.on stands;
         to = Each-append (λ s. s.0 ≡ Front) segments (client_speaks x).0 to spoken.to;
-        answered = refl;
       }
 
   silent-says : (x : ClientBlock) → IsClientAt x (client_tale u) → ClientSays (x, silent)
-  silent-says x h = record { told = tt; notes = tt; stands = h; to = tt; answered = refl }
+  silent-says x h = record { told = tt; notes = tt; stands = h; to = tt }
 
   -- ---- rule by rule
 
@@ -95,6 +93,9 @@ module _ (stream c iss : ℕ) (u : Tale) where
         (record { number = on.number ∙ h.number; numbers = h.numbers ∙ ap (λ n. Some (record { isn = n; iss = iss })) (sym on.first); writes = λ w. h.writes t }) tt)
         (λ t. silent-says x h)
 
+    pub injects-says : (bytes : List ℕ) → ClientSays (client_injects x bytes)
+    injects-says bytes = record { told = tt; notes = tt; stands = h; to = (refl, tt) }
+
     pub holds-says : ClientSays (client_holds x)
     holds-says = speaking-says (held_on x) [] [] tt tt (goes-at x (held_on x) (client_tale u) (held-on x) h) tt
 
@@ -114,8 +115,7 @@ module _ (stream c iss : ℕ) (u : Tale) where
           notes = (tt, tt);
           stands = record { number = on.number ∙ h.number; numbers = h.numbers ∙ ap (λ n. Some (record { isn = n; iss = iss })) (sym on.first); writes = λ w. absurd (cc) };
           to = ready-to (aborted x) (abort_ready x);
-          answered = refl;
-        }
+          }
 
     -- ---- segments that come
 

@@ -9,26 +9,24 @@ use Rattle.lard_base.specs.declared.place.Place.{Place}
 use Rattle.lard_base.specs.declared.place.Place.TheVariants as place
 use Rattle.lard_client.specs.Arriving.{arrived}
 use Rattle.lard_client.specs.Control.{ClientBlock, is_armed, is_writing, written}
-use Rattle.lard_history.specs.Journal.{request, tale}
+use Rattle.lard_history.specs.Journal.{request}
 use Rattle.lard_history.specs.Laws.{AreOwn, IsStep, is_own}
 use Rattle.lard_history.proofs.Each.{Each}
 use Rattle.lard_journal.specs.declared.rec.Rec.{Rec}
 use Rattle.lard_journal.specs.declared.rec.Rec.TheVariants as rec
 use Rattle.lard_machine.proofs.Forms.{Forms}
-use Rattle.lard_laws_places.proofs.FrontRules as front
-use Rattle.lard_laws_places.proofs.FrontRules.{IsOfFront}
-use Rattle.lard_laws_places.proofs.Keeping.{station}
-use Rattle.lard_laws_places.proofs.Steps.{Holds}
 use Rattle.lard_machine.specs.declared.machine.Machine.{Machine}
 use Rattle.lard_machine.specs.declared.places.FrontConn.{FrontConn}
+use Rattle.lard_machine.specs.declared.places.Station.{Station}
 use Rattle.lard_machine.specs.declared.places.Turn.{Turn}
-use Rattle.lard_machine.specs.Client.{client_aborts, client_gets, client_holds, client_opens, client_shuts, client_takes, client_timer, client_writes, silent, speaking}
+use Rattle.lard_machine.specs.Client.{client_aborts, client_gets, client_holds, client_injects, client_opens, client_shuts, client_takes, client_timer, client_writes, silent, speaking}
 use Rattle.lard_machine.specs.Front.{front_gets, front_timer}
 use Rattle.lard_machine.specs.Machine.{Act, acted, client_acted, env_of, front_acted, front_armed, front_put, passed, records, sent_records, timer_change}
 use Rattle.lard_net.specs.Net.{lose_at}
 use Rattle.lard_segment.specs.declared.fault.SegFault.{SegFault}
 use Rattle.lard_segment.specs.declared.segment.Dir.TheVariants.{ToClient, ToCluster}
 use Rattle.lard_segment.specs.Segment.{Said, decoded}
+use Rattle.lard_view.proofs.Turns.{NotedAt, front_fires-turn, front_gets-turn}
 
 -- ---- records that are not an event's own
 
@@ -52,12 +50,15 @@ timer-others p c false true = refl
 timer-others p c true false = refl
 timer-others p c true true = refl
 
-fronts-others : (rs : List Rec) → Each IsOfFront rs → AreOthers rs
-fronts-others [] e = refl
-fronts-others (rec.Took p c epoch ∷ rs) e = fronts-others rs e.1
-fronts-others (rec.Served p c r code size via ∷ rs) e = fronts-others rs e.1
-fronts-others (rec.Reset p c total ∷ rs) e = fronts-others rs e.1
-fronts-others (_ ∷ rs) e = absurd e.0
+front-other : (c : ℕ) (r : Rec) → NotedAt place.Front c r → not (is_own r) ≡ true
+front-other c (rec.Took place.Front d epoch) h = refl
+front-other c (rec.Served place.Front d r code size via) h = refl
+front-other c (rec.Reset place.Front d total) h = refl
+front-other c _ h = absurd h
+
+fronts-others : (c : ℕ) (rs : List Rec) → Each (NotedAt place.Front c) rs → AreOthers rs
+fronts-others c [] e = refl
+fronts-others c (r ∷ rs) e = ap (λ b. b && list_all (λ q. not (is_own q)) rs) (front-other c r e.0) ∙ fronts-others c rs e.1
 
 heard-others : (b d : Bool) (c : ℕ) (bytes : List ℕ) → AreOthers (cond b (rec.Accepted c bytes ∷ []) [] ++ cond d (rec.Eof c ∷ []) [])
 heard-others false false c bytes = refl
@@ -131,27 +132,28 @@ module _ (m : Machine) where
   alone : (rs : List Rec) → rs ≡ rs ++ []
   alone rs = sym (append-nil rs)
 
-  pub forms-add : Holds m → Forms m (λ e n. Adds m n e)
-  forms-add h = record {
+  -- where each client is its own
+  pub forms-add : ((c : ℕ) (x : Station) → table.get m.clients c ≡ Some x → x.client.c ≡ c) → Forms m (λ e n. Adds m n e)
+  forms-add number = record {
     opens = λ c isn iss wnd mss rule none. client-adds _ _ c iss false (client_opens c isn wnd mss) (rec.Opened c isn iss wnd mss ∷ [], [], refl, refl, refl);
     gets = λ c path x is le. client-adds (event.Get c path) [] c x.iss (is_armed x.client) (client_writes x.client (request path))
-        ((client_writes x.client (request path)).1.notes, [], alone _, writes-own x.client c (request path) (station m h c x is).number, refl);
+        ((client_writes x.client (request path)).1.notes, [], alone _, writes-own x.client c (request path) (number c x is), refl);
     writes = λ c bytes x is le. client-adds (event.Write c bytes) [] c x.iss (is_armed x.client) (client_writes x.client bytes)
-        ((client_writes x.client bytes).1.notes, [], alone _, writes-own x.client c bytes (station m h c x is).number, refl);
+        ((client_writes x.client bytes).1.notes, [], alone _, writes-own x.client c bytes (number c x is), refl);
     shuts = λ c x is. client-adds (event.Shut c) [] c x.iss (is_armed x.client) (client_shuts x.client) ([], [], refl, refl, refl);
     aborts = λ c x is. client-adds (event.Abort c) [] c x.iss (is_armed x.client) (client_aborts x.client)
-        (rec.Aborted x.client.c ∷ [], [], refl, ap (λ d. rec.Aborted d ∷ []) (station m h c x is).number, refl);
+        (rec.Aborted x.client.c ∷ [], [], refl, ap (λ d. rec.Aborted d ∷ []) (number c x is), refl);
     holds = λ c x is. client-adds (event.Hold c) [] c x.iss (is_armed x.client) (client_holds x.client) ([], [], refl, refl, refl);
     takes = λ c x is. client-adds (event.Take c) [] c x.iss (is_armed x.client) (client_takes x.client) ([], [], refl, refl, refl);
+    injects = λ c bytes x rule is. client-adds (event.Inject c bytes) (rec.Injected c ∷ []) c x.iss (is_armed x.client) (client_injects x.client bytes) (rec.Injected c ∷ [], [], refl, refl, refl);
     client_timer = λ d c x same is. client-adds (event.Timer (place.Client d) c) [] c x.iss (is_armed x.client) (client_timer x.client) ([], [], refl, refl, refl);
     front_timer = λ c x is.
         let given = front_timer (env_of m c x.iss) (table.get m.conns c) in
-        let says = front.timer-says (env_of m c x.iss) (tale m.journal c) (table.get m.conns c) (h.stands c).front in
-        front-adds (event.Timer place.Front c) [] c given ([], given.1.notes, refl, refl, fronts-others given.1.notes says.notes);
+        front-adds (event.Timer place.Front c) [] c given ([], given.1.notes, refl, refl, fronts-others c given.1.notes (front_fires-turn (env_of m c x.iss) (table.get m.conns c)).notes);
     front_gets = λ k c p x at on from to is.
         let given = front_gets (env_of m c x.iss) (table.get m.conns c) (decoded p.bytes c ToCluster) in
-        let says = front.gets-says (env_of m c x.iss) (tale m.journal c) (table.get m.conns c) (decoded p.bytes c ToCluster) (h.stands c).front in
-        front-adds (event.Deliver k) (rec.Got k ∷ []) c given (rec.Got k ∷ [], given.1.notes, refl, refl, fronts-others given.1.notes says.notes);
+        front-adds (event.Deliver k) (rec.Got k ∷ []) c given
+        (rec.Got k ∷ [], given.1.notes, refl, refl, fronts-others c given.1.notes (front_gets-turn (env_of m c x.iss) (table.get m.conns c) (decoded p.bytes c ToCluster)).notes);
     client_gets = λ k c p x at on to is.
         let given = client_gets x.client (decoded p.bytes c ToClient) in
         client-adds (event.Deliver k) (rec.Got k ∷ []) c x.iss (is_armed x.client) given (rec.Got k ∷ [], given.1.notes, refl, refl, gets-others x.client (decoded p.bytes c ToClient));

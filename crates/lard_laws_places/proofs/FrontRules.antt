@@ -24,7 +24,8 @@ use Rattle.lard_journal.specs.declared.rec.Rec.{Rec}
 use Rattle.lard_journal.specs.declared.rec.Rec.TheVariants as rec
 use Rattle.lard_laws_places.specs.Places.{FrontStands, FrontTale, IsFronts, IsServing, IsUntaken, client_tale, front_tale}
 use Rattle.lard_view.proofs.Endpoints.{AllTo, ready-to, segment-many, speaks-to, speaks_symbols-to, timer-many}
-use Rattle.lard_laws_places.proofs.Telling.{MayStand, Tells, Tells-append}
+use Rattle.lard_laws_places.proofs.Telling.{MayStand, Tells}
+use Rattle.lard_view.proofs.Rows.{TellsBy-append}
 use Rattle.lard_machine.specs.declared.places.FrontConn.{FrontConn}
 use Rattle.lard_machine.specs.declared.places.FrontConn.TheVariants.{Held, Lent, Closed}
 use Rattle.lard_machine.specs.declared.places.Turn.{Turn}
@@ -94,14 +95,12 @@ module _ (env : FrontEnv) (u : Tale) where
     pub stands : FrontStands env.stream given.0 (front_tale (told_on env.c u given.1.notes))
     pub to : AllTo (place.Client env.c) given.1.segments
     pub none : SaysNothing x given.0 given.1.segments
-    pub answered : (n : ℕ) → fold answered_step n given.1.notes ≡ n + given.1.answered
 
   -- a service between two of its turns
   record IsAnswering (w : Service) : Type 0 where
     told : Tells env.stream env.c u w.notes
     notes : Each IsOfFront w.notes
     serves : Serves env.stream w.over w.count w.block.send.total (front_tale (told_on env.c u w.notes))
-    answered : (n : ℕ) → fold answered_step n w.notes ≡ n + w.answered
 
   many-serves : (o : Option ℕ) (count total other : ℕ) (t : FrontTale) → other ≡ total → Serves env.stream o count total t → Serves env.stream o count other t
   many-serves o count total other t e h = subst (λ n. Serves env.stream o count n t) (sym e) h
@@ -112,20 +111,18 @@ module _ (env : FrontEnv) (u : Tale) where
     told = h.told;
     notes = h.notes;
     serves = many-serves w.over w.count w.block.send.total b.send.total (front_tale (told_on env.c u w.notes)) e h.serves;
-    answered = h.answered;
   }
 
   module _ (w : Service) (h : IsAnswering w) where
     -- one more note
     noted : (r : Rec) (v : Service) → v.notes ≡ w.notes ++ r ∷ [] → MayStand env.stream env.c (told_on env.c u w.notes) r → IsOfFront r
         → Serves env.stream v.over v.count v.block.send.total (front_tale (tale_step env.c (told_on env.c u w.notes) r))
-        → ((n : ℕ) → answered_step (n + w.answered) r ≡ n + v.answered) → IsAnswering v
-    noted r v is may of serves answered = record {
-      told = subst (Tells env.stream env.c u) (sym is) (Tells-append env.stream env.c u w.notes (r ∷ []) h.told (may, tt));
+        → IsAnswering v
+    noted r v is may of serves = record {
+      told = subst (Tells env.stream env.c u) (sym is) (TellsBy-append (MayStand env.stream env.c) env.c u w.notes (r ∷ []) h.told (may, tt));
       notes = subst (Each IsOfFront) (sym is) (Each-append IsOfFront w.notes (r ∷ []) h.notes (of, tt));
       serves = subst (λ (t : Tale). Serves env.stream v.over v.count v.block.send.total (front_tale t))
           (sym (ap (told_on env.c u) is ∙ told_on-append env.c u w.notes (r ∷ []))) serves;
-      answered = λ n. ap (fold answered_step n) is ∙ fold-append answered_step n w.notes (r ∷ []) ∙ ap (λ k. answered_step k r) (h.answered n) ∙ answered n;
     }
 
   closed_behind-many : (v : Verdict) (b : ControlBlock) → (closed_behind v b).send.total ≡ b.send.total
@@ -140,8 +137,7 @@ module _ (env : FrontEnv) (u : Tale) where
       cond_both (nat_lt env.stream (total + length bytes)) (passed_over env (total + length bytes) w) (queued env v bytes w) IsAnswering
       (λ over. noted w h (rec.Reset place.Front env.c (total + length bytes)) (passed_over env (total + length bytes) w) refl
       (refl, ltb-true env.stream (total + length bytes) over, s.reset) tt
-      (record { owner = s.taken.owner; epoch = s.taken.epoch }, ap (λ b. cond b true t.was_reset) mine)
-      (λ n. refl))
+      (record { owner = s.taken.owner; epoch = s.taken.epoch }, ap (λ b. cond b true t.was_reset) mine))
       (λ within.
       let le : total + length bytes ≤ env.stream = ltb-false env.stream (total + length bytes) within in
       let bytes_are : t.served_bytes ≡ total = s.bytes in
@@ -156,8 +152,7 @@ module _ (env : FrontEnv) (u : Tale) where
         within = le;
         some = let few = s.some in omega arith;
         reset = s.reset;
-      }))
-      (λ n. omega arith))
+      })))
 
   -- ---- reading
 
@@ -216,8 +211,7 @@ module _ (env : FrontEnv) (u : Tale) where
         stands = rested-stands (speaks env.c w.block).1 w.count t (many-serves None w.count w.block.send.total (speaks env.c w.block).1.send.total t said.many s);
         to = Each-append (λ s. s.0 ≡ place.Client env.c) before (speaks env.c w.block).0 to said.to;
         none = tt;
-        answered = h.answered;
-      }
+          }
 
   cut_off-says : (x : Option FrontConn) (w : Service) (total : ℕ) → w.over ≡ Some total → IsAnswering w → FrontSays x (cut_off env w)
   cut_off-says x w total over h =
@@ -230,8 +224,7 @@ module _ (env : FrontEnv) (u : Tale) where
         stands = (s.0, λ e. s.1);
         to = Each-append (λ s. s.0 ≡ place.Client env.c) (speaks_symbols env.c w.block).0 (told env (limit_said (final_of (speaks_symbols env.c w.block).1 reason.Limit)) ∷ []) said.to (refl, tt);
         none = tt;
-        answered = h.answered;
-      }
+          }
 
   settled-says : (x : Option FrontConn) (w : Service) → IsAnswering w → FrontSays x (settled env w)
   settled-says x w h = go w.over refl where
@@ -242,7 +235,7 @@ module _ (env : FrontEnv) (u : Tale) where
   -- ---- rule by rule
 
   silent-says : (x : Option FrontConn) → FrontStands env.stream x (front_tale u) → FrontSays x (x, silent)
-  silent-says x h = record { told = tt; notes = tt; stands = h; to = tt; none = go x; answered = λ n. omega arith } where
+  silent-says x h = record { told = tt; notes = tt; stands = h; to = tt; none = go x } where
     go : (o : Option FrontConn) → SaysNothing o o []
     go None = (refl, refl)
     go (Some conn) = tt
@@ -263,18 +256,17 @@ module _ (env : FrontEnv) (u : Tale) where
           some = omega arith;
           reset = h.reset;
         };
-        answered = λ n. omega arith;
       }))
       (λ t. silent-says None h)
 
   -- an endpoint with as many bytes as that which is held
   held-answers : (b d : ControlBlock) (count : ℕ) → d.send.total ≡ b.send.total → IsServing env.stream count b.send.total (front_tale u)
       → IsAnswering (record { block = d; count = count; notes = []; answered = 0; over = None })
-  held-answers b d count e s = record { told = tt; notes = tt; serves = many-serves None count b.send.total d.send.total (front_tale u) e s; answered = λ n. omega arith }
+  held-answers b d count e s = record { told = tt; notes = tt; serves = many-serves None count b.send.total d.send.total (front_tale u) e s }
 
   tombstone-says : (last : Final) (o : Option Said) → FrontStands env.stream (Some (Closed last)) (front_tale u) → FrontSays (Some (Closed last)) (Some (Closed last), tombstone env o)
   tombstone-says last None h = silent-says (Some (Closed last)) h
-  tombstone-says last (Some s) h = record { told = tt; notes = tt; stands = h; to = (refl, tt); none = tt; answered = λ n. omega arith }
+  tombstone-says last (Some s) h = record { told = tt; notes = tt; stands = h; to = (refl, tt); none = tt }
 
   hears-says : (x : Option FrontConn) (s : Said) → FrontStands env.stream x (front_tale u) → FrontSays x (front_hears env x s)
   hears-says None s h = met-says s h

@@ -1,10 +1,10 @@
+pub mod Between
 pub mod ClientRules
+pub mod Counting
 pub mod Following
 pub mod FrontRules
-pub mod Keeping
-pub mod Kept
 pub mod Linked
 pub mod Lookups
 pub mod Reached
-pub mod Steps
+pub mod Standing
 pub mod Telling

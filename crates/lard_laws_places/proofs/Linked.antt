@@ -11,7 +11,8 @@ use Rattle.lard_history.proofs.Counts.{answered_bytes-append, goal_of-append, is
 use Rattle.lard_history.proofs.Each.{Each, each_append}
 use Rattle.lard_journal.specs.declared.rec.Rec.{Rec}
 use Rattle.lard_journal.specs.declared.rec.Rec.TheVariants as rec
-use Rattle.lard_laws_places.specs.Places.{IsNetOf, goal_in, lost_in, net_of, net_step}
+use Rattle.lard_history.specs.Own.{net_of, net_step}
+use Rattle.lard_laws_places.specs.Places.{IsNetOf, goal_in, lost_in}
 use Rattle.lard_laws_places.proofs.Lookups.{goal_lost, goal_push, lost_lost, lost_push}
 use Rattle.lard_machine.specs.Machine.{Act, packet_of, packets_of, records, sent_records, timer_change}
 use Rattle.lard_machine.specs.declared.machine.Machine.{Machine}

@@ -1,63 +1,88 @@
 -- From one step to every state that events lead to.
-use Rattle.std.proofs.Common.{◌≡◌, ℕ, zero, suc, ◌+◌, ◌-◌, List, [], ◌∷◌, ◌++◌, Bool, true, false, cond, Option, Some, None, refl, sym, ap, ◌∙◌, subst, append_assoc, append-nil, nat_eq}
-use Rattle.std.specs.Prelude.{slice_get}
+use Rattle.std.proofs.Common.{◌≡◌, ℕ, ◌+◌, ◌≤◌, List, [], ◌∷◌, ◌++◌, length, Option, Some, None, Ok, refl, sym, ap, ◌∙◌, subst, append_assoc, append-nil, arith}
+use Rattle.std.specs.FinMap as table
 use Rattle.lard_base.specs.declared.config.Config.{Config}
 use Rattle.lard_base.specs.declared.event.Event.{Event}
-use Rattle.lard_history.specs.Journal.{tale}
+use Rattle.lard_history.specs.Journal.{Tale, tale}
 use Rattle.lard_history.specs.Laws.{EachMay, Follows}
-use Rattle.lard_history.proofs.Each.{Each, each_weaker}
+use Rattle.lard_history.proofs.Each.{each_weaker}
+use Rattle.lard_history.proofs.Lifting.{tale-own}
 use Rattle.lard_journal.specs.declared.rec.Rec.{Rec}
-use Rattle.lard_laws_places.specs.Laws.{Always}
-use Rattle.lard_laws_places.specs.Places.{FrontStands, IsBetween, front_tale}
+use Rattle.lard_laws_places.specs.Laws.{AllConnectionsStand, Always, NumbersAreBounded}
+use Rattle.lard_laws_places.specs.Places.{FrontStands, Stands, front_tale}
+use Rattle.lard_laws_places.proofs.Between.{AreBetween, forms-between}
+use Rattle.lard_laws_places.proofs.Counting.{IsLinked, forms-link, more-events, start-linked}
 use Rattle.lard_laws_places.proofs.Following.{Adds, forms-add}
-use Rattle.lard_laws_places.proofs.Keeping.{start-holds, step-holds}
-use Rattle.lard_laws_places.proofs.Steps.{Holds}
-use Rattle.lard_laws_places.proofs.Telling.{IsLawful}
-use Rattle.lard_machine.proofs.Forms.{step_has}
-use Rattle.lard_machine.proofs.Runs.{passes-keep}
+use Rattle.lard_laws_places.proofs.Standing.{StandsLawful, standing}
+use Rattle.lard_laws_places.proofs.Telling.{IsLawful, MayStand, lawful-local}
 use Rattle.lard_machine.specs.declared.machine.Machine.{Machine}
 use Rattle.lard_machine.specs.declared.places.FrontConn.{FrontConn}
-use Rattle.lard_machine.specs.Bounds.{IsBounded}
-use Rattle.lard_machine.specs.Machine.{IsReached, Passes, start}
-use Rattle.lard_net.specs.Net.{Packet, packet_at}
+use Rattle.lard_machine.specs.Bounds.{HasRule, IsBounded}
+use Rattle.lard_machine.specs.Machine.{IsReached, Passes, machine_step, start}
+use Rattle.lard_machine.proofs.Forms.{step_has}
+use Rattle.lard_machine.proofs.Runs.{reached-set}
+use Rattle.lard_view.specs.Carry.{OfEach, setting}
+use Rattle.lard_view.specs.View.{Conn, conn, part_of}
+use Rattle.lard_view.proofs.Carried.{IsViewed, carried, carried-keep, number, start-viewed, viewed-kept}
+use Rattle.lard_view.proofs.InSteps.{carried-records}
+use Rattle.lard_view.proofs.Rows.{MayBeSeen}
+
+-- ---- each connection
+
+pub each-stands : (config : Config) (files : List (List ℕ × List ℕ)) → OfEach config files (StandsLawful (setting config files))
+each-stands config files = carried config files (λ x. Unit {0}) (StandsLawful (setting config files)) (standing (setting config files)) (λ m r q. tt)
+
+pub connections-stand : AllConnectionsStand
+unfolding conn part_of
+connections-stand config files m r c =
+    let here : Stands config.stream c (table.get m.clients c) (table.get m.conns c) (tale m.journal c) =
+    subst (λ (t : Tale). Stands config.stream c (table.get m.clients c) (table.get m.conns c) t) (sym (tale-own m.journal c)) (each-stands config files m r c).stands in
+    subst (λ (k : Config). Stands k.stream c (table.get m.clients c) (table.get m.conns c) (tale m.journal c)) (sym (reached-set config files m r).0) here
+
+pub reached-may : (config : Config) (files : List (List ℕ × List ℕ)) (m : Machine) (r : IsReached config files m) (may : List Rec → Rec → Type 0)
+    → ((past : List Rec) (x : Rec) → IsLawful m.config.stream past x → may past x) → EachMay may [] m.journal
+unfolding conn
+reached-may config files m r may weaker =
+    let lawful : EachMay (IsLawful config.stream) [] m.journal =
+    carried-records config files (IsLawful config.stream) (λ c. MayBeSeen (MayStand config.stream c) c) (lawful-local config.stream) (λ n s q. (each-stands config files n s q).lawful) m r in
+    each_weaker (IsLawful m.config.stream) may weaker [] m.journal (subst (λ (k : Config). EachMay (IsLawful k.stream) [] m.journal) (sym (reached-set config files m r).0) lawful)
+
+-- ---- the whole
+
+pub record Holds (m : Machine) : Type 0 where
+  pub linked : IsLinked m
+  pub between : AreBetween m
+  pub events : m.events ≤ length m.journal
+
+-- a step adds its records, and keeps what holds
+pub step-adds : (m n : Machine) (e : Event) → IsViewed m → HasRule e → machine_step m e ≡ Ok n → Adds m n e
+step-adds m n e view rule is = step_has m n e (λ d k. Adds m k d) (forms-add m (number m n e view rule is)) rule is
+
+step-holds : (m n : Machine) (e : Event) → IsViewed m → Holds m → HasRule e → machine_step m e ≡ Ok n → Holds n
+step-holds m n e view h rule is = record {
+  linked = step_has m n e (λ d k. IsLinked k) (forms-link m h.linked (number m n e view rule is)) rule is;
+  between = step_has m n e (λ d k. AreBetween k) (forms-between m h.between (number m n e view rule is)) rule is;
+  events = more-events m n e (step-adds m n e view rule is) h.events;
+}
 
 pub reached-holds : Always Holds
-reached-holds config files m r = passes-keep Holds step-holds r.0 (start config files) m r.1 (start-holds config files)
+reached-holds config files m r = carried-keep config files Holds (record { linked = start-linked config files; between = tt; events = omega arith })
+    (λ k n e on view h rule is. step-holds k n e view h rule is) m r
 
--- ---- laws
-
-module _ (config : Config) (files : List (List ℕ × List ℕ)) (m : Machine) (r : IsReached config files m) where
-  holds : Holds m
-  holds = reached-holds config files m r
-
-  pub reached-bounded : IsBounded m
-  reached-bounded = record {
-    counts = λ c count b is. (subst (λ (o : Option FrontConn). FrontStands m.config.stream o (front_tale (tale m.journal c))) is (holds.stands c).front).some;
-    events = holds.events;
-  }
-
-  pub reached-may : (may : List Rec → Rec → Type 0) → ((past : List Rec) (x : Rec) → IsLawful m.config.stream past x → may past x) → EachMay may [] m.journal
-  reached-may may weaker = each_weaker (IsLawful m.config.stream) may weaker [] m.journal holds.lawful
-
-  each_got : (ps : List Packet) (i : ℕ) (p : Packet) → Each (IsBetween m.clients) ps → slice_get ps i ≡ Some p → IsBetween m.clients p
-  each_got [] i p e is = let no : None ≡ Some p = is in absurd (cc)
-  each_got (q ∷ qs) zero p e is = let same : q ≡ p = cc in subst (IsBetween m.clients) same e.0
-  each_got (q ∷ qs) (suc i) p e is = each_got qs i p e.1 is
-
-  pub reached-between : (k : ℕ) (p : Packet) → packet_at m.net k ≡ Some p → IsBetween m.clients p
-  reached-between k p is = go (nat_eq k 0) is where
-    go : (b : Bool) → cond b None (slice_get m.net (k - 1)) ≡ Some p → IsBetween m.clients p
-    go true e = let no : None ≡ Some p = e in absurd (cc)
-    go false e = each_got m.net (k - 1) p holds.ends e
+pub numbers-bounded : NumbersAreBounded
+numbers-bounded config files m r = record {
+  counts = λ c count b is. (subst (λ (o : Option FrontConn). FrontStands m.config.stream o (front_tale (tale m.journal c))) is (connections-stand config files m r c).front).some;
+  events = (reached-holds config files m r).events;
+}
 
 -- ---- the journal follows the events
 
-passes-follow : (es : List Event) (m n : Machine) → Holds m → Passes m es n → (J : List Rec) × (n.journal ≡ m.journal ++ J) × Follows (m.events + 1) es J
-passes-follow [] m n h same = ([], ap (λ (k : Machine). k.journal) same ∙ sym (append-nil m.journal), refl)
-passes-follow (e ∷ es) m n h past =
+passes-follow : (es : List Event) (m n : Machine) → IsViewed m → Passes m es n → (J : List Rec) × (n.journal ≡ m.journal ++ J) × Follows (m.events + 1) es J
+passes-follow [] m n view same = ([], ap (λ (k : Machine). k.journal) same ∙ sym (append-nil m.journal), refl)
+passes-follow (e ∷ es) m n view past =
     let k = past.0 in
-    let adds : Adds m k e = step_has m k e (λ d j. Adds m j d) (forms-add m h) past.1 past.2 in
-    let later = passes-follow es k n (step-holds m k e h past.1 past.2) past.3 in (
+    let adds : Adds m k e = step-adds m k e view past.1 past.2 in
+    let later = passes-follow es k n (viewed-kept m k e view past.1 past.2) past.3 in (
       adds.step ++ later.0,
       later.1 ∙ ap (λ (J : List Rec). J ++ later.0) adds.journal ∙ append_assoc m.journal adds.step later.0,
       (adds.step, later.0, refl, adds.is, subst (λ i. Follows (i + 1) es later.0) adds.events later.2),
@@ -65,5 +90,5 @@ passes-follow (e ∷ es) m n h past =
 
 pub journals-follow : (config : Config) (files : List (List ℕ × List ℕ)) (es : List Event) (m : Machine) → Passes (start config files) es m → Follows 1 es m.journal
 journals-follow config files es m past =
-    let follows = passes-follow es (start config files) m (start-holds config files) past in
+    let follows = passes-follow es (start config files) m (start-viewed config files) past in
     subst (Follows 1 es) (sym follows.1) follows.2

@@ -1,16 +1,19 @@
 -- Laws told of one connection: records that are all about it may stand where its tale lets them.
-use Rattle.std.proofs.Common.{◌≡◌, ℕ, ◌+◌, ◌<◌, ◌≤◌, List, [], ◌∷◌, ◌++◌, false, ◌&&◌, Some, None, refl, sym, subst, nat_eq, arith}
+use Rattle.std.proofs.Common.{◌≡◌, ℕ, ◌+◌, ◌<◌, ◌≤◌, List, [], ◌∷◌, ◌++◌, Bool, true, false, Some, None, refl, sym, subst, nat_eq, arith}
 use Rattle.std.proofs.lemmas.Bool.Decides.{nat_tests}
 use Rattle.lard_base.specs.declared.event.Event.{Event}
 use Rattle.lard_base.specs.declared.event.Event.TheVariants as event
 use Rattle.lard_base.specs.declared.place.Place.{Place}
 use Rattle.lard_base.specs.declared.place.Place.TheVariants.{Front, Node, Client}
 use Rattle.lard_history.specs.Journal.{Tale, about, event_shuts, goes_to, has_closed, is_cluster, last_epoch, owner, served_bytes, tale, tale_step, told_on, was_reset}
-use Rattle.lard_history.specs.Laws.{EachMay, MayOwn, MayReset, MaySend, MayWrite, OwnerSends}
-use Rattle.lard_history.proofs.Each.{Each}
+use Rattle.lard_history.specs.Own.{conn_of, plain, whose}
+use Rattle.lard_history.specs.Laws.{MayOwn, MayReset, MaySend, MayWrite, OwnerSends}
+use Rattle.lard_history.proofs.Lifting.{IsLocal, tale-own}
 use Rattle.lard_history.proofs.Tales.{closed-tale, epoch-tale, owner-tale, reset-tale, served_bytes-tale, tale-append}
 use Rattle.lard_journal.specs.declared.rec.Rec.{Rec}
 use Rattle.lard_journal.specs.declared.rec.Rec.TheVariants as rec
+use Rattle.lard_machine.specs.Machine.{timer_change}
+use Rattle.lard_view.proofs.Rows.{MayBeSeen, TellsBy}
 
 -- the laws of owners, senders, writers and resets
 abbrev pub IsLawful : ℕ → List Rec → Rec → Type 0
@@ -45,12 +48,7 @@ MayStand stream c t _ = Unit {0}
 
 -- each of these records may stand where it does
 abbrev pub Tells : ℕ → ℕ → Tale → List Rec → Type 0
-Tells stream c t [] = Unit {0}
-Tells stream c t (r ∷ rs) = MayStand stream c t r × Tells stream c (tale_step c t r) rs
-
-pub Tells-append : (stream c : ℕ) (t : Tale) (xs ys : List Rec) → Tells stream c t xs → Tells stream c (told_on c t xs) ys → Tells stream c t (xs ++ ys)
-Tells-append stream c t [] ys e f = f
-Tells-append stream c t (x ∷ xs) ys e f = (e.0, Tells-append stream c (tale_step c t x) xs ys e.1 f)
+Tells stream c t rs = TellsBy (MayStand stream c) c t rs
 
 -- ---- the laws follow
 
@@ -93,44 +91,37 @@ may_stand-lawful stream c J (rec.Reset place d total) h = (tt, tt, tt, (h.1, mea
 may_stand-lawful stream c J (rec.Sent k from to bytes) h = (tt, sends-lawful J c from to h, tt, tt)
 may_stand-lawful stream c J _ h = (tt, tt, tt, tt)
 
-pub told-lawful : (stream c : ℕ) (J rs : List Rec) → Tells stream c (tale J c) rs → EachMay (IsLawful stream) J rs
-told-lawful stream c J [] h = tt
-told-lawful stream c J (r ∷ rs) h =
-    (may_stand-lawful stream c J r h.0, told-lawful stream c (J ++ r ∷ []) rs (subst (λ (t : Tale). Tells stream c t rs) (sym (tale-append J (r ∷ []) c)) h.1))
+-- a plain record of the connection may stand as the record itself may
+plain-stands : (stream c : ℕ) (t : Tale) (r : Rec) → MayStand stream c t (plain r) → MayStand stream c t r
+plain-stands stream c t (rec.Event i e) h = h
+plain-stands stream c t (rec.Sent k from to bytes) h = h
+plain-stands stream c t _ h = h
 
--- ---- and of the others nothing is told
+-- what nobody's record says is lawful
+sends-nobody : (J : List Rec) (from to : Place) (bytes : List ℕ) → conn_of from to bytes ≡ None → OwnerSends J from to
+sends-nobody J Front (Client d) bytes e = let no : Some d ≡ None = e in absurd cc
+sends-nobody J (Node n) (Client d) bytes e = let no : Some d ≡ None = e in absurd cc
+sends-nobody J _ _ bytes e = tt
 
-not_of : (c d q : ℕ) → d ≡ c → (q ≡ c → ⊥) → nat_eq d q ≡ false
-not_of c d q e n = grind (arith, nat_tests, n, e)
+nobody-lawful : (stream : ℕ) (J : List Rec) (r : Rec) → whose r ≡ None → IsLawful stream J r
+nobody-lawful stream J (rec.Wrote d bytes) e = let no : Some d ≡ None = e in absurd cc
+nobody-lawful stream J (rec.Took place d epoch) e = let no : Some d ≡ None = e in absurd cc
+nobody-lawful stream J (rec.Gave place d epoch) e = let no : Some d ≡ None = e in absurd cc
+nobody-lawful stream J (rec.Served place d r code size via) e = let no : Some d ≡ None = e in absurd cc
+nobody-lawful stream J (rec.Reset place d total) e = let no : Some d ≡ None = e in absurd cc
+nobody-lawful stream J (rec.Sent k from to bytes) e = (tt, sends-nobody J from to bytes e, tt, tt)
+nobody-lawful stream J _ e = (tt, tt, tt, tt)
 
-shuts-other : (c q : ℕ) (e : Event) → (q ≡ c → ⊥) → ShutsOnly c e → event_shuts q e ≡ false
-shuts-other c q (event.Shut d) n h = not_of c d q h n
-shuts-other c q _ n h = refl
+-- the laws look at the record's own connection alone
+pub lawful-local : (stream : ℕ) → IsLocal (IsLawful stream) (λ c. MayBeSeen (MayStand stream c) c)
+lawful-local stream = record {
+  nobody = λ J r e. nobody-lawful stream J r e;
+  somebody = λ J r c e h. may_stand-lawful stream c J r (plain-stands stream c (tale J c) r (subst (λ (t : Tale). MayStand stream c t (plain r)) (sym (tale-own J c)) h));
+}
 
-sends-other : (c q : ℕ) (t : Tale) (from to : Place) → (q ≡ c → ⊥) → SendsOnly c t from to → is_cluster from && goes_to q to ≡ false
-sends-other c q t Front (Client d) n h = not_of c d q h.0 n
-sends-other c q t (Node i) (Client d) n h = not_of c d q h.0 n
-sends-other c q t Front Front n h = refl
-sends-other c q t Front (Node j) n h = refl
-sends-other c q t (Node i) Front n h = refl
-sends-other c q t (Node i) (Node j) n h = refl
-sends-other c q t (Client d) to n h = refl
-
-stand-other : (stream c q : ℕ) (t : Tale) (r : Rec) → (q ≡ c → ⊥) → MayStand stream c t r → about q r ≡ false
-stand-other stream c q t (rec.Event i e) n h = shuts-other c q e n h
-stand-other stream c q t (rec.Inner e) n h = shuts-other c q e n h
-stand-other stream c q t (rec.Opened d isn iss wnd mss) n h = not_of c d q h n
-stand-other stream c q t (rec.Wrote d bytes) n h = not_of c d q h.0 n
-stand-other stream c q t (rec.Accepted d bytes) n h = not_of c d q h n
-stand-other stream c q t (rec.Eof d) n h = not_of c d q h n
-stand-other stream c q t (rec.Aborted d) n h = not_of c d q h n
-stand-other stream c q t (rec.Took place d epoch) n h = not_of c d q h.0 n
-stand-other stream c q t (rec.Gave place d epoch) n h = not_of c d q h.0 n
-stand-other stream c q t (rec.Served place d r code size via) n h = not_of c d q h.0 n
-stand-other stream c q t (rec.Reset place d total) n h = not_of c d q h.0 n
-stand-other stream c q t (rec.Sent k from to bytes) n h = sends-other c q t from to n h
-stand-other stream c q t _ n h = refl
-
-pub told-others : (stream c q : ℕ) (t : Tale) (rs : List Rec) → (q ≡ c → ⊥) → Tells stream c t rs → Each (λ r. about q r ≡ false) rs
-told-others stream c q t [] n h = tt
-told-others stream c q t (r ∷ rs) n h = (stand-other stream c q t r n h.0, told-others stream c q (tale_step c t r) rs n h.1)
+-- a timer's records may stand anywhere
+pub timer-stands : (stream c : ℕ) (t : Tale) (place : Place) (d : ℕ) (a b : Bool) → TellsBy (MayStand stream c) c t (timer_change place d a b)
+timer-stands stream c t place d false false = tt
+timer-stands stream c t place d false true = (tt, tt)
+timer-stands stream c t place d true false = (tt, tt)
+timer-stands stream c t place d true true = tt

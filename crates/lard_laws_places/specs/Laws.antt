@@ -5,11 +5,12 @@ use Rattle.lard_base.specs.declared.config.Config.{Config}
 use Rattle.lard_base.specs.declared.event.Event.{Event}
 use Rattle.lard_history.specs.Journal.{answered_bytes, tale}
 use Rattle.lard_history.specs.Laws.{Follows, IsNetwork, IsOwnership, IsSoleSender, ResetsAtTheLimit, WritesWhileOpen}
-use Rattle.lard_laws_places.specs.Places.{IsBetween, IsNetOf, Stands}
+use Rattle.lard_laws_places.specs.Places.{IsBetween, IsNetOf, Stands, StandsAt}
 use Rattle.lard_machine.specs.declared.machine.Machine.{Machine}
 use Rattle.lard_machine.specs.Bounds.{IsBounded}
 use Rattle.lard_machine.specs.Machine.{IsReached, Passes, start}
 use Rattle.lard_net.specs.Net.{Packet, packet_at}
+use Rattle.lard_view.specs.Carry.{OfEach, setting}
 
 -- it is so in every state that events lead to
 abbrev pub Always : (Machine → Type 0) → Type 0
@@ -27,6 +28,10 @@ NumbersAreBounded = Always IsBounded
 -- What is kept of each connection fits what is told of it.
 abbrev pub AllConnectionsStand : Type 0
 AllConnectionsStand = Always (λ m. (c : ℕ) → Stands m.config.stream c (table.get m.clients c) (table.get m.conns c) (tale m.journal c))
+
+-- So it is of each connection as it is seen by itself.
+abbrev pub EachConnectionStands : Type 0
+EachConnectionStands = (config : Config) (files : List (List ℕ × List ℕ)) → OfEach config files (StandsAt (setting config files))
 
 -- ---- packets and responses
 

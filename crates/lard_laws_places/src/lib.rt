@@ -3,7 +3,7 @@
 //! It stands above `lard_machine`, of whose runs it speaks, and holds for every run of it. It has no code.
 #![tactic(auto)]
 
-ghost use Rattle.lard_laws_places.specs.Laws.{SettingsStay, NumbersAreBounded, AllConnectionsStand, PacketsAreTold, PacketsGoBetween, ResponsesAreCounted, NetworksAreLawful, OwnersAreLawful, SendersAreLawful, WritersAreLawful, ResetsAreLawful, JournalsFollow};
+ghost use Rattle.lard_laws_places.specs.Laws.{SettingsStay, NumbersAreBounded, AllConnectionsStand, EachConnectionStands, PacketsAreTold, PacketsGoBetween, ResponsesAreCounted, NetworksAreLawful, OwnersAreLawful, SendersAreLawful, WritersAreLawful, ResetsAreLawful, JournalsFollow};
 
 /// In every state what is kept fits what is told: each connection at its client and at the front end, the packets, and
 /// the bytes of responses. There are no more responses than bytes of them, and no more events than records.
@@ -11,6 +11,7 @@ pub fn states_are_told()
     ensures settings { SettingsStay }
     ensures bounded { NumbersAreBounded }
     ensures connections { AllConnectionsStand }
+    ensures each { EachConnectionStands }
     ensures packets { PacketsAreTold }
     ensures between { PacketsGoBetween }
     ensures responses { ResponsesAreCounted }

@@ -38,7 +38,7 @@ gone Inv P x y h keeps g = ⊎_elim
     (λ (k : (v : Move) × P x v × (y ≡ grown x v)). subst Inv (sym k.2) (keeps k.0 k.1)) g
 
 module _ (m n : Machine) (e : Event) (h : IsViewed m) (rule : HasRule e) (is : machine_step m e ≡ Ok n) where
-  number : (c : ℕ) (x : Station) → table.get m.clients c ≡ Some x → x.client.c ≡ c
+  pub number : (c : ℕ) (x : Station) → table.get m.clients c ≡ Some x → x.client.c ≡ c
   unfolding conn part_of
   number c x at = (h.sound c).number x at
 
@@ -54,7 +54,7 @@ module _ (m n : Machine) (e : Event) (h : IsViewed m) (rule : HasRule e) (is : m
     told = after.told;
   }
 
-start-viewed : (config : Config) (files : List (List ℕ × List ℕ)) → IsViewed (start config files)
+pub start-viewed : (config : Config) (files : List (List ℕ × List ℕ)) → IsViewed (start config files)
 start-viewed config files = record {
   sound = λ q. subst IsSound (sym (start-blank config files q)) (record { between = tt; number = λ s e. let no : None ≡ Some s = e in absurd cc });
   told = refl;

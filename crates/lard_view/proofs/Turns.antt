@@ -1,6 +1,8 @@
 -- What each rule notes and sends is of its connection, and its client stays its own.
-use Rattle.std.proofs.Common.{◌≡◌, ℕ, ◌+◌, nat_lt, Bool, true, false, cond, List, [], ◌∷◌, ◌++◌, length, take, drop, map, Option, Some, None, Result, Ok, Err, refl, sym, ap, ◌∙◌, subst}
+use Rattle.std.proofs.Common.{◌≡◌, ℕ, ◌+◌, nat_lt, Bool, true, false, cond, List, [], ◌∷◌, ◌++◌, length, take, drop, map, Option, Some, None, Result, Ok, Err, refl, sym, ap, ◌∙◌, subst, arith}
 use Rattle.std.proofs.lemmas.Bool.{cond_both}
+use Rattle.std.proofs.lemmas.List.Sums.{fold-append}
+use Rattle.std.specs.List.{fold}
 use Rattle.lard_answers.specs.Answers.{answer, answer_code}
 use Rattle.lard_base.specs.declared.event.Event.TheVariants as event
 use Rattle.lard_base.specs.declared.place.Place.{Place}
@@ -15,7 +17,7 @@ use Rattle.lard_endpoint.specs.Arriving.{on_segment}
 use Rattle.lard_endpoint.specs.Control.{ControlBlock, listening}
 use Rattle.lard_endpoint.specs.Leaving as leaving
 use Rattle.lard_endpoint.specs.Moving.{end_reason, final_of, may_end}
-use Rattle.lard_history.specs.Journal.{request}
+use Rattle.lard_history.specs.Journal.{answered_step, request}
 use Rattle.lard_history.specs.Own.{Letter, Seen, conn_of, plain, whose}
 use Rattle.lard_history.proofs.Each.{Each, Each-append, Each-weaker}
 use Rattle.lard_journal.specs.declared.rec.Rec.{Rec}
@@ -52,9 +54,14 @@ NotedAt Front c (rec.Served Front d r code size via) = d ≡ c
 NotedAt Front c (rec.Reset Front d total) = d ≡ c
 NotedAt _ _ _ = ⊥
 
+-- a turn counts the bytes of the responses that it notes
+abbrev pub IsCounted : Turn → Type 0
+IsCounted t = (n : ℕ) → fold answered_step n t.notes ≡ n + t.answered
+
 pub record IsTurn (place : Place) (c : ℕ) (t : Turn) : Type 0 where
   pub notes : Each (NotedAt place c) t.notes
   pub segments : Each (λ s. GoesBetween c place s.0) t.segments
+  pub answered : IsCounted t
 
 -- ---- clients
 
@@ -62,6 +69,19 @@ pub record IsClientTurn (c : ℕ) (given : ClientBlock × Turn) : Type 0 where
   pub number : given.0.c ≡ c
   pub notes : Each (NotedAt (Client c) c) given.1.notes
   pub to : AllTo Front given.1.segments
+  pub answered : IsCounted given.1
+
+-- a client notes no response
+client-counts : (c : ℕ) (r : Rec) → NotedAt (Client c) c r → (n : ℕ) → answered_step n r ≡ n
+client-counts c (rec.Wrote d bytes) h n = refl
+client-counts c (rec.Accepted d bytes) h n = refl
+client-counts c (rec.Eof d) h n = refl
+client-counts c (rec.Aborted d) h n = refl
+client-counts c _ h n = absurd h
+
+clients-count : (c : ℕ) (rs : List Rec) → Each (NotedAt (Client c) c) rs → (n : ℕ) → fold answered_step n rs ≡ n + 0
+clients-count c [] e n = omega arith
+clients-count c (r ∷ rs) e n = ap (λ k. fold answered_step k rs) (client-counts c r e.0 n) ∙ clients-count c rs e.1 n
 
 speaking-turn : (c : ℕ) (x : ClientBlock) (notes : List Rec) (segments : List (Place × List ℕ)) → x.c ≡ c → Each (NotedAt (Client c) c) notes → AllTo Front segments
     → IsClientTurn c (speaking notes segments x)
@@ -69,10 +89,11 @@ speaking-turn c x notes segments n of to = let spoken = speaks-on x in record {
   number = spoken.on.number ∙ n;
   notes = of;
   to = Each-append (λ s. s.0 ≡ Front) segments (client_speaks x).0 to spoken.to;
+  answered = clients-count c notes of;
 }
 
 silent-turn : (c : ℕ) (x : ClientBlock) → x.c ≡ c → IsClientTurn c (x, silent)
-silent-turn c x n = record { number = n; notes = tt; to = tt }
+silent-turn c x n = record { number = n; notes = tt; to = tt; answered = λ n. omega arith }
 
 pub opens-turn : (c isn wnd mss : ℕ) → IsClientTurn c (client_opens c isn wnd mss)
 opens-turn c isn wnd mss = speaking-turn c (opened c isn wnd mss) [] [] refl tt tt
@@ -96,10 +117,10 @@ module _ (c : ℕ) (x : ClientBlock) (n : x.c ≡ c) where
   fires-turn = speaking-turn c (after_timer x) [] (ready_of (after_timer x) (timed x)) ((timer-on x).number ∙ n) tt (ready-to (after_timer x) (timed x))
 
   pub aborts-turn : IsClientTurn c (client_aborts x)
-  aborts-turn = record { number = (aborted-on x).0.number ∙ n; notes = (n, tt); to = ready-to (aborted x) (abort_ready x) }
+  aborts-turn = record { number = (aborted-on x).0.number ∙ n; notes = (n, tt); to = ready-to (aborted x) (abort_ready x); answered = clients-count c (rec.Aborted x.c ∷ []) (n, tt) }
 
   pub injects-turn : (bytes : List ℕ) → IsClientTurn c (client_injects x bytes)
-  injects-turn bytes = record { number = n; notes = tt; to = (refl, tt) }
+  injects-turn bytes = record { number = n; notes = tt; to = (refl, tt); answered = λ n. omega arith }
 
   noted-turn : (b : Bool) (bytes : List ℕ) (d : Bool) (y : ClientBlock) (segments : List (Place × List ℕ)) → y.c ≡ c → AllTo Front segments
       → IsClientTurn c (speaking (cond b (rec.Accepted y.c bytes ∷ []) [] ++ cond d (rec.Eof y.c ∷ []) []) segments y)
@@ -125,18 +146,27 @@ pub record IsFrontTurn (c : ℕ) (x : Option FrontConn) (given : Option FrontCon
   pub notes : Each (NotedAt Front c) given.1.notes
   pub to : AllTo (Client c) given.1.segments
   pub row : KeepsRow x given.0
+  pub answered : IsCounted given.1
 
 module _ (env : FrontEnv) where
   abbrev AreNoted : Service → Type 0
-  AreNoted w = Each (NotedAt Front env.c) w.notes
+  AreNoted w = Each (NotedAt Front env.c) w.notes × ((n : ℕ) → fold answered_step n w.notes ≡ n + w.answered)
+
+  -- one more note
+  one-noted : (w : Service) (r : Rec) (answered : ℕ) → AreNoted w → NotedAt Front env.c r → ((n : ℕ) → answered_step (n + w.answered) r ≡ n + answered)
+      → Each (NotedAt Front env.c) (w.notes ++ r ∷ []) × ((n : ℕ) → fold answered_step n (w.notes ++ r ∷ []) ≡ n + answered)
+  one-noted w r answered h note sum = (
+    Each-append (NotedAt Front env.c) w.notes (r ∷ []) h.0 (note, tt),
+    λ n. fold-append answered_step n w.notes (r ∷ []) ∙ ap (λ k. answered_step k r) (h.1 n) ∙ sum n,
+  )
 
   answered-noted : (v : Verdict) (w : Service) → AreNoted w → AreNoted (answered env v w)
   answered-noted v w h =
       let bytes : List ℕ = answer env.files v in
       let total : ℕ = w.block.send.total + length bytes in
       cond_both (nat_lt env.stream total) (passed_over env total w) (queued env v bytes w) AreNoted
-      (λ t. Each-append (NotedAt Front env.c) w.notes (rec.Reset Front env.c total ∷ []) h (refl, tt))
-      (λ t. Each-append (NotedAt Front env.c) w.notes (rec.Served Front env.c (w.count + 1) (answer_code env.files v) (length bytes) Own ∷ []) h (refl, tt))
+      (λ t. one-noted w (rec.Reset Front env.c total) w.answered h refl (λ n. refl))
+      (λ t. one-noted w (rec.Served Front env.c (w.count + 1) (answer_code env.files v) (length bytes) Own) (w.answered + length bytes) h refl (λ n. omega arith))
 
   reading-notes : KeptByReading env AreNoted
   reading-notes = record {
@@ -146,11 +176,12 @@ module _ (env : FrontEnv) where
   }
 
   spoken-turn : (x : Option FrontConn) (w : Service) (before : List (Place × List ℕ)) → AllTo (Client env.c) before → AreNoted w → IsFrontTurn env.c x (spoken env w before)
-  spoken-turn x w before to h = record { notes = h; to = Each-append (λ s. s.0 ≡ Client env.c) before (speaks env.c w.block).0 to (speaks-to env.c w.block).to; row = tt }
+  spoken-turn x w before to h = record { notes = h.0; answered = h.1; to = Each-append (λ s. s.0 ≡ Client env.c) before (speaks env.c w.block).0 to (speaks-to env.c w.block).to; row = tt }
 
   cut_off-turn : (x : Option FrontConn) (w : Service) → AreNoted w → IsFrontTurn env.c x (cut_off env w)
   cut_off-turn x w h = record {
-    notes = h;
+    notes = h.0;
+    answered = h.1;
     to = Each-append (λ s. s.0 ≡ Client env.c) (speaks_symbols env.c w.block).0 (told env (limit_said (final_of (speaks_symbols env.c w.block).1 reason.Limit)) ∷ [])
         (speaks_symbols-to env.c w.block).to (refl, tt);
     row = tt;
@@ -163,20 +194,20 @@ module _ (env : FrontEnv) where
     go (Some total) = cut_off-turn x w h
 
   quiet-turn : (x : Option FrontConn) → IsFrontTurn env.c x (x, silent)
-  quiet-turn None = record { notes = tt; to = tt; row = refl }
-  quiet-turn (Some conn) = record { notes = tt; to = tt; row = tt }
+  quiet-turn None = record { notes = tt; to = tt; row = refl; answered = λ n. omega arith }
+  quiet-turn (Some conn) = record { notes = tt; to = tt; row = tt; answered = λ n. omega arith }
 
   tombstone-turn : (last : Final) (o : Option Said) → IsFrontTurn env.c (Some (Closed last)) (Some (Closed last), tombstone env o)
   tombstone-turn last None = quiet-turn (Some (Closed last))
-  tombstone-turn last (Some s) = record { notes = tt; to = (refl, tt); row = tt }
+  tombstone-turn last (Some s) = record { notes = tt; to = (refl, tt); row = tt; answered = λ n. omega arith }
 
   pub segment-turn : (x : Option FrontConn) (s : Said) → IsFrontTurn env.c x (front_hears env x s)
   segment-turn None s = cond_both {A = Option FrontConn × Turn} (is_plain_syn s) (begun env s) (None, silent) (IsFrontTurn env.c None)
-      (λ t. spoken-turn None (record { block = listening s env.iss; count = 0; notes = rec.Took Front env.c (record { 0 = 1 }) ∷ []; answered = 0; over = None }) [] tt (refl, tt))
+      (λ t. spoken-turn None (record { block = listening s env.iss; count = 0; notes = rec.Took Front env.c (record { 0 = 1 }) ∷ []; answered = 0; over = None }) [] tt ((refl, tt), λ n. omega arith))
       (λ t. quiet-turn None)
   segment-turn (Some (Held b count)) s =
       let w : Service = record { block = (on_segment b s).1; count = count; notes = []; answered = 0; over = None } in
-      settled-turn (Some (Held b count)) (reads env w) (reads_keep env AreNoted reading-notes w tt)
+      settled-turn (Some (Held b count)) (reads env w) (reads_keep env AreNoted reading-notes w (tt, λ n. omega arith))
   segment-turn (Some Lent) s = quiet-turn (Some Lent)
   segment-turn (Some (Closed last)) s = tombstone-turn last (last_words last.reason last s)
 
@@ -188,7 +219,7 @@ module _ (env : FrontEnv) where
   front_fires-turn None = quiet-turn None
   front_fires-turn (Some (Held b count)) =
       spoken-turn (Some (Held b count)) (record { block = leaving.after_timer b; count = count; notes = []; answered = 0; over = None }) (front.ready_of env (leaving.after_timer b) (leaving.timed b))
-      (ends.ready-to env (leaving.after_timer b) (leaving.timed b)) tt
+      (ends.ready-to env (leaving.after_timer b) (leaving.timed b)) (tt, λ n. omega arith)
   front_fires-turn (Some Lent) = quiet-turn (Some Lent)
   front_fires-turn (Some (Closed last)) = quiet-turn (Some (Closed last))
 
@@ -226,7 +257,7 @@ some-same a b e = cc
 client-fine : (x : Conn) (s : Station) (heads : List Seen) (given : ClientBlock × Turn) → (IsSound x → IsClientTurn x.c given) → IsFine x (client_does x s heads given)
 client-fine x s heads given turn h =
     let t : IsClientTurn x.c given = turn h in
-    let fine : IsTurn (Client x.c) x.c given.1 = record { notes = t.notes; segments = to-front x.c given.1.segments t.to } in (
+    let fine : IsTurn (Client x.c) x.c given.1 = record { notes = t.notes; segments = to-front x.c given.1.segments t.to; answered = t.answered } in (
       fine,
       record {
         between = between-grown x (client_does x s heads given) h fine;
@@ -236,14 +267,14 @@ client-fine x s heads given turn h =
 
 front-fine : (x : Conn) (heads : List Seen) (given : Option FrontConn × Turn) → IsFrontTurn x.c x.part.front given → IsFine x (front_does x heads given)
 front-fine x heads given t h =
-    let fine : IsTurn Front x.c given.1 = record { notes = t.notes; segments = to-client x.c given.1.segments t.to } in
+    let fine : IsTurn Front x.c given.1 = record { notes = t.notes; segments = to-client x.c given.1.segments t.to; answered = t.answered } in
     (fine, record { between = between-grown x (front_does x heads given) h fine; number = h.number })
 
 begins-fine : (x : Conn) (isn iss wnd mss : ℕ) → IsFine x (client_begins x isn iss wnd mss)
 begins-fine x isn iss wnd mss h =
     let given : ClientBlock × Turn = client_opens x.c isn wnd mss in
     let t : IsClientTurn x.c given = opens-turn x.c isn wnd mss in
-    let fine : IsTurn (Client x.c) x.c given.1 = record { notes = t.notes; segments = to-front x.c given.1.segments t.to } in (
+    let fine : IsTurn (Client x.c) x.c given.1 = record { notes = t.notes; segments = to-front x.c given.1.segments t.to; answered = t.answered } in (
       fine,
       record {
         between = between-grown x (client_begins x isn iss wnd mss) h fine;
@@ -269,6 +300,6 @@ fine k = record {
   front_hears = λ x s bytes there was. front-fine x (packet_seen (Client x.c) Front bytes) (front_gets (env_at k x s) x.part.front (decoded bytes x.c ToCluster))
       (front_gets-turn (env_at k x s) x.part.front (decoded bytes x.c ToCluster));
   ignores = λ x from to bytes was h.
-      let fine : IsTurn to x.c silent = record { notes = tt; segments = tt } in
+      let fine : IsTurn to x.c silent = record { notes = tt; segments = tt; answered = λ n. omega arith } in
       (fine, record { between = between-grown x (ignoring x from to bytes) h fine; number = h.number });
 }
