@@ -88,7 +88,7 @@ module _ (m : Machine) (l : IsLinked m) where
         (delivers m.journal m.net m.answered (m.events + 1) k p at on l) (front_gets-turn (env_of m c x.iss) (table.get m.conns c) (decoded p.bytes c ToCluster));
     client_gets = λ k c p x at on to is. client-linked (event.Deliver k) (rec.Got k ∷ []) c x.iss (is_armed x.client) (client_gets x.client (decoded p.bytes c ToClient))
         (delivers m.journal m.net m.answered (m.events + 1) k p at on l) (hears-turn c x.client (number c x is) (decoded p.bytes c ToClient));
-    nobody = λ k p at on. delivers m.journal m.net m.answered (m.events + 1) k p at on l;
+    nobody = λ k p at on. delivers m.journal m.net m.answered (m.events + 1) k p at on.0 l;
     loses = λ k p at on. loses m.journal m.net m.answered (m.events + 1) k p at on l;
   }
 

@@ -1,5 +1,5 @@
 -- A step that is done has one of a few forms, each with what was looked up.
-use Rattle.std.proofs.Common.{◌≡◌, ℕ, ◌-◌, List, [], ◌∷◌, Bool, true, false, cond, nat_lt, Option, Some, None, Result, Ok, Err, refl, subst}
+use Rattle.std.proofs.Common.{◌≡◌, ℕ, ◌-◌, List, [], ◌∷◌, Bool, true, false, cond, nat_lt, Option, Some, None, Result, Ok, Err, refl, sym, subst}
 use Rattle.std.specs.FinMap as table
 use Rattle.lard_base.specs.declared.event.Event.{Event}
 use Rattle.lard_base.specs.declared.event.Event.TheVariants as event
@@ -21,6 +21,12 @@ use Rattle.lard_machine.specs.Machine.{aborts, client_acted, client_goes_on, del
 use Rattle.lard_net.specs.Net.{Packet, lose_at, packet_at}
 use Rattle.lard_segment.specs.declared.segment.Dir.TheVariants.{ToClient, ToCluster}
 use Rattle.lard_segment.specs.Segment.{decoded}
+
+-- a packet between these places is heard by none: its client has not opened, or it goes between no client and the front end
+abbrev pub IsIgnored : Machine → Place → Place → Type 0
+IsIgnored m (place.Client c) place.Front = table.get m.clients c ≡ None
+IsIgnored m from (place.Client c) = table.get m.clients c ≡ None
+IsIgnored m _ _ = Unit {0}
 
 -- P is so of each form that a step from m may have
 pub record Forms (m : Machine) (P : Event → Machine → Type 0) : Type 0 where
@@ -44,7 +50,7 @@ pub record Forms (m : Machine) (P : Event → Machine → Type 0) : Type 0 where
       → P (event.Deliver k) (front_acted m (event.Deliver k) (rec.Got k ∷ []) c (front_gets (env_of m c x.iss) (table.get m.conns c) (decoded p.bytes c ToCluster)))
   pub client_gets : (k c : ℕ) (p : Packet) (x : Station) → packet_at m.net k ≡ Some p → p.lost ≡ false → p.to ≡ place.Client c → table.get m.clients c ≡ Some x
       → P (event.Deliver k) (client_goes_on m (event.Deliver k) (rec.Got k ∷ []) c x (client_gets x.client (decoded p.bytes c ToClient)))
-  pub nobody : (k : ℕ) (p : Packet) → packet_at m.net k ≡ Some p → p.lost ≡ false → P (event.Deliver k) (passed m (event.Deliver k) (rec.Got k ∷ []))
+  pub nobody : (k : ℕ) (p : Packet) → packet_at m.net k ≡ Some p → (p.lost ≡ false) × IsIgnored m p.from p.to → P (event.Deliver k) (passed m (event.Deliver k) (rec.Got k ∷ []))
   pub loses : (k : ℕ) (p : Packet) → packet_at m.net k ≡ Some p → p.lost ≡ false
       → P (event.Lose k) (passed (record m { net = lose_at (k - 1) m.net }) (event.Lose k) (rec.Lost k ∷ []))
 
@@ -104,23 +110,36 @@ module _ (m n : Machine) (P : Event → Machine → Type 0) (f : Forms m P) wher
   -- ---- packets
 
   module _ (k : ℕ) (p : Packet) (at : packet_at m.net k ≡ Some p) (there : p.lost ≡ false) where
+    unheard : (from to : Place) → p.from ≡ from → p.to ≡ to → IsIgnored m from to → P (event.Deliver k) (passed m (event.Deliver k) (rec.Got k ∷ []))
+    unheard from to is-from is-to h = f.nobody k p at (there, subst (λ (b : Place). IsIgnored m p.from b) (sym is-to) (subst (λ (a : Place). IsIgnored m a to) (sym is-from) h))
+
+    from-any : (from : Place) (c : ℕ) → table.get m.clients c ≡ None → IsIgnored m from (place.Client c)
+    from-any (place.Client d) c h = h
+    from-any place.Front c h = h
+    from-any (place.Node i) c h = h
+
+    to-node : (from : Place) (i : ℕ) → IsIgnored m from (place.Node i)
+    to-node (place.Client d) i = tt
+    to-node place.Front i = tt
+    to-node (place.Node j) i = tt
+
     front-is : (c : ℕ) (o : Option Station) → p.from ≡ place.Client c → p.to ≡ place.Front → table.get m.clients c ≡ o → P (event.Deliver k) (to_front m k p.bytes c o)
-    front-is c None from to is = f.nobody k p at there
+    front-is c None from to is = unheard (place.Client c) place.Front from to is
     front-is c (Some x) from to is = f.front_gets k c p x at there from to is
 
     from-is : (from : Place) → p.from ≡ from → p.to ≡ place.Front → P (event.Deliver k) (from_place m k p.bytes from)
     from-is (place.Client c) from to = front-is c (table.get m.clients c) from to refl
-    from-is place.Front from to = f.nobody k p at there
-    from-is (place.Node i) from to = f.nobody k p at there
+    from-is place.Front from to = unheard place.Front place.Front from to tt
+    from-is (place.Node i) from to = unheard (place.Node i) place.Front from to tt
 
     client-is : (c : ℕ) (o : Option Station) → p.to ≡ place.Client c → table.get m.clients c ≡ o → P (event.Deliver k) (to_client m k p.bytes c o)
-    client-is c None to is = f.nobody k p at there
+    client-is c None to is = unheard p.from (place.Client c) refl to (from-any p.from c is)
     client-is c (Some x) to is = f.client_gets k c p x at there to is
 
     place-is : (to : Place) → p.to ≡ to → P (event.Deliver k) (to_place m k p to)
     place-is place.Front to = from-is p.from refl to
     place-is (place.Client c) to = client-is c (table.get m.clients c) to refl
-    place-is (place.Node i) to = f.nobody k p at there
+    place-is (place.Node i) to = unheard p.from (place.Node i) refl to (to-node p.from i)
 
   delivered-is : (k : ℕ) (o : Option Packet) → packet_at m.net k ≡ o → delivered m k o ≡ Ok n → P (event.Deliver k) n
   unfolding delivered

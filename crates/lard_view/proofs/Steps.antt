@@ -19,7 +19,7 @@ use Rattle.lard_machine.specs.Bounds.{HasRule}
 use Rattle.lard_machine.specs.Client.{client_aborts, client_gets, client_holds, client_injects, client_opens, client_shuts, client_takes, client_timer, client_writes}
 use Rattle.lard_machine.specs.Front.{front_gets, front_timer}
 use Rattle.lard_machine.specs.Machine.{Act, client_acted, client_goes_on, client_put, env_of, front_acted, front_armed, front_put, machine_step, passed}
-use Rattle.lard_machine.proofs.Forms.{Forms, step_has}
+use Rattle.lard_machine.proofs.Forms.{Forms, IsIgnored, step_has}
 use Rattle.lard_net.specs.Net.{Packet, lose_at, packet_at}
 use Rattle.lard_segment.specs.declared.segment.Dir.TheVariants.{ToClient, ToCluster}
 use Rattle.lard_segment.specs.Segment.{decoded}
@@ -173,11 +173,16 @@ module _ (m : Machine) (P : Conn → Move → Type 0) (R : Rules (setting_of m) 
     go (Node n) e = absurd (subst (λ (q : Place). GoesBetween c (Node n) q) to (subst (λ (q : Place). GoesBetween c q p.to) e (between c (λ i. conn_of (e i) (to i) p.bytes))))
 
   -- a packet that no place acts on
-  ignored : (k : ℕ) (p : Packet) → packet_at m.net k ≡ Some p → To (passed m (event.Deliver k) (rec.Got k ∷ []))
-  unfolding conn
-  ignored k p at q = go (conn_of p.from p.to p.bytes) refl where
-    w : Machine
-    w = m
+  ignored : (k : ℕ) (p : Packet) → packet_at m.net k ≡ Some p → IsIgnored m p.from p.to → To (passed m (event.Deliver k) (rec.Got k ∷ []))
+  unfolding conn part_of
+  ignored k p at unheard q = go (conn_of p.from p.to p.bytes) refl where
+    -- its client has not opened
+    unopened : (d : ℕ) → conn_of p.from p.to p.bytes ≡ Some d → (conn m d).part.station ≡ None
+    unopened d of = ends p.from p.to (between-has d (letter_of p) (letters d m.net) (has-letter d k m.net p at of) (sound d).between) unheard where
+      ends : (from to : Place) → GoesBetween d from to → IsIgnored m from to → table.get m.clients d ≡ None
+      ends (Client z) Front g i = subst (λ (y : ℕ). table.get m.clients y ≡ None) g i
+      ends Front (Client z) g i = subst (λ (y : ℕ). table.get m.clients y ≡ None) g i
+      ends _ _ g i = absurd g
 
     nobody : conn_of p.from p.to p.bytes ≡ None → seen_on q m.net (rec.Event (m.events + 1) (event.Deliver k) ∷ rec.Got k ∷ []) ≡ []
     nobody e = ap (λ o. came q o ++ []) at ∙ ap (λ o. one_of q o (Came (letter_of p)) ++ []) e
@@ -186,7 +191,7 @@ module _ (m : Machine) (P : Conn → Move → Type 0) (R : Rules (setting_of m) 
     go None e = passes P m m (event.Deliver k) (rec.Got k ∷ []) q told refl refl refl (nobody e)
     go (Some d) e = by_number (Goes P (conn m q) (conn (passed m (event.Deliver k) (rec.Got k ∷ [])) q)) q d
         (λ same. subst (λ (z : ℕ). Goes P (conn m z) (conn (passed m (event.Deliver k) (rec.Got k ∷ [])) z)) (sym same)
-        (ignores P m m (event.Deliver k) (rec.Got k ∷ []) d told refl refl refl p.from p.to p.bytes (got-seen k d p at e) (R.ignores (conn m d) p.from p.to p.bytes (was k d p at e p.from p.to refl refl))))
+        (ignores P m m (event.Deliver k) (rec.Got k ∷ []) d told refl refl refl p.from p.to p.bytes (got-seen k d p at e) (R.ignores (conn m d) p.from p.to p.bytes (was k d p at e p.from p.to refl refl, unopened d e))))
         (λ n. passes P m m (event.Deliver k) (rec.Got k ∷ []) q told refl refl refl (got-others k d p at e q n))
 
   pub forms-go : Forms m (λ e n. To n)
@@ -227,7 +232,7 @@ module _ (m : Machine) (P : Conn → Move → Type 0) (R : Rules (setting_of m) 
         let w : Was (conn m c) Front (Client c) p.bytes = was k c p at of Front (Client c) from to in
         goes-on (event.Deliver k) (rec.Got k ∷ []) c x (client_gets x.client (decoded p.bytes c ToClient)) (packet_seen Front (Client c) p.bytes) is
         (got-heads k c p at of Front (Client c) from to) ((fine (setting_of m)).client_hears (conn m c) x p.bytes is w (sound c)).0 (R.client_hears (conn m c) x p.bytes is w);
-    nobody = λ k p at on. ignored k p at;
+    nobody = λ k p at on. ignored k p at on.1;
     loses = λ k p at on q. passes P m (record m { net = lose_at (k - 1) m.net }) (event.Lose k) (rec.Lost k ∷ []) q told (letters-lost q (k - 1) m.net) refl refl refl;
   }
 

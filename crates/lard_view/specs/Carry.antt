@@ -62,7 +62,7 @@ pub record UntouchedRules (k : Setting) (P : Conn → Move → Type 0) : Type 0 
       → P x (front_does x (event_seen (event.Timer Front x.c)) (front_timer (env_at k x s) x.part.front))
   pub front_hears : (x : Conn) (s : Station) (bytes : List ℕ) → x.part.station ≡ Some s → Was x (Client x.c) Front bytes
       → P x (front_does x (packet_seen (Client x.c) Front bytes) (front_gets (env_at k x s) x.part.front (decoded bytes x.c ToCluster)))
-  pub ignores : (x : Conn) (from to : Place) (bytes : List ℕ) → Was x from to bytes → P x (ignoring x from to bytes)
+  pub ignores : (x : Conn) (from to : Place) (bytes : List ℕ) → Was x from to bytes × (x.part.station ≡ None) → P x (ignoring x from to bytes)
 
 -- Of a connection as long as the schedule did not touch it: it holds of what is blank, and each rule keeps it.
 pub record IsUntouchedLaw (k : Setting) (Given Inv : Conn → Type 0) : Type 0 where

@@ -143,7 +143,7 @@ client_begins x isn iss wnd mss = record {
 abbrev pub front_does : Conn → List Seen → Option FrontConn × Turn → Move
 front_does x heads given = record { place = Front; heads = heads; turn = given.1; part = with_front x.part given.0 }
 
--- a packet comes, and nothing is done
+-- a packet comes to a connection whose client has not opened, and nothing is done
 abbrev pub ignoring : Conn → Place → Place → List ℕ → Move
 ignoring x from to bytes = record { place = to; heads = packet_seen from to bytes; turn = silent; part = x.part }
 
@@ -170,7 +170,7 @@ pub record Rules (k : Setting) (P : Conn → Move → Type 0) : Type 0 where
       → P x (front_does x (event_seen (event.Timer Front x.c)) (front_timer (env_at k x s) x.part.front))
   pub front_hears : (x : Conn) (s : Station) (bytes : List ℕ) → x.part.station ≡ Some s → Was x (Client x.c) Front bytes
       → P x (front_does x (packet_seen (Client x.c) Front bytes) (front_gets (env_at k x s) x.part.front (decoded bytes x.c ToCluster)))
-  pub ignores : (x : Conn) (from to : Place) (bytes : List ℕ) → Was x from to bytes → P x (ignoring x from to bytes)
+  pub ignores : (x : Conn) (from to : Place) (bytes : List ℕ) → Was x from to bytes × (x.part.station ≡ None) → P x (ignoring x from to bytes)
 
 -- ---- what the view itself rests on
 

@@ -4,13 +4,13 @@ ghost use Rattle.std.specs.Prelude.{◌≡◌, ◌+◌, ◌^◌, ◌≤◌, ◌+
 ghost use Rattle.lard_base.specs.declared.limits.TheConstants.{MAX_SEGMENT_BYTES, MAX_STREAM_BYTES};
 ghost use Rattle.lard_client.specs.Control.{written_len};
 ghost use Rattle.lard_client.specs.Leaving.{IsHeld, IsWritable};
-ghost use Rattle.lard_machine.specs.Client.{accepted_note, client_aborts, client_gets, client_heard, client_holds, client_shuts, client_takes, client_timer, client_writes, eof_note, ready_of, silent, speaking};
+ghost use Rattle.lard_machine.specs.Client.{accepted_note, client_aborts, client_gets, client_heard, client_holds, client_injects, client_shuts, client_takes, client_timer, client_writes, eof_note, ready_of, silent, speaking};
 ghost use Rattle.lard_machine.specs.Speaking.{AreShort};
 ghost use Rattle.lard_segment.specs.Segment.{decoded};
 ghost use Rattle.lard_world.specs.Turns.{IsTurn};
 
 use crate::speaking::{client_speak, to_front};
-use lard_base::{Bytes, ConnId, NoMemory, Sends};
+use lard_base::{Bytes, ConnId, NoMemory, Place, Sends};
 use lard_client::{Client, Heard};
 use lard_journal::{Rec, Recs};
 use lard_machine::Turn;
@@ -129,6 +129,21 @@ pub fn abort(alloc: Global, client: &mut Client) -> Result<Turn, NoMemory>
     let segments = packets_of(alloc, client, ready)?;
     Ok(Turn {
         notes,
+        segments,
+        answered: 0,
+    })
+}
+
+/// The schedule puts a packet with these bytes on the way from a client, which itself does nothing.
+pub fn inject(alloc: Global, client: &Client, bytes: Bytes) -> Result<Turn, NoMemory>
+    requires short { length bytes ≤ MAX_SEGMENT_BYTES }
+    ensures turn { IfOk result (λ turn. (client.now, turn) ≡ client_injects client.now bytes) }
+    ensures fits { IfOk result IsTurn }
+{
+    let mut segments = Sends::new(alloc);
+    segments.push((Place::Front, bytes))?;
+    Ok(Turn {
+        notes: Recs::new(alloc),
         segments,
         answered: 0,
     })

@@ -1,12 +1,12 @@
 //! The steps of clients: each takes its station out, lets its client act, and puts it back.
 
-ghost use Rattle.std.specs.Prelude.{◌≡◌, ◌+◌, ◌^◌, ◌≤◌, [], ◌∷◌, ◌<◌, false, None, Some, IfOk, IfNone, IfSome, IsSome, OnOk, OnErr};
+ghost use Rattle.std.specs.Prelude.{◌≡◌, ◌+◌, ◌^◌, ◌≤◌, [], ◌∷◌, ◌<◌, false, length, None, Some, IfOk, IfNone, IfSome, IsSome, OnOk, OnErr};
 ghost use Rattle.std.specs.FinMap as table;
-ghost use Rattle.lard_base.specs.declared.limits.TheConstants.{MAX_SEGMENT_DATA, MAX_STREAM_BYTES};
+ghost use Rattle.lard_base.specs.declared.limits.TheConstants.{MAX_SEGMENT_BYTES, MAX_SEGMENT_DATA, MAX_STREAM_BYTES};
 ghost use Rattle.lard_client.specs.Control.{is_armed, written_len};
 ghost use Rattle.lard_history.specs.Journal.{request};
 ghost use Rattle.lard_machine.specs.Client.{speaking};
-ghost use Rattle.lard_machine.specs.Machine.{Steps, aborts, client_acted, holds, opened, shut, takes, wrote};
+ghost use Rattle.lard_machine.specs.Machine.{Steps, aborts, client_acted, holds, injects, opened, shut, takes, wrote};
 ghost use Rattle.lard_machine.specs.Speaking.{listed};
 ghost use Rattle.lard_world.specs.Lent.{without_client};
 ghost use Rattle.lard_world.specs.Turns.{HasRoom, IsTurn};
@@ -251,6 +251,28 @@ pub fn abort(machine: &mut Machine, alloc: Global, c: ConnId) -> Result<(), Step
     };
     let turn = clients::abort(alloc, &mut acting.station.client)?;
     put_back(machine, alloc, Event::Abort(c), None, acting, turn)?;
+    Ok(())
+}
+
+/// The schedule puts a packet with these bytes on the way from the client to the front end.
+#[tactic(auto, unfolding(lard_machine::specs::Machine::injects))]
+pub fn inject(
+    machine: &mut Machine,
+    alloc: Global,
+    c: ConnId,
+    bytes: Bytes,
+) -> Result<(), StepFault>
+    requires room { HasRoom machine.old }
+    requires short { length bytes ≤ MAX_SEGMENT_BYTES }
+    ensures { Steps (injects machine.old c bytes (table.get machine.old.clients c)) machine.old machine.new result }
+{
+    let Some(acting) = take_out(machine, alloc, c) else {
+        return Err(StepFault::NoClient(c.number()));
+    };
+    let copy = bytes.copy(alloc)?;
+    let turn = clients::inject(alloc, &acting.station.client, copy)?;
+    let event = Event::Inject { c, bytes };
+    put_back(machine, alloc, event, Some(Rec::Injected(c)), acting, turn)?;
     Ok(())
 }
 

@@ -62,8 +62,7 @@ fn happen(machine: &mut Machine, alloc: Global, event: Event) -> Result<(), Step
         Event::Deliver(k) => return packets::deliver(machine, alloc, k),
         Event::Lose(k) => return packets::lose(machine, alloc, k),
         Event::Timer { place, c } => return packets::fire(machine, alloc, place, c),
-        Event::Disk { .. } | Event::Clock(_) | Event::Settle(_) | Event::Inject { .. } => {
-            unreachable!()
-        }
+        Event::Inject { c, bytes } => return stations::inject(machine, alloc, c, bytes),
+        Event::Disk { .. } | Event::Clock(_) | Event::Settle(_) => unreachable!(),
     }
 }
