@@ -1,0 +1,12 @@
+//! Laws of a step: what each step of a run writes, exactly, in words of the journal.
+//!
+//! It stands above `lard_view`, by which a law of one connection's steps is one of every run. It has no code.
+#![tactic(auto)]
+
+ghost use Rattle.lard_laws_steps.specs.Clients.{ClientsKeepTheirTables};
+
+/// A client's state is a fold over its own events and the packets that it got, and behind each of these stand exactly the
+/// records that its table gives from that state (RFC 9293, 3.10).
+pub fn clients_keep_their_tables()
+    ensures { ClientsKeepTheirTables }
+{}
