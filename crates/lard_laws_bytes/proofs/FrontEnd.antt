@@ -1,5 +1,5 @@
 -- A turn of the front end, by the state of the connection.
-use Rattle.std.proofs.Common.{◌≡◌, ◌≤◌, ◌<◌, ◌+◌, ◌^◌, ℕ, Bool, true, false, cond, not, ◌&&◌, ◌||◌, List, [], ◌∷◌, ◌++◌, map, length, take, Option, Some, None, IfSome, arith, inr, refl, ap, ◌∙◌, sym, subst}
+use Rattle.std.proofs.Common.{◌≡◌, ◌≤◌, ◌<◌, ◌+◌, ◌^◌, ℕ, Bool, true, false, cond, not, ◌&&◌, ◌||◌, List, [], ◌∷◌, ◌++◌, map, length, Option, Some, None, IfSome, arith, inr, refl, ap, ◌∙◌, sym, subst}
 use Rattle.std.specs.List.{concat, list_any}
 use Rattle.std.specs.Prelude.{Ok}
 use Rattle.std.proofs.lemmas.Bool.{cond_both, and_parts, or_parts}
@@ -8,7 +8,6 @@ use Rattle.lard_base.specs.declared.place.Place.{Place}
 use Rattle.lard_base.specs.declared.place.Place.TheVariants as place_
 use Rattle.lard_base.specs.declared.place.Reason.{Reason}
 use Rattle.lard_base.specs.declared.place.Reason.TheVariants as reason
-use Rattle.lard_block.specs.Blocks.{skipped, Cuts}
 use Rattle.lard_endpoint.specs.declared.control.moving.Final.{Final}
 use Rattle.lard_endpoint.specs.Arriving.{on_segment}
 use Rattle.lard_endpoint.specs.Control.{ControlBlock, listening}
@@ -223,7 +222,7 @@ module _ (env : FrontEnv) (w out : Stream) (vs : List Verdict) (was_reset : Bool
         says = says;
         counted = sym (ap length none);
         between = between;
-        noted = record { front = (refl, tt); served = omega arith; size = omega arith; unless_ended = inr refl; serve = λ past t. (tt, tt) };
+        noted = record { front = (refl, tt); served = omega arith; size = omega arith; unless_ended = inr refl; serve = λ t told. ((λ J e. tt), tt) };
       }) [] (nothing-read s env.iss none) (λ _. stopped-begun s env.iss) tt
 
   met-turned : (s : Said) → env.iss ≡ out.first → SaysAnswers env.files w out vs → (vs ≡ []) × (out.ended ≡ false) → IsTrueOf w s → Turned (met env s)

@@ -1,7 +1,6 @@
 pub mod FrontEnd
 pub mod FrontEndpoint
 pub mod FrontSpeaking
-pub mod Content
 pub mod Serving
 pub mod Reading
 pub mod ReadingBytes
@@ -14,11 +13,8 @@ pub mod ClientHearing
 pub mod Prefix
 pub mod Notes
 pub mod Segments
-pub mod Steps
 pub mod Later
 pub mod Turns
 pub mod Moments
-pub mod Moves
-pub mod Acting
-pub mod Events
+pub mod Holding
 pub mod Reached

@@ -1,10 +1,8 @@
--- What the records of a turn add to the tale of their connection, and that they are about no other.
-use Rattle.std.proofs.Common.{◌≡◌, ◌≢◌, ℕ, ◌+◌, List, [], ◌∷◌, ◌++◌, Bool, true, false, cond, ◌||◌, refl, sym, ap, ◌∙◌, append_assoc, append-nil, arith, nat_eq}
+-- What the records of a turn add to the tale of their connection.
+use Rattle.std.proofs.Common.{◌≡◌, ℕ, ◌+◌, List, [], ◌∷◌, ◌++◌, Bool, true, false, cond, ◌||◌, refl, sym, ap, ◌∙◌, append_assoc, append-nil, arith, nat_eq}
 use Rattle.std.proofs.lemmas.Bool.{eq-eqb}
-use Rattle.std.proofs.lemmas.Bool.Decides.{nat_tests}
 use Rattle.std.specs.List.{list_any}
-use Rattle.lard_history.specs.Journal.{Tale, about, tale_step, told_on}
-use Rattle.lard_history.proofs.Each.{Each}
+use Rattle.lard_history.specs.Journal.{Tale, tale_step, told_on}
 use Rattle.lard_journal.specs.declared.rec.Rec.{Rec}
 use Rattle.lard_journal.specs.declared.rec.Rec.TheVariants as rec
 use Rattle.lard_laws_bytes.specs.Keeping.{AreClientNotes, AreFrontNotes, accepted_in, resets, served_in, size_in, written_in}
@@ -65,9 +63,6 @@ adds-both t u v w1 a1 w2 a2 n1 n2 n s1 s2 s r1 r2 sum sizes x y = record {
 pub same-number : (d c : ℕ) → d ≡ c → nat_eq d c ≡ true
 same-number d c e = eq-eqb d c e
 
-pub other-number : (d c q : ℕ) → d ≡ c → q ≢ c → nat_eq d q ≡ false
-other-number d c q e n = grind (arith, nat_tests, e, n)
-
 -- ---- a client's notes
 
 pub client-notes : (c : ℕ) (t : Tale) (rs : List Rec) → AreClientNotes c rs → Adds t (written_in rs) (accepted_in rs) 0 0 false (told_on c t rs)
@@ -104,14 +99,6 @@ client-notes c t (rec.Aborted d ∷ rs) notes =
     (adds-none t (tale_step c t (rec.Aborted d)) refl refl refl refl refl refl refl) (client-notes c (tale_step c t (rec.Aborted d)) rs notes.1)
 client-notes c t (_ ∷ rs) notes = absurd notes.0
 
-pub client-others : (c q : ℕ) (rs : List Rec) → q ≢ c → AreClientNotes c rs → Each (λ r. about q r ≡ false) rs
-client-others c q [] n notes = tt
-client-others c q (rec.Wrote d bytes ∷ rs) n notes = (other-number d c q notes.0 n, client-others c q rs n notes.1)
-client-others c q (rec.Accepted d bytes ∷ rs) n notes = (other-number d c q notes.0 n, client-others c q rs n notes.1)
-client-others c q (rec.Eof d ∷ rs) n notes = (other-number d c q notes.0 n, client-others c q rs n notes.1)
-client-others c q (rec.Aborted d ∷ rs) n notes = (other-number d c q notes.0 n, client-others c q rs n notes.1)
-client-others c q (_ ∷ rs) n notes = absurd notes.0
-
 -- ---- the front end's notes
 
 pub front-notes : (c : ℕ) (t : Tale) (rs : List Rec) → AreFrontNotes c rs → Adds t [] [] (served_in rs) (size_in rs) (list_any resets rs) (told_on c t rs)
@@ -144,10 +131,3 @@ front-notes c t (rec.Reset place d total ∷ rs) notes =
     })
     (front-notes c (tale_step c t (rec.Reset place d total)) rs notes.1)
 front-notes c t (_ ∷ rs) notes = absurd notes.0
-
-pub front-others : (c q : ℕ) (rs : List Rec) → q ≢ c → AreFrontNotes c rs → Each (λ r. about q r ≡ false) rs
-front-others c q [] n notes = tt
-front-others c q (rec.Took place d epoch ∷ rs) n notes = (other-number d c q notes.0 n, front-others c q rs n notes.1)
-front-others c q (rec.Served place d r code size via ∷ rs) n notes = (other-number d c q notes.0 n, front-others c q rs n notes.1)
-front-others c q (rec.Reset place d total ∷ rs) n notes = (other-number d c q notes.0 n, front-others c q rs n notes.1)
-front-others c q (_ ∷ rs) n notes = absurd notes.0

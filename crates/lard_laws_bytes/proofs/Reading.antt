@@ -8,7 +8,7 @@ use Rattle.lard_answers.specs.Answers.{FilesAt, IsPrefix, answer, closes_any, ve
 use Rattle.lard_base.specs.declared.place.Place.TheVariants as place_
 use Rattle.lard_block.specs.declared.block.Found.{Found}
 use Rattle.lard_block.specs.declared.block.Found.TheVariants.{Block, More, TooLong}
-use Rattle.lard_block.specs.Blocks.{skipped, cut_of, Head, Cuts}
+use Rattle.lard_block.specs.Blocks.{cut_of, Head, Cuts}
 use Rattle.lard_block.proofs.Division.{cuts-block}
 use Rattle.lard_endpoint.specs.Control.{ControlBlock, queueing, finishing, consuming, discarding_on}
 use Rattle.lard_journal.specs.declared.rec.Rec.{Rec}

@@ -1,13 +1,12 @@
 -- Bytes that are read from the front: what is cut into pieces with some verdicts, and the next verdict.
-use Rattle.std.proofs.Common.{◌≡◌, min, nat_lt, Option, Some, None, ◌+◌, ◌-◌, ℕ, false, cond, List, [], ◌∷◌, ◌++◌, map, length, take, drop, arith, ap, ◌∙◌, sym, subst, append_assoc, length-drop}
+use Rattle.std.proofs.Common.{◌≡◌, min, ◌+◌, ◌-◌, ℕ, false, cond, List, [], ◌∷◌, ◌++◌, map, length, take, drop, arith, ap, ◌∙◌, sym, subst, append_assoc, length-drop}
 use Rattle.std.proofs.Math.Seq.{take-add, drop-append_seam}
 use Rattle.std.proofs.lemmas.List.{take_min, drop-take, length-take-le, map-append, take-append-drop, take-append-le}
 use Rattle.lard_answers.specs.Answers.{IsPrefix, piece_verdict, verdicts_on, until_close, verdicts, closes_any}
 use Rattle.lard_answers.proofs.Following.{verdicts_on-moved, until_close-behind}
 use Rattle.lard_answers.proofs.Growing.{until_close-cons, verdicts-are}
-use Rattle.lard_block.specs.declared.block.Found.{Found}
 use Rattle.lard_block.specs.declared.block.Found.TheVariants.{Block, More, TooLong}
-use Rattle.lard_block.specs.Blocks.{skipped, cut_of, Piece, Head, moved, blocks, Cuts}
+use Rattle.lard_block.specs.Blocks.{cut_of, Piece, Head, moved, blocks, Cuts}
 use Rattle.lard_block.proofs.Cutting.{more-skips}
 use Rattle.lard_block.proofs.Division.{grows, long-last, cuts-block}
 use Rattle.lard_block.proofs.Skips.{cuts-pairs}

@@ -7,15 +7,15 @@ use Rattle.lard_answers.specs.Answers.{FilesAt, IsPrefix, answer, answer_code, v
 use Rattle.lard_answers.proofs.Growing.{answers-are}
 use Rattle.lard_base.specs.declared.place.Place.{Place}
 use Rattle.lard_base.specs.declared.place.Via.TheVariants.{Own}
-use Rattle.lard_history.specs.Journal.{next_answer, next_verdict, served, served_bytes, tale, told_on, wrote}
-use Rattle.lard_history.specs.Laws.{EachMay, MayServe}
-use Rattle.lard_history.proofs.Each.{each_append}
-use Rattle.lard_history.proofs.Tales.{served-tale, served_bytes-tale, tale-append, wrote-tale}
+use Rattle.lard_history.specs.Journal.{Tale, next_answer, next_verdict, served, served_bytes, tale, told_on, wrote}
+use Rattle.lard_history.specs.Laws.{MayServe}
+use Rattle.lard_history.proofs.Tales.{served-tale, served_bytes-tale, wrote-tale}
 use Rattle.lard_journal.specs.declared.rec.Rec.{Rec}
 use Rattle.lard_journal.specs.declared.rec.Rec.TheVariants as rec
 use Rattle.lard_request.specs.declared.verdict.Verdict.{Verdict}
 use Rattle.lard_truth.specs.Truth.{Stream}
-use Rattle.lard_laws_bytes.specs.Keeping.{AreClientNotes, AreFrontNotes, AreNoted, TellsOf, is_front_note, resets, served_in, size_in}
+use Rattle.lard_view.proofs.Rows.{TellsBy-append}
+use Rattle.lard_laws_bytes.specs.Keeping.{AreFrontNotes, AreNoted, ServesAfter, TellsOf, is_front_note, resets, served_in, size_in}
 use Rattle.lard_laws_bytes.proofs.Notes.{Adds, front-notes}
 
 -- ---- the next answer
@@ -38,7 +38,7 @@ module _ (files : FilesAt) (c : ℕ) (w said : List ℕ) (vs : List Verdict) (pa
       ∙ slice_get-map (answer files) (verdicts (wrote past c)) (served past c) ∙ ap (option_map (answer files)) verdict-is
 
   pub served-may : (place : Place) (r : ℕ) → r ≡ length vs + 1 → MayServe files past (rec.Served place c r (answer_code files v) (length (answer files v)) Own)
-  served-may place r e = (
+  served-may place r e u = (
     e ∙ ap (λ (n : ℕ). n + 1) (sym (served-tale past c ∙ t.served)),
     ap (option_map (answer_code files)) verdict-is,
     ap (option_map length) answer-is,
@@ -46,7 +46,7 @@ module _ (files : FilesAt) (c : ℕ) (w said : List ℕ) (vs : List Verdict) (pa
   )
 
   pub reset-may : (place : Place) (total : ℕ) → total ≡ length said + length (answer files v) → MayServe files past (rec.Reset place c total)
-  reset-may place total e =
+  reset-may place total e u =
       ap (option_map (λ (bytes : List ℕ). served_bytes past c + length bytes)) answer-is
       ∙ ap (λ (n : ℕ). Some (n + length (answer files v))) (served_bytes-tale past c ∙ t.served_bytes) ∙ ap Some (sym e)
 
@@ -71,19 +71,18 @@ module _ (files : FilesAt) (c : ℕ) (w out : Stream) (vs : List Verdict) where
   Noted us said notes = AreNoted files c w out vs us said notes
 
   pub noted-nothing : Noted vs out.bytes []
-  noted-nothing = record { front = tt; served = omega arith; size = omega arith; unless_ended = inr refl; serve = λ past t. tt }
+  noted-nothing = record { front = tt; served = omega arith; size = omega arith; unless_ended = inr refl; serve = λ t told. tt }
 
   module _ (us : List Verdict) (said : List ℕ) (notes : List Rec) (h : Noted us said notes) where
     -- what is told behind them
-    tells-on : (past : List Rec) → TellsOf w.bytes out.bytes vs (tale past c) → TellsOf w.bytes said us (tale (past ++ notes) c)
-    tells-on past t =
-        let adds : Adds (tale past c) [] [] (served_in notes) (size_in notes) (list_any resets notes) (told_on c (tale past c) notes) = front-notes c (tale past c) notes h.front in
-        subst (TellsOf w.bytes said us) (sym (tale-append past notes c))
-        (record {
-          wrote = adds.wrote ∙ append-nil (tale past c).wrote ∙ t.wrote;
-          served = adds.served ∙ ap (λ (n : ℕ). n + served_in notes) t.served ∙ sym h.served;
-          served_bytes = adds.served_bytes ∙ ap (λ (n : ℕ). n + size_in notes) t.served_bytes ∙ sym h.size;
-        })
+    tells-on : (t : Tale) → TellsOf w.bytes out.bytes vs t → TellsOf w.bytes said us (told_on c t notes)
+    tells-on t told =
+        let adds : Adds t [] [] (served_in notes) (size_in notes) (list_any resets notes) (told_on c t notes) = front-notes c t notes h.front in
+        record {
+          wrote = adds.wrote ∙ append-nil t.wrote ∙ told.wrote;
+          served = adds.served ∙ ap (λ (n : ℕ). n + served_in notes) told.served ∙ sym h.served;
+          served_bytes = adds.served_bytes ∙ ap (λ (n : ℕ). n + size_in notes) told.served_bytes ∙ sym h.size;
+        }
 
     noted-more : (us_next : List Verdict) (said_next : List ℕ) (r : Rec) → is_front_note c r → length us_next ≡ length us + served_in (r ∷ [])
         → length said_next ≡ length said + size_in (r ∷ []) → (out.ended ≡ false) ⊎ (served_in (r ∷ []) ≡ 0)
@@ -98,7 +97,8 @@ module _ (files : FilesAt) (c : ℕ) (w out : Stream) (vs : List Verdict) where
           served = omega (arith, a, count, served);
           size = omega (arith, b, size, sizes);
           unless_ended = ⊎_elim (λ e. inl e) (λ e. ⊎_elim (λ f. inl f) (λ f. inr (omega (arith, a, e, f))) unless) h.unless_ended;
-          serve = λ past t. each_append (MayServe files) past notes (r ∷ []) (h.serve past t) (may (past ++ notes) (tells-on past t), tt);
+          serve = λ t told. TellsBy-append (ServesAfter files c) c t notes (r ∷ []) (h.serve t told)
+              ((λ J e. may J (subst (TellsOf w.bytes said us) (sym e) (tells-on t told))), tt);
         }
 
     -- a response to the next verdict is queued
@@ -117,13 +117,3 @@ module _ (files : FilesAt) (c : ℕ) (w out : Stream) (vs : List Verdict) where
     noted-reset place total v next e =
         noted-more us said (rec.Reset place c total) refl (omega arith) (omega arith) (inr refl)
         (λ past t. reset-may files c w.bytes said us past t v next place total e)
-
--- ---- a client's notes say nothing of responses
-
-pub client-serves : (files : FilesAt) (c : ℕ) (past rs : List Rec) → AreClientNotes c rs → EachMay (MayServe files) past rs
-client-serves files c past [] notes = tt
-client-serves files c past (rec.Wrote d bytes ∷ rs) notes = (tt, client-serves files c (past ++ rec.Wrote d bytes ∷ []) rs notes.1)
-client-serves files c past (rec.Accepted d bytes ∷ rs) notes = (tt, client-serves files c (past ++ rec.Accepted d bytes ∷ []) rs notes.1)
-client-serves files c past (rec.Eof d ∷ rs) notes = (tt, client-serves files c (past ++ rec.Eof d ∷ []) rs notes.1)
-client-serves files c past (rec.Aborted d ∷ rs) notes = (tt, client-serves files c (past ++ rec.Aborted d ∷ []) rs notes.1)
-client-serves files c past (_ ∷ rs) notes = absurd notes.0

@@ -6,7 +6,7 @@ use Rattle.lard_answers.specs.Answers.{answer}
 use Rattle.lard_answers.proofs.Growing.{blocks-nothing}
 use Rattle.lard_block.specs.declared.block.Found.{Found}
 use Rattle.lard_block.specs.declared.block.Found.TheVariants.{Block, More, TooLong}
-use Rattle.lard_block.specs.Blocks.{skipped, cut_of, moved, blocks, Cuts, IsWithin}
+use Rattle.lard_block.specs.Blocks.{cut_of, moved, blocks, IsWithin}
 use Rattle.lard_block.proofs.Cutting.{cut-within}
 use Rattle.lard_block.proofs.Division.{none-yet}
 use Rattle.lard_endpoint.specs.Arriving.{on_segment}

@@ -6,9 +6,8 @@ use Rattle.lard_answers.specs.Answers.{FilesAt, IsPrefix, verdicts, verdicts_on}
 use Rattle.lard_block.specs.Blocks.{blocks}
 use Rattle.lard_client.specs.Control.{ClientBlock}
 use Rattle.lard_endpoint.specs.Control.{ControlBlock}
-use Rattle.lard_history.specs.Journal.{Tale, fin_sent, tale}
-use Rattle.lard_history.specs.Laws.{EachMay, MayTell}
-use Rattle.lard_history.proofs.Tales.{fin-tale, tale-append}
+use Rattle.lard_history.specs.Journal.{Tale, fin_sent, tale, tale_step}
+use Rattle.lard_history.proofs.Tales.{fin-tale}
 use Rattle.lard_journal.specs.declared.rec.Rec.{Rec}
 use Rattle.lard_journal.specs.declared.rec.Rec.TheVariants as rec
 use Rattle.lard_machine.specs.declared.places.FrontConn.{FrontConn}
@@ -20,8 +19,10 @@ use Rattle.lard_endpoint.specs.declared.control.moving.Final.{Final}
 use Rattle.lard_seq.specs.Seq.{seq_add}
 use Rattle.lard_truth.specs.Truth.{GoesOn, Stream}
 use Rattle.lard_truth.proofs.Growth.{accepted-grown, front-length, front-take, heard-grown}
+use Rattle.lard_view.specs.Carry.{TellsBy}
 use Rattle.lard_laws_bytes.specs.Agreement.{Agrees, EndedAs, FrontAgrees, HasRead, HoldsIt}
-use Rattle.lard_laws_bytes.specs.Keeping.{AreClientNotes, AreFrontNotes, ClientTurned, FrontTurned, accepted_in, resets, served_in, size_in, written_in}
+use Rattle.lard_laws_bytes.specs.Keeping.{AreFrontNotes, ClientTurned, FrontTurned, ServesAfter, accepted_in, resets, served_in, size_in, written_in}
+use Rattle.lard_laws_bytes.specs.Truthful.{IsTrueAfter}
 use Rattle.lard_laws_bytes.proofs.Notes.{Adds, or-false}
 use Rattle.lard_laws_bytes.proofs.Segments.{Moment}
 
@@ -135,33 +136,25 @@ module _ (files : FilesAt) (c : ℕ) (w out : Stream) (vs : List Verdict) (x : S
     };
   }
 
--- ---- the notes may stand where they do
-
-pub client-may : (files : FilesAt) (c : ℕ) (past rs : List Rec) → AreClientNotes c rs → EachMay (MayTell files) past rs
-client-may files c past [] notes = tt
-client-may files c past (rec.Wrote d bytes ∷ rs) notes = (tt, client-may files c (past ++ rec.Wrote d bytes ∷ []) rs notes.1)
-client-may files c past (rec.Accepted d bytes ∷ rs) notes = (tt, client-may files c (past ++ rec.Accepted d bytes ∷ []) rs notes.1)
-client-may files c past (rec.Eof d ∷ rs) notes = (tt, client-may files c (past ++ rec.Eof d ∷ []) rs notes.1)
-client-may files c past (rec.Aborted d ∷ rs) notes = (tt, client-may files c (past ++ rec.Aborted d ∷ []) rs notes.1)
-client-may files c past (_ ∷ rs) notes = absurd notes.0
+-- ---- the front end's notes are true
 
 -- a response is queued only before the FIN
-not-ended : (past : List Rec) (c d : ℕ) (out : Stream) → d ≡ c → out.ended ≡ false → ((tale past c).fin_sent ≡ true → out.ended ≡ true) → fin_sent past d ≡ false
-not-ended past c d out e open_ fin = subst (λ (n : ℕ). fin_sent past n ≡ false) (sym e) (fin-tale past c ∙ go (tale past c).fin_sent fin) where
+not-ended : (J : List Rec) (c : ℕ) (t : Tale) (out : Stream) → tale J c ≡ t → out.ended ≡ false → (t.fin_sent ≡ true → out.ended ≡ true) → fin_sent J c ≡ false
+not-ended J c t out e open_ fin = fin-tale J c ∙ ap (λ (u : Tale). u.fin_sent) e ∙ go t.fin_sent fin where
   go : (b : Bool) → (b ≡ true → out.ended ≡ true) → b ≡ false
   go true h = absurd (both_ways out.ended open_ (h refl))
   go false h = refl
 
-pub front-may : (files : FilesAt) (c : ℕ) (out : Stream) (past rs : List Rec) → AreFrontNotes c rs → (out.ended ≡ false) ⊎ (served_in rs ≡ 0)
-    → ((tale past c).fin_sent ≡ true → out.ended ≡ true) → EachMay (MayTell files) past rs
-front-may files c out past [] notes unless fin = tt
-front-may files c out past (rec.Took place d epoch ∷ rs) notes unless fin =
-    (tt, front-may files c out (past ++ rec.Took place d epoch ∷ []) rs notes.1 unless (λ e. fin (sym (ap (λ u. u.fin_sent) (tale-append past (rec.Took place d epoch ∷ []) c)) ∙ e)))
-front-may files c out past (rec.Served place d r code size via ∷ rs) notes (inl open_) fin = (
-  not-ended past c d out notes.0 open_ fin,
-  front-may files c out (past ++ rec.Served place d r code size via ∷ []) rs notes.1 (inl open_) (λ e. fin (sym (ap (λ u. u.fin_sent) (tale-append past (rec.Served place d r code size via ∷ []) c)) ∙ e)),
+pub front-true : (files : FilesAt) (c : ℕ) (out : Stream) (t : Tale) (rs : List Rec) → AreFrontNotes c rs → (out.ended ≡ false) ⊎ (served_in rs ≡ 0)
+    → (t.fin_sent ≡ true → out.ended ≡ true) → TellsBy (ServesAfter files c) c t rs → TellsBy (IsTrueAfter files c) c t rs
+front-true files c out t [] notes unless fin serve = tt
+front-true files c out t (rec.Took place d epoch ∷ rs) notes unless fin serve =
+    ((λ J e. (tt, tt, tt)), front-true files c out (tale_step c t (rec.Took place d epoch)) rs notes.1 unless fin serve.1)
+front-true files c out t (rec.Served place d r code size via ∷ rs) notes (inl open_) fin serve = (
+  (λ J e. ((λ u. subst (λ (n : ℕ). fin_sent J n ≡ false) (sym notes.0) (not-ended J c t out e open_ fin)), serve.0 J e, tt)),
+  front-true files c out (tale_step c t (rec.Served place d r code size via)) rs notes.1 (inl open_) fin serve.1,
 )
-front-may files c out past (rec.Served place d r code size via ∷ rs) notes (inr none) fin = absurd (omega (arith, none))
-front-may files c out past (rec.Reset place d total ∷ rs) notes unless fin =
-    (tt, front-may files c out (past ++ rec.Reset place d total ∷ []) rs notes.1 unless (λ e. fin (sym (ap (λ u. u.fin_sent) (tale-append past (rec.Reset place d total ∷ []) c)) ∙ e)))
-front-may files c out past (_ ∷ rs) notes unless fin = absurd notes.0
+front-true files c out t (rec.Served place d r code size via ∷ rs) notes (inr none) fin serve = absurd (omega (arith, none))
+front-true files c out t (rec.Reset place d total ∷ rs) notes unless fin serve =
+    ((λ J e. (tt, serve.0 J e, tt)), front-true files c out (tale_step c t (rec.Reset place d total)) rs notes.1 unless fin serve.1)
+front-true files c out t (_ ∷ rs) notes unless fin serve = absurd notes.0

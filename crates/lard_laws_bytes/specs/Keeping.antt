@@ -5,7 +5,7 @@ use Rattle.lard_answers.specs.Answers.{FilesAt}
 use Rattle.lard_base.specs.declared.limits.TheConstants.{MAX_SEGMENT_DATA, MAX_STREAM_BYTES}
 use Rattle.lard_client.specs.Control.{ClientBlock, written_len}
 use Rattle.lard_history.specs.Journal.{Tale, tale}
-use Rattle.lard_history.specs.Laws.{EachMay, MayServe}
+use Rattle.lard_history.specs.Laws.{MayServe}
 use Rattle.lard_journal.specs.declared.rec.Rec.{Rec}
 use Rattle.lard_journal.specs.declared.rec.Rec.TheVariants as rec
 use Rattle.lard_machine.specs.declared.places.FrontConn.{FrontConn}
@@ -15,6 +15,7 @@ use Rattle.lard_machine.specs.Front.{FrontEnv, front_gets, front_timer}
 use Rattle.lard_request.specs.declared.verdict.Verdict.{Verdict}
 use Rattle.lard_segment.specs.Segment.{Said}
 use Rattle.lard_truth.specs.Truth.{Stream, IsStream, GoesOn, IsTrueOf}
+use Rattle.lard_view.specs.Carry.{TellsBy}
 use Rattle.lard_laws_bytes.specs.Agreement.{AreReplies, AreWords, ClientAgrees, FrontAgrees, SaysAnswers}
 
 -- ---- the front end's turn
@@ -53,15 +54,18 @@ pub record TellsOf (w said : List ℕ) (vs : List Verdict) (t : Tale) : Type 0 w
   pub served : t.served ≡ length vs
   pub served_bytes : t.served_bytes ≡ length said
 
+-- A record answers as it should where this is told of connection c: it may stand in each journal that tells this.
+abbrev pub ServesAfter : FilesAt → ℕ → Tale → Rec → Type 0
+ServesAfter files c t r = (J : List Rec) → tale J c ≡ t → MayServe files J r
+
 -- The notes of a turn that answered on from vs to vs_after, and said on to the bytes said_after: they count the
--- responses and their bytes, queue none once the stream ended, and may stand behind any journal that tells what was
--- said before the turn.
+-- responses and their bytes, queue none once the stream ended, and may stand where what was said before the turn is told.
 pub record AreNoted (files : FilesAt) (c : ℕ) (w out : Stream) (vs vs_after : List Verdict) (said_after : List ℕ) (notes : List Rec) : Type 0 where
   pub front : AreFrontNotes c notes
   pub served : length vs_after ≡ length vs + served_in notes
   pub size : length said_after ≡ length out.bytes + size_in notes
   pub unless_ended : (out.ended ≡ false) ⊎ (served_in notes ≡ 0)
-  pub serve : (past : List Rec) → TellsOf w.bytes out.bytes vs (tale past c) → EachMay (MayServe files) past notes
+  pub serve : (t : Tale) → TellsOf w.bytes out.bytes vs t → TellsBy (ServesAfter files c) c t notes
 
 -- Between the front end's states before and after a turn: the cluster's stream goes on by the answers to more verdicts,
 -- as its notes say, and all that was sent is true of it.

@@ -33,9 +33,9 @@ pub fn the_agreement_gives_the_prefix()
     ensures said { SaidAreAnswers }
 {}
 
-/// In every run, whatever is lost, repeated or comes out of order, all that was ever sent is true, and what a client
-/// accepts is at every moment a prefix of the responses to what it wrote. Each response answers the next request, and a
-/// reset stands where the next response would be.
+/// In every run, whatever is lost, repeated or comes out of order, all that was ever sent on a connection that the schedule
+/// did not touch is true, and what its client accepts is at every moment a prefix of the responses to what it wrote. Each
+/// response answers the next request, and a reset stands where the next response would be.
 pub fn every_run_is_true()
     ensures states { StatesAreTruthful }
     ensures told { JournalsTellTheTruth }

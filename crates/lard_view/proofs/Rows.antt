@@ -1,16 +1,16 @@
 -- What a move tells of its connection, list by list, for laws that say nothing of some of them.
-use Rattle.std.proofs.Common.{◌≡◌, ℕ, List, [], ◌∷◌, ◌++◌, map, Bool, true, false, ◌&&◌, ◌||◌, refl, sym, ap, ◌∙◌, subst, append_assoc}
-use Rattle.std.proofs.lemmas.List.{map-append}
+use Rattle.std.proofs.Common.{◌≡◌, ℕ, List, [], ◌∷◌, ◌++◌, map, Bool, true, false, ◌||◌, refl, sym, ap, ◌∙◌, subst}
 use Rattle.std.proofs.lemmas.List.Sums.{fold-append}
 use Rattle.std.specs.List.{fold}
 use Rattle.lard_base.specs.declared.place.Place.{Place}
 use Rattle.lard_base.specs.declared.place.Place.TheVariants.{Client}
 use Rattle.lard_history.specs.Journal.{Tale, tale_step, told_on, untold}
-use Rattle.lard_history.specs.Own.{EachRow, Seen, Row, Came, seen_step, tale_of}
+use Rattle.lard_history.specs.Own.{EachRow, Seen, Row, seen_step, tale_of}
 use Rattle.lard_history.proofs.Lifting.{each_row-append}
 use Rattle.lard_history.proofs.Tales.{told_on-append}
 use Rattle.lard_journal.specs.declared.rec.Rec.{Rec}
 use Rattle.lard_machine.specs.Machine.{timer_change}
+pub use Rattle.lard_view.specs.Carry.{TellsBy}
 use Rattle.lard_view.specs.Carry.{tale_at}
 use Rattle.lard_view.specs.View.{Conn, Move, Part, armed_at, grown, rows_of, seen_in, sending, timer_rows}
 
@@ -62,11 +62,6 @@ client-sends-tale c d (s ∷ ss) t = client-sends-tale c d ss (tale_step c t (se
 
 -- ---- laws of a record by the tale of its connection
 
--- each record may stand where this is told of the connection
-abbrev pub TellsBy : (Tale → Rec → Type 0) → ℕ → Tale → List Rec → Type 0
-TellsBy may c t [] = Unit {0}
-TellsBy may c t (r ∷ rs) = may t r × TellsBy may c (tale_step c t r) rs
-
 module _ (may : Tale → Rec → Type 0) (c : ℕ) where
   pub TellsBy-append : (t : Tale) (xs ys : List Rec) → TellsBy may c t xs → TellsBy may c (told_on c t xs) ys → TellsBy may c t (xs ++ ys)
   TellsBy-append t [] ys e f = f
@@ -87,18 +82,22 @@ module _ (may : Tale → Rec → Type 0) (c : ℕ) where
   unfolding timer_rows
   timers-tell any place d p p' t = any t place d (armed_at place p) (armed_at place p')
 
--- all that is seen may stand, once the heads, the notes and the segments may
-pub grown-lawful : (may : Tale → Rec → Type 0) (x : Conn) (v : Move) → ((t : Tale) (place : Place) (d : ℕ) (a b : Bool) → TellsBy may x.c t (timer_change place d a b))
-    → EachRow (MayBeSeen may x.c) [] x.seen → EachRow (MayBeSeen may x.c) x.seen v.heads → TellsBy may x.c (tale_before x v) v.turn.notes
-    → TellsBy may x.c (told_on x.c (tale_before x v) v.turn.notes) (map (sending v.place) v.turn.segments) → EachRow (MayBeSeen may x.c) [] (grown x v).seen
-grown-lawful may x v timers past heads notes segments =
-    let mine : List Seen → Rec → Type 0 = MayBeSeen may x.c in
+-- all that is seen of a move may stand, once the heads, the notes and the segments may
+pub move-lawful : (may : Tale → Rec → Type 0) (x : Conn) (v : Move) → ((t : Tale) (place : Place) (d : ℕ) (a b : Bool) → TellsBy may x.c t (timer_change place d a b))
+    → EachRow (MayBeSeen may x.c) x.seen v.heads → TellsBy may x.c (tale_before x v) v.turn.notes
+    → TellsBy may x.c (told_on x.c (tale_before x v) v.turn.notes) (map (sending v.place) v.turn.segments) → EachRow (MayBeSeen may x.c) x.seen (seen_in x v)
+move-lawful may x v timers heads notes segments =
     let now : tale_of x.c (x.seen ++ v.heads) ≡ tale_before x v = fold-append (seen_step (tale_step x.c)) untold x.seen v.heads in
     let spoken : List Rec = v.turn.notes ++ map (sending v.place) v.turn.segments in
     let told : TellsBy may x.c (tale_before x v) (rows_of x v) =
     TellsBy-append may x.c (tale_before x v) spoken (timer_rows v.place x.c x.part v.part)
     (TellsBy-append may x.c (tale_before x v) v.turn.notes (map (sending v.place) v.turn.segments) notes segments)
     (timers-tell may x.c timers v.place x.c x.part v.part (told_on x.c (tale_before x v) spoken)) in
-    each_row-append mine [] x.seen (seen_in x v) past
-    (each_row-append mine x.seen v.heads (map Row (rows_of x v)) heads
-    (each_row-told may x.c (x.seen ++ v.heads) (rows_of x v) (subst (λ (t : Tale). TellsBy may x.c t (rows_of x v)) (sym now) told)))
+    each_row-append (MayBeSeen may x.c) x.seen v.heads (map Row (rows_of x v)) heads
+    (each_row-told may x.c (x.seen ++ v.heads) (rows_of x v) (subst (λ (t : Tale). TellsBy may x.c t (rows_of x v)) (sym now) told))
+
+-- and so may all that was seen before, with it
+pub grown-lawful : (may : Tale → Rec → Type 0) (x : Conn) (v : Move) → ((t : Tale) (place : Place) (d : ℕ) (a b : Bool) → TellsBy may x.c t (timer_change place d a b))
+    → EachRow (MayBeSeen may x.c) [] x.seen → EachRow (MayBeSeen may x.c) x.seen v.heads → TellsBy may x.c (tale_before x v) v.turn.notes
+    → TellsBy may x.c (told_on x.c (tale_before x v) v.turn.notes) (map (sending v.place) v.turn.segments) → EachRow (MayBeSeen may x.c) [] (grown x v).seen
+grown-lawful may x v timers past heads notes segments = each_row-append (MayBeSeen may x.c) [] x.seen (seen_in x v) past (move-lawful may x v timers heads notes segments)

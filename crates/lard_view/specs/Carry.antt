@@ -1,5 +1,5 @@
 -- What a law of one connection owes, to be a law of every run.
-use Rattle.std.specs.Prelude.{◌≡◌, ℕ, nat_lt, false, List, [], Some, None}
+use Rattle.std.specs.Prelude.{◌≡◌, ℕ, nat_lt, false, List, [], ◌∷◌, Some, None}
 use Rattle.lard_base.specs.declared.config.Config.{Config}
 use Rattle.lard_base.specs.declared.event.Event.{Event}
 use Rattle.lard_base.specs.declared.event.Event.TheVariants as event
@@ -7,7 +7,7 @@ use Rattle.lard_base.specs.declared.place.Place.{Place}
 use Rattle.lard_base.specs.declared.place.Place.TheVariants.{Front, Client}
 use Rattle.lard_client.specs.Control.{written_len}
 use Rattle.lard_files.specs.Files.{file_at}
-use Rattle.lard_history.specs.Journal.{Tale, request}
+use Rattle.lard_history.specs.Journal.{Tale, request, tale_step}
 use Rattle.lard_history.specs.Own.{EachRow, Seen, tale_of}
 use Rattle.lard_journal.specs.declared.rec.Rec.{Rec}
 use Rattle.lard_journal.specs.declared.rec.Rec.TheVariants as rec
@@ -76,6 +76,11 @@ Untouched Inv x = (tale_at x).touched ≡ false → Inv x
 -- a record may stand where it does, as long as the schedule did not touch the connection
 abbrev pub WhileUntouched : (ℕ → List Seen → Rec → Type 0) → ℕ → List Seen → Rec → Type 0
 WhileUntouched mine c past r = (tale_of c past).touched ≡ false → mine c past r
+
+-- each record may stand where this is told of the connection
+abbrev pub TellsBy : (Tale → Rec → Type 0) → ℕ → Tale → List Rec → Type 0
+TellsBy may c t [] = Unit {0}
+TellsBy may c t (r ∷ rs) = may t r × TellsBy may c (tale_step c t r) rs
 
 -- The same with a law of its records: each rule keeps what holds, and all that is seen of its step may stand.
 pub record IsGuardedLaw (k : Setting) (Given Inv : Conn → Type 0) (mine : ℕ → List Seen → Rec → Type 0) : Type 0 where
