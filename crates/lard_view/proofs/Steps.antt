@@ -83,7 +83,7 @@ module _ (m : Machine) (P : Conn → Move → Type 0) (R : Rules (setting_of m) 
       got-heads : Heads c (event.Deliver k) (rec.Got k ∷ []) (packet_seen from to p.bytes)
       got-heads = record { seen = got-seen ∙ ap (λ l. Came l ∷ []) letter-is; others = got-others }
 
-      was : Was (conn m c) from to p.bytes
+      pub was : Was (conn m c) from to p.bytes
       unfolding conn
       was = subst (λ (l : Letter). Has l (letters c m.net)) letter-is (has-letter c k m.net p at of)
 
@@ -161,7 +161,7 @@ module _ (m : Machine) (P : Conn → Move → Type 0) (R : Rules (setting_of m) 
   at-part c x is = is
 
   -- a packet for a client comes from the front end
-  from-front : (k c : ℕ) (p : Packet) → packet_at m.net k ≡ Some p → p.to ≡ Client c → p.from ≡ Front
+  pub from-front : (k c : ℕ) (p : Packet) → packet_at m.net k ≡ Some p → p.to ≡ Client c → p.from ≡ Front
   unfolding conn
   from-front k c p at to = go p.from refl where
     between : (d : ℕ) → conn_of p.from p.to p.bytes ≡ Some d → GoesBetween d p.from p.to
