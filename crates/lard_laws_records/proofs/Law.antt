@@ -133,7 +133,7 @@ module _ (k : Setting) (small : k.stream ≤ 2 ^ 30) (are : AreFiles k.files) wh
     ignores = λ x from to bytes was sound h g. record {
       station = h.station;
       front = h.front;
-      place = (has-each (record { from = from; to = to; bytes = bytes }) IsLetter x.letters was h.letters).0;
+      place = (has-each (record { from = from; to = to; bytes = bytes }) IsLetter x.letters was.0 h.letters).0;
       turn = silent-fits;
       timers = no-rows to x.c x.part;
     };
