@@ -28,11 +28,11 @@ use Rattle.lard_laws_bytes.proofs.Steps.{step-may, step_records}
 use Rattle.lard_laws_places.specs.Places.{FrontStands, IsNetOf, front_tale, net_of, net_step}
 use Rattle.lard_laws_places.proofs.FrontRules as front
 use Rattle.lard_machine.specs.declared.machine.Machine.{Machine}
-use Rattle.lard_machine.specs.declared.places.FrontConn.{FrontConn}
-use Rattle.lard_machine.specs.declared.places.Station.{Station}
-use Rattle.lard_machine.specs.declared.places.Turn.{Turn}
-use Rattle.lard_machine.specs.Client.{accepted_note, client_aborts, client_gets, client_holds, client_opens, client_shuts, client_takes, client_timer, client_writes, eof_note, silent, speaking}
-use Rattle.lard_machine.specs.Front.{front_gets, front_timer}
+use Rattle.lard_rules.specs.declared.places.FrontConn.{FrontConn}
+use Rattle.lard_rules.specs.declared.places.Station.{Station}
+use Rattle.lard_rules.specs.declared.places.Turn.{Turn}
+use Rattle.lard_rules.specs.Client.{accepted_note, client_aborts, client_gets, client_holds, client_opens, client_shuts, client_takes, client_timer, client_writes, eof_note, silent, speaking}
+use Rattle.lard_rules.specs.Front.{front_gets, front_timer}
 use Rattle.lard_machine.specs.Machine.{acted, client_acted, client_goes_on, env_of, front_acted, front_armed, sent_records, timer_change}
 use Rattle.lard_machine.proofs.Forms.{Forms}
 use Rattle.lard_net.specs.Net.{Packet, packet_at}

@@ -26,12 +26,12 @@ use Rattle.lard_laws_places.specs.Places.{FrontStands, FrontTale, IsFronts, IsSe
 use Rattle.lard_view.proofs.Endpoints.{AllTo, ready-to, segment-many, speaks-to, speaks_symbols-to, timer-many}
 use Rattle.lard_laws_places.proofs.Telling.{MayStand, Tells}
 use Rattle.lard_view.proofs.Rows.{TellsBy-append}
-use Rattle.lard_machine.specs.declared.places.FrontConn.{FrontConn}
-use Rattle.lard_machine.specs.declared.places.FrontConn.TheVariants.{Held, Lent, Closed}
-use Rattle.lard_machine.specs.declared.places.Turn.{Turn}
-use Rattle.lard_machine.specs.Client.{silent}
-use Rattle.lard_machine.specs.Front.{FrontEnv, Service, answered, begun, closed_behind, consumed, cut_off, front_gets, front_hears, front_timer, is_plain_syn, last_words, limit_said, may_read, met, passed_over, queued, read_found, reads_on, ready_of, replied, rested, settled, spoken, told, tombstone}
-use Rattle.lard_machine.specs.Speaking.{speaks, speaks_symbols}
+use Rattle.lard_rules.specs.declared.places.FrontConn.{FrontConn}
+use Rattle.lard_rules.specs.declared.places.FrontConn.TheVariants.{Held, Lent, Closed}
+use Rattle.lard_rules.specs.declared.places.Turn.{Turn}
+use Rattle.lard_rules.specs.Client.{silent}
+use Rattle.lard_rules.specs.Front.{FrontEnv, Service, answered, begun, closed_behind, consumed, cut_off, front_gets, front_hears, front_timer, is_plain_syn, last_words, limit_said, may_read, met, passed_over, queued, read_found, reads_on, ready_of, replied, rested, settled, spoken, told, tombstone}
+use Rattle.lard_rules.specs.Speaking.{speaks, speaks_symbols}
 use Rattle.lard_request.specs.declared.verdict.Code.{Code}
 use Rattle.lard_request.specs.declared.verdict.Code.TheVariants as code
 use Rattle.lard_request.specs.declared.verdict.Verdict.{Verdict}

@@ -27,7 +27,7 @@ use Rattle.lard_laws_quiet.proofs.EachRule.{acks-law}
 use Rattle.lard_laws_quiet.proofs.Holding.{AcksWhatWasTaken, ConnTells}
 use Rattle.lard_laws_quiet.proofs.Story.{aborted-story, client-story, ended-story, front-story, reset-at, reset-story, shut-story, story_at}
 use Rattle.lard_machine.specs.declared.machine.Machine.{Machine}
-use Rattle.lard_machine.specs.declared.places.Station.{Station}
+use Rattle.lard_rules.specs.declared.places.Station.{Station}
 use Rattle.lard_machine.specs.Bounds.{HasRule}
 use Rattle.lard_machine.specs.Machine.{IsReached, machine_step}
 use Rattle.lard_view.specs.Carry.{OfEach, Untouched, setting, tale_at}

@@ -14,10 +14,10 @@ use Rattle.lard_laws_bytes.proofs.Holding.{IsOpen}
 use Rattle.lard_laws_quiet.proofs.Acked.{ClientActed, ClientBegins, ClientHolds, FrontActed, FrontHolds, RepliesMay, WordsMay, ends_in, heard_of, taken_by}
 use Rattle.lard_laws_quiet.proofs.Holding.{AcksWhatWasTaken, Bounds, ConnHolds, ConnTells, Grows, LetterMay, acks-more, bounds_at, bounds_of, grown-holds, letters-more, replies-letters, words-letters}
 use Rattle.lard_laws_quiet.proofs.Story.{Story, Tells, client-grown, client-tells, ends-told, front-grown, front-tells, or-either, story_at, story_on, story_seen, unheard}
-use Rattle.lard_machine.specs.declared.places.FrontConn.{FrontConn}
-use Rattle.lard_machine.specs.declared.places.FrontConn.TheVariants.{Held, Lent, Closed}
-use Rattle.lard_machine.specs.declared.places.Station.{Station}
-use Rattle.lard_machine.specs.declared.places.Turn.{Turn}
+use Rattle.lard_rules.specs.declared.places.FrontConn.{FrontConn}
+use Rattle.lard_rules.specs.declared.places.FrontConn.TheVariants.{Held, Lent, Closed}
+use Rattle.lard_rules.specs.declared.places.Station.{Station}
+use Rattle.lard_rules.specs.declared.places.Turn.{Turn}
 use Rattle.lard_machine.specs.Machine.{front_armed}
 use Rattle.lard_truth.specs.Truth.{Stream}
 use Rattle.lard_view.specs.Carry.{tale_at}

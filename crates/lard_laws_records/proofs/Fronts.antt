@@ -15,13 +15,13 @@ use Rattle.lard_endpoint.specs.Moving.{end_reason, final_of, may_end}
 use Rattle.lard_history.proofs.Each.{Each, Each-append}
 use Rattle.lard_journal.specs.declared.rec.Rec.TheVariants as rec
 use Rattle.lard_journal.specs.Range.{IsInRange, IsNumber}
-use Rattle.lard_machine.proofs.Loops.{KeptByReading, KeptBySpeaking, reads_keep, speaks_keep, symbols_keep}
-use Rattle.lard_machine.specs.Client.{silent}
-use Rattle.lard_machine.specs.declared.places.FrontConn.{FrontConn}
-use Rattle.lard_machine.specs.declared.places.FrontConn.TheVariants.{Closed, Held, Lent}
-use Rattle.lard_machine.specs.declared.places.Turn.{Turn}
-use Rattle.lard_machine.specs.Front.{FrontEnv, Service, answered, begun, closed_behind, consumed, cut_off, front_gets, front_hears, front_timer, is_plain_syn, is_telling, last_ack, last_words, limit_said, passed_over, queued, reads, ready_of, refusal, settled, spoken, told, tombstone}
-use Rattle.lard_machine.specs.Speaking.{emits, emits_symbols, has_symbol, speaks, speaks_symbols, to_client}
+use Rattle.lard_rules.proofs.Loops.{KeptByReading, KeptBySpeaking, reads_keep, speaks_keep, symbols_keep}
+use Rattle.lard_rules.specs.Client.{silent}
+use Rattle.lard_rules.specs.declared.places.FrontConn.{FrontConn}
+use Rattle.lard_rules.specs.declared.places.FrontConn.TheVariants.{Closed, Held, Lent}
+use Rattle.lard_rules.specs.declared.places.Turn.{Turn}
+use Rattle.lard_rules.specs.Front.{FrontEnv, Service, answered, begun, closed_behind, consumed, cut_off, front_gets, front_hears, front_timer, is_plain_syn, is_telling, last_ack, last_words, limit_said, passed_over, queued, reads, ready_of, refusal, settled, spoken, told, tombstone}
+use Rattle.lard_rules.specs.Speaking.{emits, emits_symbols, has_symbol, speaks, speaks_symbols, to_client}
 use Rattle.lard_request.specs.declared.verdict.Code.TheVariants as code
 use Rattle.lard_request.specs.declared.verdict.Verdict.{Verdict}
 use Rattle.lard_request.specs.declared.verdict.Verdict.TheVariants.{Fault}

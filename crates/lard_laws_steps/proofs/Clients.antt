@@ -15,11 +15,11 @@ use Rattle.lard_history.proofs.Stepping.{AreInside}
 use Rattle.lard_journal.specs.declared.rec.Rec.{Rec}
 use Rattle.lard_journal.specs.declared.rec.Rec.TheVariants as rec
 use Rattle.lard_laws_steps.specs.Clients.{ClientsKeepTheirTables, IsClientStep, MustKeepTables, NoneOfClient, at_client, client_of, client_step, is_of_client, own_rows, turn_rows}
-use Rattle.lard_machine.specs.declared.places.FrontConn.{FrontConn}
-use Rattle.lard_machine.specs.declared.places.Station.{Station}
-use Rattle.lard_machine.specs.declared.places.Turn.{Turn}
-use Rattle.lard_machine.specs.Client.{client_aborts, client_gets, client_holds, client_injects, client_opens, client_shuts, client_takes, client_timer, client_writes, silent}
-use Rattle.lard_machine.specs.Front.{front_gets, front_timer}
+use Rattle.lard_rules.specs.declared.places.FrontConn.{FrontConn}
+use Rattle.lard_rules.specs.declared.places.Station.{Station}
+use Rattle.lard_rules.specs.declared.places.Turn.{Turn}
+use Rattle.lard_rules.specs.Client.{client_aborts, client_gets, client_holds, client_injects, client_opens, client_shuts, client_takes, client_timer, client_writes, silent}
+use Rattle.lard_rules.specs.Front.{front_gets, front_timer}
 use Rattle.lard_machine.specs.Machine.{timer_change}
 use Rattle.lard_segment.specs.declared.segment.Dir.TheVariants.{ToClient, ToCluster}
 use Rattle.lard_segment.specs.Segment.{decoded}

@@ -1,6 +1,6 @@
 //! The state of the whole.
 
-use crate::places::{FrontConn, Station};
+use lard_rules::{FrontConn, Station};
 use lard_base::Config;
 use lard_files::Files;
 use lard_journal::Journal;

@@ -9,8 +9,8 @@ use Rattle.lard_history.proofs.Lifting.{each_row-append}
 use Rattle.lard_history.proofs.Seeing.{same_number}
 use Rattle.lard_journal.specs.declared.rec.Rec.{Rec}
 use Rattle.lard_journal.specs.declared.rec.Rec.TheVariants as rec
-use Rattle.lard_machine.specs.Client.{client_injects}
-use Rattle.lard_machine.specs.declared.places.Station.{Station}
+use Rattle.lard_rules.specs.Client.{client_injects}
+use Rattle.lard_rules.specs.declared.places.Station.{Station}
 use Rattle.lard_view.specs.Carry.{IsGuardedLaw, IsLaw, IsUntouchedLaw, Untouched, UntouchedRules, WhileUntouched, tale_at}
 use Rattle.lard_view.specs.View.{Conn, IsSound, Move, Rules, Setting, client_does, grown, inject_seen, rows_of, seen_in}
 

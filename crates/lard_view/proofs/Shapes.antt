@@ -17,12 +17,12 @@ use Rattle.lard_history.proofs.Stepping.{AreInside, IsOneStep}
 use Rattle.lard_journal.specs.declared.rec.Rec.{Rec}
 use Rattle.lard_journal.specs.declared.rec.Rec.TheVariants as rec
 use Rattle.lard_machine.specs.declared.machine.Machine.{Machine}
-use Rattle.lard_machine.specs.declared.places.FrontConn.{FrontConn}
-use Rattle.lard_machine.specs.declared.places.Station.{Station}
-use Rattle.lard_machine.specs.declared.places.Turn.{Turn}
+use Rattle.lard_rules.specs.declared.places.FrontConn.{FrontConn}
+use Rattle.lard_rules.specs.declared.places.Station.{Station}
+use Rattle.lard_rules.specs.declared.places.Turn.{Turn}
 use Rattle.lard_machine.specs.Bounds.{HasRule}
-use Rattle.lard_machine.specs.Client.{client_aborts, client_gets, client_holds, client_injects, client_opens, client_shuts, client_takes, client_timer, client_writes}
-use Rattle.lard_machine.specs.Front.{front_gets, front_timer}
+use Rattle.lard_rules.specs.Client.{client_aborts, client_gets, client_holds, client_injects, client_opens, client_shuts, client_takes, client_timer, client_writes}
+use Rattle.lard_rules.specs.Front.{front_gets, front_timer}
 use Rattle.lard_machine.specs.Machine.{Act, acted, client_acted, client_goes_on, client_put, env_of, front_acted, front_armed, front_put, machine_step, packets_of, passed, records, sent_records, timer_change}
 use Rattle.lard_machine.proofs.Forms.{Forms, step_has}
 use Rattle.lard_net.specs.Net.{Packet, lose_at}
