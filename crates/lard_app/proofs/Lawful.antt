@@ -3,7 +3,7 @@ use Rattle.std.proofs.Common.{◌≡◌, ◌≢◌, ℕ, Option, List, [], ◌++
 use Rattle.std.specs.List.{flat_map}
 use Rattle.lard_base.specs.declared.config.Config.{Config}
 use Rattle.lard_files.specs.Files.{file_at}
-use Rattle.lard_history.specs.Laws.{AcceptsOnlyAnswers, Follows, IsNetwork, IsOwnership, IsSoleSender, MayOwn, MayReset, MaySend, MayWrite, ResetsAtTheLimit, ServesTheAnswers, TellsTheTruth, WritesWhileOpen}
+use Rattle.lard_history.specs.Laws.{AcceptsOnlyAnswers, ActsInPlace, Follows, IsNetwork, IsOwnership, IsSoleSender, MayOwn, MayReset, MaySend, MayWrite, ResetsAtTheLimit, ServesTheAnswers, TellsTheTruth, WritesWhileOpen}
 use Rattle.lard_history.proofs.Each.{Each-weaker}
 use Rattle.lard_journal.specs.declared.rec.Rec.{Rec}
 use Rattle.lard_journal.specs.Range.{IsFileInRange, IsReportInRange}
@@ -14,6 +14,8 @@ use Rattle.lard_laws_quiet.specs.Quiet.{IsCompleteWhenQuiet, JournalsAreComplete
 use Rattle.lard_laws_places.proofs.Reached.{journals-follow, reached-holds, reached-may}
 use Rattle.lard_laws_records.proofs.Bytes.{each-all}
 use Rattle.lard_laws_records.specs.Records.{IsFile, IsGiven, RecordsAreInRange}
+use Rattle.lard_laws_steps.specs.Clients.{ClientsKeepTheirTables, KeepsTables}
+use Rattle.lard_laws_steps.specs.Fronts.{TakesOnce, TheFrontEndTakesOnce}
 use Rattle.lard_machine.specs.declared.machine.Machine.{Machine}
 use Rattle.lard_machine.specs.Machine.{IsReached, Passes, start}
 use Rattle.lard_schedule.specs.declared.reader.Stage.{Stage}
@@ -50,6 +52,9 @@ module _ (text : List ℕ) where
   pub network : IsNetwork (journal_of text)
   network = (reached-holds (config_of text) (files_of text) (machine_of text) reached).linked.each
 
+  pub places : ActsInPlace (journal_of text)
+  places = (reached-holds (config_of text) (files_of text) (machine_of text) reached).places
+
   pub ownership : IsOwnership (journal_of text)
   ownership = reached-may (config_of text) (files_of text) (machine_of text) reached MayOwn (λ past x l. l.0)
 
@@ -64,6 +69,14 @@ module _ (text : List ℕ) where
 
   pub takers : ClientsTakeInOrder → TakesInOrder (journal_of text)
   takers law = law (config_of text) (files_of text) (machine_of text) small reached
+
+  -- ---- laws of steps
+
+  pub tables : ClientsKeepTheirTables → KeepsTables (journal_of text)
+  tables law = law (config_of text) (files_of text) (machine_of text) reached
+
+  pub taken_once : TheFrontEndTakesOnce → TakesOnce (journal_of text)
+  taken_once law = law (config_of text) (files_of text) (machine_of text) reached
 
   -- ---- laws of bytes
 
@@ -138,6 +151,8 @@ tells_all law tells text also same =
 -- the laws of all journals that a run's rests on
 pub record Laws : Type 0 where
   pub takers : ClientsTakeInOrder
+  pub tables : ClientsKeepTheirTables
+  pub taken_once : TheFrontEndTakesOnce
   pub tells : JournalsTellTheTruth
   pub prefix : ClientsAcceptAnswers
   pub service : JournalsServeTheAnswers
@@ -160,10 +175,13 @@ ran laws status left left_now old new r = record {
   machine = (machine_of r.text, machine r.text, refl);
   follows = follows r.text;
   network = network r.text;
+  places = places r.text;
   ownership = ownership r.text;
   sole_sender = sole_sender r.text;
   writers = writers r.text;
   takers = takers r.text laws.takers;
+  tables = tables r.text laws.tables;
+  taken_once = taken_once r.text laws.taken_once;
   tells = tells r.text laws.tells;
   prefix = prefix r.text laws.prefix;
   service = service r.text laws.service;

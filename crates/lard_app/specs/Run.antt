@@ -9,10 +9,12 @@ use Rattle.lard_base.specs.declared.event.Event.{Event}
 use Rattle.lard_base.specs.declared.limits.TheConstants.{MAX_INPUT_BYTES}
 use Rattle.lard_base.specs.Outside.{WrotePrefix}
 use Rattle.lard_files.specs.Files.{file_at}
-use Rattle.lard_history.specs.Laws.{AcceptsOnlyAnswers, Follows, IsNetwork, IsOwnership, IsSoleSender, ResetsAtTheLimit, ServesTheAnswers, TellsTheTruth, WritesWhileOpen}
+use Rattle.lard_history.specs.Laws.{AcceptsOnlyAnswers, ActsInPlace, Follows, IsNetwork, IsOwnership, IsSoleSender, ResetsAtTheLimit, ServesTheAnswers, TellsTheTruth, WritesWhileOpen}
 use Rattle.lard_journal.specs.declared.rec.Rec.{Rec}
 use Rattle.lard_laws_clients.specs.Laws.{TakesInOrder}
 use Rattle.lard_laws_quiet.specs.Quiet.{IsCompleteWhenQuiet}
+use Rattle.lard_laws_steps.specs.Clients.{KeepsTables}
+use Rattle.lard_laws_steps.specs.Fronts.{TakesOnce}
 use Rattle.lard_lines.specs.Lines.{lines_of}
 use Rattle.lard_machine.specs.Machine.{Passes, start}
 use Rattle.lard_machine.specs.declared.machine.Machine.{Machine}
@@ -80,10 +82,13 @@ pub record Ran (status : Status) (left left_now old new : Option (List ℕ)) : T
   pub follows : Follows 1 events journal
   -- the laws that it obeys
   pub network : IsNetwork journal
+  pub places : ActsInPlace journal
   pub ownership : IsOwnership journal
   pub sole_sender : IsSoleSender journal
   pub writers : WritesWhileOpen journal
   pub takers : TakesInOrder journal
+  pub tables : KeepsTables journal
+  pub taken_once : TakesOnce journal
   pub tells : TellsTheTruth (file_at files) journal
   pub prefix : AcceptsOnlyAnswers (file_at files) journal
   pub service : ServesTheAnswers (file_at files) journal

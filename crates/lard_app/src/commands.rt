@@ -16,6 +16,7 @@ use lard_laws_bytes::every_run_is_true;
 use lard_laws_clients::clients_take_what_comes_next;
 use lard_laws_quiet::quiet_connections_are_complete;
 use lard_laws_records::records_are_in_range;
+use lard_laws_steps::{clients_keep_their_tables, the_front_end_takes_once};
 use lard_lines::Lines;
 use std::alloc::Global;
 
@@ -46,6 +47,8 @@ pub fn run<S: Source, K: Sink>(
 {
     every_run_is_true();
     clients_take_what_comes_next();
+    clients_keep_their_tables();
+    the_front_end_takes_once();
     quiet_connections_are_complete();
     records_are_in_range();
     report_tells_all();

@@ -1,3 +1,5 @@
 pub mod Hearing
+pub mod Delivered
 pub mod Taking
+pub mod Journals
 pub mod Reached

@@ -1,36 +1,32 @@
 -- So it is in every state that events lead to.
-use Rattle.std.proofs.Common.{◌≡◌, ◌≤◌, ◌^◌, List, [], Ok, refl, sym, subst}
-use Rattle.lard_base.specs.declared.config.Config.{Config}
+use Rattle.std.proofs.Common.{◌≡◌, ℕ, ◌+◌, [], Ok, sym, subst}
 use Rattle.lard_base.specs.declared.event.Event.{Event}
+use Rattle.lard_files.specs.Files.{file_at}
+use Rattle.lard_history.specs.Own.{own}
 use Rattle.lard_history.proofs.Each.{each_append}
-use Rattle.lard_journal.specs.declared.rec.Rec.{Rec}
 use Rattle.lard_laws_bytes.specs.Runs.{StatesAreTruthful}
 use Rattle.lard_laws_clients.specs.Laws.{ClientsTakeInOrder, MayTake, TakesInOrder}
-use Rattle.lard_laws_clients.proofs.Taking.{Goes, forms-go}
-use Rattle.lard_laws_places.specs.Laws.{AllConnectionsStand, PacketsAreTold}
+use Rattle.lard_laws_clients.proofs.Journals.{step-may}
+use Rattle.lard_laws_clients.proofs.Taking.{Owes, StepTakes, owing}
+use Rattle.lard_laws_places.proofs.Following.{Adds}
+use Rattle.lard_laws_places.proofs.Reached.{step-adds}
 use Rattle.lard_machine.specs.declared.machine.Machine.{Machine}
 use Rattle.lard_machine.specs.Bounds.{HasRule}
-use Rattle.lard_machine.specs.Machine.{IsReached, machine_step, start}
-use Rattle.lard_machine.proofs.Forms.{step_has}
-use Rattle.lard_machine.proofs.Runs.{passes-keep, reached-more, step-set}
+use Rattle.lard_machine.specs.Machine.{machine_step}
+use Rattle.lard_view.specs.Carry.{setting}
+use Rattle.lard_view.specs.View.{Conn, Goes, Move, Rules, Setting, conn}
+use Rattle.lard_view.proofs.Carried.{IsOn, IsViewed, carried-keep, moves, on-setting}
+use Rattle.lard_view.proofs.InSteps.{seen-step}
 
--- what the induction carries: events lead to the state, and clients took in order
-record Taken (m : Machine) : Type 0 where
-  order : TakesInOrder m.journal
-  reached : IsReached m.config m.files m
-  small : m.config.stream ≤ 2 ^ 30
-
-module _ (truthful : StatesAreTruthful) (told : PacketsAreTold) (stand : AllConnectionsStand) where
-  step-taken : (m n : Machine) (e : Event) → Taken m → HasRule e → machine_step m e ≡ Ok n → Taken n
-  step-taken m n e t rule is =
-      let forms = forms-go m (truthful m.config m.files m t.small t.reached) (told m.config m.files m t.reached) (λ c. (stand m.config m.files m t.reached c).front) in
-      let goes : Goes m n = step_has m n e (λ d k. Goes m k) forms rule is in
-      record {
-        order = subst (λ (J : List Rec). TakesInOrder J) (sym goes.is) (each_append MayTake [] m.journal goes.rows t.order goes.may);
-        reached = reached-more m n e t.reached rule is;
-        small = subst (λ (config : Config). config.stream ≤ 2 ^ 30) (sym (step-set m n e rule is).0) t.small;
-      }
-
-  pub clients-take : ClientsTakeInOrder
-  clients-take config files m small r =
-      (passes-keep Taken step-taken r.0 (start config files) m r.1 (record { order = tt; reached = ([], refl); small = small })).order
+pub clients-take : StatesAreTruthful → ClientsTakeInOrder
+unfolding conn
+clients-take truthful config files m small r = carried-keep config files (λ k. TakesInOrder k.journal) tt step m r where
+  step : (k n : Machine) (e : Event) → IsOn config files k → IsViewed k → TakesInOrder k.journal → HasRule e → machine_step k e ≡ Ok n → TakesInOrder n.journal
+  step k n e on view h rule is =
+      let adds : Adds k n e = step-adds k n e view rule is in
+      let P : Conn → Move → Type 0 = Owes (file_at files) in
+      let goes : (q : ℕ) → Goes P (conn k q) (conn n q) = moves k n e view rule is P (subst (λ (s : Setting). Rules s P) (on-setting config files k on) (owing (setting config files))) in
+      subst TakesInOrder (sym adds.journal)
+      (each_append MayTake [] k.journal adds.step h
+      (step-may k.journal (k.events + 1) e adds.step adds.is
+      (λ q. seen-step P (StepTakes q (own q k.journal)) k n adds.step q adds.journal tt (λ v does. does (view.sound q) (truthful config files small k on.reached q)) (goes q))))

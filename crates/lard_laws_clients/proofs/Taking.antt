@@ -1,117 +1,112 @@
--- Each record of a client may stand where it does.
-use Rattle.std.proofs.Common.{◌≡◌, ℕ, ◌+◌, ◌<◌, ◌≤◌, ◌^◌, List, [], ◌∷◌, ◌++◌, length, take, drop, Bool, true, false, cond, nat_eq, nat_lt, Option, Some, None, Result, Ok, Err, refl, sym, ap, ◌∙◌, subst, arith, length-append, length-take, length-drop}
-use Rattle.std.proofs.lemmas.Bool.{cond_both, ltb-true, ltb-false}
-use Rattle.std.proofs.lemmas.Bool.Decides.{nat_tests}
-use Rattle.std.proofs.lemmas.List.Sums.{fold-append}
-use Rattle.std.specs.FinMap as table
+-- What a connection takes in a step: of the packet that came first in it.
+use Rattle.std.proofs.Common.{◌≡◌, ℕ, ◌+◌, ◌<◌, ◌≤◌, ◌^◌, List, [], ◌∷◌, ◌++◌, length, take, drop, map, Bool, true, false, cond, nat_lt, Option, Some, Result, Ok, Err, refl, sym, ap, ◌∙◌, subst, arith, length-append, length-take, length-drop}
+use Rattle.std.proofs.lemmas.Bool.{cond_both, ltb-false, ltb-true}
+use Rattle.lard_answers.specs.Answers.{FilesAt}
 use Rattle.lard_arrival.specs.Arrival.{IsPartAt}
 use Rattle.lard_base.specs.declared.event.Event.{Event}
 use Rattle.lard_base.specs.declared.event.Event.TheVariants as event
 use Rattle.lard_base.specs.declared.place.Place.{Place}
-use Rattle.lard_base.specs.declared.place.Place.TheVariants as place
+use Rattle.lard_base.specs.declared.place.Place.TheVariants.{Front, Client}
 use Rattle.lard_client.specs.declared.heard.Heard.{Heard}
 use Rattle.lard_client.specs.Arriving.{arrived}
-use Rattle.lard_client.specs.Control.{ClientBlock, is_armed, is_writing, written}
+use Rattle.lard_client.specs.Control.{ClientBlock, is_writing, written}
 use Rattle.lard_client.proofs.Accepted.{arrived-order}
-use Rattle.lard_files.specs.Files.{file_at}
-use Rattle.lard_history.specs.Journal.{Numbers, accepted, accepted_step, numbers_of, numbers_step, request, tale}
-use Rattle.lard_history.specs.Laws.{EachMay}
+use Rattle.lard_history.specs.Journal.{Numbers, Tale, request, tale_step, told_on}
+use Rattle.lard_history.specs.Own.{EachRow, Letter, Seen}
 use Rattle.lard_history.proofs.Each.{Each, Each-weaker}
-use Rattle.lard_history.proofs.Tales.{accepted-tale, numbers-tale}
+use Rattle.lard_history.proofs.Seeing.{same_number}
 use Rattle.lard_journal.specs.declared.rec.Rec.{Rec}
 use Rattle.lard_journal.specs.declared.rec.Rec.TheVariants as rec
-use Rattle.lard_laws_bytes.specs.Agreement.{Agrees}
-use Rattle.lard_laws_bytes.specs.Truthful.{ConnAgrees, IsFair, IsTruthful}
+use Rattle.lard_laws_bytes.specs.Truthful.{IsFairOn, IsTruthfulAt}
 use Rattle.lard_laws_bytes.proofs.ClientAlike.{arrived-alike}
-use Rattle.lard_laws_bytes.proofs.Later.{fair-packet}
-use Rattle.lard_laws_bytes.proofs.Steps.{step-may, step_records}
-use Rattle.lard_laws_places.specs.Places.{FrontStands, IsNetOf, front_tale, net_of, net_step}
-use Rattle.lard_laws_places.proofs.FrontRules as front
-use Rattle.lard_machine.specs.declared.machine.Machine.{Machine}
+use Rattle.lard_laws_bytes.proofs.Holding.{IsOpen, at-station}
+use Rattle.lard_laws_bytes.proofs.Later.{fair-letter}
+use Rattle.lard_laws_clients.proofs.Delivered.{came_first}
+use Rattle.lard_laws_clients.proofs.Hearing.{Takes, end-number, next-number, takes-established}
 use Rattle.lard_rules.specs.declared.places.FrontConn.{FrontConn}
 use Rattle.lard_rules.specs.declared.places.Station.{Station}
 use Rattle.lard_rules.specs.declared.places.Turn.{Turn}
-use Rattle.lard_rules.specs.Client.{accepted_note, client_aborts, client_gets, client_holds, client_opens, client_shuts, client_takes, client_timer, client_writes, eof_note, silent, speaking}
+use Rattle.lard_rules.specs.Client.{accepted_note, client_aborts, client_gets, client_holds, client_injects, client_shuts, client_takes, client_timer, client_writes, eof_note, silent, speaking}
 use Rattle.lard_rules.specs.Front.{front_gets, front_timer}
-use Rattle.lard_machine.specs.Machine.{acted, client_acted, client_goes_on, env_of, front_acted, front_armed, sent_records, timer_change}
-use Rattle.lard_machine.proofs.Forms.{Forms}
-use Rattle.lard_net.specs.Net.{Packet, packet_at}
+use Rattle.lard_machine.specs.Machine.{timer_change}
 use Rattle.lard_segment.proofs.Again.{again}
 use Rattle.lard_segment.specs.declared.fault.SegFault.{SegFault}
 use Rattle.lard_segment.specs.declared.segment.Dir.TheVariants.{ToClient, ToCluster}
 use Rattle.lard_segment.specs.Segment.{Said, decoded}
 use Rattle.lard_seq.specs.Seq.{one_if, seq_add}
-use Rattle.lard_laws_clients.specs.Laws.{Gets, IsNext, MayTake, got_step, last_got}
-use Rattle.lard_laws_clients.proofs.Hearing.{Takes, end-number, next-number, takes-established}
+use Rattle.lard_view.specs.Carry.{TellsBy, Untouched, tale_at}
+use Rattle.lard_view.specs.View.{Conn, IsSound, Move, Rules, Setting, Was, client_begins, client_does, env_at, event_seen, front_does, ignoring, inject_seen, packet_seen, seen_in, sending}
+use Rattle.lard_view.proofs.Rows.{MayBeSeen, move-lawful, tale_before}
+use Rattle.lard_view.proofs.Turns.{NotedAt, front_fires-turn, front_gets-turn}
+
+-- The segment that client c got, where this packet came and this is told of c.
+pub record GetsBy (came : Option Letter) (c : ℕ) (t : Tale) : Type 0 where
+  pub letter : Letter
+  pub is : came ≡ Some letter
+  pub goal : letter.to ≡ Client c
+  pub said : Said
+  pub decodes : decoded letter.bytes c ToClient ≡ Ok said
+  pub numbers : Numbers
+  pub opened : t.numbers ≡ Some numbers
+
+-- A record takes of it what comes next.
+abbrev pub TakesBy : Option Letter → ℕ → Tale → Rec → Type 0
+TakesBy came c t (rec.Accepted d bytes) =
+    t.touched ≡ false → (g : GetsBy came c t) × (from : ℕ) × (seq_add g.said.seq from ≡ seq_add g.numbers.iss (1 + length t.accepted)) × IsPartAt from bytes g.said.payload × (0 < length bytes)
+TakesBy came c t (rec.Eof d) =
+    t.touched ≡ false → (g : GetsBy came c t) × (g.said.flags.fin ≡ true) × (seq_add g.said.seq (length g.said.payload) ≡ seq_add g.numbers.iss (1 + length t.accepted))
+TakesBy came c t _ = Unit {0}
+
+-- what the connection sees of a step takes only of the packet that came in it
+abbrev pub StepTakes : ℕ → List Seen → List Seen → Type 0
+StepTakes c past ss = EachRow (MayBeSeen (TakesBy (came_first ss) c) c) past ss
 
 -- ---- records in which nobody takes anything
 
-abbrev TakesNothing : Rec → Type 0
+abbrev pub TakesNothing : Rec → Type 0
 TakesNothing (rec.Accepted c bytes) = ⊥
 TakesNothing (rec.Eof c) = ⊥
 TakesNothing _ = Unit {0}
 
-may-pass : (past : List Rec) (r : Rec) → TakesNothing r → MayTake past r
-may-pass past (rec.Accepted c bytes) n = absurd n
-may-pass past (rec.Eof c) n = absurd n
-may-pass past _ n = tt
+passes : (came : Option Letter) (c : ℕ) (t : Tale) (r : Rec) → TakesNothing r → TakesBy came c t r
+passes came c t (rec.Accepted d bytes) n = absurd n
+passes came c t (rec.Eof d) n = absurd n
+passes came c t _ n = tt
 
-all-pass : (past rs : List Rec) → Each TakesNothing rs → EachMay MayTake past rs
-all-pass past [] e = tt
-all-pass past (r ∷ rs) e = (may-pass past r e.0, all-pass (past ++ r ∷ []) rs e.1)
+all-pass : (came : Option Letter) (c : ℕ) (t : Tale) (rs : List Rec) → Each TakesNothing rs → TellsBy (TakesBy came c) c t rs
+all-pass came c t [] n = tt
+all-pass came c t (r ∷ rs) n = (passes came c t r n.0, all-pass came c (tale_step c t r) rs n.1)
 
-fronts-pass : (r : Rec) → front.IsOfFront r → TakesNothing r
-fronts-pass (rec.Accepted c bytes) i = absurd i
-fronts-pass (rec.Eof c) i = absurd i
-fronts-pass _ i = tt
+sends-pass : (came : Option Letter) (c : ℕ) (t : Tale) (place : Place) (ss : List (Place × List ℕ)) → TellsBy (TakesBy came c) c t (map (sending place) ss)
+sends-pass came c t place [] = tt
+sends-pass came c t place (s ∷ ss) = (tt, sends-pass came c (tale_step c t (sending place s)) place ss)
 
-sents-pass : (k : ℕ) (from : Place) (ss : List (Place × List ℕ)) → Each TakesNothing (sent_records k from ss)
-sents-pass k from [] = tt
-sents-pass k from (s ∷ ss) = (tt, sents-pass (k + 1) from ss)
+timers-pass : (came : Option Letter) (c : ℕ) (t : Tale) (place : Place) (d : ℕ) (a b : Bool) → TellsBy (TakesBy came c) c t (timer_change place d a b)
+timers-pass came c t place d false false = tt
+timers-pass came c t place d false true = (tt, tt)
+timers-pass came c t place d true false = (tt, tt)
+timers-pass came c t place d true true = tt
 
-timer-pass : (p : Place) (c : ℕ) (was is : Bool) → Each TakesNothing (timer_change p c was is)
-timer-pass p c false false = tt
-timer-pass p c false true = (tt, tt)
-timer-pass p c true false = (tt, tt)
-timer-pass p c true true = tt
+front-passes : (c : ℕ) (r : Rec) → NotedAt Front c r → TakesNothing r
+front-passes c (rec.Took Front d epoch) h = tt
+front-passes c (rec.Served Front d r code size via) h = tt
+front-passes c (rec.Reset Front d total) h = tt
+front-passes c _ h = absurd h
 
--- the journal goes on, and each of its new records may stand where it does
-pub record Goes (m n : Machine) : Type 0 where
-  pub rows : List Rec
-  pub is : n.journal ≡ m.journal ++ rows
-  pub may : EachMay MayTake m.journal rows
+fronts-pass : (c : ℕ) (rs : List Rec) → Each (NotedAt Front c) rs → Each TakesNothing rs
+fronts-pass c rs h = Each-weaker (NotedAt Front c) TakesNothing (front-passes c) rs h
 
-module _ (m : Machine) (e : Event) (own : List Rec) (quiet : Each TakesNothing own) where
-  -- the moment before the notes
-  abbrev Begun : List Rec
-  Begun = m.journal ++ (rec.Event (m.events + 1) e ∷ own)
+-- ---- a move
 
-  -- a step is lawful where its notes are
-  rows-may : (p : Place) (c : ℕ) (t : Turn) (was is : Bool) → EachMay MayTake Begun t.notes
-      → EachMay MayTake m.journal (step_records (m.events + 1) e own t.notes (sent_records (length m.net + 1) p t.segments) (timer_change p c was is))
-  rows-may p c t was is may =
-      let S : List Rec = sent_records (length m.net + 1) p t.segments in
-      let T : List Rec = timer_change p c was is in
-      step-may (m.events + 1) e own t.notes S T MayTake m.journal (all-pass m.journal (rec.Event (m.events + 1) e ∷ own) (tt, quiet)) may
-      (all-pass (m.journal ++ (rec.Event (m.events + 1) e ∷ own ++ t.notes)) S (sents-pass (length m.net + 1) p t.segments))
-      (all-pass (m.journal ++ (rec.Event (m.events + 1) e ∷ own ++ t.notes ++ S)) T (timer-pass p c was is))
+-- its notes decide
+noted : (x : Conn) (v : Move) → ((came : Option Letter) → EachRow (MayBeSeen (TakesBy came x.c) x.c) x.seen v.heads)
+    → TellsBy (TakesBy (came_first (seen_in x v)) x.c) x.c (tale_before x v) v.turn.notes → StepTakes x.c x.seen (seen_in x v)
+noted x v heads notes =
+    let came : Option Letter = came_first (seen_in x v) in
+    move-lawful (TakesBy came x.c) x v (timers-pass came x.c) (heads came) notes (sends-pass came x.c (told_on x.c (tale_before x v) v.turn.notes) v.place v.turn.segments)
 
-  client-goes : (c iss : ℕ) (was : Bool) (given : ClientBlock × Turn) → EachMay MayTake Begun given.1.notes → Goes m (client_acted m e own c iss was given)
-  unfolding acted
-  client-goes c iss was given may = record { rows = _; is = refl; may = rows-may (place.Client c) c given.1 was (is_armed given.0) may }
-
-  quietly : (c iss : ℕ) (was : Bool) (given : ClientBlock × Turn) → Each TakesNothing given.1.notes → Goes m (client_acted m e own c iss was given)
-  quietly c iss was given notes = client-goes c iss was given (all-pass Begun given.1.notes notes)
-
-  front-goes : (c : ℕ) (given : Option FrontConn × Turn) → Each front.IsOfFront given.1.notes → Goes m (front_acted m e own c given)
-  unfolding acted
-  front-goes c given notes = go given.0 where
-    may : EachMay MayTake Begun given.1.notes
-    may = all-pass Begun given.1.notes (Each-weaker front.IsOfFront TakesNothing fronts-pass given.1.notes notes)
-
-    go : (conn : Option FrontConn) → Goes m (front_acted m e own c (conn, given.1))
-    go None = record { rows = _; is = refl; may = rows-may place.Front c given.1 (front_armed (table.get m.conns c)) (front_armed None) may }
-    go (Some x) = record { rows = _; is = refl; may = rows-may place.Front c given.1 (front_armed (table.get m.conns c)) (front_armed (Some x)) may }
+quiet : (x : Conn) (v : Move) → ((came : Option Letter) → EachRow (MayBeSeen (TakesBy came x.c) x.c) x.seen v.heads) → Each TakesNothing v.turn.notes → StepTakes x.c x.seen (seen_in x v)
+quiet x v heads notes = noted x v heads (all-pass (came_first (seen_in x v)) x.c (tale_before x v) v.turn.notes notes)
 
 -- ---- what a client hears
 
@@ -121,145 +116,135 @@ part-at from n all fits =
     let size : length (take n (drop from all)) ≡ n = omega (arith, length-take n (drop from all), length-drop from all) in
     record { within = omega (arith, size, fits); same = ap (λ k. take k (drop from all)) size }
 
-module _ (m : Machine) (T : IsTruthful (file_at m.files) m) (N : IsNetOf m.journal m.net) where
-  module _ (k c : ℕ) (p : Packet) (x : Station) (at : packet_at m.net k ≡ Some p) (to : p.to ≡ place.Client c) (there : table.get m.clients c ≡ Some x) where
-    -- the connection of the client
-    agrees : Agrees (file_at m.files) c (T.talks c).w (T.talks c).out (T.talks c).vs x (table.get m.conns c) (tale m.journal c)
-    agrees = (subst (λ (o : Option Station). ConnAgrees (file_at m.files) c (T.talks c) o (table.get m.conns c) (tale m.journal c)) there (T.connections c)).0
+module _ (files : FilesAt) (x : Conn) (st : Station) (there : x.part.station ≡ Some st) (given : Untouched (IsTruthfulAt files) x) (bytes : List ℕ) (was : Was x Front (Client x.c) bytes)
+    (number : st.client.c ≡ x.c) where
+  abbrev packet : Letter
+  packet = record { from = Front; to = Client x.c; bytes = bytes }
 
-    own : nat_eq c c ≡ true
-    own = grind (arith, nat_tests)
+  -- while it is untouched, it agrees
+  open_ : (tale_at x).touched ≡ false → IsOpen files x st
+  open_ u = at-station files x st (given u) there
 
-    -- its first numbers
-    abbrev numbers : Numbers
-    numbers = record { isn = (T.talks c).w.first; iss = (T.talks c).out.first }
+  module _ (s : Said) (is : decoded bytes x.c ToClient ≡ Ok s) where
+    abbrev heard : Heard
+    heard = (arrived st.client s).0
 
-    -- while it notes what it takes, so much of it was accepted, and the rest stays
-    record Stage (past : List Rec) (count : ℕ) : Type 0 where
-      last : last_got past ≡ Some k
-      net : net_of past ≡ m.net
-      opened : numbers_of past c ≡ Some numbers
-      counted : length (accepted past c) ≡ count
-
-    -- when the packet came
-    abbrev moment : List Rec
-    moment = m.journal ++ (rec.Event (m.events + 1) (event.Deliver k) ∷ rec.Got k ∷ [])
-
-    first : Stage moment x.client.accepted
-    first =
-        let own_rows : List Rec = rec.Event (m.events + 1) (event.Deliver k) ∷ rec.Got k ∷ [] in
-        let within = agrees.client.accepts.within in
-        record {
-          last = fold-append got_step None m.journal own_rows;
-          net = fold-append net_step [] m.journal own_rows ∙ N.packets;
-          opened = fold-append (numbers_step c) None m.journal own_rows ∙ numbers-tale m.journal c ∙ agrees.tale.numbers;
-          counted = ap (λ (l : List ℕ). length l) (fold-append (accepted_step c) [] m.journal own_rows ∙ accepted-tale m.journal c ∙ agrees.tale.accepted)
-              ∙ omega (arith, length-take x.client.accepted (T.talks c).out.bytes, within);
-        }
-
-    after : (past : List Rec) (count : ℕ) (part : List ℕ) → Stage past count → Stage (past ++ rec.Accepted c part ∷ []) (count + length part)
-    after past count part t =
-        let more : List Rec = rec.Accepted c part ∷ [] in
-        record {
-          last = fold-append got_step None past more ∙ t.last;
-          net = fold-append net_step [] past more ∙ t.net;
-          opened = fold-append (numbers_step c) None past more ∙ t.opened;
-          counted = ap (λ (l : List ℕ). length l) (fold-append (accepted_step c) [] past more ∙ ap (λ b. cond b (accepted past c ++ part) (accepted past c)) own)
-              ∙ length-append (accepted past c) part ∙ ap (λ n. n + length part) t.counted;
-        }
-
-    module _ (s : Said) (is : decoded p.bytes c ToClient ≡ Ok s) (fits : s.seq < 2 ^ 32) where
-      abbrev heard : Heard
-      heard = (arrived x.client s).0
-
-      abbrev part : List ℕ
-      part = take heard.len (drop heard.from s.payload)
-
-      -- the segment
-      abbrev got : (past : List Rec) (count : ℕ) → Stage past count → Gets past c
-      got past count t = record {
-        number = k;
-        last = t.last;
-        packet = p;
-        sent = ap (λ (net : List Packet). packet_at net k) t.net ∙ at;
-        goal = to;
-        said = s;
-        decodes = is;
-        numbers = numbers;
-        opened = t.opened;
-      }
-
-      -- a number counted from the cluster's SYN, as the client counts it, is the next one
-      next : (past : List Rec) (count seq : ℕ) → Stage past count → Takes heard → seq ≡ seq_add x.client.send.irs (1 + count) → IsNext past c numbers seq
-      next past count seq t some same =
-          same ∙ ap (λ (n : ℕ). seq_add n (1 + count)) (agrees.client.accepts.first (takes-established x.client s some)) ∙ ap (λ (n : ℕ). seq_add numbers.iss (1 + n)) (sym t.counted)
-
-      eof-may : (past : List Rec) → Stage past (x.client.accepted + heard.len) → EachMay MayTake past (eof_note c heard)
-      eof-may past t = cond_both heard.eof (rec.Eof c ∷ []) [] (λ rs. EachMay MayTake past rs)
-          (λ e.
-          let count = x.client.accepted + heard.len in
-          let some : Takes heard = subst (λ b. 0 < heard.len + one_if b) (sym e) (omega arith) in
-          ((got past count t, (arrived-order x.client s fits).ended e, next past count (seq_add s.seq (length s.payload)) t some (end-number x.client s fits some e)), tt))
-          (λ e. tt)
-
-      heard-may : EachMay MayTake moment (accepted_note c heard s.payload ++ eof_note c heard)
-      heard-may =
-          let order = arrived-order x.client s fits in
-          let within = order.within in
-          let size : length part ≡ heard.len = omega (arith, length-take heard.len (drop heard.from s.payload), length-drop heard.from s.payload, within) in
-          cond_both (nat_lt 0 heard.len) (rec.Accepted c part ∷ []) [] (λ (rs : List Rec). EachMay MayTake moment (rs ++ eof_note c heard))
-          (λ t.
-          let less : 0 < heard.len = ltb-true 0 heard.len t in
-          let some : Takes heard = omega (arith, less) in (
-            (got moment x.client.accepted first, heard.from, next moment x.client.accepted (seq_add s.seq heard.from) first some (next-number x.client s fits some), part-at heard.from heard.len s.payload within, subst (λ n. 0 < n) (sym size) less),
-            eof-may (moment ++ rec.Accepted c part ∷ []) (subst (λ n. Stage (moment ++ rec.Accepted c part ∷ []) (x.client.accepted + n)) size (after moment x.client.accepted part first)),
-          ))
-          (λ t.
-          let none : heard.len ≡ 0 = omega (arith, ltb-false 0 heard.len t) in
-          eof-may moment (subst (λ n. Stage moment n) (omega (arith, none)) first))
-
-      hears : Goes m (client_goes_on m (event.Deliver k) (rec.Got k ∷ []) c x (client_gets x.client (Ok s)))
-      hears = client-goes m (event.Deliver k) (rec.Got k ∷ []) (tt, tt) c x.iss (is_armed x.client) (client_gets x.client (Ok s))
-          (subst (λ d. EachMay MayTake moment (accepted_note d heard s.payload ++ eof_note d heard)) (sym ((arrived-alike x.client s).0 ∙ agrees.client.numbered)) heard-may)
+    abbrev part : List ℕ
+    part = take heard.len (drop heard.from s.payload)
 
     -- its number is one, since it is true
-    seq-fits : (s : Said) → decoded p.bytes c ToClient ≡ Ok s → s.seq < 2 ^ 32
-    seq-fits s is = go p.from (subst (λ (b : Place). IsFair T.talks (λ d. table.get m.clients d) p.from b p.bytes) to (fair-packet T.talks (λ d. table.get m.clients d) m.net k p T.packets at)) where
-      go : (from : Place) → IsFair T.talks (λ d. table.get m.clients d) from (place.Client c) p.bytes → s.seq < 2 ^ 32
-      go place.Front f =
-          let both : ◌≡◌ {A = Result Said SegFault} (Ok f.1.0) (Ok s) = sym (ap (λ (l : List ℕ). decoded l c ToClient) f.1.1 ∙ again c ToClient f.1.0 f.1.2.sendable) ∙ is in
-          let same : f.1.0 ≡ s = cc in
-          subst (λ (z : Said). z.seq < 2 ^ 32) same f.1.2.sendable.seq_fits
-      go (place.Client d) f = absurd f
-      go (place.Node j) f = absurd f
+    fits : (tale_at x).touched ≡ false → s.seq < 2 ^ 32
+    fits u =
+        let h : IsOpen files x st = open_ u in
+        let f : IsFairOn x.c h.talk Front (Client x.c) bytes = fair-letter x.c h.talk packet x.letters was h.fair in
+        let both : ◌≡◌ {A = Result Said SegFault} (Ok f.1.0) (Ok s) = sym (ap (λ (l : List ℕ). decoded l x.c ToClient) f.1.1 ∙ again x.c ToClient f.1.0 f.1.2.sendable) ∙ is in
+        let same : f.1.0 ≡ s = cc in
+        subst (λ (z : Said). z.seq < 2 ^ 32) same f.1.2.sendable.seq_fits
 
-    comes : Goes m (client_goes_on m (event.Deliver k) (rec.Got k ∷ []) c x (client_gets x.client (decoded p.bytes c ToClient)))
-    comes = go (decoded p.bytes c ToClient) refl where
-      go : (r : Result Said SegFault) → decoded p.bytes c ToClient ≡ r → Goes m (client_goes_on m (event.Deliver k) (rec.Got k ∷ []) c x (client_gets x.client r))
-      go (Err fault) is = quietly m (event.Deliver k) (rec.Got k ∷ []) (tt, tt) c x.iss (is_armed x.client) (x.client, silent) tt
-      go (Ok s) is = hears s is (seq-fits s is)
+    -- the segment
+    abbrev got : (t : Tale) → IsOpen files x st → t.numbers ≡ (tale_at x).numbers → GetsBy (Some packet) x.c t
+    got t h same = record {
+      letter = packet;
+      is = refl;
+      goal = refl;
+      said = s;
+      decodes = is;
+      numbers = record { isn = h.talk.w.first; iss = h.talk.out.first };
+      opened = same ∙ h.agreed.tale.numbers;
+    }
 
-  -- ---- each form of a step
+    -- a number counted from the cluster's SYN, as the client counts it, is the next one
+    next : (h : IsOpen files x st) (t : Tale) (count seq : ℕ) → length t.accepted ≡ count → Takes heard → seq ≡ seq_add st.client.send.irs (1 + count) → seq ≡ seq_add h.talk.out.first (1 + length t.accepted)
+    next h t count seq counted some same =
+        same ∙ ap (λ (n : ℕ). seq_add n (1 + count)) (h.agreed.client.accepts.first (takes-established st.client s some)) ∙ ap (λ (n : ℕ). seq_add h.talk.out.first (1 + n)) (sym counted)
 
-  writes : (e : Event) (c : ℕ) (x : Station) (bytes : List ℕ) → Goes m (client_goes_on m e [] c x (client_writes x.client bytes))
-  writes e c x bytes = quietly m e [] tt c x.iss (is_armed x.client) (client_writes x.client bytes)
-      (cond_both (is_writing x.client) (speaking (rec.Wrote x.client.c bytes ∷ []) [] (written x.client bytes)) (x.client, silent) (λ (given : ClientBlock × Turn). Each TakesNothing given.1.notes) (λ t. (tt, tt)) (λ t. tt))
+    first : IsOpen files x st → length (tale_at x).accepted ≡ st.client.accepted
+    first h = let within = h.agreed.client.accepts.within in ap (λ (l : List ℕ). length l) h.agreed.tale.accepted ∙ omega (arith, length-take st.client.accepted h.talk.out.bytes, within)
 
-  pub forms-go : ((c : ℕ) → FrontStands m.config.stream (table.get m.conns c) (front_tale (tale m.journal c))) → Forms m (λ e n. Goes m n)
-  forms-go stands = record {
-    opens = λ c isn iss wnd mss rule none. quietly m (event.Open c isn iss wnd mss) (rec.Opened c isn iss wnd mss ∷ []) (tt, tt) c iss false (client_opens c isn wnd mss) tt;
-    gets = λ c path x is fits. writes (event.Get c path) c x (request path);
-    writes = λ c bytes x is fits. writes (event.Write c bytes) c x bytes;
-    shuts = λ c x is. quietly m (event.Shut c) [] tt c x.iss (is_armed x.client) (client_shuts x.client) tt;
-    aborts = λ c x is. quietly m (event.Abort c) [] tt c x.iss (is_armed x.client) (client_aborts x.client) (tt, tt);
-    holds = λ c x is. quietly m (event.Hold c) [] tt c x.iss (is_armed x.client) (client_holds x.client) tt;
-    takes = λ c x is. quietly m (event.Take c) [] tt c x.iss (is_armed x.client) (client_takes x.client) tt;
-    client_timer = λ d c x same is. quietly m (event.Timer (place.Client d) c) [] tt c x.iss (is_armed x.client) (client_timer x.client) tt;
-    front_timer = λ c x is. front-goes m (event.Timer place.Front c) [] tt c (front_timer (env_of m c x.iss) (table.get m.conns c))
-        (front.timer-says (env_of m c x.iss) (tale m.journal c) (table.get m.conns c) (stands c)).notes;
-    front_gets = λ k c p x at on from to is. front-goes m (event.Deliver k) (rec.Got k ∷ []) (tt, tt) c (front_gets (env_of m c x.iss) (table.get m.conns c) (decoded p.bytes c ToCluster))
-        (front.gets-says (env_of m c x.iss) (tale m.journal c) (table.get m.conns c) (decoded p.bytes c ToCluster) (stands c)).notes;
-    client_gets = λ k c p x at on to is. comes k c p x at to is;
-    nobody = λ k p at on. record { rows = _; is = refl; may = (tt, (tt, tt)) };
-    loses = λ k p at on. record { rows = _; is = refl; may = (tt, (tt, tt)) };
+    size : (tale_at x).touched ≡ false → length part ≡ heard.len
+    size u =
+        let within = (arrived-order st.client s (fits u)).within in
+        omega (arith, length-take heard.len (drop heard.from s.payload), length-drop heard.from s.payload, within)
+
+    ends : (t : Tale) → t.touched ≡ (tale_at x).touched → t.numbers ≡ (tale_at x).numbers → ((tale_at x).touched ≡ false → length t.accepted ≡ st.client.accepted + heard.len)
+        → TellsBy (TakesBy (Some packet) x.c) x.c t (eof_note x.c heard)
+    ends t same numbers count = cond_both heard.eof (rec.Eof x.c ∷ []) [] (TellsBy (TakesBy (Some packet) x.c) x.c t)
+        (λ e. (
+          (λ v.
+              let u : (tale_at x).touched ≡ false = sym same ∙ v in
+              let h : IsOpen files x st = open_ u in
+              let some : Takes heard = subst (λ b. 0 < heard.len + one_if b) (sym e) (omega arith) in (
+                got t h numbers,
+                (arrived-order st.client s (fits u)).ended e,
+                next h t (st.client.accepted + heard.len) (seq_add s.seq (length s.payload)) (count u) some (end-number st.client s (fits u) some e),
+              )),
+          tt,
+        ))
+        (λ e. tt)
+
+    heard-takes : TellsBy (TakesBy (Some packet) x.c) x.c (tale_at x) (accepted_note x.c heard s.payload ++ eof_note x.c heard)
+    heard-takes = cond_both (nat_lt 0 heard.len) (rec.Accepted x.c part ∷ []) [] (λ (rs : List Rec). TellsBy (TakesBy (Some packet) x.c) x.c (tale_at x) (rs ++ eof_note x.c heard)) some-bytes no-bytes where
+      some-bytes : nat_lt 0 heard.len ≡ true → TellsBy (TakesBy (Some packet) x.c) x.c (tale_at x) (rec.Accepted x.c part ∷ eof_note x.c heard)
+      some-bytes e =
+          let less : 0 < heard.len = ltb-true 0 heard.len e in
+          let some : Takes heard = omega (arith, less) in
+          let t : Tale = tale_step x.c (tale_at x) (rec.Accepted x.c part) in
+          let more : length t.accepted ≡ length (tale_at x).accepted + length part =
+          ap (λ b. length (cond b ((tale_at x).accepted ++ part) (tale_at x).accepted)) (same_number x.c) ∙ length-append (tale_at x).accepted part in (
+            (λ u.
+                let h : IsOpen files x st = open_ u in (
+                  got (tale_at x) h refl,
+                  heard.from,
+                  next h (tale_at x) st.client.accepted (seq_add s.seq heard.from) (first h) some (next-number st.client s (fits u) some),
+                  part-at heard.from heard.len s.payload (arrived-order st.client s (fits u)).within,
+                  subst (λ n. 0 < n) (sym (size u)) less,
+                )),
+            ends t refl refl (λ u. more ∙ (λ i. first (open_ u) i + size u i)),
+          )
+
+      no-bytes : nat_lt 0 heard.len ≡ false → TellsBy (TakesBy (Some packet) x.c) x.c (tale_at x) (eof_note x.c heard)
+      no-bytes e = let none : heard.len ≡ 0 = omega (arith, ltb-false 0 heard.len e) in ends (tale_at x) refl refl (λ u. first (open_ u) ∙ omega (arith, none))
+
+  hears : (r : Result Said SegFault) → decoded bytes x.c ToClient ≡ r → TellsBy (TakesBy (Some packet) x.c) x.c (tale_at x) (client_gets st.client r).1.notes
+  hears (Err fault) is = tt
+  hears (Ok s) is = subst (λ d. TellsBy (TakesBy (Some packet) x.c) x.c (tale_at x) (accepted_note d (arrived st.client s).0 s.payload ++ eof_note d (arrived st.client s).0))
+      (sym ((arrived-alike st.client s).0 ∙ number)) (heard-takes s is)
+
+-- ---- each rule
+
+-- what a rule owes
+abbrev pub Owes : FilesAt → Conn → Move → Type 0
+Owes files x v = IsSound x → Untouched (IsTruthfulAt files) x → StepTakes x.c x.seen (seen_in x v)
+
+module _ (k : Setting) where
+  writes : (x : Conn) (s : Station) (e : Event) (bytes : List ℕ) → Owes k.files x (client_does x s (event_seen e) (client_writes s.client bytes))
+  writes x s e bytes sound given = quiet x (client_does x s (event_seen e) (client_writes s.client bytes)) (λ came. (tt, tt))
+      (cond_both (is_writing s.client) (speaking (rec.Wrote s.client.c bytes ∷ []) [] (written s.client bytes)) (s.client, silent) (λ (given : ClientBlock × Turn). Each TakesNothing given.1.notes)
+      (λ t. (tt, tt)) (λ t. tt))
+
+  -- a rule that notes nothing of what is taken
+  still : (x : Conn) (s : Station) (e : Event) (given : ClientBlock × Turn) → Each TakesNothing given.1.notes → Owes k.files x (client_does x s (event_seen e) given)
+  still x s e given notes sound truthful = quiet x (client_does x s (event_seen e) given) (λ came. (tt, tt)) notes
+
+  front : (x : Conn) (heads : List Seen) (given : Option FrontConn × Turn) → ((came : Option Letter) → EachRow (MayBeSeen (TakesBy came x.c) x.c) x.seen heads)
+      → Each (NotedAt Front x.c) given.1.notes → Owes k.files x (front_does x heads given)
+  front x heads given seen notes sound truthful = quiet x (front_does x heads given) seen (fronts-pass x.c given.1.notes notes)
+
+  pub owing : Rules k (Owes k.files)
+  owing = record {
+    opens = λ x isn iss wnd mss rule none sound given. quiet x (client_begins x isn iss wnd mss) (λ came. (tt, (tt, tt))) tt;
+    gets = λ x s path there fits. writes x s (event.Get x.c path) (request path);
+    writes = λ x s bytes there fits. writes x s (event.Write x.c bytes) bytes;
+    shuts = λ x s there. still x s (event.Shut x.c) (client_shuts s.client) tt;
+    aborts = λ x s there. still x s (event.Abort x.c) (client_aborts s.client) (tt, tt);
+    holds = λ x s there. still x s (event.Hold x.c) (client_holds s.client) tt;
+    takes = λ x s there. still x s (event.Take x.c) (client_takes s.client) tt;
+    injects = λ x s bytes there rule sound given. quiet x (client_does x s (inject_seen x.c bytes) (client_injects s.client bytes)) (λ came. (tt, (tt, tt))) tt;
+    client_fires = λ x s there. still x s (event.Timer (Client x.c) x.c) (client_timer s.client) tt;
+    client_hears = λ x s bytes there was sound given. noted x (client_does x s (packet_seen Front (Client x.c) bytes) (client_gets s.client (decoded bytes x.c ToClient))) (λ came. tt)
+        (hears k.files x s there given bytes was (sound.number s there) (decoded bytes x.c ToClient) refl);
+    front_fires = λ x s there. front x (event_seen (event.Timer Front x.c)) (front_timer (env_at k x s) x.part.front) (λ came. (tt, tt)) (front_fires-turn (env_at k x s) x.part.front).notes;
+    front_hears = λ x s bytes there was. front x (packet_seen (Client x.c) Front bytes) (front_gets (env_at k x s) x.part.front (decoded bytes x.c ToCluster)) (λ came. tt)
+        (front_gets-turn (env_at k x s) x.part.front (decoded bytes x.c ToCluster)).notes;
+    ignores = λ x from to bytes was sound given. quiet x (ignoring x from to bytes) (λ came. tt) tt;
   }

@@ -6,12 +6,11 @@
 ghost use Rattle.lard_laws_clients.specs.Laws.{ClientsTakeInOrder};
 
 use lard_laws_bytes::every_run_is_true;
-use lard_laws_places::states_are_told;
 
-/// In every run, a client accepts bytes exactly of the segment that it got, in order, and nothing twice.
+/// In every run, a client whose connection the schedule did not touch accepts bytes exactly of the segment that it got, in
+/// order, and nothing twice.
 pub fn clients_take_what_comes_next()
     ensures { ClientsTakeInOrder }
 {
-    states_are_told();
     every_run_is_true();
 }

@@ -207,7 +207,6 @@ fn forms_that_are_not_built(rt: HostRuntime) -> Result<(), Fail> {
             ("lard 1\nclock\n", form(2, Form::Clock), 0),
             ("lard 1\nnodes 3\n", form(2, Form::Key(Key::Nodes)), 0),
             ("lard 1\ncache x y z\n", form(2, Form::Key(Key::Cache)), 0),
-            ("lard 1\ngo\ninject 1 00\n", form(3, Form::Inject), 1),
             ("lard 1\ngo\nsettle 10\n", form(3, Form::Settle), 1),
             ("lard 1\ngo\ndisk", refused(3, Why::Syntax), 1),
             ("lard 1\ngo\ndrain 1\n", refused(3, Why::Syntax), 1),

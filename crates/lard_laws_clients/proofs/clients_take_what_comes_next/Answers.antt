@@ -3,4 +3,4 @@ use Rattle.lard_laws_clients.proofs.Reached.{clients-take}
 use Rattle.lard_laws_clients.proofs.clients_take_what_comes_next.Goals as goal
 
 pub returns : goal.returns
-returns c = clients-take c.every_run_is_true.ensures.states c.states_are_told.ensures.packets c.states_are_told.ensures.connections
+returns c = clients-take c.every_run_is_true.ensures.states

@@ -8,6 +8,8 @@ returns-clause-replay g c = λ asked. ran laws c.replay.result _ _ _ _ c.replay.
   laws : Laws
   laws = record {
     takers = c.clients_take_what_comes_next.ensures;
+    tables = c.clients_keep_their_tables.ensures;
+    taken_once = c.the_front_end_takes_once.ensures;
     tells = c.every_run_is_true.ensures.told;
     prefix = c.every_run_is_true.ensures.prefix;
     service = c.every_run_is_true.ensures.service;
