@@ -158,12 +158,16 @@ module _ (P : Conn → Move → Type 0) (m w : Machine) (e : Event) (own_ : List
   pub ignores : (from to : Place) (bytes : List ℕ) → seen_on q m.net (rec.Event (w.events + 1) e ∷ own_) ≡ packet_seen from to bytes → P (conn m q) (ignoring (conn m q) from to bytes)
       → Goes P (conn m q) (conn (passed w e own_) q)
   unfolding conn part_of timer_rows
-  ignores from to bytes seen does = inr (ignoring (conn m q) from to bytes, does, λ i. record {
-    c = q;
-    part = at i;
-    letters = (net ∙ sym (append-nil (letters q m.net))) i;
-    seen = (passed-sees (packet_seen from to bytes) seen ∙ ap (λ (rs : List Rec). own q m.journal ++ (packet_seen from to bytes ++ map Row rs)) (sym (unchanged to q (armed_at to (part_of m q))))) i;
-  })
+  ignores from to bytes seen does = inr (
+    ignoring (conn m q) from to bytes,
+    does,
+    λ i. record {
+      c = q;
+      part = at i;
+      letters = (net ∙ sym (append-nil (letters q m.net))) i;
+      seen = (passed-sees (packet_seen from to bytes) seen ∙ ap (λ (rs : List Rec). own q m.journal ++ (packet_seen from to bytes ++ map Row rs)) (sym (unchanged to q (armed_at to (part_of m q))))) i;
+    },
+  )
 
 -- ---- what the journal tells of packets goes on as the network does
 
