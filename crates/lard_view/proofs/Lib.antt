@@ -3,6 +3,7 @@ pub mod Carried
 pub mod ClientTurns
 pub mod Endpoints
 pub mod Guarded
+pub mod Halves
 pub mod InSteps
 pub mod Moving
 pub mod Rows
