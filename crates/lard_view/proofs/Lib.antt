@@ -3,11 +3,9 @@ pub mod Carried
 pub mod ClientTurns
 pub mod Endpoints
 pub mod Guarded
-pub mod Halves
 pub mod InSteps
 pub mod Moving
 pub mod Rows
 pub mod Shapes
-pub mod Sides
 pub mod Steps
 pub mod Turns
