@@ -24,6 +24,7 @@ use Rattle.lard_app.specs.Replay.{begin, config_of, events_of, files_of, journal
 use Rattle.lard_app.specs.declared.status.Status.{Status}
 use Rattle.lard_app.specs.Run.{Ran, Reads}
 use Rattle.lard_app.proofs.Endings.{caused}
+use Rattle.lard_app.proofs.Grammar.{passed-stands}
 use Rattle.lard_app.proofs.Keeping.{IsUnseen, whole-keeps}
 use Rattle.lard_app.proofs.Ranges.{IsGivenFile, sizes-ranges}
 
@@ -172,6 +173,7 @@ ran laws status left left_now old new r = record {
   events = events_of r.text;
   journal = journal_of r.text;
   are = (refl, refl, refl, refl);
+  passed = passed-stands r.text;
   machine = (machine_of r.text, machine r.text, refl);
   follows = follows r.text;
   network = network r.text;

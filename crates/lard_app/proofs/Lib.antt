@@ -4,6 +4,7 @@ mod Endings
 mod Failures
 mod Faults
 mod Going
+mod Grammar
 mod Growth
 mod Keeping
 mod Knows

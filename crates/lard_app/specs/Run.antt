@@ -9,6 +9,7 @@ use Rattle.lard_base.specs.declared.event.Event.{Event}
 use Rattle.lard_base.specs.declared.limits.TheConstants.{MAX_INPUT_BYTES}
 use Rattle.lard_base.specs.Outside.{WrotePrefix}
 use Rattle.lard_files.specs.Files.{file_at}
+use Rattle.lard_grammar.specs.Schedule.{IsSchedule, text_of}
 use Rattle.lard_history.specs.Laws.{AcceptsOnlyAnswers, ActsInPlace, Follows, IsNetwork, IsOwnership, IsSoleSender, ResetsAtTheLimit, ServesTheAnswers, TellsTheTruth, WritesWhileOpen}
 use Rattle.lard_journal.specs.declared.rec.Rec.{Rec}
 use Rattle.lard_laws_clients.specs.Laws.{TakesInOrder}
@@ -18,6 +19,7 @@ use Rattle.lard_laws_steps.specs.Fronts.{TakesOnce}
 use Rattle.lard_lines.specs.Lines.{lines_of}
 use Rattle.lard_machine.specs.Machine.{Passes, start}
 use Rattle.lard_machine.specs.declared.machine.Machine.{Machine}
+use Rattle.lard_schedule.specs.declared.reader.Stage.TheVariants.{Running}
 use Rattle.lard_app.specs.Causes.{Ends, Leads}
 use Rattle.lard_app.specs.declared.status.Status.{Status}
 use Rattle.lard_app.specs.declared.status.Status.TheVariants.{Done, Usage, Refused, ReadFault, WriteFault, NoMemory, Limit}
@@ -60,6 +62,18 @@ pub record Reads (status : Status) (left left_now old new : Option (List ℕ)) :
   pub bounded : length text ≤ MAX_INPUT_BYTES + 1
   pub ended : Ended status text left_now old new
 
+-- ---- what a text stands for
+
+-- The lines of a text that are passed are a front of it. Where `go` is among them they are a schedule, which stands for
+-- this configuration, these files and these events; and where the replay is done, they are the whole text.
+pub record Passed (text : List ℕ) (config : Config) (files : List (List ℕ × List ℕ)) (events : List Event) : Type 0 where
+  pub lines : List (List ℕ)
+  pub behind : List ℕ
+  pub cut : text ≡ text_of lines ++ behind
+  pub leads : Leads begin lines (whole text).0
+  pub schedule : (whole text).0.reader.stage ≡ Running → IsSchedule (text_of lines) config files events
+  pub all : (whole text).1 ≡ Done → behind ≡ []
+
 -- ---- the whole of a run
 
 -- All that a run says: the text that was read, what it stands for, how the run ended over it, and the journal with its laws.
@@ -77,6 +91,7 @@ pub record Ran (status : Status) (left left_now old new : Option (List ℕ)) : T
   pub events : List Event
   pub journal : List Rec
   pub are : (config_of text ≡ config) × (files_of text ≡ files) × (events_of text ≡ events) × (journal_of text ≡ journal)
+  pub passed : Passed text config files events
   -- the journal is the machine's, after these events, and each step of it is an event's
   pub machine : (m : Machine) × Passes (start config files) events m × (m.journal ≡ journal)
   pub follows : Follows 1 events journal
