@@ -10,14 +10,14 @@ use Rattle.lard_base.specs.declared.place.Place.{Place}
 use Rattle.lard_client.specs.Control.{written_len}
 use Rattle.lard_history.specs.Journal.{answered_bytes, numbers_of, packet_bytes, request}
 use Rattle.lard_journal.specs.declared.rec.Rec.TheVariants as rec
-use Rattle.lard_machine.specs.Client.{client_writes}
+use Rattle.lard_rules.specs.Client.{client_writes}
 use Rattle.lard_machine.specs.Machine.{aborts, client_goes_on, delivered, happens, holds, limit_of, limit_reached, lost, machine_step, opened, passed, shut, takes, timer, to_place, unless_limit, wrote}
 use Rattle.lard_machine.specs.declared.fault.StepFault.{StepFault}
 use Rattle.lard_machine.specs.declared.fault.StepFault.TheVariants as fault
 use Rattle.lard_machine.specs.declared.fault.What.{What}
 use Rattle.lard_machine.specs.declared.fault.What.TheVariants.{Stream}
 use Rattle.lard_machine.specs.declared.machine.Machine.{Machine}
-use Rattle.lard_machine.specs.declared.places.Station.{Station}
+use Rattle.lard_rules.specs.declared.places.Station.{Station}
 use Rattle.lard_net.specs.Net.{Packet, bytes_in, lose_at, packet_at}
 use Rattle.lard_app.specs.declared.status.Why.TheVariants as why
 use Rattle.lard_app.specs.Causes.{HasReached, IsOfClient, IsOfPacket, IsUntimely, IsWithinLimits, Opens, WritesTooMuch}

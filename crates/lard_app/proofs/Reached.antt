@@ -8,7 +8,7 @@ use Rattle.lard_laws_places.specs.Places.{ClientStands, client_tale, lost_in}
 use Rattle.lard_laws_places.proofs.Reached.{reached-holds}
 use Rattle.lard_machine.specs.Machine.{IsReached}
 use Rattle.lard_machine.specs.declared.machine.Machine.{Machine}
-use Rattle.lard_machine.specs.declared.places.Station.{Station}
+use Rattle.lard_rules.specs.declared.places.Station.{Station}
 use Rattle.lard_net.specs.Net.{Packet, bytes_in, packet_at}
 
 -- what the state keeps is what the journal says

@@ -11,8 +11,8 @@ use Rattle.lard_machine.proofs.Forms.{Forms, step_has}
 use Rattle.lard_machine.specs.Bounds.{HasRule}
 use Rattle.lard_machine.specs.Machine.{acted, client_acted, client_put, front_acted, front_put, machine_step, passed, Act}
 use Rattle.lard_machine.specs.declared.machine.Machine.{Machine}
-use Rattle.lard_machine.specs.declared.places.FrontConn.{FrontConn}
-use Rattle.lard_machine.specs.declared.places.Turn.{Turn}
+use Rattle.lard_rules.specs.declared.places.FrontConn.{FrontConn}
+use Rattle.lard_rules.specs.declared.places.Turn.{Turn}
 use Rattle.lard_schedule.specs.Events.{IsInRange}
 use Rattle.lard_app.specs.Forms.{missing}
 

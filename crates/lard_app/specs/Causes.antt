@@ -18,7 +18,7 @@ use Rattle.lard_journal.specs.declared.rec.Rec.{Rec}
 use Rattle.lard_machine.specs.declared.fault.What.{What}
 use Rattle.lard_machine.specs.declared.fault.What.TheVariants as what
 use Rattle.lard_machine.specs.declared.machine.Machine.{Machine}
-use Rattle.lard_machine.specs.declared.places.Station.{Station}
+use Rattle.lard_rules.specs.declared.places.Station.{Station}
 use Rattle.lard_schedule.specs.declared.item.Item.{Item}
 use Rattle.lard_schedule.specs.declared.item.Item.TheVariants as item
 use Rattle.lard_schedule.specs.declared.reader.Stage.TheVariants.{Running}

@@ -7,7 +7,7 @@ use Rattle.lard_client.specs.Arriving.{arrived}
 use Rattle.lard_client.proofs.Accepted.{arrived-order}
 use Rattle.lard_journal.specs.declared.rec.Rec.{Rec}
 use Rattle.lard_journal.specs.declared.rec.Rec.TheVariants as rec
-use Rattle.lard_machine.specs.Client.{accepted_note, eof_note, ready_of, client_gets}
+use Rattle.lard_rules.specs.Client.{accepted_note, eof_note, ready_of, client_gets}
 use Rattle.lard_segment.specs.Segment.{Said}
 use Rattle.lard_truth.specs.Truth.{Stream, IsTrueOf, stream_of}
 use Rattle.lard_truth.proofs.Accepting.{arrived-takes}

@@ -4,8 +4,8 @@ use Rattle.lard_base.specs.declared.place.Place.{Place}
 use Rattle.lard_client.specs.Control.{ClientBlock}
 use Rattle.lard_client.specs.Leaving as client
 use Rattle.lard_journal.specs.declared.rec.Rec.{Rec}
-use Rattle.lard_machine.specs.Client.{ready_of, speaking}
-use Rattle.lard_machine.specs.Speaking.{to_front, client_emits}
+use Rattle.lard_rules.specs.Client.{ready_of, speaking}
+use Rattle.lard_rules.specs.Speaking.{to_front, client_emits}
 use Rattle.lard_segment.specs.declared.segment.Dir.TheVariants.{ToCluster}
 use Rattle.lard_segment.specs.declared.segment.Ready.{Ready}
 use Rattle.lard_segment.specs.Segment.{spelled}

@@ -7,7 +7,7 @@ use Rattle.lard_client.specs.Control.{ClientBlock, is_open, is_established, is_w
 use Rattle.lard_client.specs.Leaving.{abort_ready, timed, after_timer, filled}
 use Rattle.lard_journal.specs.declared.rec.Rec.{Rec}
 use Rattle.lard_journal.specs.declared.rec.Rec.TheVariants as rec
-use Rattle.lard_machine.specs.Client.{silent, ready_of, speaking, client_opens, client_writes, client_shuts, client_holds, client_takes, client_aborts, client_timer}
+use Rattle.lard_rules.specs.Client.{silent, ready_of, speaking, client_opens, client_writes, client_shuts, client_holds, client_takes, client_aborts, client_timer}
 use Rattle.lard_segment.specs.declared.segment.Ready.{Ready}
 use Rattle.lard_send.specs.Send.{queued_too, closed}
 use Rattle.lard_truth.specs.Truth.{Stream, GoesOn, Speaks, Accepts, stream_of}

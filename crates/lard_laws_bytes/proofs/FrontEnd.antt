@@ -22,12 +22,12 @@ use Rattle.lard_laws_bytes.proofs.Notes.{or-false}
 use Rattle.lard_laws_bytes.proofs.Reading.{Goes, IsReading, Serves, or-last, reads-goes}
 use Rattle.lard_laws_bytes.proofs.Serving.{noted-nothing}
 use Rattle.lard_laws_bytes.proofs.Stopping.{Stops, reads-stops, stopped-alike, stopped-arrived, stopped-begun}
-use Rattle.lard_machine.specs.declared.places.FrontConn.{FrontConn}
-use Rattle.lard_machine.specs.declared.places.FrontConn.TheVariants.{Held, Lent, Closed}
-use Rattle.lard_machine.specs.declared.places.Turn.{Turn}
-use Rattle.lard_machine.specs.Front.{FrontEnv, Service, begun, cut_off, front_gets, front_timer, heard, is_plain_syn, is_telling, last_ack, last_words, limit_said, met, ready_of, reads, refusal, settled, spoken, told, tombstone}
-use Rattle.lard_machine.specs.Client.{silent}
-use Rattle.lard_machine.specs.Speaking.{speaks, speaks_symbols}
+use Rattle.lard_rules.specs.declared.places.FrontConn.{FrontConn}
+use Rattle.lard_rules.specs.declared.places.FrontConn.TheVariants.{Held, Lent, Closed}
+use Rattle.lard_rules.specs.declared.places.Turn.{Turn}
+use Rattle.lard_rules.specs.Front.{FrontEnv, Service, begun, cut_off, front_gets, front_timer, heard, is_plain_syn, is_telling, last_ack, last_words, limit_said, met, ready_of, reads, refusal, settled, spoken, told, tombstone}
+use Rattle.lard_rules.specs.Client.{silent}
+use Rattle.lard_rules.specs.Speaking.{speaks, speaks_symbols}
 use Rattle.lard_request.specs.declared.verdict.Verdict.{Verdict}
 use Rattle.lard_segment.specs.declared.segment.Ready.{Ready}
 use Rattle.lard_segment.specs.Segment.{Said}

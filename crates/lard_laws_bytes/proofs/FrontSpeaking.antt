@@ -7,7 +7,7 @@ use Rattle.lard_endpoint.specs.Control.{ControlBlock, rcv_nxt}
 use Rattle.lard_endpoint.specs.Leaving.{owes, advanced, emitted, after_emit, timed, after_timer, filled, after_piece, after_owed, told}
 use Rattle.lard_laws_bytes.specs.Agreement.{AreReplies, IsReply}
 use Rattle.lard_laws_bytes.proofs.FrontEndpoint.{IsBetween, between-emitted}
-use Rattle.lard_machine.specs.Speaking.{to_client, emits, has_symbol, emits_symbols}
+use Rattle.lard_rules.specs.Speaking.{to_client, emits, has_symbol, emits_symbols}
 use Rattle.lard_segment.specs.declared.segment.Ready.{Ready}
 use Rattle.lard_segment.specs.Segment.{Said}
 use Rattle.lard_send.specs.declared.piece.Piece.{Piece}

@@ -18,7 +18,7 @@ use Rattle.lard_laws_bytes.specs.Keeping.{AreNoted, resets}
 use Rattle.lard_laws_bytes.proofs.FrontEndpoint.{IsBetween, Onward, between-consumed, between-discarded, onward-queued, onward-finished}
 use Rattle.lard_laws_bytes.proofs.ReadingBytes.{IsJudged, place, cuts-more, begins-block, begins-long, next-verdict, read-judged}
 use Rattle.lard_laws_bytes.proofs.Serving.{noted-reset, noted-served}
-use Rattle.lard_machine.specs.Front.{FrontEnv, Service, closed_behind, queued, passed_over, answered, consumed, ended_at_fin, may_read, read_found, reads_on}
+use Rattle.lard_rules.specs.Front.{FrontEnv, Service, closed_behind, queued, passed_over, answered, consumed, ended_at_fin, may_read, read_found, reads_on}
 use Rattle.lard_request.specs.declared.verdict.Code.TheVariants as code
 use Rattle.lard_request.specs.declared.verdict.Verdict.{Verdict}
 use Rattle.lard_request.specs.declared.verdict.Verdict.TheVariants.{Fault}

@@ -14,8 +14,8 @@ use Rattle.lard_endpoint.specs.Control.{ControlBlock, listening, queueing, finis
 use Rattle.lard_laws_bytes.specs.Agreement.{HasStopped}
 use Rattle.lard_laws_bytes.proofs.FrontEndpoint.{segment-takes}
 use Rattle.lard_laws_bytes.proofs.ReadingBytes.{cuts-more}
-use Rattle.lard_machine.specs.Front.{FrontEnv, Service, queued, passed_over, answered, consumed, ended_at_fin, may_read, read_found, reads_on, reads}
-use Rattle.lard_machine.proofs.Reading.{unread, answered-unread}
+use Rattle.lard_rules.specs.Front.{FrontEnv, Service, queued, passed_over, answered, consumed, ended_at_fin, may_read, read_found, reads_on, reads}
+use Rattle.lard_rules.proofs.Reading.{unread, answered-unread}
 use Rattle.lard_recv.specs.Recv.{Received, awaited, begins_after, fresh, ends, taken}
 use Rattle.lard_request.specs.declared.verdict.Code.TheVariants as code
 use Rattle.lard_request.specs.declared.verdict.Verdict.{Verdict}

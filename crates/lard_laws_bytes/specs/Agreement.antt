@@ -13,9 +13,9 @@ use Rattle.lard_endpoint.specs.Control.{ControlBlock, IsControlBlock}
 use Rattle.lard_endpoint.specs.declared.control.moving.Final.{Final}
 use Rattle.lard_endpoint.specs.Moving.{is_closed, final_of}
 use Rattle.lard_history.specs.Journal.{Tale}
-use Rattle.lard_machine.specs.declared.places.FrontConn.{FrontConn}
-use Rattle.lard_machine.specs.declared.places.FrontConn.TheVariants.{Held, Lent, Closed}
-use Rattle.lard_machine.specs.declared.places.Station.{Station}
+use Rattle.lard_rules.specs.declared.places.FrontConn.{FrontConn}
+use Rattle.lard_rules.specs.declared.places.FrontConn.TheVariants.{Held, Lent, Closed}
+use Rattle.lard_rules.specs.declared.places.Station.{Station}
 use Rattle.lard_request.specs.declared.verdict.Verdict.{Verdict}
 use Rattle.lard_segment.specs.declared.segment.Dir.TheVariants.{ToClient, ToCluster}
 use Rattle.lard_segment.specs.Segment.{Said, IsSendable, spelled}

@@ -8,10 +8,10 @@ use Rattle.lard_history.specs.Journal.{Tale, tale}
 use Rattle.lard_history.specs.Laws.{MayServe}
 use Rattle.lard_journal.specs.declared.rec.Rec.{Rec}
 use Rattle.lard_journal.specs.declared.rec.Rec.TheVariants as rec
-use Rattle.lard_machine.specs.declared.places.FrontConn.{FrontConn}
-use Rattle.lard_machine.specs.declared.places.Turn.{Turn}
-use Rattle.lard_machine.specs.Client.{client_gets, client_opens, client_writes}
-use Rattle.lard_machine.specs.Front.{FrontEnv, front_gets, front_timer}
+use Rattle.lard_rules.specs.declared.places.FrontConn.{FrontConn}
+use Rattle.lard_rules.specs.declared.places.Turn.{Turn}
+use Rattle.lard_rules.specs.Client.{client_gets, client_opens, client_writes}
+use Rattle.lard_rules.specs.Front.{FrontEnv, front_gets, front_timer}
 use Rattle.lard_request.specs.declared.verdict.Verdict.{Verdict}
 use Rattle.lard_segment.specs.Segment.{Said}
 use Rattle.lard_truth.specs.Truth.{Stream, IsStream, GoesOn, IsTrueOf}

@@ -3,8 +3,8 @@ use Rattle.std.specs.Prelude.{◌≡◌, ℕ, List, take, Option}
 use Rattle.std.specs.List.{concat}
 use Rattle.lard_answers.specs.Answers.{FilesAt, IsPrefix, answer_bytes, answers}
 use Rattle.lard_history.specs.Journal.{Tale}
-use Rattle.lard_machine.specs.declared.places.FrontConn.{FrontConn}
-use Rattle.lard_machine.specs.declared.places.Station.{Station}
+use Rattle.lard_rules.specs.declared.places.FrontConn.{FrontConn}
+use Rattle.lard_rules.specs.declared.places.Station.{Station}
 use Rattle.lard_request.specs.declared.verdict.Verdict.{Verdict}
 use Rattle.lard_truth.specs.Truth.{Stream}
 use Rattle.lard_laws_bytes.specs.Agreement.{Agrees}

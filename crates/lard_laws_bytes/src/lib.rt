@@ -7,7 +7,7 @@
 ghost use Rattle.lard_laws_bytes.specs.Keeping.{ClientHearsTruth, ClientKeeps, ClientOpens, ClientWritesTruth, FrontHearsTruth, FrontTimerIsTrue};
 ghost use Rattle.lard_laws_bytes.specs.Prefix.{AcceptedAreAnswers, SaidAreAnswers};
 ghost use Rattle.lard_laws_bytes.specs.Runs.{ClientsAcceptAnswers, JournalsServeTheAnswers, JournalsTellTheTruth, StatesAreTruthful};
-ghost use Rattle.lard_machine.specs.Client.{client_aborts, client_holds, client_shuts, client_takes, client_timer};
+ghost use Rattle.lard_rules.specs.Client.{client_aborts, client_holds, client_shuts, client_takes, client_timer};
 
 /// The front end answers what its client wrote, and says nothing else.
 pub fn the_front_end_keeps_the_agreement()

@@ -23,11 +23,11 @@ use Rattle.lard_laws_bytes.proofs.Holding.{IsOpen, at-station}
 use Rattle.lard_laws_bytes.proofs.Later.{fair-letter}
 use Rattle.lard_laws_clients.proofs.Delivered.{came_first}
 use Rattle.lard_laws_clients.proofs.Hearing.{Takes, end-number, next-number, takes-established}
-use Rattle.lard_machine.specs.declared.places.FrontConn.{FrontConn}
-use Rattle.lard_machine.specs.declared.places.Station.{Station}
-use Rattle.lard_machine.specs.declared.places.Turn.{Turn}
-use Rattle.lard_machine.specs.Client.{accepted_note, client_aborts, client_gets, client_holds, client_injects, client_shuts, client_takes, client_timer, client_writes, eof_note, silent, speaking}
-use Rattle.lard_machine.specs.Front.{front_gets, front_timer}
+use Rattle.lard_rules.specs.declared.places.FrontConn.{FrontConn}
+use Rattle.lard_rules.specs.declared.places.Station.{Station}
+use Rattle.lard_rules.specs.declared.places.Turn.{Turn}
+use Rattle.lard_rules.specs.Client.{accepted_note, client_aborts, client_gets, client_holds, client_injects, client_shuts, client_takes, client_timer, client_writes, eof_note, silent, speaking}
+use Rattle.lard_rules.specs.Front.{front_gets, front_timer}
 use Rattle.lard_machine.specs.Machine.{timer_change}
 use Rattle.lard_segment.proofs.Again.{again}
 use Rattle.lard_segment.specs.declared.fault.SegFault.{SegFault}

@@ -14,9 +14,9 @@ use Rattle.lard_laws_places.specs.Places.{ClientTale, IsOpened, client_tale, fro
 use Rattle.lard_view.proofs.ClientTurns.{GoesOn, aborted-on, arrived-hears, held-on, ready-to, shut-on, speaks-on, taken-on, timer-on, written-on}
 use Rattle.lard_view.proofs.Endpoints.{AllTo}
 use Rattle.lard_laws_places.proofs.Telling.{Tells}
-use Rattle.lard_machine.specs.declared.places.Turn.{Turn}
-use Rattle.lard_machine.specs.Client.{client_aborts, client_gets, client_holds, client_injects, client_opens, client_shuts, client_takes, client_timer, client_writes, ready_of, silent, speaking}
-use Rattle.lard_machine.specs.Speaking.{client_speaks}
+use Rattle.lard_rules.specs.declared.places.Turn.{Turn}
+use Rattle.lard_rules.specs.Client.{client_aborts, client_gets, client_holds, client_injects, client_opens, client_shuts, client_takes, client_timer, client_writes, ready_of, silent, speaking}
+use Rattle.lard_rules.specs.Speaking.{client_speaks}
 use Rattle.lard_segment.specs.declared.fault.SegFault.{SegFault}
 use Rattle.lard_segment.specs.Segment.{Said}
 
@@ -50,7 +50,7 @@ module _ (stream c iss : ℕ) (u : Tale) where
     pub notes : Each IsOfClient given.1.notes
     pub stands : IsOpened c (record { client = given.0; iss = iss }) (client_tale (told_on c u given.1.notes))
     pub to : AllTo Front given.1.segments
-  
+
   goes-at : (x y : ClientBlock) (t : ClientTale) → GoesOn x y → IsClientAt x t → IsClientAt y t
   goes-at x y t on h = record {
     number = on.number ∙ h.number;
@@ -115,7 +115,7 @@ module _ (stream c iss : ℕ) (u : Tale) where
           notes = (tt, tt);
           stands = record { number = on.number ∙ h.number; numbers = h.numbers ∙ ap (λ n. Some (record { isn = n; iss = iss })) (sym on.first); writes = λ w. absurd (cc) };
           to = ready-to (aborted x) (abort_ready x);
-          }
+        }
 
     -- ---- segments that come
 

@@ -26,12 +26,12 @@ use Rattle.lard_laws_places.specs.Places.{FrontStands, FrontTale, IsFronts, IsSe
 use Rattle.lard_view.proofs.Endpoints.{AllTo, ready-to, segment-many, speaks-to, speaks_symbols-to, timer-many}
 use Rattle.lard_laws_places.proofs.Telling.{MayStand, Tells}
 use Rattle.lard_view.proofs.Rows.{TellsBy-append}
-use Rattle.lard_machine.specs.declared.places.FrontConn.{FrontConn}
-use Rattle.lard_machine.specs.declared.places.FrontConn.TheVariants.{Held, Lent, Closed}
-use Rattle.lard_machine.specs.declared.places.Turn.{Turn}
-use Rattle.lard_machine.specs.Client.{silent}
-use Rattle.lard_machine.specs.Front.{FrontEnv, Service, answered, begun, closed_behind, consumed, cut_off, front_gets, front_hears, front_timer, is_plain_syn, last_words, limit_said, may_read, met, passed_over, queued, read_found, reads_on, ready_of, replied, rested, settled, spoken, told, tombstone}
-use Rattle.lard_machine.specs.Speaking.{speaks, speaks_symbols}
+use Rattle.lard_rules.specs.declared.places.FrontConn.{FrontConn}
+use Rattle.lard_rules.specs.declared.places.FrontConn.TheVariants.{Held, Lent, Closed}
+use Rattle.lard_rules.specs.declared.places.Turn.{Turn}
+use Rattle.lard_rules.specs.Client.{silent}
+use Rattle.lard_rules.specs.Front.{FrontEnv, Service, answered, begun, closed_behind, consumed, cut_off, front_gets, front_hears, front_timer, is_plain_syn, last_words, limit_said, may_read, met, passed_over, queued, read_found, reads_on, ready_of, replied, rested, settled, spoken, told, tombstone}
+use Rattle.lard_rules.specs.Speaking.{speaks, speaks_symbols}
 use Rattle.lard_request.specs.declared.verdict.Code.{Code}
 use Rattle.lard_request.specs.declared.verdict.Code.TheVariants as code
 use Rattle.lard_request.specs.declared.verdict.Verdict.{Verdict}
@@ -211,7 +211,7 @@ module _ (env : FrontEnv) (u : Tale) where
         stands = rested-stands (speaks env.c w.block).1 w.count t (many-serves None w.count w.block.send.total (speaks env.c w.block).1.send.total t said.many s);
         to = Each-append (λ s. s.0 ≡ place.Client env.c) before (speaks env.c w.block).0 to said.to;
         none = tt;
-          }
+      }
 
   cut_off-says : (x : Option FrontConn) (w : Service) (total : ℕ) → w.over ≡ Some total → IsAnswering w → FrontSays x (cut_off env w)
   cut_off-says x w total over h =
@@ -224,7 +224,7 @@ module _ (env : FrontEnv) (u : Tale) where
         stands = (s.0, λ e. s.1);
         to = Each-append (λ s. s.0 ≡ place.Client env.c) (speaks_symbols env.c w.block).0 (told env (limit_said (final_of (speaks_symbols env.c w.block).1 reason.Limit)) ∷ []) said.to (refl, tt);
         none = tt;
-          }
+      }
 
   settled-says : (x : Option FrontConn) (w : Service) → IsAnswering w → FrontSays x (settled env w)
   settled-says x w h = go w.over refl where

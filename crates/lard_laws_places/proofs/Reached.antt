@@ -16,7 +16,7 @@ use Rattle.lard_laws_places.proofs.Following.{Adds, forms-add}
 use Rattle.lard_laws_places.proofs.Standing.{StandsLawful, standing}
 use Rattle.lard_laws_places.proofs.Telling.{IsLawful, MayStand, lawful-local}
 use Rattle.lard_machine.specs.declared.machine.Machine.{Machine}
-use Rattle.lard_machine.specs.declared.places.FrontConn.{FrontConn}
+use Rattle.lard_rules.specs.declared.places.FrontConn.{FrontConn}
 use Rattle.lard_machine.specs.Bounds.{HasRule, IsBounded}
 use Rattle.lard_machine.specs.Machine.{IsReached, Passes, machine_step, start}
 use Rattle.lard_machine.proofs.Forms.{step_has}

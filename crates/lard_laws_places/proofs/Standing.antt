@@ -17,12 +17,12 @@ use Rattle.lard_laws_places.proofs.ClientRules.{ClientSays, aborts-says, clients
 use Rattle.lard_laws_places.proofs.FrontRules.{FrontSays, SaysNothing, fronts-client}
 use Rattle.lard_laws_places.proofs.FrontRules as front
 use Rattle.lard_laws_places.proofs.Telling.{MayStand, Tells, timer-stands}
-use Rattle.lard_machine.specs.declared.places.FrontConn.{FrontConn}
-use Rattle.lard_machine.specs.declared.places.FrontConn.TheVariants.{Held, Lent, Closed}
-use Rattle.lard_machine.specs.declared.places.Station.{Station}
-use Rattle.lard_machine.specs.declared.places.Turn.{Turn}
-use Rattle.lard_machine.specs.Client.{client_aborts, client_gets, client_holds, client_injects, client_opens, client_shuts, client_takes, client_timer, client_writes, silent}
-use Rattle.lard_machine.specs.Front.{front_gets, front_timer}
+use Rattle.lard_rules.specs.declared.places.FrontConn.{FrontConn}
+use Rattle.lard_rules.specs.declared.places.FrontConn.TheVariants.{Held, Lent, Closed}
+use Rattle.lard_rules.specs.declared.places.Station.{Station}
+use Rattle.lard_rules.specs.declared.places.Turn.{Turn}
+use Rattle.lard_rules.specs.Client.{client_aborts, client_gets, client_holds, client_injects, client_opens, client_shuts, client_takes, client_timer, client_writes, silent}
+use Rattle.lard_rules.specs.Front.{front_gets, front_timer}
 use Rattle.lard_segment.specs.declared.segment.Dir.TheVariants.{ToClient, ToCluster}
 use Rattle.lard_segment.specs.Segment.{decoded}
 use Rattle.lard_view.specs.Carry.{IsLaw, tale_at}

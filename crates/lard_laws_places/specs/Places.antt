@@ -12,9 +12,9 @@ use Rattle.lard_history.specs.Journal.{Numbers, Tale, goal_of, is_lost, packet_b
 use Rattle.lard_history.specs.Own.{net_of}
 use Rattle.lard_journal.specs.declared.rec.Rec.{Rec}
 use Rattle.lard_journal.specs.declared.rec.Rec.TheVariants as rec
-use Rattle.lard_machine.specs.declared.places.FrontConn.{FrontConn}
-use Rattle.lard_machine.specs.declared.places.FrontConn.TheVariants.{Held, Lent, Closed}
-use Rattle.lard_machine.specs.declared.places.Station.{Station}
+use Rattle.lard_rules.specs.declared.places.FrontConn.{FrontConn}
+use Rattle.lard_rules.specs.declared.places.FrontConn.TheVariants.{Held, Lent, Closed}
+use Rattle.lard_rules.specs.declared.places.Station.{Station}
 use Rattle.lard_net.specs.Net.{Packet, bytes_in, packet_at}
 use Rattle.lard_view.specs.Carry.{tale_at}
 use Rattle.lard_view.specs.View.{Conn, Setting}

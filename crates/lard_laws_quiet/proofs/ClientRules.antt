@@ -9,8 +9,8 @@ use Rattle.lard_client.specs.Arriving.{nothing, arrived}
 use Rattle.lard_client.specs.Leaving.{abort_ready, timed, after_timer, unsaid}
 use Rattle.lard_journal.specs.declared.rec.Rec.{Rec}
 use Rattle.lard_journal.specs.declared.rec.Rec.TheVariants as rec
-use Rattle.lard_machine.specs.Client.{silent, ready_of, speaking, accepted_note, eof_note, client_writes, client_shuts, client_holds, client_takes, client_timer}
-use Rattle.lard_machine.specs.Speaking.{client_emits}
+use Rattle.lard_rules.specs.Client.{silent, ready_of, speaking, accepted_note, eof_note, client_writes, client_shuts, client_holds, client_takes, client_timer}
+use Rattle.lard_rules.specs.Speaking.{client_emits}
 use Rattle.lard_send.specs.Send.{Sending, queued_too, closed}
 use Rattle.lard_seq.specs.Seq.{seq_add, seq_offset}
 use Rattle.lard_truth.specs.Truth.{Stream, Speaks, Accepts, stream_of}

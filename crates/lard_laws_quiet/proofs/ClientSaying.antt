@@ -9,8 +9,8 @@ use Rattle.lard_client.specs.Arriving.{heard_open, heard_in, arrived}
 use Rattle.lard_client.specs.Leaving.{syn_ready, data_ready, piece_ready, ack_ready, reset_ready, refusal, told, owes, owed_ready, after_owed, after_piece, emitted, after_emit, timed, after_timer, abort_ready, filled}
 use Rattle.lard_client.specs.Leaving as client
 use Rattle.lard_client.proofs.Accepted.{no_reply}
-use Rattle.lard_machine.specs.Client.{ready_of}
-use Rattle.lard_machine.specs.Speaking.{to_front, client_emits}
+use Rattle.lard_rules.specs.Client.{ready_of}
+use Rattle.lard_rules.specs.Speaking.{to_front, client_emits}
 use Rattle.lard_segment.specs.declared.segment.Dir.TheVariants.{ToCluster}
 use Rattle.lard_segment.specs.declared.segment.Ready.{Ready}
 use Rattle.lard_segment.specs.Segment.{Said, IsSendable, spelled}

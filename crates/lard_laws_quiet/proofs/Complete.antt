@@ -16,11 +16,11 @@ use Rattle.lard_history.specs.Journal.{Tale}
 use Rattle.lard_laws_bytes.specs.Agreement.{Agrees, EndedAs, FrontAgrees, HoldsIt, SaysAnswers}
 use Rattle.lard_laws_bytes.proofs.Answered.{all-answered}
 use Rattle.lard_laws_quiet.proofs.Acked.{Acks, FrontHolds, heard_by, heard_of, taken_by}
-use Rattle.lard_laws_quiet.proofs.Moves.{ConnHolds}
+use Rattle.lard_laws_quiet.proofs.Holding.{ConnHolds}
 use Rattle.lard_laws_quiet.proofs.Story.{Story}
-use Rattle.lard_machine.specs.declared.places.FrontConn.{FrontConn}
-use Rattle.lard_machine.specs.declared.places.FrontConn.TheVariants.{Held, Lent, Closed}
-use Rattle.lard_machine.specs.declared.places.Station.{Station}
+use Rattle.lard_rules.specs.declared.places.FrontConn.{FrontConn}
+use Rattle.lard_rules.specs.declared.places.FrontConn.TheVariants.{Held, Lent, Closed}
+use Rattle.lard_rules.specs.declared.places.Station.{Station}
 use Rattle.lard_machine.specs.Machine.{front_armed}
 use Rattle.lard_request.specs.declared.verdict.Verdict.{Verdict}
 use Rattle.lard_send.specs.Send.{Sending, is_clear, symbols}

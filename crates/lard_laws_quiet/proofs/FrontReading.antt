@@ -9,7 +9,7 @@ use Rattle.lard_block.specs.Blocks.{cut_of}
 use Rattle.lard_endpoint.specs.Control.{ControlBlock, consuming, discarding_on, finishing, queueing}
 use Rattle.lard_laws_bytes.proofs.FrontEndpoint.{IsBetween, Onward, between-consumed, between-discarded, onward-finished, onward-queued}
 use Rattle.lard_laws_bytes.proofs.Stopping.{unfinished-there}
-use Rattle.lard_machine.specs.Front.{FrontEnv, Service, answered, closed_behind, consumed, ended_at_fin, may_read, passed_over, queued, read_found, reads_on}
+use Rattle.lard_rules.specs.Front.{FrontEnv, Service, answered, closed_behind, consumed, ended_at_fin, may_read, passed_over, queued, read_found, reads_on}
 use Rattle.lard_request.specs.declared.verdict.Code.TheVariants as code
 use Rattle.lard_request.specs.declared.verdict.Verdict.{Verdict}
 use Rattle.lard_request.specs.declared.verdict.Verdict.TheVariants.{Fault}

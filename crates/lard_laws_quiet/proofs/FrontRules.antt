@@ -21,12 +21,12 @@ use Rattle.lard_laws_quiet.proofs.Acked.{Acks, FrontActed, FrontGetsActs, FrontH
 use Rattle.lard_laws_quiet.proofs.FrontArriving.{Holds, arrival-grows, arrival-holds}
 use Rattle.lard_laws_quiet.proofs.FrontReading.{Reads, Spans, Stays, reads-reads}
 use Rattle.lard_laws_quiet.proofs.FrontSaying.{Left, Spoke, awaits-acks, emits-spoke, emits_symbols-spoke, replies_may-append, timed-may, timer-left}
-use Rattle.lard_machine.specs.declared.places.FrontConn.{FrontConn}
-use Rattle.lard_machine.specs.declared.places.FrontConn.TheVariants.{Held, Lent, Closed}
-use Rattle.lard_machine.specs.declared.places.Turn.{Turn}
-use Rattle.lard_machine.specs.Client.{silent}
-use Rattle.lard_machine.specs.Front.{FrontEnv, Service, begun, cut_off, front_gets, front_timer, heard, is_plain_syn, is_telling, last_ack, last_words, limit_said, met, ready_of, reads, refusal, rested, settled, spoken, told, tombstone}
-use Rattle.lard_machine.specs.Speaking.{speaks, speaks_symbols}
+use Rattle.lard_rules.specs.declared.places.FrontConn.{FrontConn}
+use Rattle.lard_rules.specs.declared.places.FrontConn.TheVariants.{Held, Lent, Closed}
+use Rattle.lard_rules.specs.declared.places.Turn.{Turn}
+use Rattle.lard_rules.specs.Client.{silent}
+use Rattle.lard_rules.specs.Front.{FrontEnv, Service, begun, cut_off, front_gets, front_timer, heard, is_plain_syn, is_telling, last_ack, last_words, limit_said, met, ready_of, reads, refusal, rested, settled, spoken, told, tombstone}
+use Rattle.lard_rules.specs.Speaking.{speaks, speaks_symbols}
 use Rattle.lard_request.specs.declared.verdict.Verdict.{Verdict}
 use Rattle.lard_segment.specs.declared.segment.Ready.{Ready}
 use Rattle.lard_segment.specs.Segment.{Said, IsSendable}

@@ -8,7 +8,7 @@ use Rattle.lard_endpoint.specs.Leaving.{owes, after_owed, after_piece, advanced,
 use Rattle.lard_laws_bytes.proofs.FrontEndpoint.{IsBetween, between-emitted}
 use Rattle.lard_laws_bytes.proofs.FrontSpeaking.{emits-all, emits_symbols-all}
 use Rattle.lard_laws_quiet.proofs.Acked.{Acks, RepliesMay, ReplyMay, heard_by}
-use Rattle.lard_machine.specs.Speaking.{to_client, emits, emits_symbols}
+use Rattle.lard_rules.specs.Speaking.{to_client, emits, emits_symbols}
 use Rattle.lard_segment.specs.declared.segment.Ready.{Ready}
 use Rattle.lard_segment.specs.Segment.{IsSendable}
 use Rattle.lard_send.specs.declared.piece.Piece.{Piece}

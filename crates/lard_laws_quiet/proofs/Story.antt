@@ -1,21 +1,25 @@
--- What a journal says of one connection beside its bytes: which of its timers run, and what became of its client.
-use Rattle.std.proofs.Common.{◌≡◌, ◌≢◌, ◌⊎◌, ℕ, ◌+◌, List, [], ◌∷◌, ◌++◌, Bool, true, false, cond, ◌&&◌, ◌||◌, refl, ap, ◌∙◌, inl, inr, nat_eq}
+-- What is told of one connection beside its bytes: which of its timers run, and what became of its client.
+use Rattle.std.proofs.Common.{◌≡◌, ◌≢◌, ◌⊎◌, ℕ, List, [], ◌∷◌, ◌++◌, map, Bool, true, false, cond, ◌&&◌, ◌||◌, Some, None, refl, sym, ap, ◌∙◌, inl, inr, nat_eq}
 use Rattle.std.proofs.lemmas.List.Sums.{fold-append}
 use Rattle.std.specs.List.{fold}
 use Rattle.lard_base.specs.declared.event.Event.{Event}
+use Rattle.lard_base.specs.declared.event.Event.TheVariants as event
 use Rattle.lard_base.specs.declared.place.Place.{Place}
 use Rattle.lard_base.specs.declared.place.Place.TheVariants.{Front, Client}
 use Rattle.lard_base.specs.declared.place.TimerKind.TheVariants.{Tcp}
-use Rattle.lard_history.specs.Journal.{event_shuts, reset_step, was_reset}
-use Rattle.lard_history.proofs.Each.{Each, Each-append}
+use Rattle.lard_history.specs.Journal.{Tale, event_shuts, reset_step, tale_step, untold, was_reset}
+use Rattle.lard_history.specs.Own.{Seen, Row, Came, event_conn, own, plain, seen_step, whose}
+use Rattle.lard_history.proofs.Lifting.{IsOwnFold, fold-own}
+use Rattle.lard_history.proofs.Seeing.{other_number, same_number}
 use Rattle.lard_journal.specs.declared.rec.Rec.{Rec}
 use Rattle.lard_journal.specs.declared.rec.Rec.TheVariants as rec
 use Rattle.lard_laws_bytes.specs.Keeping.{AreClientNotes, AreFrontNotes}
-use Rattle.lard_laws_bytes.proofs.Notes.{other-number, same-number}
-use Rattle.lard_laws_bytes.proofs.Steps.{step_records}
 use Rattle.lard_laws_quiet.specs.Quiet.{aborted_step, armed_step, ended_step, has_aborted, has_ended, is_kind, is_place, is_running, shut_step, was_shut}
 use Rattle.lard_laws_quiet.proofs.Acked.{ends_in}
-use Rattle.lard_machine.specs.Machine.{sent_records, timer_change}
+use Rattle.lard_machine.specs.Machine.{front_armed, timer_change}
+use Rattle.lard_view.specs.View.{Conn, Move, armed_at, grown, rows_of, sending, station_armed, timer_rows}
+use Rattle.lard_view.specs.Carry.{tale_at}
+use Rattle.lard_view.proofs.Rows.{grown-told}
 
 -- ---- one connection
 
@@ -44,54 +48,15 @@ story_step c y r = record {
 abbrev pub story_on : ℕ → Story → List Rec → Story
 story_on c y rs = fold (story_step c) y rs
 
-unfoldable pub story : List Rec → ℕ → Story
-story J c = story_on c unheard J
+-- and by all that the connection sees
+abbrev pub story_seen : ℕ → Story → List Seen → Story
+story_seen c y ss = fold (seen_step (story_step c)) y ss
 
-pub story_on-append : (c : ℕ) (y : Story) (xs ys : List Rec) → story_on c y (xs ++ ys) ≡ story_on c (story_on c y xs) ys
-story_on-append c y xs ys = fold-append (story_step c) y xs ys
+-- what is told of a connection
+abbrev pub story_at : Conn → Story
+story_at x = story_seen x.c unheard x.seen
 
-pub story-append : (J rs : List Rec) (c : ℕ) → story (J ++ rs) c ≡ story_on c (story J c) rs
-unfolding story
-story-append J rs c = fold-append (story_step c) unheard J rs
-
-pub story-nil : (c : ℕ) → story [] c ≡ unheard
-unfolding story
-story-nil c = refl
-
--- ---- the fields
-
--- a fold of one field is the field of the fold
-field_of : (field : Story → Bool) (step : Bool → Rec → Bool) (c : ℕ) → ((y : Story) (r : Rec) → step (field y) r ≡ field (story_step c y r))
-    → (y : Story) (rs : List Rec) → fold step (field y) rs ≡ field (story_on c y rs)
-field_of field step c same y [] = refl
-field_of field step c same y (r ∷ rs) = ap (λ a. fold step a rs) (same y r) ∙ field_of field step c same (story_step c y r) rs
-
-module _ (J : List Rec) (c : ℕ) where
-  pub aborted-story : has_aborted J c ≡ (story J c).aborted
-  unfolding story
-  aborted-story = field_of (λ y. y.aborted) (aborted_step c) c (λ y r. refl) unheard J
-
-  pub reset-story : was_reset J c ≡ (story J c).reset
-  unfolding story
-  reset-story = field_of (λ y. y.reset) (reset_step c) c (λ y r. refl) unheard J
-
-  pub ended-story : has_ended J c ≡ (story J c).ended
-  unfolding story
-  ended-story = field_of (λ y. y.ended) (ended_step c) c (λ y r. refl) unheard J
-
-  pub shut-story : was_shut J c ≡ (story J c).shut
-  unfolding story
-  shut-story = field_of (λ y. y.shut) (shut_step c) c (λ y r. refl) unheard J
-
-  pub front-story : is_running J Front c Tcp ≡ (story J c).front_armed
-  unfolding story
-  front-story = field_of (λ y. y.front_armed) (armed_step Front c Tcp) c (λ y r. refl) unheard J
-
-  pub client-story : is_running J (Client c) c Tcp ≡ (story J c).client_armed
-  unfolding story
-  client-story = field_of (λ y. y.client_armed) (armed_step (Client c) c Tcp) c (λ y r. refl) unheard J
-
--- ---- records of others
+-- ---- the journal tells it of each connection
 
 -- the record may change the story of connection c
 abbrev pub concerns : ℕ → Rec → Bool
@@ -132,76 +97,80 @@ other c y (rec.Cleared p d kind) n = λ i. record y {
 }
 other c y _ n = refl
 
-pub story-others : (c : ℕ) (y : Story) (rs : List Rec) → Each (λ r. concerns c r ≡ false) rs → story_on c y rs ≡ y
-story-others c y [] none = refl
-story-others c y (r ∷ rs) none = ap (λ z. story_on c z rs) (other c y r none.0) ∙ story-others c y rs none.1
+shuts-not : (c : ℕ) (e : Event) → event_conn e ≢ Some c → event_shuts c e ≡ false
+shuts-not c (event.Shut q) n = other_number q c (λ s. n (ap Some s))
+shuts-not c _ n = refl
 
--- ---- the records of a step
+-- a record of another connection, or of none, does not
+concerns-not : (c : ℕ) (r : Rec) → whose r ≢ Some c → concerns c r ≡ false
+concerns-not c (rec.Event i e) n = shuts-not c e n
+concerns-not c (rec.Inner e) n = shuts-not c e n
+concerns-not c (rec.Eof q) n = other_number q c (λ s. n (ap Some s))
+concerns-not c (rec.Aborted q) n = other_number q c (λ s. n (ap Some s))
+concerns-not c (rec.Reset place q total) n = other_number q c (λ s. n (ap Some s))
+concerns-not c (rec.Armed place q kind) n = other_number q c (λ s. n (ap Some s))
+concerns-not c (rec.Cleared place q kind) n = other_number q c (λ s. n (ap Some s))
+concerns-not c _ n = refl
 
--- segments are in no story
-sents-none : (q k : ℕ) (from : Place) (ss : List (Place × List ℕ)) → Each (λ r. concerns q r ≡ false) (sent_records k from ss)
-sents-none q k from [] = tt
-sents-none q k from (s ∷ ss) = (refl, sents-none q (k + 1) from ss)
+plain-story : (c : ℕ) (y : Story) (r : Rec) → story_step c y (plain r) ≡ story_step c y r
+plain-story c y (rec.Event i e) = refl
+plain-story c y (rec.Sent k from to bytes) = refl
+plain-story c y _ = refl
 
--- a timer is in its connection's story alone
-timers-none : (q c : ℕ) (p : Place) (was is : Bool) → q ≢ c → Each (λ r. concerns q r ≡ false) (timer_change p c was is)
-timers-none q c p false false n = tt
-timers-none q c p false true n = (other-number c c q refl n, tt)
-timers-none q c p true false n = (other-number c c q refl n, tt)
-timers-none q c p true true n = tt
+story-is-own : (c : ℕ) → IsOwnFold c (story_step c)
+story-is-own c = record {
+  mine = λ y r e. plain-story c y r;
+  others = λ y r d n e. other c y r (concerns-not c r (λ s. n (let same : Some d ≡ Some c = sym e ∙ s in cc)));
+  nobody = λ y r e. other c y r (concerns-not c r (λ s. let no : None ≡ Some c = sym e ∙ s in absurd cc));
+}
 
-pub client-none : (q c : ℕ) (rs : List Rec) → q ≢ c → AreClientNotes c rs → Each (λ r. concerns q r ≡ false) rs
-client-none q c [] n notes = tt
-client-none q c (rec.Wrote d bytes ∷ rs) n notes = (refl, client-none q c rs n notes.1)
-client-none q c (rec.Accepted d bytes ∷ rs) n notes = (refl, client-none q c rs n notes.1)
-client-none q c (rec.Eof d ∷ rs) n notes = (other-number d c q notes.0 n, client-none q c rs n notes.1)
-client-none q c (rec.Aborted d ∷ rs) n notes = (other-number d c q notes.0 n, client-none q c rs n notes.1)
-client-none q c (_ ∷ rs) n notes = absurd notes.0
+-- a fold of one field is the field of the fold
+field_of : (field : Story → Bool) (step : Bool → Rec → Bool) (c : ℕ) → ((y : Story) (r : Rec) → step (field y) r ≡ field (story_step c y r))
+    → (y : Story) (rs : List Rec) → fold step (field y) rs ≡ field (story_on c y rs)
+field_of field step c same y [] = refl
+field_of field step c same y (r ∷ rs) = ap (λ a. fold step a rs) (same y r) ∙ field_of field step c same (story_step c y r) rs
 
-pub front-none : (q c : ℕ) (rs : List Rec) → q ≢ c → AreFrontNotes c rs → Each (λ r. concerns q r ≡ false) rs
-front-none q c [] n notes = tt
-front-none q c (rec.Took place d epoch ∷ rs) n notes = (refl, front-none q c rs n notes.1)
-front-none q c (rec.Served place d r code size via ∷ rs) n notes = (refl, front-none q c rs n notes.1)
-front-none q c (rec.Reset place d total ∷ rs) n notes = (other-number d c q notes.0 n, front-none q c rs n notes.1)
-front-none q c (_ ∷ rs) n notes = absurd notes.0
+module _ (J : List Rec) (c : ℕ) where
+  -- what a journal says is told by what the connection sees of it
+  told : (field : Story → Bool) (step : Bool → Rec → Bool) → ((y : Story) (r : Rec) → step (field y) r ≡ field (story_step c y r))
+      → fold step (field unheard) J ≡ field (story_seen c unheard (own c J))
+  told field step same = field_of field step c same unheard J ∙ ap field (fold-own c (story_step c) (story-is-own c) unheard J)
 
-module _ (i : ℕ) (e : Event) (own notes : List Rec) (k : ℕ) (from : Place) (ss : List (Place × List ℕ)) (p : Place) (was is : Bool) where
-  abbrev sents : List Rec
-  sents = sent_records k from ss
+  pub aborted-story : has_aborted J c ≡ (story_seen c unheard (own c J)).aborted
+  aborted-story = told (λ y. y.aborted) (aborted_step c) (λ y r. refl)
 
-  -- those of a step of connection c are in no other story
-  pub step-none : (q c : ℕ) → q ≢ c → event_shuts q e ≡ false → Each (λ r. concerns q r ≡ false) own → Each (λ r. concerns q r ≡ false) notes
-      → Each (λ r. concerns q r ≡ false) (step_records i e own notes sents (timer_change p c was is))
-  step-none q c n shuts o notes_none =
-      let P : Rec → Type 0 = λ r. concerns q r ≡ false in
-      Each-append P (rec.Event i e ∷ own ++ notes ++ sents) (timer_change p c was is)
-      (Each-append P (rec.Event i e ∷ own ++ notes) sents (Each-append P (rec.Event i e ∷ own) notes (shuts, o) notes_none) (sents-none q k from ss))
-      (timers-none q c p was is n)
+  pub ended-story : has_ended J c ≡ (story_seen c unheard (own c J)).ended
+  ended-story = told (λ y. y.ended) (ended_step c) (λ y r. refl)
 
-  -- of its own story they tell the event, what is noted, and the timer
-  pub step-story : (J : List Rec) (c : ℕ) → Each (λ r. concerns c r ≡ false) own
-      → story (J ++ step_records i e own notes sents (timer_change p c was is)) c
-      ≡ story_on c (story_on c (story_step c (story J c) (rec.Event i e)) notes) (timer_change p c was is)
-  step-story J c o =
-      let y = story J c in
-      let first = story_step c y (rec.Event i e) in
-      let timers = timer_change p c was is in
-      story-append J (step_records i e own notes sents timers) c
-      ∙ story_on-append c y (rec.Event i e ∷ own ++ notes ++ sents) timers
-      ∙ ap (λ z. story_on c z timers)
-      (story_on-append c y (rec.Event i e ∷ own ++ notes) sents
-      ∙ story-others c (story_on c y (rec.Event i e ∷ own ++ notes)) sents (sents-none c k from ss)
-      ∙ story_on-append c y (rec.Event i e ∷ own) notes
-      ∙ ap (λ z. story_on c z notes) (story-others c first own o))
+  pub reset-story : was_reset J c ≡ (story_seen c unheard (own c J)).reset
+  reset-story = told (λ y. y.reset) (reset_step c) (λ y r. refl)
+
+  pub shut-story : was_shut J c ≡ (story_seen c unheard (own c J)).shut
+  shut-story = told (λ y. y.shut) (shut_step c) (λ y r. refl)
+
+  pub front-story : is_running J Front c Tcp ≡ (story_seen c unheard (own c J)).front_armed
+  front-story = told (λ y. y.front_armed) (armed_step Front c Tcp) (λ y r. refl)
+
+  pub client-story : is_running J (Client c) c Tcp ≡ (story_seen c unheard (own c J)).client_armed
+  client-story = told (λ y. y.client_armed) (armed_step (Client c) c Tcp) (λ y r. refl)
+
+-- the tale tells of resets as well
+pub reset-in-tale : (c : ℕ) (y : Story) (t : Tale) (ss : List Seen) → y.reset ≡ t.was_reset → (story_seen c y ss).reset ≡ (fold (seen_step (tale_step c)) t ss).was_reset
+reset-in-tale c y t [] e = e
+reset-in-tale c y t (Row r ∷ ss) e = reset-in-tale c (story_step c y r) (tale_step c t r) ss (ap (λ b. reset_step c b r) e)
+reset-in-tale c y t (Came l ∷ ss) e = reset-in-tale c y t ss e
+
+pub reset-at : (x : Conn) → (story_at x).reset ≡ (tale_at x).was_reset
+reset-at x = reset-in-tale x.c unheard untold x.seen refl
 
 -- ---- what they tell
 
 -- the timer that changed
 its-own : (c : ℕ) → (nat_eq c c && (nat_eq c c && true)) ≡ true
-its-own c = ap (λ b. b && (b && true)) (same-number c c refl)
+its-own c = ap (λ b. b && (b && true)) (same_number c)
 
 its-front : (c : ℕ) → (true && (nat_eq c c && true)) ≡ true
-its-front c = ap (λ b. true && (b && true)) (same-number c c refl)
+its-front c = ap (λ b. true && (b && true)) (same_number c)
 
 pub client-timer : (c : ℕ) (y : Story) (was is : Bool) → y.client_armed ≡ was → story_on c y (timer_change (Client c) c was is) ≡ record y { client_armed = is }
 client-timer c y false false e = ap (λ b. record y { client_armed = b }) e
@@ -224,6 +193,9 @@ pub record Tells (y z : Story) : Type 0 where
   pub front_armed : z.front_armed ≡ y.front_armed
   pub client_armed : z.client_armed ≡ y.client_armed
 
+same-number : (d c : ℕ) → d ≡ c → nat_eq d c ≡ true
+same-number d c e = ap (λ k. nat_eq k c) e ∙ same_number c
+
 or-first : (a b : Bool) → a ≡ true → (a || b) ≡ true
 or-first a b e = ap (λ t. t || b) e
 
@@ -239,10 +211,10 @@ cond-true : (b was : Bool) → was ≡ true → cond b true was ≡ true
 cond-true true was e = refl
 cond-true false was e = e
 
-pub tells-none : (y : Story) → Tells y y
+tells-none : (y : Story) → Tells y y
 tells-none y = record { aborted = λ e. e; reset = λ e. e; ended = λ e. e; shut = refl; front_armed = refl; client_armed = refl }
 
-pub tells-both : (x y z : Story) → Tells x y → Tells y z → Tells x z
+tells-both : (x y z : Story) → Tells x y → Tells y z → Tells x z
 tells-both x y z a b = record {
   aborted = λ e. b.aborted (a.aborted e);
   reset = λ e. b.reset (a.reset e);
@@ -293,3 +265,44 @@ ends-told c y (_ ∷ rs) notes e = absurd notes.0
 -- and that a client aborted
 pub aborted-told : (c d : ℕ) (y : Story) → d ≡ c → (story_on c y (rec.Aborted d ∷ [])).aborted ≡ true
 aborted-told c d y e = or-second y.aborted (nat_eq d c) (same-number d c e)
+
+-- ---- a move
+
+-- segments are in no story
+sents-none : (c : ℕ) (y : Story) (from : Place) (ss : List (Place × List ℕ)) → story_on c y (map (sending from) ss) ≡ y
+sents-none c y from [] = refl
+sents-none c y from (s ∷ ss) = sents-none c y from ss
+
+module _ (x : Conn) (v : Move) (y : Story) (heads : story_seen x.c (story_at x) v.heads ≡ y) where
+  -- a move tells its heads, its notes and its timer
+  grown-story : story_at (grown x v) ≡ story_on x.c (story_on x.c y v.turn.notes) (timer_rows v.place x.c x.part v.part)
+  grown-story =
+      grown-told (story_step x.c) unheard x v
+      ∙ ap (λ z. story_on x.c z (rows_of x v)) heads
+      ∙ fold-append (story_step x.c) y (v.turn.notes ++ map (sending v.place) v.turn.segments) (timer_rows v.place x.c x.part v.part)
+      ∙ ap (λ z. story_on x.c z (timer_rows v.place x.c x.part v.part))
+      (fold-append (story_step x.c) y v.turn.notes (map (sending v.place) v.turn.segments) ∙ sents-none x.c (story_on x.c y v.turn.notes) v.place v.turn.segments)
+
+  pub client-grown : v.place ≡ Client x.c → (story_on x.c y v.turn.notes).client_armed ≡ station_armed x.part.station
+      → story_at (grown x v) ≡ record (story_on x.c y v.turn.notes) { client_armed = station_armed v.part.station }
+  unfolding timer_rows
+  client-grown at was =
+      grown-story ∙ ap (λ p. story_on x.c (story_on x.c y v.turn.notes) (timer_rows p x.c x.part v.part)) at
+      ∙ client-timer x.c (story_on x.c y v.turn.notes) (station_armed x.part.station) (station_armed v.part.station) was
+
+  pub front-grown : v.place ≡ Front → (story_on x.c y v.turn.notes).front_armed ≡ front_armed x.part.front
+      → story_at (grown x v) ≡ record (story_on x.c y v.turn.notes) { front_armed = front_armed v.part.front }
+  unfolding timer_rows
+  front-grown at was =
+      grown-story ∙ ap (λ p. story_on x.c (story_on x.c y v.turn.notes) (timer_rows p x.c x.part v.part)) at
+      ∙ front-timer x.c (story_on x.c y v.turn.notes) (front_armed x.part.front) (front_armed v.part.front) was
+
+  -- one that notes nothing, and leaves its part as it was, tells its heads alone
+  pub still-grown : v.turn.notes ≡ [] → v.part ≡ x.part → story_at (grown x v) ≡ y
+  unfolding timer_rows
+  still-grown silent same =
+      grown-story ∙ ap (λ rs. story_on x.c (story_on x.c y rs) (timer_rows v.place x.c x.part v.part)) silent
+      ∙ ap (λ p. story_on x.c y (timer_rows v.place x.c x.part p)) same ∙ go (armed_at v.place x.part) where
+        go : (b : Bool) → story_on x.c y (timer_change v.place x.c b b) ≡ y
+        go true = refl
+        go false = refl

@@ -1,5 +1,5 @@
 -- When a connection is quiet, and when it is complete, in words of the journal.
-use Rattle.std.specs.Prelude.{◌≡◌, ℕ, ◌≤◌, ◌^◌, Bool, true, false, ◌||◌, ◌&&◌, List, [], nat_eq, if◌then◌else◌, IsSome}
+use Rattle.std.specs.Prelude.{◌≡◌, ℕ, ◌≤◌, Bool, true, false, ◌||◌, ◌&&◌, List, [], nat_eq, if◌then◌else◌, IsSome}
 use Rattle.std.specs.List.{fold}
 use Rattle.lard_answers.specs.Answers.{FilesAt, answer_bytes, closes_any, verdicts}
 use Rattle.lard_base.specs.declared.config.Config.{Config}
@@ -9,7 +9,7 @@ use Rattle.lard_base.specs.declared.place.Place.TheVariants.{Front, Node, Client
 use Rattle.lard_base.specs.declared.place.TimerKind.{TimerKind}
 use Rattle.lard_base.specs.declared.place.TimerKind.TheVariants.{Tcp, Offer, Ask, Fetch, Ended}
 use Rattle.lard_files.specs.Files.{file_at}
-use Rattle.lard_history.specs.Journal.{accepted, event_shuts, numbers_of, was_reset, wrote}
+use Rattle.lard_history.specs.Journal.{accepted, event_shuts, is_touched, numbers_of, was_reset, wrote}
 use Rattle.lard_history.specs.Laws.{EachMay}
 use Rattle.lard_journal.specs.declared.rec.Rec.{Rec}
 use Rattle.lard_journal.specs.declared.rec.Rec.TheVariants as rec
@@ -81,9 +81,11 @@ pub record IsComplete (files : FilesAt) (J : List Rec) (c : ℕ) : Type 0 where
   pub ends : closes_any (verdicts (wrote J c)) ≡ true → has_ended J c ≡ true
   pub shut : was_shut J c ≡ true → has_ended J c ≡ true
 
--- A connection that is quiet is complete, unless its client aborted it or the stream limit reset it.
+-- A connection that is quiet is complete, unless its client aborted it, the stream limit reset it, or the schedule
+-- touched it.
 abbrev pub QuietIsComplete : FilesAt → List Rec → Type 0
-QuietIsComplete files J = (c : ℕ) → IsSome (numbers_of J c) → has_aborted J c ≡ false → was_reset J c ≡ false → IsQuiet J c → IsComplete files J c
+QuietIsComplete files J =
+    (c : ℕ) → IsSome (numbers_of J c) → is_touched J c ≡ false → has_aborted J c ≡ false → was_reset J c ≡ false → IsQuiet J c → IsComplete files J c
 
 -- So it is at the end of each step: wherever an event follows, and at the end.
 abbrev pub MayGoOn : FilesAt → List Rec → Rec → Type 0

@@ -1,19 +1,19 @@
 -- Bytes, one by one: what is cut of them and joined, and the bytes of a segment.
-use Rattle.std.proofs.Common.{◌≡◌, ℕ, zero, suc, ◌+◌, ◌≤◌, ◌<◌, ◌^◌, ◌/◌, ◌*◌, List, [], ◌∷◌, ◌++◌, length, take, drop, Bool, true, false, cond, Option, Some, None, All, subst, arith, nat_lt, decimal}
+use Rattle.std.proofs.Common.{◌≡◌, ℕ, zero, suc, ◌+◌, ◌≤◌, ◌<◌, ◌^◌, ◌/◌, ◌*◌, List, [], ◌∷◌, ◌++◌, length, take, drop, Bool, true, false, cond, Option, Some, None, Ok, All, sym, subst, arith, nat_lt, decimal}
 use Rattle.std.proofs.lemmas.Bool.{and_parts, ltb-true}
 use Rattle.std.proofs.lemmas.Fmt.{IsAscii-decimal}
 use Rattle.std.proofs.lemmas.List.Elements.{All-cons, All-head, All-nil, All-tail}
 use Rattle.std.specs.Int.{to_be_bytes, w16, w32}
-use Rattle.std.specs.List.{concat, list_all}
+use Rattle.std.specs.List.{list_all}
 use Rattle.hex.specs.Hex.{IsBytes}
-use Rattle.lard_arrival.specs.Arrival.{IsPartAt}
 use Rattle.lard_history.proofs.Each.{Each, Each-append}
 use Rattle.lard_segment.specs.Checksum.{checksum_of}
 use Rattle.lard_segment.specs.declared.segment.Dir.{Dir}
 use Rattle.lard_segment.specs.declared.segment.Flags.{Flags}
 use Rattle.lard_segment.specs.Fields.{flag_byte, source_port, target_port}
 use Rattle.lard_segment.specs.Options.{option_bytes}
-use Rattle.lard_segment.specs.Segment.{Said, fixed_bytes, spelled, with_checksum}
+use Rattle.lard_segment.specs.Segment.{Said, decoded, fixed_bytes, spelled, with_checksum}
+use Rattle.lard_segment.proofs.Decoded.{decoded-read}
 use Rattle.lard_segment.proofs.Written.{length-option_bytes}
 
 -- ---- each item of a list
@@ -30,7 +30,11 @@ module _ {A : Type 0} (P : A → Type 0) where
   each-drop (suc n) [] h = tt
   each-drop (suc n) (x ∷ xs) h = each-drop n xs h.1
 
-  -- those behind others
+  -- those before others, and those behind
+  pub each-before : (xs ys : List A) → Each P (xs ++ ys) → Each P xs
+  each-before [] ys h = tt
+  each-before (x ∷ xs) ys h = (h.0, each-before xs ys h.1)
+
   pub each-behind : (xs ys : List A) → Each P (xs ++ ys) → Each P ys
   each-behind [] ys h = h
   each-behind (x ∷ xs) ys h = each-behind xs ys h.1
@@ -62,15 +66,6 @@ index-bytes (x ∷ xs) h = (h 0, index-bytes xs (λ i. h (suc i)))
 -- bytes behind bytes
 pub bytes-append : (xs ys : List ℕ) → AreBytes xs → AreBytes ys → AreBytes (xs ++ ys)
 bytes-append xs ys h k = Each-append (λ b. b < 256) xs ys h k
-
--- a part of bytes
-pub bytes-part : (place : ℕ) (part whole : List ℕ) → IsPartAt place part whole → AreBytes whole → AreBytes part
-bytes-part place part whole p h = subst AreBytes p.same (each-take (λ b. b < 256) (length part) (drop place whole) (each-drop (λ b. b < 256) place whole h))
-
--- lists of bytes, joined
-pub bytes-concat : (xss : List (List ℕ)) → Each AreBytes xss → AreBytes (concat xss)
-bytes-concat [] h = tt
-bytes-concat (xs ∷ xss) h = bytes-append xs (concat xss) h.0 (bytes-concat xss h.1)
 
 -- a text whose bytes are tested
 pub bytes-tested : (xs : List ℕ) → list_all (λ b. nat_lt b 256) xs ≡ true → AreBytes xs
@@ -136,3 +131,7 @@ bytes-with dir s checksum h =
 pub bytes-spelled : (c : ℕ) (dir : Dir) (s : Said) → AreBytes s.payload → AreBytes (spelled c dir s)
 unfolding spelled
 bytes-spelled c dir s h = bytes-with dir s (checksum_of c dir (with_checksum dir s 0)) h
+
+-- and what bytes say has bytes for data
+pub bytes-decoded : (bytes : List ℕ) (c : ℕ) (dir : Dir) (s : Said) → decoded bytes c dir ≡ Ok s → AreBytes bytes → AreBytes s.payload
+bytes-decoded bytes c dir s is h = let read = decoded-read bytes c dir s is in subst AreBytes (sym read.rest) (each-drop (λ b. b < 256) read.begins bytes h)

@@ -1,27 +1,26 @@
 -- The answers to requests are bytes, and not much longer than the files are.
-use Rattle.std.proofs.Common.{ℕ, ◌+◌, ◌≤◌, ◌<◌, ◌^◌, List, [], ◌∷◌, ◌++◌, length, map, codes, decimal, Bool, true, false, Option, Some, None, All, IfSome, refl, arith, length-append}
+use Rattle.std.proofs.Common.{ℕ, ◌+◌, ◌≤◌, ◌<◌, ◌^◌, List, [], ◌++◌, length, codes, decimal, Bool, true, false, Option, Some, None, All, IfSome, refl, arith, length-append}
 use Rattle.std.proofs.lemmas.Fmt.{length-decimal-le}
 use Rattle.std.proofs.lemmas.List.Elements.{All-weaker}
 use Rattle.std.proofs.lemmas.Map.Entries.{All-lookup}
-use Rattle.std.specs.List.{concat}
 use Rattle.std.specs.Str.{bytes_eq}
 use Rattle.lard_answers.specs.Answers.{FilesAt, answer, answer_code, found, found_code}
 use Rattle.lard_files.specs.Files.{file_at}
-use Rattle.lard_history.proofs.Each.{Each}
 use Rattle.lard_request.specs.declared.verdict.Code.{Code}
 use Rattle.lard_request.specs.declared.verdict.Code.TheVariants as code
 use Rattle.lard_request.specs.declared.verdict.Verdict.{Verdict}
 use Rattle.lard_request.specs.declared.verdict.Verdict.TheVariants.{Fault, Serve}
 use Rattle.lard_response.specs.Response.{close_line, length_line, number, reason, response, response_body, status_line}
 use Rattle.lard_laws_records.specs.Records.{IsFile}
-use Rattle.lard_laws_records.proofs.Bytes.{AreBytes, bytes-append, bytes-concat, bytes-decimal, bytes-tested, index-bytes}
+use Rattle.lard_laws_records.proofs.Bytes.{AreBytes, bytes-append, bytes-decimal, bytes-tested, index-bytes}
 
--- the content of a file, and an answer
+-- the content of a file
 abbrev pub IsContent : List ℕ → Type 0
 IsContent bytes = AreBytes bytes × (length bytes ≤ 2 ^ 20)
 
+-- an answer, which has a byte
 abbrev pub IsAnswer : List ℕ → Type 0
-IsAnswer bytes = AreBytes bytes × (length bytes ≤ 2 ^ 21)
+IsAnswer bytes = AreBytes bytes × (1 ≤ length bytes) × (length bytes ≤ 2 ^ 21)
 
 -- each path that names a file names such a content
 abbrev pub AreFiles : FilesAt → Type 0
@@ -112,7 +111,7 @@ response-answer c body head close h =
     (bytes-tested (codes "\r\n") refl, omega arith))
     (content-short body head h) in
     let few = whole.1 in
-    (whole.0, omega (arith, few))
+    (whole.0, omega arith, omega (arith, few))
 
 -- ---- answers
 
@@ -126,12 +125,3 @@ module _ (files : FilesAt) (h : AreFiles files) where
   pub answer-fits : (v : Verdict) → IsAnswer (answer files v)
   answer-fits (Serve path head close) = found-answer (files path) head close (h path)
   answer-fits (Fault fault) = response-answer fault [] false true (tt, omega arith)
-
-  -- the answers one by one
-  each-answer : (vs : List Verdict) → Each AreBytes (map (answer files) vs)
-  each-answer [] = tt
-  each-answer (v ∷ vs) = ((answer-fits v).0, each-answer vs)
-
-  -- all that is said to a client
-  pub answers-bytes : (vs : List Verdict) → AreBytes (concat (map (answer files) vs))
-  answers-bytes vs = bytes-concat (map (answer files) vs) (each-answer vs)

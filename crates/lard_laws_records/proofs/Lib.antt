@@ -1,8 +1,9 @@
 pub mod Bytes
 pub mod Content
-pub mod Told
-pub mod Packets
+pub mod Halves
+pub mod Kept
 pub mod Clients
 pub mod Fronts
-pub mod Steps
+pub mod Told
+pub mod Law
 pub mod Reached

@@ -1,96 +1,71 @@
--- What the events alone tell is in range: who opened, and what clients wrote.
-use Rattle.std.proofs.Common.{◌≡◌, ℕ, ◌++◌, List, [], ◌∷◌, true, not, Option, Some, None, refl, sym, subst, ⊎_elim, codes, nat_eq}
-use Rattle.std.proofs.lemmas.Bool.{and_parts, cond_both, eqb-true}
-use Rattle.std.specs.List.{fold, list_all}
-use Rattle.hex.specs.Hex.{IsBytes}
+-- The events of a journal as a schedule gave them, and those that a connection sees of it.
+use Rattle.std.proofs.Common.{◌≡◌, ℕ, ◌++◌, List, [], ◌∷◌, false, Option, Some, None, refl, sym, subst, codes, nat_eq}
+use Rattle.std.proofs.lemmas.Bool.{cond_both}
 use Rattle.lard_base.specs.declared.event.Event.{Event}
-use Rattle.lard_base.specs.declared.event.Event.TheVariants as event
-use Rattle.lard_history.specs.Journal.{Numbers, numbers_of, numbers_step, request, wrote, wrote_step}
-use Rattle.lard_history.specs.Laws.{AreOwn, IsStep, is_own}
-use Rattle.lard_history.proofs.Each.{Each, Each-append}
+use Rattle.lard_history.specs.Journal.{request}
+use Rattle.lard_history.specs.Own.{Seen, Row, Came, came, conn_of, letter_of, net_step, one_of, own, plain, seen_of, seen_on, whose}
+use Rattle.lard_history.specs.Steps.{is_opening}
+use Rattle.lard_history.proofs.Each.{Each, Each-append, Each-weaker}
+use Rattle.lard_history.proofs.Stepping.{AreInside}
 use Rattle.lard_journal.specs.declared.rec.Rec.{Rec}
 use Rattle.lard_journal.specs.declared.rec.Rec.TheVariants as rec
-use Rattle.lard_journal.specs.Range.{IsNumber}
+use Rattle.lard_net.specs.Net.{Packet, packet_at}
+use Rattle.lard_view.proofs.Acts.{IsHead}
 use Rattle.lard_laws_records.specs.Records.{IsGiven}
-use Rattle.lard_laws_records.proofs.Bytes.{AreBytes, bytes-append, bytes-index, bytes-tested, index-bytes}
-
--- a record of who opened has a number, and one of what was written has bytes
-abbrev pub IsToldWell : Rec → Type 0
-IsToldWell (rec.Opened c isn iss wnd mss) = IsNumber c
-IsToldWell (rec.Wrote c bytes) = IsBytes bytes
-IsToldWell _ = Unit {0}
-
--- ---- a step's records
+use Rattle.lard_laws_records.proofs.Bytes.{AreBytes, bytes-append, bytes-tested}
 
 -- what a get writes
-pub request-bytes : (path : List ℕ) → IsBytes path → IsBytes (request path)
-request-bytes path h = bytes-index (request path)
-    (bytes-append (codes "GET " ++ path) (codes " HTTP/1.1\r\nHost: lard\r\n\r\n")
-    (bytes-append (codes "GET ") path (bytes-tested (codes "GET ") refl) (index-bytes path h)) (bytes-tested (codes " HTTP/1.1\r\nHost: lard\r\n\r\n") refl))
+pub request-bytes : (path : List ℕ) → AreBytes path → AreBytes (request path)
+request-bytes path h = bytes-append (codes "GET " ++ path) (codes " HTTP/1.1\r\nHost: lard\r\n\r\n")
+    (bytes-append (codes "GET ") path (bytes-tested (codes "GET ") refl) h) (bytes-tested (codes " HTTP/1.1\r\nHost: lard\r\n\r\n") refl)
 
--- what an event alone has recorded is of the event
-own-told : (e : Event) (own : List Rec) → IsGiven e → AreOwn e own → Each IsToldWell own
-own-told (event.Open c isn iss wnd mss) own g h = subst (Each IsToldWell) (sym h) (g.0.0, tt)
-own-told (event.Get c path) own g h = ⊎_elim
-    (λ (w : own ≡ rec.Wrote c (request path) ∷ []). subst (Each IsToldWell) (sym w) (request-bytes path g.1, tt)) (λ (n : own ≡ []). subst (Each IsToldWell) (sym n) tt) h
-own-told (event.Write c bytes) own g h = ⊎_elim
-    (λ (w : own ≡ rec.Wrote c bytes ∷ []). subst (Each IsToldWell) (sym w) (g.0.1, tt)) (λ (n : own ≡ []). subst (Each IsToldWell) (sym n) tt) h
-own-told (event.Shut c) own g h = subst (Each IsToldWell) (sym h) tt
-own-told (event.Abort c) own g h = subst (Each IsToldWell) (sym h) (tt, tt)
-own-told (event.Hold c) own g h = subst (Each IsToldWell) (sym h) tt
-own-told (event.Take c) own g h = subst (Each IsToldWell) (sym h) tt
-own-told (event.Deliver k) own g h = subst (Each IsToldWell) (sym h) (tt, tt)
-own-told (event.Lose k) own g h = subst (Each IsToldWell) (sym h) (tt, tt)
-own-told (event.Timer p c) own g h = subst (Each IsToldWell) (sym h) tt
-own-told (event.Disk n j) own g h = subst (Each IsToldWell) (sym h) tt
-own-told (event.Clock ms) own g h = subst (Each IsToldWell) (sym h) tt
-own-told (event.Settle rounds) own g h = subst (Each IsToldWell) (sym h) tt
-own-told (event.Inject c bytes) own g h = subst (Each IsToldWell) (sym h) tt
+-- an event that is told was given
+abbrev pub IsToldWell : Rec → Type 0
+IsToldWell (rec.Event i e) = IsGiven e
+IsToldWell _ = Unit {0}
 
--- the other records of a step tell nothing of this
-other-told : (r : Rec) → not (is_own r) ≡ true → IsToldWell r
-other-told (rec.Opened c isn iss wnd mss) h = absurd cc
-other-told (rec.Wrote c bytes) h = absurd cc
-other-told _ h = tt
+abbrev pub IsSeenWell : Seen → Type 0
+IsSeenWell (Row r) = IsToldWell r
+IsSeenWell (Came l) = Unit {0}
 
-others-told : (rs : List Rec) → list_all (λ r. not (is_own r)) rs ≡ true → Each IsToldWell rs
-others-told [] h = tt
-others-told (r ∷ rs) h = let both = and_parts (not (is_own r)) (list_all (λ q. not (is_own q)) rs) h in (other-told r both.0, others-told rs both.1)
+-- records inside a step tell no event
+inside-one : (r : Rec) → is_opening r ≡ false → IsToldWell r
+inside-one (rec.Event i e) h = absurd cc
+inside-one _ h = tt
 
--- all records of a step
-pub step-told : (i : ℕ) (e : Event) (step : List Rec) → IsGiven e → IsStep i e step → Each IsToldWell step
-step-told i e step g is =
-    subst (Each IsToldWell) (sym is.is) (tt, Each-append IsToldWell is.own is.others (own-told e is.own g is.own_are) (others-told is.others is.alone))
+pub inside-told : (rs : List Rec) → AreInside rs → Each IsToldWell rs
+inside-told rs h = Each-weaker (λ r. is_opening r ≡ false) IsToldWell inside-one rs h
 
--- ---- a journal
+-- what is seen before a move's notes tells its event alone
+head-one : (e : Event) → IsGiven e → (s : Seen) → IsHead e s → IsSeenWell s
+head-one e g (Row (rec.Event i d)) h = subst IsGiven (sym h) g
+head-one e g _ h = tt
 
--- what was written goes on by bytes, record by record
-wrote-one : (c : ℕ) (bytes : List ℕ) (r : Rec) → AreBytes bytes → IsToldWell r → AreBytes (wrote_step c bytes r)
-wrote-one c bytes (rec.Wrote d more) h k = cond_both (nat_eq d c) (bytes ++ more) bytes AreBytes (λ t. bytes-append bytes more h (index-bytes more k)) (λ t. h)
-wrote-one c bytes _ h k = h
+pub heads-told : (e : Event) (ss : List Seen) → IsGiven e → Each (IsHead e) ss → Each IsSeenWell ss
+heads-told e ss g h = Each-weaker (IsHead e) IsSeenWell (head-one e g) ss h
 
-wrote-all : (c : ℕ) (bytes : List ℕ) (rs : List Rec) → AreBytes bytes → Each IsToldWell rs → AreBytes (fold (wrote_step c) bytes rs)
-wrote-all c bytes [] h k = h
-wrote-all c bytes (r ∷ rs) h k = wrote-all c (wrote_step c bytes r) rs (wrote-one c bytes r h k.0) k.1
+-- ---- what a connection sees
 
--- what a client wrote are bytes
-pub wrote-bytes : (J : List Rec) (c : ℕ) → Each IsToldWell J → AreBytes (wrote J c)
-wrote-bytes J c h = wrote-all c [] J tt h
+plain-told : (r : Rec) → IsToldWell r → IsSeenWell (Row (plain r))
+plain-told (rec.Event i e) h = h
+plain-told _ h = tt
 
--- whoever is known has a number
-abbrev IsKnown : ℕ → Option Numbers → Type 0
-IsKnown c None = Unit {0}
-IsKnown c (Some n) = IsNumber c
+one-told : (q : ℕ) (o : Option ℕ) (s : Seen) → IsSeenWell s → Each IsSeenWell (one_of q o s)
+one-told q None s h = tt
+one-told q (Some c) s h = cond_both (nat_eq c q) (s ∷ []) [] (Each IsSeenWell) (λ t. (h, tt)) (λ t. tt)
 
--- who is known goes on by numbers, record by record
-known-one : (c : ℕ) (known : Option Numbers) (r : Rec) → IsKnown c known → IsToldWell r → IsKnown c (numbers_step c known r)
-known-one c known (rec.Opened d isn iss wnd mss) h k = cond_both (nat_eq d c) (Some (record { isn = isn; iss = iss })) known (IsKnown c) (λ t. subst IsNumber (eqb-true d c t) k) (λ t. h)
-known-one c known _ h k = h
+came-told : (q : ℕ) (o : Option Packet) → Each IsSeenWell (came q o)
+came-told q None = tt
+came-told q (Some p) = one-told q (conn_of p.from p.to p.bytes) (Came (letter_of p)) tt
 
-known-all : (c : ℕ) (known : Option Numbers) (rs : List Rec) → IsKnown c known → Each IsToldWell rs → IsKnown c (fold (numbers_step c) known rs)
-known-all c known [] h k = h
-known-all c known (r ∷ rs) h k = known-all c (numbers_step c known r) rs (known-one c known r h k.0) k.1
+record-told : (q : ℕ) (net : List Packet) (r : Rec) → IsToldWell r → Each IsSeenWell (seen_of q net r)
+record-told q net (rec.Got k) h = came-told q (packet_at net k)
+record-told q net r h = one-told q (whose r) (Row (plain r)) (plain-told r h)
 
--- the number of a client that opened
-pub opened-number : (J : List Rec) (c : ℕ) (n : Numbers) → Each IsToldWell J → numbers_of J c ≡ Some n → IsNumber c
-opened-number J c n h e = subst (IsKnown c) e (known-all c None J tt h)
+records-told : (q : ℕ) (net : List Packet) (rs : List Rec) → Each IsToldWell rs → Each IsSeenWell (seen_on q net rs)
+records-told q net [] h = tt
+records-told q net (r ∷ rs) h = Each-append IsSeenWell (seen_of q net r) (seen_on q (net_step net r) rs) (record-told q net r h.0) (records-told q (net_step net r) rs h.1)
+
+pub own-told : (q : ℕ) (J : List Rec) → Each IsToldWell J → Each IsSeenWell (own q J)
+unfolding own
+own-told q J h = records-told q [] J h

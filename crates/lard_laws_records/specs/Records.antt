@@ -1,5 +1,5 @@
 -- What a schedule gives to a run, and that all records of the run are in range.
-use Rattle.std.specs.Prelude.{ℕ, ◌≤◌, ◌^◌, List, All}
+use Rattle.std.specs.Prelude.{ℕ, ◌≤◌, List, All}
 use Rattle.hex.specs.Hex.{IsBytes}
 use Rattle.lard_base.specs.declared.config.Config.{Config}
 use Rattle.lard_base.specs.declared.event.Event.{Event}

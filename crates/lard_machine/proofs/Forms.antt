@@ -13,10 +13,10 @@ use Rattle.lard_machine.specs.declared.fault.StepFault.TheVariants.{Limit, WasLo
 use Rattle.lard_machine.specs.declared.fault.What.{What}
 use Rattle.lard_machine.specs.declared.fault.What.TheVariants.{Stream}
 use Rattle.lard_machine.specs.declared.machine.Machine.{Machine}
-use Rattle.lard_machine.specs.declared.places.Station.{Station}
+use Rattle.lard_rules.specs.declared.places.Station.{Station}
 use Rattle.lard_machine.specs.Bounds.{HasRule}
-use Rattle.lard_machine.specs.Client.{client_opens, client_writes, client_shuts, client_holds, client_takes, client_aborts, client_timer, client_gets, client_injects}
-use Rattle.lard_machine.specs.Front.{front_gets, front_timer}
+use Rattle.lard_rules.specs.Client.{client_opens, client_writes, client_shuts, client_holds, client_takes, client_aborts, client_timer, client_gets, client_injects}
+use Rattle.lard_rules.specs.Front.{front_gets, front_timer}
 use Rattle.lard_machine.specs.Machine.{aborts, client_acted, client_goes_on, delivered, env_of, from_place, front_acted, happens, holds, injects, limit_reached, lost, machine_step, opened, passed, shut, takes, timer, to_client, to_front, to_place, unless_limit, wrote}
 use Rattle.lard_net.specs.Net.{Packet, lose_at, packet_at}
 use Rattle.lard_segment.specs.declared.segment.Dir.TheVariants.{ToClient, ToCluster}

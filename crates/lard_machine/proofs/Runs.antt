@@ -5,8 +5,8 @@ use Rattle.lard_base.specs.declared.event.Event.{Event}
 use Rattle.lard_client.specs.Control.{ClientBlock}
 use Rattle.lard_journal.specs.declared.rec.Rec.{Rec}
 use Rattle.lard_machine.specs.declared.machine.Machine.{Machine}
-use Rattle.lard_machine.specs.declared.places.FrontConn.{FrontConn}
-use Rattle.lard_machine.specs.declared.places.Turn.{Turn}
+use Rattle.lard_rules.specs.declared.places.FrontConn.{FrontConn}
+use Rattle.lard_rules.specs.declared.places.Turn.{Turn}
 use Rattle.lard_machine.specs.Bounds.{HasRule}
 use Rattle.lard_machine.specs.Machine.{IsReached, Passes, acted, client_acted, front_acted, machine_step, start}
 use Rattle.lard_machine.proofs.Forms.{Forms, step_has}

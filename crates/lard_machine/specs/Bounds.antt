@@ -8,7 +8,7 @@ use Rattle.lard_base.specs.declared.place.Place.{Place}
 use Rattle.lard_base.specs.declared.place.Place.TheVariants.{Front, Node, Client}
 use Rattle.lard_endpoint.specs.Control.{ControlBlock}
 use Rattle.lard_machine.specs.declared.machine.Machine.{Machine}
-use Rattle.lard_machine.specs.declared.places.FrontConn.TheVariants.{Held}
+use Rattle.lard_rules.specs.declared.places.FrontConn.TheVariants.{Held}
 
 -- each response has a byte, so there are no more responses than bytes; each event has a record
 pub record IsBounded (m : Machine) : Type 0 where

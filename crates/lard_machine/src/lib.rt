@@ -1,16 +1,14 @@
-//! The rules of the cluster as definitions over plain data: what each place does for one connection, and the machine
-//! that is composed of them. The types of its state are declared here; the code that follows the rules is above.
+//! The machine that is composed of the rules: its state, and one step of the whole as a function of the state and the
+//! event. The code that follows it is above.
 //!
-//! It stands above the endpoint, the client, the reading and the answering of requests, whose definitions its rules are
-//! made of. `lard_world` follows the rules, and the laws of the machine speak of them.
+//! It stands above `lard_rules`. `lard_world` takes its steps, and the laws of the machine speak of them.
 #![tactic(auto)]
 
 pub mod fault;
 pub mod limits;
 pub mod machine;
-pub mod places;
 
 pub use fault::{StepFault, What};
+pub use lard_rules::{FrontConn, Station, Turn};
 pub use limits::first_limit;
 pub use machine::Machine;
-pub use places::{FrontConn, Station, Turn};

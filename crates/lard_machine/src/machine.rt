@@ -1,10 +1,10 @@
 //! The state of the whole.
 
-use crate::places::{FrontConn, Station};
 use lard_base::Config;
 use lard_files::Files;
 use lard_journal::Journal;
 use lard_net::Net;
+use lard_rules::{FrontConn, Station};
 use lard_table::Table;
 
 /// The state of the whole. Connections are kept by their numbers.

@@ -12,8 +12,8 @@ use Rattle.lard_client.specs.Control.{ClientBlock, aborted, held_on, is_establis
 use Rattle.lard_client.specs.Leaving.{after_emit, after_owed, after_piece, after_timer, emitted, owes, told, unsaid}
 use Rattle.lard_view.proofs.Endpoints.{AllTo}
 use Rattle.lard_view.proofs.Sides.{IsSameSide, ack-side, next-side, resend-side, same_side}
-use Rattle.lard_machine.specs.Client.{ready_of}
-use Rattle.lard_machine.specs.Speaking.{client_emits, client_speaks, to_front}
+use Rattle.lard_rules.specs.Client.{ready_of}
+use Rattle.lard_rules.specs.Speaking.{client_emits, client_speaks, to_front}
 use Rattle.lard_segment.specs.declared.segment.Ready.{Ready}
 use Rattle.lard_segment.specs.Segment.{Said}
 use Rattle.lard_send.specs.declared.piece.Piece.{Piece}

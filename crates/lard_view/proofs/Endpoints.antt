@@ -11,8 +11,8 @@ use Rattle.lard_endpoint.specs.Control.{ControlBlock, rcv_nxt, rcv_wnd}
 use Rattle.lard_endpoint.specs.Leaving.{advanced, after_emit, after_owed, after_piece, after_timer, emits_left, emitted, owes, retried, told}
 use Rattle.lard_history.proofs.Each.{Each}
 use Rattle.lard_view.proofs.Sides.{ack-side, next-side, resend-side}
-use Rattle.lard_machine.specs.Front.{FrontEnv, ready_of}
-use Rattle.lard_machine.specs.Speaking.{emits, emits_symbols, has_symbol, speaks, speaks_symbols, to_client}
+use Rattle.lard_rules.specs.Front.{FrontEnv, ready_of}
+use Rattle.lard_rules.specs.Speaking.{emits, emits_symbols, has_symbol, speaks, speaks_symbols, to_client}
 use Rattle.lard_recv.specs.Recv.{arrived}
 use Rattle.lard_segment.specs.declared.segment.Ready.{Ready}
 use Rattle.lard_segment.specs.Segment.{Said}

@@ -9,8 +9,8 @@ use Rattle.lard_history.proofs.Lifting.{each_row-append}
 use Rattle.lard_history.proofs.Seeing.{same_number}
 use Rattle.lard_journal.specs.declared.rec.Rec.{Rec}
 use Rattle.lard_journal.specs.declared.rec.Rec.TheVariants as rec
-use Rattle.lard_machine.specs.Client.{client_injects}
-use Rattle.lard_machine.specs.declared.places.Station.{Station}
+use Rattle.lard_rules.specs.Client.{client_injects}
+use Rattle.lard_rules.specs.declared.places.Station.{Station}
 use Rattle.lard_view.specs.Carry.{IsGuardedLaw, IsLaw, IsUntouchedLaw, Untouched, UntouchedRules, WhileUntouched, tale_at}
 use Rattle.lard_view.specs.View.{Conn, IsSound, Move, Rules, Setting, client_does, grown, inject_seen, rows_of, seen_in}
 
@@ -30,6 +30,24 @@ weaker k P Q w R = record {
   front_fires = λ x s there. w x _ (R.front_fires x s there);
   front_hears = λ x s bytes there was. w x _ (R.front_hears x s bytes there was);
   ignores = λ x from to bytes was. w x _ (R.ignores x from to bytes was);
+}
+
+-- two facts of each rule at once
+pub both : (k : Setting) (P Q : Conn → Move → Type 0) → Rules k P → Rules k Q → Rules k (λ x v. P x v × Q x v)
+both k P Q R S = record {
+  opens = λ x isn iss wnd mss rule none. (R.opens x isn iss wnd mss rule none, S.opens x isn iss wnd mss rule none);
+  gets = λ x s path there le. (R.gets x s path there le, S.gets x s path there le);
+  writes = λ x s bytes there le. (R.writes x s bytes there le, S.writes x s bytes there le);
+  shuts = λ x s there. (R.shuts x s there, S.shuts x s there);
+  aborts = λ x s there. (R.aborts x s there, S.aborts x s there);
+  holds = λ x s there. (R.holds x s there, S.holds x s there);
+  takes = λ x s there. (R.takes x s there, S.takes x s there);
+  injects = λ x s bytes there rule. (R.injects x s bytes there rule, S.injects x s bytes there rule);
+  client_fires = λ x s there. (R.client_fires x s there, S.client_fires x s there);
+  client_hears = λ x s bytes there was. (R.client_hears x s bytes there was, S.client_hears x s bytes there was);
+  front_fires = λ x s there. (R.front_fires x s there, S.front_fires x s there);
+  front_hears = λ x s bytes there was. (R.front_hears x s bytes there was, S.front_hears x s bytes there was);
+  ignores = λ x from to bytes was. (R.ignores x from to bytes was, S.ignores x from to bytes was);
 }
 
 -- ---- once touched, a connection stays so

@@ -1,3 +1,4 @@
+pub mod Acts
 pub mod Carried
 pub mod ClientTurns
 pub mod Endpoints

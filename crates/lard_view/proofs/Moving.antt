@@ -55,7 +55,7 @@ timer-of c place true false = ((refl, refl), tt)
 timer-of c place true true = tt
 
 -- a timer that is as it was writes nothing
-unchanged : (place : Place) (c : ℕ) (b : Bool) → timer_change place c b b ≡ []
+pub unchanged : (place : Place) (c : ℕ) (b : Bool) → timer_change place c b b ≡ []
 unchanged place c true = refl
 unchanged place c false = refl
 

@@ -1,6 +1,6 @@
 -- The shape of a step, of no one connection: it begins by its event and no other, and what the journal tells of packets
 -- goes on as the network does.
-use Rattle.std.proofs.Common.{◌≡◌, ℕ, ◌+◌, ◌-◌, List, [], ◌∷◌, ◌++◌, length, Bool, true, false, Option, Some, None, Ok, refl, sym, ap, ◌∙◌, append_assoc}
+use Rattle.std.proofs.Common.{◌≡◌, ℕ, ◌+◌, ◌-◌, List, [], ◌∷◌, ◌++◌, map, length, Bool, true, false, Option, Some, None, Ok, refl, sym, ap, ◌∙◌, append_assoc}
 use Rattle.std.proofs.lemmas.List.Sums.{fold-append}
 use Rattle.std.specs.FinMap as table
 use Rattle.std.specs.List.{fold}
@@ -17,17 +17,18 @@ use Rattle.lard_history.proofs.Stepping.{AreInside, IsOneStep}
 use Rattle.lard_journal.specs.declared.rec.Rec.{Rec}
 use Rattle.lard_journal.specs.declared.rec.Rec.TheVariants as rec
 use Rattle.lard_machine.specs.declared.machine.Machine.{Machine}
-use Rattle.lard_machine.specs.declared.places.FrontConn.{FrontConn}
-use Rattle.lard_machine.specs.declared.places.Station.{Station}
-use Rattle.lard_machine.specs.declared.places.Turn.{Turn}
+use Rattle.lard_rules.specs.declared.places.FrontConn.{FrontConn}
+use Rattle.lard_rules.specs.declared.places.Station.{Station}
+use Rattle.lard_rules.specs.declared.places.Turn.{Turn}
 use Rattle.lard_machine.specs.Bounds.{HasRule}
-use Rattle.lard_machine.specs.Client.{client_aborts, client_gets, client_holds, client_injects, client_opens, client_shuts, client_takes, client_timer, client_writes}
-use Rattle.lard_machine.specs.Front.{front_gets, front_timer}
+use Rattle.lard_rules.specs.Client.{client_aborts, client_gets, client_holds, client_injects, client_opens, client_shuts, client_takes, client_timer, client_writes}
+use Rattle.lard_rules.specs.Front.{front_gets, front_timer}
 use Rattle.lard_machine.specs.Machine.{Act, acted, client_acted, client_goes_on, client_put, env_of, front_acted, front_armed, front_put, machine_step, packets_of, passed, records, sent_records, timer_change}
 use Rattle.lard_machine.proofs.Forms.{Forms, step_has}
 use Rattle.lard_net.specs.Net.{Packet, lose_at}
 use Rattle.lard_segment.specs.declared.segment.Dir.TheVariants.{ToClient, ToCluster}
 use Rattle.lard_segment.specs.Segment.{decoded}
+use Rattle.lard_view.specs.View.{Conn, Move, armed_at, rows_of, sending, timer_rows}
 use Rattle.lard_view.proofs.Moving.{notes-net, sents-net, timer-net}
 use Rattle.lard_view.proofs.Turns.{IsClientTurn, IsFrontTurn, NotedAt, aborts-turn, fires-turn, front_fires-turn, front_gets-turn, hears-turn, holds-turn, injects-turn, opens-turn, shuts-turn, takes-turn, writes-turn}
 
@@ -59,6 +60,18 @@ timer-inside place c false false = tt
 timer-inside place c false true = (refl, tt)
 timer-inside place c true false = (refl, tt)
 timer-inside place c true true = tt
+
+-- so no record that a move writes does
+pub rows-inside : (x : Conn) (v : Move) → Each (NotedAt v.place x.c) v.turn.notes → AreInside (rows_of x v)
+unfolding timer_rows
+rows-inside x v notes =
+    let inside : Rec → Type 0 = λ r. is_opening r ≡ false in
+    Each-append inside (v.turn.notes ++ map (sending v.place) v.turn.segments) (timer_rows v.place x.c x.part v.part)
+    (Each-append inside v.turn.notes (map (sending v.place) v.turn.segments) (Each-weaker (NotedAt v.place x.c) inside (note-inside v.place x.c) v.turn.notes notes) (sends v.turn.segments))
+    (timer-inside v.place x.c (armed_at v.place x.part) (armed_at v.place v.part)) where
+      sends : (ss : List (Place × List ℕ)) → AreInside (map (sending v.place) ss)
+      sends [] = tt
+      sends (s ∷ ss) = (refl, sends ss)
 
 -- ---- a step
 

@@ -12,12 +12,12 @@ use Rattle.lard_history.proofs.Seeing.{by_number, has-each, has-letter, letters-
 use Rattle.lard_journal.specs.declared.rec.Rec.{Rec}
 use Rattle.lard_journal.specs.declared.rec.Rec.TheVariants as rec
 use Rattle.lard_machine.specs.declared.machine.Machine.{Machine}
-use Rattle.lard_machine.specs.declared.places.FrontConn.{FrontConn}
-use Rattle.lard_machine.specs.declared.places.Station.{Station}
-use Rattle.lard_machine.specs.declared.places.Turn.{Turn}
+use Rattle.lard_rules.specs.declared.places.FrontConn.{FrontConn}
+use Rattle.lard_rules.specs.declared.places.Station.{Station}
+use Rattle.lard_rules.specs.declared.places.Turn.{Turn}
 use Rattle.lard_machine.specs.Bounds.{HasRule}
-use Rattle.lard_machine.specs.Client.{client_aborts, client_gets, client_holds, client_injects, client_opens, client_shuts, client_takes, client_timer, client_writes}
-use Rattle.lard_machine.specs.Front.{front_gets, front_timer}
+use Rattle.lard_rules.specs.Client.{client_aborts, client_gets, client_holds, client_injects, client_opens, client_shuts, client_takes, client_timer, client_writes}
+use Rattle.lard_rules.specs.Front.{front_gets, front_timer}
 use Rattle.lard_machine.specs.Machine.{Act, client_acted, client_goes_on, client_put, env_of, front_acted, front_armed, front_put, machine_step, passed}
 use Rattle.lard_machine.proofs.Forms.{Forms, IsIgnored, step_has}
 use Rattle.lard_net.specs.Net.{Packet, lose_at, packet_at}
@@ -83,7 +83,7 @@ module _ (m : Machine) (P : Conn → Move → Type 0) (R : Rules (setting_of m) 
       got-heads : Heads c (event.Deliver k) (rec.Got k ∷ []) (packet_seen from to p.bytes)
       got-heads = record { seen = got-seen ∙ ap (λ l. Came l ∷ []) letter-is; others = got-others }
 
-      was : Was (conn m c) from to p.bytes
+      pub was : Was (conn m c) from to p.bytes
       unfolding conn
       was = subst (λ (l : Letter). Has l (letters c m.net)) letter-is (has-letter c k m.net p at of)
 
@@ -161,7 +161,7 @@ module _ (m : Machine) (P : Conn → Move → Type 0) (R : Rules (setting_of m) 
   at-part c x is = is
 
   -- a packet for a client comes from the front end
-  from-front : (k c : ℕ) (p : Packet) → packet_at m.net k ≡ Some p → p.to ≡ Client c → p.from ≡ Front
+  pub from-front : (k c : ℕ) (p : Packet) → packet_at m.net k ≡ Some p → p.to ≡ Client c → p.from ≡ Front
   unfolding conn
   from-front k c p at to = go p.from refl where
     between : (d : ℕ) → conn_of p.from p.to p.bytes ≡ Some d → GoesBetween d p.from p.to

@@ -22,15 +22,15 @@ use Rattle.lard_history.specs.Own.{Letter, Seen, conn_of, plain, whose}
 use Rattle.lard_history.proofs.Each.{Each, Each-append, Each-weaker}
 use Rattle.lard_journal.specs.declared.rec.Rec.{Rec}
 use Rattle.lard_journal.specs.declared.rec.Rec.TheVariants as rec
-use Rattle.lard_machine.specs.declared.places.FrontConn.{FrontConn}
-use Rattle.lard_machine.specs.declared.places.FrontConn.TheVariants.{Held, Lent, Closed}
-use Rattle.lard_machine.specs.declared.places.Station.{Station}
-use Rattle.lard_machine.specs.declared.places.Turn.{Turn}
-use Rattle.lard_machine.specs.Client.{client_aborts, client_gets, client_holds, client_injects, client_opens, client_shuts, client_takes, client_timer, client_writes, ready_of, silent, speaking}
-use Rattle.lard_machine.specs.Front.{FrontEnv, Service, answered, begun, closed_behind, consumed, cut_off, ended_at_fin, front_gets, front_hears, front_timer, is_plain_syn, last_words, limit_said, met, passed_over, queued, reads, rested, settled, spoken, told, tombstone}
-use Rattle.lard_machine.specs.Front as front
-use Rattle.lard_machine.specs.Speaking.{client_speaks, speaks, speaks_symbols}
-use Rattle.lard_machine.proofs.Loops.{KeptByReading, reads_keep}
+use Rattle.lard_rules.specs.declared.places.FrontConn.{FrontConn}
+use Rattle.lard_rules.specs.declared.places.FrontConn.TheVariants.{Held, Lent, Closed}
+use Rattle.lard_rules.specs.declared.places.Station.{Station}
+use Rattle.lard_rules.specs.declared.places.Turn.{Turn}
+use Rattle.lard_rules.specs.Client.{client_aborts, client_gets, client_holds, client_injects, client_opens, client_shuts, client_takes, client_timer, client_writes, ready_of, silent, speaking}
+use Rattle.lard_rules.specs.Front.{FrontEnv, Service, answered, begun, closed_behind, consumed, cut_off, ended_at_fin, front_gets, front_hears, front_timer, is_plain_syn, last_words, limit_said, met, passed_over, queued, reads, rested, settled, spoken, told, tombstone}
+use Rattle.lard_rules.specs.Front as front
+use Rattle.lard_rules.specs.Speaking.{client_speaks, speaks, speaks_symbols}
+use Rattle.lard_rules.proofs.Loops.{KeptByReading, reads_keep}
 use Rattle.lard_request.specs.declared.verdict.Code.TheVariants as code
 use Rattle.lard_request.specs.declared.verdict.Verdict.{Verdict}
 use Rattle.lard_request.specs.declared.verdict.Verdict.TheVariants.{Fault}

@@ -12,10 +12,10 @@ use Rattle.lard_history.specs.Own.{EachRow, Seen, tale_of}
 use Rattle.lard_journal.specs.declared.rec.Rec.{Rec}
 use Rattle.lard_journal.specs.declared.rec.Rec.TheVariants as rec
 use Rattle.lard_machine.specs.declared.machine.Machine.{Machine}
-use Rattle.lard_machine.specs.declared.places.Station.{Station}
+use Rattle.lard_rules.specs.declared.places.Station.{Station}
 use Rattle.lard_machine.specs.Bounds.{HasRule}
-use Rattle.lard_machine.specs.Client.{client_writes, client_shuts, client_holds, client_takes, client_aborts, client_timer, client_gets}
-use Rattle.lard_machine.specs.Front.{front_gets, front_timer}
+use Rattle.lard_rules.specs.Client.{client_writes, client_shuts, client_holds, client_takes, client_aborts, client_timer, client_gets}
+use Rattle.lard_rules.specs.Front.{front_gets, front_timer}
 use Rattle.lard_machine.specs.Machine.{IsReached}
 use Rattle.lard_segment.specs.declared.segment.Dir.TheVariants.{ToClient, ToCluster}
 use Rattle.lard_segment.specs.Segment.{decoded}

@@ -9,10 +9,10 @@ use Rattle.lard_client.specs.Control.{ClientBlock, is_armed}
 use Rattle.lard_journal.specs.declared.rec.Rec.{Rec}
 use Rattle.lard_machine.specs.Machine.{Act, acted, client_acted, client_goes_on}
 use Rattle.lard_machine.specs.declared.machine.Machine.{Machine}
-use Rattle.lard_machine.specs.declared.places.FrontConn.{FrontConn}
-use Rattle.lard_machine.specs.declared.places.FrontConn.TheVariants.{Lent}
-use Rattle.lard_machine.specs.declared.places.Station.{Station}
-use Rattle.lard_machine.specs.declared.places.Turn.{Turn}
+use Rattle.lard_rules.specs.declared.places.FrontConn.{FrontConn}
+use Rattle.lard_rules.specs.declared.places.FrontConn.TheVariants.{Lent}
+use Rattle.lard_rules.specs.declared.places.Station.{Station}
+use Rattle.lard_rules.specs.declared.places.Turn.{Turn}
 use Rattle.lard_net.specs.Net.{Packet, lose_at}
 use Rattle.lard_table.proofs.Map.{get_inserted, insert_twice}
 use Rattle.lard_world.specs.Lent.{stand_in, without_client, without_conn}

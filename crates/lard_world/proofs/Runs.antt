@@ -13,8 +13,8 @@ use Rattle.lard_journal.specs.declared.rec.Rec.{Rec}
 use Rattle.lard_machine.specs.declared.fault.StepFault.{StepFault}
 use Rattle.lard_machine.specs.declared.fault.StepFault.TheVariants.{NotSent, WasLost, NoClient, Used, Limit, NoMemory}
 use Rattle.lard_machine.specs.declared.machine.Machine.{Machine}
-use Rattle.lard_machine.specs.declared.places.FrontConn.{FrontConn}
-use Rattle.lard_machine.specs.declared.places.Station.{Station}
+use Rattle.lard_rules.specs.declared.places.FrontConn.{FrontConn}
+use Rattle.lard_rules.specs.declared.places.Station.{Station}
 use Rattle.lard_machine.specs.Bounds.{HasRule}
 use Rattle.lard_machine.specs.Machine.{Steps, machine_step, start}
 use Rattle.lard_net.specs.Net.{Packet}

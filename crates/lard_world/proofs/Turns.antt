@@ -4,9 +4,9 @@ use Rattle.std.specs.Prelude.{if◌then◌else◌}
 use Rattle.lard_block.specs.declared.block.Found.TheVariants.{Block, More, TooLong}
 use Rattle.lard_block.specs.Blocks.{cut_of}
 use Rattle.lard_endpoint.specs.Control.{ControlBlock, consuming, finishing}
-use Rattle.lard_machine.specs.Front.{FrontEnv, Service, answered, reads}
-use Rattle.lard_machine.proofs.Reading.{reads-more}
-use Rattle.lard_machine.specs.Front.{may_read}
+use Rattle.lard_rules.specs.Front.{FrontEnv, Service, answered, reads}
+use Rattle.lard_rules.proofs.Reading.{reads-more}
+use Rattle.lard_rules.specs.Front.{may_read}
 use Rattle.lard_request.specs.declared.verdict.Code.TheVariants.{FieldsTooLarge}
 use Rattle.lard_request.specs.declared.verdict.Verdict.{Verdict}
 use Rattle.lard_request.specs.declared.verdict.Verdict.TheVariants.{Fault}

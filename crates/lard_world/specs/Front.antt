@@ -2,11 +2,11 @@
 use Rattle.std.specs.Prelude.{◌≤◌, Option, Some, None}
 use Rattle.lard_endpoint.specs.Control.{ControlBlock}
 use Rattle.lard_files.specs.Files.{file_at}
-use Rattle.lard_machine.specs.Front.{FrontEnv, Service}
-use Rattle.lard_machine.specs.Client.{silent}
-use Rattle.lard_machine.specs.declared.places.FrontConn.{FrontConn}
-use Rattle.lard_machine.specs.declared.places.Turn.{Turn}
-use Rattle.lard_machine.specs.declared.places.FrontConn.TheVariants.{Held, Lent, Closed}
+use Rattle.lard_rules.specs.Front.{FrontEnv, Service}
+use Rattle.lard_rules.specs.Client.{silent}
+use Rattle.lard_rules.specs.declared.places.FrontConn.{FrontConn}
+use Rattle.lard_rules.specs.declared.places.Turn.{Turn}
+use Rattle.lard_rules.specs.declared.places.FrontConn.TheVariants.{Held, Lent, Closed}
 use Rattle.lard_world.specs.declared.reading.Env.{Env}
 use Rattle.lard_world.specs.declared.reading.Service.{Service as Served}
 

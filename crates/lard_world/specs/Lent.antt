@@ -3,8 +3,8 @@ use Rattle.std.specs.Prelude.{ℕ}
 use Rattle.std.specs.FinMap as table
 use Rattle.lard_client.specs.Control.{opened}
 use Rattle.lard_machine.specs.declared.machine.Machine.{Machine}
-use Rattle.lard_machine.specs.declared.places.FrontConn.TheVariants.{Lent}
-use Rattle.lard_machine.specs.declared.places.Station.{Station}
+use Rattle.lard_rules.specs.declared.places.FrontConn.TheVariants.{Lent}
+use Rattle.lard_rules.specs.declared.places.Station.{Station}
 
 -- the station that stands in for one that is in hand
 abbrev pub stand_in : ℕ → Station

@@ -3,10 +3,10 @@ use Rattle.std.specs.Prelude.{◌≡◌, ℕ, ◌^◌, ◌≤◌, ◌<◌, lengt
 use Rattle.std.specs.FinMap as table
 use Rattle.lard_base.specs.declared.limits.TheConstants.{MAX_PACKETS, MAX_RECORDS, MAX_RESPONSE_BYTES, MAX_STREAM_BYTES}
 use Rattle.lard_endpoint.specs.Control.{ControlBlock}
-use Rattle.lard_machine.specs.declared.places.FrontConn.TheVariants.{Held}
+use Rattle.lard_rules.specs.declared.places.FrontConn.TheVariants.{Held}
 use Rattle.lard_machine.specs.declared.machine.Machine.{Machine}
-use Rattle.lard_machine.specs.declared.places.Turn.{Turn}
-use Rattle.lard_machine.specs.Speaking.{AreShort}
+use Rattle.lard_rules.specs.declared.places.Turn.{Turn}
+use Rattle.lard_rules.specs.Speaking.{AreShort}
 
 -- its segments fit packets, these can be numbered, and its responses can be counted
 pub record IsTurn (t : Turn) : Type 0 where

@@ -3,7 +3,7 @@
 ghost use Rattle.std.specs.Prelude.{◌≡◌, ◌+◌, ◌^◌, ◌≤◌, ◌<◌, ◌-◌, [], ◌∷◌, ◌++◌, length, IfOk, OnOk, OnErr};
 ghost use Rattle.lard_base.specs.declared.limits.TheConstants.{MAX_SEGMENT_BYTES};
 ghost use Rattle.lard_machine.specs.Machine.{acted, packets_of, passed, sent_records, timer_change};
-ghost use Rattle.lard_machine.specs.Speaking.{AreShort, listed};
+ghost use Rattle.lard_rules.specs.Speaking.{AreShort, listed};
 ghost use Rattle.lard_world.specs.Acting.{act_of};
 ghost use Rattle.lard_world.specs.Turns.{HasRoom, IsTurn};
 

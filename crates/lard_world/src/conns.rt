@@ -3,9 +3,9 @@
 ghost use Rattle.std.specs.Prelude.{◌≡◌, ◌^◌, ◌≤◌, [], ◌∷◌, length, None, Some, IfNone, IfSome, IsSome, OnOk, OnErr, false};
 ghost use Rattle.std.specs.FinMap as table;
 ghost use Rattle.lard_base.specs.declared.limits.TheConstants.{MAX_SEGMENT_BYTES, MAX_STREAM_BYTES};
-ghost use Rattle.lard_machine.specs.Front.{front_gets, front_timer};
+ghost use Rattle.lard_rules.specs.Front.{front_gets, front_timer};
 ghost use Rattle.lard_machine.specs.Machine.{acted, env_of, front_acted, front_armed};
-ghost use Rattle.lard_machine.specs.Speaking.{listed};
+ghost use Rattle.lard_rules.specs.Speaking.{listed};
 ghost use Rattle.lard_segment.specs.Segment.{decoded};
 ghost use Rattle.lard_world.specs.Front.{env_seen};
 ghost use Rattle.lard_world.specs.Lent.{without_conn};

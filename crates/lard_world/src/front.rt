@@ -4,10 +4,10 @@ ghost use Rattle.std.specs.Prelude.{◌≡◌, ◌+◌, ◌^◌, ◌≤◌, true
 ghost use Rattle.lard_base.specs.declared.limits.TheConstants.{MAX_SEGMENT_BYTES, MAX_SEGMENT_DATA, MAX_STREAM_BYTES};
 ghost use Rattle.lard_endpoint.specs.Control.{ControlBlock};
 ghost use Rattle.lard_endpoint.specs.Leaving.{IsReady};
-ghost use Rattle.lard_machine.specs.Client.{silent};
-ghost use Rattle.lard_machine.specs.Front.{begun, cut_off, front_gets, front_hears, front_timer, heard, is_plain_syn, is_telling, last_ack, last_words, limit_said, met, ready_of, refusal, rested, settled, spoken, told, tombstone};
+ghost use Rattle.lard_rules.specs.Client.{silent};
+ghost use Rattle.lard_rules.specs.Front.{begun, cut_off, front_gets, front_hears, front_timer, heard, is_plain_syn, is_telling, last_ack, last_words, limit_said, met, ready_of, refusal, rested, settled, spoken, told, tombstone};
 ghost use Rattle.lard_machine.specs.Machine.{front_armed};
-ghost use Rattle.lard_machine.specs.Speaking.{AreShort};
+ghost use Rattle.lard_rules.specs.Speaking.{AreShort};
 ghost use Rattle.lard_segment.specs.Segment.{decoded, said};
 ghost use Rattle.lard_world.specs.Front.{IsCounted, IsCountedIn, begun_of, env_seen, service_of};
 ghost use Rattle.lard_world.specs.Turns.{IsTurn};

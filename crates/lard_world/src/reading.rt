@@ -6,7 +6,7 @@ ghost use Rattle.lard_answers.specs.Answers.{answer, answer_code, found};
 ghost use Rattle.lard_base.specs.declared.limits.TheConstants.{MAX_STREAM_BYTES};
 ghost use Rattle.lard_files.specs.Files.{IsContent, file_at};
 ghost use Rattle.lard_endpoint.specs.Control.{finishing};
-ghost use Rattle.lard_machine.specs.Front.{answered, closed_behind, may_read, reads};
+ghost use Rattle.lard_rules.specs.Front.{answered, closed_behind, may_read, reads};
 ghost use Rattle.lard_response.specs.Response.{number, response};
 ghost use Rattle.lard_world.specs.Front.{IsCounted, env_seen, service_of};
 

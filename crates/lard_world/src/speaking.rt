@@ -4,7 +4,7 @@ ghost use Rattle.std.specs.Prelude.{◌≡◌, ◌+◌, ◌^◌, ◌≤◌, fals
 ghost use Rattle.lard_base.specs.declared.limits.TheConstants.{MAX_STREAM_BYTES};
 ghost use Rattle.lard_client.specs.Leaving as client_leaves;
 ghost use Rattle.lard_endpoint.specs.Leaving as endpoint_leaves;
-ghost use Rattle.lard_machine.specs.Speaking.{AreShort, client_speaks, has_symbol, speaks, speaks_symbols, to_client, to_front};
+ghost use Rattle.lard_rules.specs.Speaking.{AreShort, client_speaks, has_symbol, speaks, speaks_symbols, to_client, to_front};
 ghost use Rattle.lard_segment.specs.Segment.{said, spelled};
 
 use lard_base::limits::{MAX_SEGMENT_BYTES, MAX_SEGMENT_DATA};

@@ -5,9 +5,9 @@ ghost use Rattle.std.specs.FinMap as table;
 ghost use Rattle.lard_base.specs.declared.limits.TheConstants.{MAX_SEGMENT_BYTES, MAX_SEGMENT_DATA, MAX_STREAM_BYTES};
 ghost use Rattle.lard_client.specs.Control.{is_armed, written_len};
 ghost use Rattle.lard_history.specs.Journal.{request};
-ghost use Rattle.lard_machine.specs.Client.{speaking};
+ghost use Rattle.lard_rules.specs.Client.{speaking};
 ghost use Rattle.lard_machine.specs.Machine.{Steps, aborts, client_acted, holds, injects, opened, shut, takes, wrote};
-ghost use Rattle.lard_machine.specs.Speaking.{listed};
+ghost use Rattle.lard_rules.specs.Speaking.{listed};
 ghost use Rattle.lard_world.specs.Lent.{without_client};
 ghost use Rattle.lard_world.specs.Turns.{HasRoom, IsTurn};
 

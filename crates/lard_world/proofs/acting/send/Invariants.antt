@@ -1,7 +1,7 @@
 use Rattle.std.proofs.Common.{◌≡◌, ◌+◌, ◌-◌, ◌^◌, ◌<◌, ◌++◌, length}
 use Rattle.std.specs.Vec.Iter.{into_iter_items}
 use Rattle.lard_machine.specs.Machine.{packets_of, sent_records}
-use Rattle.lard_machine.specs.Speaking.{AreShort}
+use Rattle.lard_rules.specs.Speaking.{AreShort}
 use Rattle.lard_world.proofs.acting.send.Given as goal
 
 -- what was sent and what is left to send are all

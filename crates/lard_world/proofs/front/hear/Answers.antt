@@ -2,7 +2,7 @@
 use Rattle.std.proofs.Common.{◌≡◌, ◌≤◌, arith, subst, ap, ◌∙◌}
 use Rattle.lard_endpoint.specs.declared.control.arriving.Arrival.{Arrival}
 use Rattle.lard_endpoint.specs.Control.{ControlBlock}
-use Rattle.lard_machine.proofs.Totals.{arrival_total}
+use Rattle.lard_rules.proofs.Totals.{arrival_total}
 use Rattle.lard_segment.specs.Segment.{said}
 use Rattle.lard_world.specs.Front.{IsCountedIn}
 use Rattle.lard_world.proofs.front.hear.Goals as goal

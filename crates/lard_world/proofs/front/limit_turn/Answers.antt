@@ -1,7 +1,7 @@
 -- The RST is one packet more, and short.
 use Rattle.std.proofs.Common.{[], ◌∷◌, sym, ap, subst, arith, length, length-append}
-use Rattle.lard_machine.specs.Speaking.{AreShort}
-use Rattle.lard_machine.proofs.Packets.{short_push}
+use Rattle.lard_rules.specs.Speaking.{AreShort}
+use Rattle.lard_rules.proofs.Packets.{short_push}
 use Rattle.lard_world.proofs.front.limit_turn.Goals as goal
 
 pub returns-clause-fits : goal.returns-clause-fits

@@ -2,7 +2,7 @@
 use Rattle.std.proofs.Common.{[], ◌∷◌, refl, sym}
 use Rattle.lard_base.specs.declared.event.Event.TheVariants.{Deliver}
 use Rattle.lard_journal.specs.declared.rec.Rec.TheVariants.{Got}
-use Rattle.lard_machine.specs.Client.{client_gets}
+use Rattle.lard_rules.specs.Client.{client_gets}
 use Rattle.lard_machine.specs.Machine.{to_client}
 use Rattle.lard_machine.specs.declared.machine.Machine.{Machine}
 use Rattle.lard_segment.specs.Segment.{decoded}

@@ -1,6 +1,6 @@
 -- Each turn is one of the definition's, by what was found.
 use Rattle.std.proofs.Common.{length, sym, ap, ◌∙◌}
-use Rattle.lard_machine.proofs.Reading.{reads-stop}
+use Rattle.lard_rules.proofs.Reading.{reads-stop}
 use Rattle.lard_world.specs.Front.{env_seen, service_of}
 use Rattle.lard_world.proofs.Turns.{block_read, long_read, more_read}
 use Rattle.lard_world.proofs.reading.read.Goals as goal

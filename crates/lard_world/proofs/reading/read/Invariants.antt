@@ -1,5 +1,5 @@
 use Rattle.std.proofs.Common.{◌≡◌, length}
-use Rattle.lard_machine.specs.Front.{reads}
+use Rattle.lard_rules.specs.Front.{reads}
 use Rattle.lard_world.specs.Front.{IsCounted, env_seen, service_of}
 use Rattle.lard_world.proofs.reading.read.Given as goal
 

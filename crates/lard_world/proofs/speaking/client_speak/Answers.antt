@@ -2,9 +2,9 @@
 use Rattle.std.proofs.Common.{◌≡◌, [], ◌∷◌, ◌++◌, None, length, sym, ap, ◌∙◌, subst, arith, length-append}
 use Rattle.lard_client.specs.Control.{ClientBlock}
 use Rattle.lard_client.specs.Leaving.{emitted, after_emit}
-use Rattle.lard_machine.specs.Speaking.{AreShort, client_speaks, to_front}
-use Rattle.lard_machine.proofs.Packets.{short_push}
-use Rattle.lard_machine.proofs.Saying.{client-more, client-done}
+use Rattle.lard_rules.specs.Speaking.{AreShort, client_speaks, to_front}
+use Rattle.lard_rules.proofs.Packets.{short_push}
+use Rattle.lard_rules.proofs.Saying.{client-more, client-done}
 use Rattle.lard_world.proofs.Loops.{sent_more, sent_all}
 use Rattle.lard_world.proofs.speaking.client_speak.Goals as goal
 

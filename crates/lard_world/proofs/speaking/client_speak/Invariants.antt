@@ -1,6 +1,6 @@
 use Rattle.std.proofs.Common.{◌≡◌, ◌+◌, ◌≤◌, ◌^◌, ◌++◌, length}
 use Rattle.lard_client.specs.Leaving.{unsaid}
-use Rattle.lard_machine.specs.Speaking.{AreShort, client_speaks}
+use Rattle.lard_rules.specs.Speaking.{AreShort, client_speaks}
 use Rattle.lard_send.specs.Send.{IsSending}
 use Rattle.lard_world.proofs.speaking.client_speak.Given as goal
 

@@ -2,9 +2,9 @@
 use Rattle.std.proofs.Common.{◌≡◌, [], ◌∷◌, ◌++◌, None, length, sym, ap, ◌∙◌, subst, arith, length-append}
 use Rattle.lard_endpoint.specs.Control.{ControlBlock}
 use Rattle.lard_endpoint.specs.Leaving.{emitted, after_emit}
-use Rattle.lard_machine.specs.Speaking.{AreShort, speaks, to_client}
-use Rattle.lard_machine.proofs.Packets.{short_push}
-use Rattle.lard_machine.proofs.Saying.{speaks-more, speaks-done, emit-rests}
+use Rattle.lard_rules.specs.Speaking.{AreShort, speaks, to_client}
+use Rattle.lard_rules.proofs.Packets.{short_push}
+use Rattle.lard_rules.proofs.Saying.{speaks-more, speaks-done, emit-rests}
 use Rattle.lard_world.proofs.Loops.{sent_more, sent_all}
 use Rattle.lard_world.proofs.speaking.speak.Goals as goal
 

@@ -3,9 +3,9 @@ use Rattle.std.proofs.Common.{◌≡◌, Bool, true, false, cond, List, [], ◌�
 use Rattle.lard_base.specs.declared.place.Place.{Place}
 use Rattle.lard_endpoint.specs.Control.{ControlBlock}
 use Rattle.lard_endpoint.specs.Leaving.{emitted, after_emit}
-use Rattle.lard_machine.specs.Speaking.{AreShort, has_symbol, speaks_symbols, to_client}
-use Rattle.lard_machine.proofs.Packets.{short_push}
-use Rattle.lard_machine.proofs.Saying.{symbols-more, symbols-done, emit-rests}
+use Rattle.lard_rules.specs.Speaking.{AreShort, has_symbol, speaks_symbols, to_client}
+use Rattle.lard_rules.proofs.Packets.{short_push}
+use Rattle.lard_rules.proofs.Saying.{symbols-more, symbols-done, emit-rests}
 use Rattle.lard_world.proofs.Loops.{sent_more, sent_all}
 use Rattle.lard_world.proofs.speaking.speak_symbols.Goals as goal
 

@@ -1,7 +1,7 @@
 use Rattle.std.proofs.Common.{◌≡◌, ◌+◌, ◌≤◌, ◌^◌, ◌++◌, length}
 use Rattle.lard_endpoint.specs.Control.{IsControlBlock}
 use Rattle.lard_endpoint.specs.Leaving.{emits_left}
-use Rattle.lard_machine.specs.Speaking.{AreShort, speaks_symbols}
+use Rattle.lard_rules.specs.Speaking.{AreShort, speaks_symbols}
 use Rattle.lard_world.proofs.speaking.speak_symbols.Given as goal
 
 -- what was said and what is left to say are all that there was

@@ -1,7 +1,7 @@
 -- The rule was followed on the station that was taken out.
 use Rattle.std.proofs.Common.{[], Ok, refl}
 use Rattle.lard_base.specs.declared.event.Event.TheVariants.{Shut}
-use Rattle.lard_machine.specs.Client.{client_shuts}
+use Rattle.lard_rules.specs.Client.{client_shuts}
 use Rattle.lard_machine.specs.Machine.{shut}
 use Rattle.lard_world.proofs.Lent.{client_done}
 use Rattle.lard_world.proofs.stations.shut.Goals as goal

@@ -3,13 +3,13 @@ use Rattle.std.proofs.Common.{◌≡◌, ℕ, ◌≤◌, [], Ok, Err, Result, So
 use Rattle.std.proofs.lemmas.Bool.Decides.{nat_tests}
 use Rattle.std.specs.FinMap as table
 use Rattle.lard_client.specs.Control.{written_len}
-use Rattle.lard_machine.specs.Client.{client_writes}
+use Rattle.lard_rules.specs.Client.{client_writes}
 use Rattle.lard_machine.specs.Machine.{client_goes_on, wrote}
 use Rattle.lard_machine.specs.declared.fault.StepFault.{StepFault}
 use Rattle.lard_machine.specs.declared.fault.StepFault.TheVariants.{Limit}
 use Rattle.lard_machine.specs.declared.fault.What.TheVariants.{Stream}
 use Rattle.lard_machine.specs.declared.machine.Machine.{Machine}
-use Rattle.lard_machine.specs.declared.places.Station.{Station}
+use Rattle.lard_rules.specs.declared.places.Station.{Station}
 use Rattle.lard_world.proofs.Lent.{client_done}
 use Rattle.lard_world.proofs.stations.write.Goals as goal
 

@@ -9,8 +9,8 @@ use Rattle.lard_client.specs.Control.{ClientBlock}
 use Rattle.lard_client.specs.Leaving as client
 use Rattle.lard_endpoint.specs.Control.{ControlBlock}
 use Rattle.lard_endpoint.specs.Leaving as endpoint
-use Rattle.lard_machine.specs.Front.{FrontEnv, Service, answered, consumed, ended_at_fin, may_read, read_found, reads, reads_on}
-use Rattle.lard_machine.specs.Speaking.{client_emits, client_speaks, emits, emits_symbols, has_symbol, speaks, speaks_symbols, to_client, to_front}
+use Rattle.lard_rules.specs.Front.{FrontEnv, Service, answered, consumed, ended_at_fin, may_read, read_found, reads, reads_on}
+use Rattle.lard_rules.specs.Speaking.{client_emits, client_speaks, emits, emits_symbols, has_symbol, speaks, speaks_symbols, to_client, to_front}
 use Rattle.lard_request.specs.declared.verdict.Code.TheVariants as code
 use Rattle.lard_request.specs.declared.verdict.Verdict.TheVariants.{Fault}
 use Rattle.lard_request.specs.Verdict.{verdict}

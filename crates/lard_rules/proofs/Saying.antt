@@ -8,8 +8,8 @@ use Rattle.lard_endpoint.specs.Control.{ControlBlock, IsControlBlock}
 use Rattle.lard_endpoint.specs.Leaving.{emitted, after_emit, emits_left, advanced, owes, told, ready_of, after_piece, ack_ready}
 use Rattle.lard_endpoint.proofs.Ends.{emit-falls}
 use Rattle.lard_endpoint.proofs.Sound.{after_emit-sound, after_next-sound}
-use Rattle.lard_machine.specs.Speaking.{to_client, to_front, emits, speaks, has_symbol, emits_symbols, speaks_symbols, client_emits, client_speaks}
-use Rattle.lard_machine.proofs.Draining.{Drains, nothing_more, one_more}
+use Rattle.lard_rules.specs.Speaking.{to_client, to_front, emits, speaks, has_symbol, emits_symbols, speaks_symbols, client_emits, client_speaks}
+use Rattle.lard_rules.proofs.Draining.{Drains, nothing_more, one_more}
 use Rattle.lard_segment.specs.declared.segment.Ready.{Ready}
 use Rattle.lard_send.specs.declared.piece.Piece.{Piece}
 use Rattle.lard_send.proofs.Sent.{next-rests}

@@ -6,7 +6,7 @@ use Rattle.lard_block.specs.declared.block.Found.TheVariants.{Block, More, TooLo
 use Rattle.lard_block.specs.Blocks.{cut_of, IsWithin}
 use Rattle.lard_block.proofs.Cutting.{cut-within}
 use Rattle.lard_endpoint.specs.Control.{ControlBlock, finishing, discarding_on, queueing}
-use Rattle.lard_machine.specs.Front.{FrontEnv, Service, passed_over, queued, closed_behind, answered, consumed, may_read, read_found, reads_on, reads}
+use Rattle.lard_rules.specs.Front.{FrontEnv, Service, passed_over, queued, closed_behind, answered, consumed, may_read, read_found, reads_on, reads}
 use Rattle.lard_request.specs.declared.verdict.Code.TheVariants as code
 use Rattle.lard_request.specs.declared.verdict.Verdict.{Verdict}
 use Rattle.lard_request.specs.declared.verdict.Verdict.TheVariants.{Fault}
