@@ -11,7 +11,7 @@ use Rattle.lard_client.specs.Control.{written_len}
 use Rattle.lard_history.specs.Journal.{answered_bytes, numbers_of, packet_bytes, request}
 use Rattle.lard_journal.specs.declared.rec.Rec.TheVariants as rec
 use Rattle.lard_rules.specs.Client.{client_writes}
-use Rattle.lard_machine.specs.Machine.{aborts, client_goes_on, delivered, happens, holds, limit_of, limit_reached, lost, machine_step, opened, passed, shut, takes, timer, to_place, unless_limit, wrote}
+use Rattle.lard_machine.specs.Machine.{aborts, client_goes_on, delivered, happens, holds, injects, limit_of, limit_reached, lost, machine_step, opened, passed, shut, takes, timer, to_place, unless_limit, wrote}
 use Rattle.lard_machine.specs.declared.fault.StepFault.{StepFault}
 use Rattle.lard_machine.specs.declared.fault.StepFault.TheVariants as fault
 use Rattle.lard_machine.specs.declared.fault.What.{What}
@@ -127,6 +127,11 @@ module _ (m : Machine) (t : Told m) where
   takes-fault c f None at is = no_client (event.Take c) c f refl at is
   takes-fault c f (Some x) at is = cc
 
+  injects-fault : (c : ℕ) (bytes : List ℕ) (f : StepFault) (o : Option Station) → table.get m.clients c ≡ o → injects m c bytes o ≡ Err f → IsFault m (event.Inject c bytes) f
+  unfolding injects
+  injects-fault c bytes f None at is = no_client (event.Inject c bytes) c f refl at is
+  injects-fault c bytes f (Some x) at is = cc
+
   timer-fault : (p : Place) (c : ℕ) (f : StepFault) (o : Option Station) → table.get m.clients c ≡ o → timer m p c o ≡ Err f → IsFault m (event.Timer p c) f
   unfolding timer
   timer-fault p c f None at is = no_client (event.Timer p c) c f refl at is
@@ -162,7 +167,7 @@ module _ (m : Machine) (t : Told m) where
   happens-fault (event.Disk n j) f is = cc
   happens-fault (event.Clock ms) f is = cc
   happens-fault (event.Settle rounds) f is = cc
-  happens-fault (event.Inject c bytes) f is = cc
+  happens-fault (event.Inject c bytes) f is = injects-fault c bytes f (table.get m.clients c) refl is
 
   -- ---- and back
 
@@ -181,12 +186,13 @@ module _ (m : Machine) (t : Told m) where
   fault-lost _ k p same at gone = absurd same
 
   fault-client : (e : Event) (c : ℕ) → IsOfClient e c → table.get m.clients c ≡ None → happens m e ≡ Err (fault.NoClient c)
-  unfolding wrote shut aborts holds takes timer
+  unfolding wrote shut aborts holds takes timer injects
   fault-client (event.Get d path) c same none = subst (λ i. happens m (event.Get i path) ≡ Err (fault.NoClient c)) (sym same) (ap (wrote m (event.Get c path) c (request path)) none)
   fault-client (event.Write d bytes) c same none = subst (λ i. happens m (event.Write i bytes) ≡ Err (fault.NoClient c)) (sym same) (ap (wrote m (event.Write c bytes) c bytes) none)
   fault-client (event.Shut d) c same none = subst (λ i. happens m (event.Shut i) ≡ Err (fault.NoClient c)) (sym same) (ap (shut m c) none)
   fault-client (event.Abort d) c same none = subst (λ i. happens m (event.Abort i) ≡ Err (fault.NoClient c)) (sym same) (ap (aborts m c) none)
   fault-client (event.Hold d) c same none = subst (λ i. happens m (event.Hold i) ≡ Err (fault.NoClient c)) (sym same) (ap (holds m c) none)
+  fault-client (event.Inject d bytes) c same none = subst (λ i. happens m (event.Inject i bytes) ≡ Err (fault.NoClient c)) (sym same) (ap (injects m c bytes) none)
   fault-client (event.Take d) c same none = subst (λ i. happens m (event.Take i) ≡ Err (fault.NoClient c)) (sym same) (ap (takes m c) none)
   fault-client (event.Timer p d) c same none = subst (λ i. happens m (event.Timer p i) ≡ Err (fault.NoClient c)) (sym same) (ap (timer m p c) none)
   fault-client _ c same none = absurd same

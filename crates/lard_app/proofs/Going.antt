@@ -1,47 +1,84 @@
--- The loop over the lines of a text: what was written so far, and what the rest gives.
-use Rattle.std.proofs.Common.{◌≡◌, ℕ, ◌+◌, ◌≤◌, List, [], ◌∷◌, ◌++◌, length, take, drop, Bool, true, false, cond, Option, Some, None, Result, Ok, Err, refl, sym, ap, ◌∙◌, subst, append_assoc, append-nil, arith, length-drop}
+-- The lines of a text that are passed, one after another: what was written so far, and what the rest gives.
+use Rattle.std.proofs.Common.{◌≡◌, ◌≢◌, ◌⊎◌, inl, inr, ℕ, ◌+◌, ◌≤◌, ◌<◌, List, [], ◌∷◌, ◌++◌, length, take, drop, Bool, true, false, cond, Option, Some, None, Result, Ok, Err, refl, sym, ap, ◌∙◌, subst, append_assoc, append-nil, arith, length-append, length-drop}
 use Rattle.std.proofs.KnownBytes.{Appends-trans, Appends-nil}
-use Rattle.std.specs.Io.KnownBytes.{Appends}
-use Rattle.std.proofs.lemmas.List.{length-take-le}
+use Rattle.std.specs.Io.KnownBytes.{Appends, IsAtEnd}
+use Rattle.std.proofs.lemmas.Bool.Decides.{nat_tests}
+use Rattle.std.proofs.lemmas.List.{drop-append-le, length-take-le, take-append-le}
 use Rattle.std.proofs.lemmas.List.Quantifiers.{position-Some}
 use Rattle.std.specs.List.{position}
 use Rattle.std.specs.Prelude.{nat_lt}
 use Rattle.lard_base.specs.declared.limits.TheConstants.{MAX_INPUT_BYTES}
 use Rattle.lard_base.specs.Outside.{WrotePrefix}
 use Rattle.lard_base.specs.declared.event.Event.{Event}
+use Rattle.lard_lines.proofs.Feeds.{found_before, none_until}
+use Rattle.lard_lines.specs.Lines.{is_feed, lines_of}
 use Rattle.lard_machine.specs.declared.fault.What.TheVariants.{Input}
 use Rattle.lard_schedule.specs.declared.reader.Stage.{Stage}
 use Rattle.lard_schedule.specs.declared.reader.Stage.TheVariants.{Start, Settings, Files, Running}
 use Rattle.lard_schedule.proofs.Cuts.{first_part, split_alone, split_at}
+use Rattle.lard_app.specs.Causes.{Leads}
 use Rattle.lard_app.specs.declared.status.Status.{Status}
 use Rattle.lard_app.specs.declared.status.Status.TheVariants.{Done, Usage, Refused, ReadFault, WriteFault, NoMemory, Limit}
 use Rattle.lard_app.specs.declared.status.Why.TheVariants.{Syntax}
-use Rattle.lard_app.specs.Replay.{begin, ended_at, ending, gain, event_listed, is_feed, judged, lines_of, passed, replayed, report_of, whole, IsSound, Passes, Progress}
-use Rattle.lard_app.specs.Run.{Completes, Replays}
+use Rattle.lard_app.specs.Replay.{begin, ended_at, ending, gain, event_listed, is_past, judged, passed, replayed, report_of, whole, IsSound, Passes, Progress}
+use Rattle.lard_app.specs.Run.{Completes, Ended, IsDecided}
 use Rattle.lard_app.proofs.Growth.{begins, passed-grown, passed-none, BeginsWith}
 use Rattle.lard_app.proofs.Keeping.{Keeps, begin-keeps, passed-keeps}
-use Rattle.lard_app.proofs.Passing.{passed-read}
+use Rattle.lard_app.proofs.Passing.{passed-read, passed_by}
 
 -- what a line's call relies on
 pub keeps-sound : (s : Progress) (es : List Event) → Keeps s es → IsSound s
 keeps-sound s es k = record { lines = k.lines; read = k.read }
 
--- the state after some lines, with the text that is left
+-- ---- lines that pass
+
+-- lines that pass, and one more
+leads_on : (s t u : Progress) (lines : List (List ℕ)) (line : List ℕ) → Leads s lines t → passed t line ≡ Ok u → Leads s (lines ++ line ∷ []) u
+leads_on s t u [] line l e = (u, ap (λ (v : Progress). passed v line) l ∙ e, refl)
+leads_on s t u (first ∷ lines) line l e = (l.0, l.1, leads_on l.0 t u lines line l.2 e)
+
+-- lines that pass lead a replay to what is behind them
+leads_whole : (s t : Progress) (lines : List (List ℕ)) (part : List ℕ) (parts : List (List ℕ)) → Leads s lines t → replayed s (lines ++ part ∷ parts) ≡ replayed t (part ∷ parts)
+leads_whole s t [] part parts l = ap (λ (v : Progress). replayed v (part ∷ parts)) l
+leads_whole s t (line ∷ []) part parts l =
+    let step : replayed s (line ∷ part ∷ parts) ≡ replayed l.0 (part ∷ parts) = rw (l.1, replayed) refl in
+    step ∙ ap (λ (v : Progress). replayed v (part ∷ parts)) l.2
+leads_whole s t (line ∷ next ∷ lines) part parts l =
+    let step : replayed s (line ∷ next ∷ (lines ++ part ∷ parts)) ≡ replayed l.0 (next ∷ (lines ++ part ∷ parts)) = rw (l.1, replayed) refl in
+    step ∙ leads_whole l.0 t (next ∷ lines) part parts l.2
+
+-- The state after the lines of a text that are passed, with the rest of it. Whatever comes behind the text comes behind
+-- the rest.
 pub record Going (text rest : List ℕ) (s : Progress) (old now : Option (List ℕ)) : Type 0 where
   pub events : List Event
   pub keeps : Keeps s events
   pub read : s.read + length rest ≡ length text
-  pub same : replayed s (lines_of rest) ≡ whole text
+  pub lines : List (List ℕ)
+  pub leads : Leads begin lines s
+  pub are : (more : List ℕ) → lines_of (text ++ more) ≡ lines ++ lines_of (rest ++ more)
   pub written : Appends old now (report_of s)
 
-pub going_first : (text : List ℕ) (s : Progress) (old : Option (List ℕ)) → s ≡ begin → Going text text s old old
-unfolding whole
-going_first text s old e = record {
+pub going_first : (s : Progress) (old : Option (List ℕ)) → s ≡ begin → Going [] [] s old old
+going_first s old e = record {
   events = [];
   keeps = subst (λ (t : Progress). Keeps t []) (sym e) begin-keeps;
-  read = subst (λ t. t.read + length text ≡ length text) (sym e) (omega arith);
-  same = ap (λ t. replayed t (lines_of text)) e;
+  read = subst (λ t. t.read + 0 ≡ 0) (sym e) (omega arith);
+  lines = [];
+  leads = sym e;
+  are = λ more. refl;
   written = subst (λ t. Appends old old (report_of t)) (sym e) (Appends-nil old);
+}
+
+-- more is read
+pub going_more : (text rest taken : List ℕ) (s : Progress) (old now : Option (List ℕ)) → Going text rest s old now → Going (text ++ taken) (rest ++ taken) s old now
+going_more text rest taken s old now g = record {
+  events = g.events;
+  keeps = g.keeps;
+  read = omega (arith, g.read, length-append rest taken, length-append text taken);
+  lines = g.lines;
+  leads = g.leads;
+  are = λ more. ap lines_of (append_assoc text taken more) ∙ g.are (taken ++ more) ∙ ap (λ xs. g.lines ++ lines_of xs) (sym (append_assoc rest taken more));
+  written = g.written;
 }
 
 -- a front of what was to be written is one of all that is
@@ -60,36 +97,86 @@ completes_as text s old now status e h = record {
   written = subst (Appends old now) (sym (ap (λ (p : Progress × Status). report_of p.0) e)) h;
 }
 
-module _ (text rest : List ℕ) (s : Progress) (old now : Option (List ℕ)) (g : Going text rest s old now) where
-  -- ---- the text has another line
-  module _ (at : ℕ) (is : position is_feed rest ≡ Some at) where
-    one_line : (parts : List (List ℕ)) → lines_of (drop (at + 1) rest) ≡ parts → lines_of rest ≡ take at rest ∷ parts
-    one_line parts e = split_at is_feed rest at is ∙ ap (λ (ls : List (List ℕ)). take at rest ∷ ls) e
+-- ---- a line that is too long, before its line feed is read
 
-    when_passed : (t : Progress) → passed s (take at rest) ≡ Ok t → whole text ≡ replayed t (lines_of (drop (at + 1) rest))
-    when_passed t e = go (first_part is_feed (drop (at + 1) rest)) where
-      go : (part : List ℕ) × (parts : List (List ℕ)) × (lines_of (drop (at + 1) rest) ≡ part ∷ parts) → whole text ≡ replayed t (lines_of (drop (at + 1) rest))
+past_at_end : (s : Progress) (last : List ℕ) → MAX_INPUT_BYTES < s.read + length last → last ≢ [] → ending s last ≡ Limit (s.lines + 1) Input
+past_at_end s [] l some = absurd (some refl)
+past_at_end s (b ∷ bs) l some =
+    let past : nat_lt MAX_INPUT_BYTES (s.read + length (b ∷ bs)) ≡ true = grind (arith, nat_tests, l) in
+    ap (λ u. cond u (Limit (s.lines + 1) Input) (Refused (s.lines + 1) Syntax)) past
+
+past_as_line : (s : Progress) (line : List ℕ) → MAX_INPUT_BYTES < s.read + length line → passed s line ≡ Err (Limit (s.lines + 1) Input)
+past_as_line s line l =
+    let past : is_past s line ≡ true = grind (arith, nat_tests, l) in passed_by s line true past
+
+past_limit : (s : Progress) (rest more : List ℕ) → position is_feed rest ≡ None → MAX_INPUT_BYTES < s.read + length rest → s.read ≤ MAX_INPUT_BYTES → replayed s (lines_of (rest ++ more)) ≡ (s, Limit (s.lines + 1) Input)
+past_limit s rest more none l small = alone (position is_feed (rest ++ more)) refl where
+  some : rest ++ more ≢ []
+  some e = let no : length (rest ++ more) ≡ 0 = ap length e in absurd (omega (arith, no, l, small, length-append rest more))
+
+  alone : (o : Option ℕ) → position is_feed (rest ++ more) ≡ o → replayed s (lines_of (rest ++ more)) ≡ (s, Limit (s.lines + 1) Input)
+  alone None e = ap (replayed s) (split_alone is_feed (rest ++ more) e) ∙ ap (λ (t : Status). (s, t)) (past_at_end s (rest ++ more) (omega (arith, l, length-append rest more)) some)
+  alone (Some at) e = behind (first_part is_feed (drop (at + 1) (rest ++ more))) where
+    behind : (part : List ℕ) × (parts : List (List ℕ)) × (lines_of (drop (at + 1) (rest ++ more)) ≡ part ∷ parts) → replayed s (lines_of (rest ++ more)) ≡ (s, Limit (s.lines + 1) Input)
+    behind f =
+        let least = none_until is_feed rest more at none e in
+        let within = position-Some is_feed (rest ++ more) at 0 e in
+        let line : length (take at (rest ++ more)) ≡ at = length-take-le at (rest ++ more) (omega (arith, within.0)) in
+        let past = past_as_line s (take at (rest ++ more)) (omega (arith, l, least, line)) in
+        let step : replayed s (take at (rest ++ more) ∷ f.0 ∷ f.1) ≡ (s, Limit (s.lines + 1) Input) = rw (past, replayed) refl in
+        ap (replayed s) (split_at is_feed (rest ++ more) at e ∙ ap (λ ls. take at (rest ++ more) ∷ ls) f.2) ∙ step
+
+module _ (text rest : List ℕ) (s : Progress) (old now : Option (List ℕ)) (g : Going text rest s old now) where
+  -- what the rest gives, with whatever comes behind it
+  goes_on : (more : List ℕ) → whole (text ++ more) ≡ replayed s (lines_of (rest ++ more))
+  unfolding whole
+  goes_on more = go (first_part is_feed (rest ++ more)) where
+    go : (part : List ℕ) × (parts : List (List ℕ)) × (lines_of (rest ++ more) ≡ part ∷ parts) → replayed begin (lines_of (text ++ more)) ≡ replayed s (lines_of (rest ++ more))
+    go f = ap (replayed begin) (g.are more ∙ ap (λ ls. g.lines ++ ls) f.2) ∙ leads_whole begin s g.lines f.0 f.1 g.leads ∙ ap (replayed s) (sym f.2)
+
+  as_read : (p : Progress × Status) → ((more : List ℕ) → whole (text ++ more) ≡ p) → whole text ≡ p
+  as_read p e = ap whole (sym (append-nil text)) ∙ e []
+
+  decided : (p : Progress × Status) → ((more : List ℕ) → whole (text ++ more) ≡ p) → (more : List ℕ) → whole (text ++ more) ≡ whole text
+  decided p e more = e more ∙ sym (as_read p e)
+
+  -- ---- the rest has a whole line
+  module _ (at : ℕ) (is : position is_feed rest ≡ Some at) where
+    within : at + 1 ≤ length rest
+    within = let l = position-Some is_feed rest at 0 is in omega (arith, l.0)
+
+    -- the line is the same whatever comes behind it
+    one_line : (more : List ℕ) → lines_of (rest ++ more) ≡ take at rest ∷ lines_of (drop (at + 1) rest ++ more)
+    one_line more =
+        split_at is_feed (rest ++ more) at (found_before is_feed rest more at is)
+        ∙ ap (λ line. line ∷ lines_of (drop (at + 1) (rest ++ more))) (take-append-le at rest more (omega (arith, within)))
+        ∙ ap (λ xs. take at rest ∷ lines_of xs) (drop-append-le (at + 1) rest more within)
+
+    when_passed : (t : Progress) → passed s (take at rest) ≡ Ok t → (more : List ℕ) → whole (text ++ more) ≡ replayed t (lines_of (drop (at + 1) rest ++ more))
+    when_passed t e more = go (first_part is_feed (drop (at + 1) rest ++ more)) where
+      go : (part : List ℕ) × (parts : List (List ℕ)) × (lines_of (drop (at + 1) rest ++ more) ≡ part ∷ parts) → whole (text ++ more) ≡ replayed t (lines_of (drop (at + 1) rest ++ more))
       go f =
           let step : replayed s (take at rest ∷ f.0 ∷ f.1) ≡ replayed t (f.0 ∷ f.1) = rw (e, replayed) refl in
-          sym g.same ∙ ap (replayed s) (one_line (f.0 ∷ f.1) f.2) ∙ step ∙ ap (replayed t) (sym f.2)
+          goes_on more ∙ ap (replayed s) (one_line more ∙ ap (λ ls. take at rest ∷ ls) f.2) ∙ step ∙ ap (replayed t) (sym f.2)
 
-    when_refused : (status : Status) → passed s (take at rest) ≡ Err status → whole text ≡ (s, status)
-    when_refused status e = go (first_part is_feed (drop (at + 1) rest)) where
-      go : (part : List ℕ) × (parts : List (List ℕ)) × (lines_of (drop (at + 1) rest) ≡ part ∷ parts) → whole text ≡ (s, status)
+    when_refused : (status : Status) → passed s (take at rest) ≡ Err status → (more : List ℕ) → whole (text ++ more) ≡ (s, status)
+    when_refused status e more = go (first_part is_feed (drop (at + 1) rest ++ more)) where
+      go : (part : List ℕ) × (parts : List (List ℕ)) × (lines_of (drop (at + 1) rest ++ more) ≡ part ∷ parts) → whole (text ++ more) ≡ (s, status)
       go f =
           let step : replayed s (take at rest ∷ f.0 ∷ f.1) ≡ (s, status) = rw (e, replayed) refl in
-          sym g.same ∙ ap (replayed s) (one_line (f.0 ∷ f.1) f.2) ∙ step
+          goes_on more ∙ ap (replayed s) (one_line more ∙ ap (λ ls. take at rest ∷ ls) f.2) ∙ step
 
     pub going_on : (t : Progress) (next : Option (List ℕ)) → (passed s (take at rest) ≡ Ok t) × Appends now next (gain s (take at rest)) → Going text (drop (at + 1) rest) t old next
     going_on t next h = record {
       events = g.events ++ event_listed (judged s.reader (take at rest));
       keeps = passed-keeps s t (take at rest) g.events g.keeps h.0;
       read =
-          let within = position-Some is_feed rest at 0 is in
-          let line : length (take at rest) ≡ at = length-take-le at rest (omega (arith, within.0)) in
+          let line : length (take at rest) ≡ at = length-take-le at rest (omega (arith, within)) in
           let read = (passed-read s t (take at rest) h.0).1 in
-          omega (arith, within.0, line, read, g.read, length-drop (at + 1) rest);
-      same = sym (when_passed t h.0);
+          omega (arith, within, line, read, g.read, length-drop (at + 1) rest);
+      lines = g.lines ++ take at rest ∷ [];
+      leads = leads_on begin s t g.lines (take at rest) g.leads h.0;
+      are = λ more. g.are more ∙ ap (λ ls. g.lines ++ ls) (one_line more) ∙ sym (append_assoc g.lines (take at rest ∷ []) (lines_of (drop (at + 1) rest ++ more)));
       written = subst (Appends old next) (sym (passed-grown s t (take at rest) g.keeps.listed h.0)) (Appends-trans old now next _ _ g.written h.1);
     }
 
@@ -97,32 +184,64 @@ module _ (text rest : List ℕ) (s : Progress) (old now : Option (List ℕ)) (g 
     whole_begins : (zs : List ℕ) × (report_of (whole text).0 ≡ (report_of s ++ gain s (take at rest)) ++ zs)
     whole_begins = go (passed s (take at rest)) refl where
       go : (r : Result Progress Status) → passed s (take at rest) ≡ r → (zs : List ℕ) × (report_of (whole text).0 ≡ (report_of s ++ gain s (take at rest)) ++ zs)
-      go (Err status) e = ([], ap (λ (p : Progress × Status). report_of p.0) (when_refused status e) ∙ sym (append-nil (report_of s)) ∙ ap (λ xs. report_of s ++ xs) (sym (passed-none s (take at rest) status e)) ∙ sym (append-nil _))
+      go (Err status) e = (
+        [],
+        ap (λ (p : Progress × Status). report_of p.0) (as_read (s, status) (when_refused status e)) ∙ sym (append-nil (report_of s)) ∙ ap (λ xs. report_of s ++ xs) (sym (passed-none s (take at rest) status e)) ∙ sym (append-nil _),
+      )
       go (Ok t) e =
           let keeps = passed-keeps s t (take at rest) g.events g.keeps e in
-          let from : BeginsWith t (lines_of (drop (at + 1) rest)) (report_of t) = begins t (lines_of (drop (at + 1) rest)) (g.events ++ event_listed (judged s.reader (take at rest))) keeps in
-          (from.more, ap (λ (p : Progress × Status). report_of p.0) (when_passed t e) ∙ from.is ∙ ap (λ xs. xs ++ from.more) (passed-grown s t (take at rest) g.keeps.listed e))
+          let from : BeginsWith t (lines_of (drop (at + 1) rest ++ [])) (report_of t) = begins t (lines_of (drop (at + 1) rest ++ [])) (g.events ++ event_listed (judged s.reader (take at rest))) keeps in (
+            from.more,
+            ap (λ (p : Progress × Status). report_of p.0) (ap whole (sym (append-nil text)) ∙ when_passed t e []) ∙ from.is
+                ∙ ap (λ xs. xs ++ from.more) (passed-grown s t (take at rest) g.keeps.listed e),
+          )
 
     stops_within : (next : Option (List ℕ)) → WrotePrefix now next (gain s (take at rest)) → WrotePrefix old next (report_of (whole text).0)
     stops_within next f = let w = whole_begins in front_on old now next (report_of s) (gain s (take at rest)) w.0 (report_of (whole text).0) g.written f w.1
 
-    refused_here : (status : Status) (next : Option (List ℕ)) → passed s (take at rest) ≡ Err status → Appends now next [] → Completes status text old next
-    refused_here status next e h = completes_as text s old next status (when_refused status e)
-        (subst (Appends old next) (append-nil (report_of s)) (Appends-trans old now next (report_of s) [] g.written h))
+    refused_here : (status : Status) (left next : Option (List ℕ)) → passed s (take at rest) ≡ Err status → Appends now next [] → IsDecided text left × Completes status text old next
+    refused_here status left next e h = (
+      inr (decided (s, status) (when_refused status e)),
+      completes_as text s old next status (as_read (s, status) (when_refused status e))
+          (subst (Appends old next) (append-nil (report_of s)) (Appends-trans old now next (report_of s) [] g.written h)),
+    )
 
-    pub going_stop : (e : Status) (t : Progress) (next : Option (List ℕ)) → Passes (passed s (take at rest)) (gain s (take at rest)) now next t (Err e) → Replays e text old next
-    going_stop Done t next h = absurd h
-    going_stop Usage t next h = absurd h
-    going_stop ReadFault t next h = absurd h
-    going_stop (Refused line why) t next h = refused_here (Refused line why) next h.0 h.1
-    going_stop (Limit line what) t next h = refused_here (Limit line what) next h.0 h.1
-    going_stop WriteFault t next h = stops_within next h
-    going_stop NoMemory t next h = stops_within next h
+    pub going_stop : (e : Status) (t : Progress) (left next : Option (List ℕ)) → Passes (passed s (take at rest)) (gain s (take at rest)) now next t (Err e) → Ended e text left old next
+    going_stop Done t left next h = absurd h
+    going_stop Usage t left next h = absurd h
+    going_stop ReadFault t left next h = absurd h
+    going_stop (Refused line why) t left next h = refused_here (Refused line why) left next h.0 h.1
+    going_stop (Limit line what) t left next h = refused_here (Limit line what) left next h.0 h.1
+    going_stop WriteFault t left next h = stops_within next h
+    going_stop NoMemory t left next h = stops_within next h
 
-  -- ---- the text has no other line
+  -- ---- the rest has no line feed
   module _ (none : position is_feed rest ≡ None) where
     at_end : whole text ≡ (s, ending s rest)
-    at_end = sym g.same ∙ ap (replayed s) (split_alone is_feed rest none)
+    at_end = ap whole (sym (append-nil text)) ∙ goes_on [] ∙ ap (λ xs. replayed s (lines_of xs)) (append-nil rest) ∙ ap (replayed s) (split_alone is_feed rest none)
+
+    -- the report of what was read is written
+    written_so_far : Appends old now (report_of (whole text).0)
+    written_so_far = subst (Appends old now) (sym (ap (λ (p : Progress × Status). report_of p.0) at_end)) g.written
+
+    -- the source failed
+    pub going_failed : (left : Option (List ℕ)) → length text ≤ MAX_INPUT_BYTES → Ended ReadFault text left old now
+    going_failed left small = (
+      small,
+      (
+        g.lines,
+        rest,
+        ap lines_of (sym (append-nil text)) ∙ g.are [] ∙ ap (λ xs. g.lines ++ lines_of xs) (append-nil rest) ∙ ap (λ ls. g.lines ++ ls) (split_alone is_feed rest none),
+        subst (λ (p : Progress × Status). Leads begin g.lines p.0) (sym at_end) g.leads,
+      ),
+      written_so_far,
+    )
+
+    -- memory ran out
+    pub going_starved : (left : Option (List ℕ)) → Ended NoMemory text left old now
+    going_starved left = record { front = report_of (whole text).0; rest = []; is = append-nil (report_of (whole text).0); written = written_so_far }
+
+    -- ---- it ends the text, or has more bytes than an input may have
 
     short : rest ≡ [] → length text ≤ MAX_INPUT_BYTES
     short e = let no : length rest ≡ 0 = ap length e in omega (arith, no, g.read, g.keeps.read)
@@ -130,22 +249,36 @@ module _ (text rest : List ℕ) (s : Progress) (old now : Option (List ℕ)) (g 
     completed : (status : Status) → ending s rest ≡ status → Completes status text old now
     completed status e = completes_as text s old now status (at_end ∙ ap (λ (t : Status). (s, t)) e) g.written
 
-    -- nothing follows the last line feed
-    empty_end : (stage : Stage) → s.reader.stage ≡ stage → rest ≡ [] → Replays (ended_at s.lines stage) text old now
-    empty_end Start e f = completed (Refused (s.lines + 1) Syntax) (ap (ending s) f ∙ ap (ended_at s.lines) e)
-    empty_end Settings e f = completed (Refused (s.lines + 1) Syntax) (ap (ending s) f ∙ ap (ended_at s.lines) e)
-    empty_end Files e f = completed (Refused (s.lines + 1) Syntax) (ap (ending s) f ∙ ap (ended_at s.lines) e)
-    empty_end Running e f = (short f, completed Done (ap (ending s) f ∙ ap (ended_at s.lines) e))
+    -- a line that is too long already is too long whatever comes behind it
+    too_long : length text ≡ MAX_INPUT_BYTES + 1 → (more : List ℕ) → whole (text ++ more) ≡ (s, Limit (s.lines + 1) Input)
+    too_long full more = goes_on more ∙ past_limit s rest more none (omega (arith, full, g.read)) g.keeps.read
 
-    pub going_end : (status : Status) → status ≡ ending s rest → Replays status text old now
-    going_end status e = go rest refl where
-      go : (r : List ℕ) → rest ≡ r → Replays status text old now
-      go [] f = subst (λ t. Replays t text old now) (sym (e ∙ ap (ending s) f)) (empty_end s.reader.stage refl f)
-      go (b ∷ bs) f = past (nat_lt MAX_INPUT_BYTES (s.read + length (b ∷ bs))) refl where
-        past : (t : Bool) → nat_lt MAX_INPUT_BYTES (s.read + length (b ∷ bs)) ≡ t → Replays status text old now
-        past true h =
-            let is : ending s rest ≡ Limit (s.lines + 1) Input = ap (ending s) f ∙ ap (λ u. cond u (Limit (s.lines + 1) Input) (Refused (s.lines + 1) Syntax)) h in
-            subst (λ t. Replays t text old now) (sym (e ∙ is)) (completed (Limit (s.lines + 1) Input) is)
-        past false h =
-            let is : ending s rest ≡ Refused (s.lines + 1) Syntax = ap (ending s) f ∙ ap (λ u. cond u (Limit (s.lines + 1) Input) (Refused (s.lines + 1) Syntax)) h in
-            subst (λ t. Replays t text old now) (sym (e ∙ is)) (completed (Refused (s.lines + 1) Syntax) is)
+    -- nothing that follows changes how it ends
+    final : (left : Option (List ℕ)) → IsAtEnd left ⊎ (length text ≡ MAX_INPUT_BYTES + 1) → IsDecided text left
+    final left (inl end) = inl end
+    final left (inr full) = inr (decided (s, Limit (s.lines + 1) Input) (too_long full))
+
+    at_its_end : (left : Option (List ℕ)) → IsAtEnd left ⊎ (length text ≡ MAX_INPUT_BYTES + 1) → length text ≤ MAX_INPUT_BYTES → IsAtEnd left
+    at_its_end left (inl end) small = end
+    at_its_end left (inr full) small = absurd (omega (arith, full, small))
+
+    module _ (left : Option (List ℕ)) (how : IsAtEnd left ⊎ (length text ≡ MAX_INPUT_BYTES + 1)) where
+      -- nothing follows the last line feed
+      empty_end : (stage : Stage) → s.reader.stage ≡ stage → rest ≡ [] → Ended (ended_at s.lines stage) text left old now
+      empty_end Start e f = (final left how, completed (Refused (s.lines + 1) Syntax) (ap (ending s) f ∙ ap (ended_at s.lines) e))
+      empty_end Settings e f = (final left how, completed (Refused (s.lines + 1) Syntax) (ap (ending s) f ∙ ap (ended_at s.lines) e))
+      empty_end Files e f = (final left how, completed (Refused (s.lines + 1) Syntax) (ap (ending s) f ∙ ap (ended_at s.lines) e))
+      empty_end Running e f = (at_its_end left how (short f), short f, completed Done (ap (ending s) f ∙ ap (ended_at s.lines) e))
+
+      pub going_end : (status : Status) → status ≡ ending s rest → Ended status text left old now
+      going_end status e = go rest refl where
+        go : (r : List ℕ) → rest ≡ r → Ended status text left old now
+        go [] f = subst (λ t. Ended t text left old now) (sym (e ∙ ap (ending s) f)) (empty_end s.reader.stage refl f)
+        go (b ∷ bs) f = past (nat_lt MAX_INPUT_BYTES (s.read + length (b ∷ bs))) refl where
+          past : (t : Bool) → nat_lt MAX_INPUT_BYTES (s.read + length (b ∷ bs)) ≡ t → Ended status text left old now
+          past true h =
+              let is : ending s rest ≡ Limit (s.lines + 1) Input = ap (ending s) f ∙ ap (λ u. cond u (Limit (s.lines + 1) Input) (Refused (s.lines + 1) Syntax)) h in
+              subst (λ t. Ended t text left old now) (sym (e ∙ is)) (final left how, completed (Limit (s.lines + 1) Input) is)
+          past false h =
+              let is : ending s rest ≡ Refused (s.lines + 1) Syntax = ap (ending s) f ∙ ap (λ u. cond u (Limit (s.lines + 1) Input) (Refused (s.lines + 1) Syntax)) h in
+              subst (λ t. Ended t text left old now) (sym (e ∙ is)) (final left how, completed (Refused (s.lines + 1) Syntax) is)

@@ -17,6 +17,7 @@ use Rattle.lard_history.proofs.Each.{Each, Each-append}
 use Rattle.lard_journal.specs.Range.{IsConfigInRange}
 use Rattle.lard_journal.specs.Report.{file_text}
 use Rattle.lard_laws_records.specs.Records.{IsGiven}
+use Rattle.lard_lines.specs.Lines.{lines_of}
 use Rattle.lard_machine.proofs.Runs.{passes-more, step-set}
 use Rattle.lard_machine.specs.Bounds.{HasRule}
 use Rattle.lard_machine.specs.Machine.{machine_step, start}
@@ -34,7 +35,7 @@ use Rattle.lard_schedule.specs.Reader.{HasRange}
 use Rattle.lard_app.specs.declared.status.Form.{Form}
 use Rattle.lard_app.specs.declared.status.Status.{Status}
 use Rattle.lard_app.specs.Forms.{missing}
-use Rattle.lard_app.specs.Replay.{Progress, begin, begun, config_set, counted, event_listed, events_from, events_of, filed, followed, is_past, judged, lines_of, moved, passed, replayed, sizes, stepped, taken, whole}
+use Rattle.lard_app.specs.Replay.{Progress, begin, begun, config_set, counted, event_listed, events_from, events_of, filed, followed, is_past, judged, moved, passed, replayed, sizes, stepped, taken, whole}
 use Rattle.lard_app.proofs.Ranges.{HasRanges, IsGivenFile, config_checked, event-given, file-given}
 use Rattle.lard_app.proofs.Passing.{ok_is, passed-took, took-fits, took-judged}
 use Rattle.lard_app.proofs.Steps.{ruled}

@@ -1,9 +1,9 @@
 -- The journal of a text's replay is that of the machine, and obeys its laws.
-use Rattle.std.proofs.Common.{◌≡◌, ◌≢◌, ℕ, List, [], ◌++◌, length, ◌≤◌, ◌^◌, refl, sym, ap, ◌∙◌, subst, arith, length-append}
+use Rattle.std.proofs.Common.{◌≡◌, ◌≢◌, ℕ, Option, List, [], ◌++◌, length, ◌≤◌, ◌^◌, refl, sym, ap, ◌∙◌, subst, arith, length-append}
 use Rattle.std.specs.List.{flat_map}
 use Rattle.lard_base.specs.declared.config.Config.{Config}
 use Rattle.lard_files.specs.Files.{file_at}
-use Rattle.lard_history.specs.Laws.{AcceptsOnlyAnswers, Follows, IsNetwork, IsOwnership, IsSoleSender, MayOwn, MayReset, MaySend, MayWrite, ResetsAtTheLimit, ServesTheAnswers, TellsTheTruth, WritesWhileOpen}
+use Rattle.lard_history.specs.Laws.{AcceptsOnlyAnswers, ActsInPlace, Follows, IsNetwork, IsOwnership, IsSoleSender, MayOwn, MayReset, MaySend, MayWrite, ResetsAtTheLimit, ServesTheAnswers, TellsTheTruth, WritesWhileOpen}
 use Rattle.lard_history.proofs.Each.{Each-weaker}
 use Rattle.lard_journal.specs.declared.rec.Rec.{Rec}
 use Rattle.lard_journal.specs.Range.{IsFileInRange, IsReportInRange}
@@ -14,11 +14,16 @@ use Rattle.lard_laws_quiet.specs.Quiet.{IsCompleteWhenQuiet, JournalsAreComplete
 use Rattle.lard_laws_places.proofs.Reached.{journals-follow, reached-holds, reached-may}
 use Rattle.lard_laws_records.proofs.Bytes.{each-all}
 use Rattle.lard_laws_records.specs.Records.{IsFile, IsGiven, RecordsAreInRange}
+use Rattle.lard_laws_steps.specs.Clients.{ClientsKeepTheirTables, KeepsTables}
+use Rattle.lard_laws_steps.specs.Fronts.{TakesOnce, TheFrontEndTakesOnce}
 use Rattle.lard_machine.specs.declared.machine.Machine.{Machine}
 use Rattle.lard_machine.specs.Machine.{IsReached, Passes, start}
 use Rattle.lard_schedule.specs.declared.reader.Stage.{Stage}
 use Rattle.lard_schedule.specs.declared.reader.Stage.TheVariants.{Files, Running, Settings, Start}
 use Rattle.lard_app.specs.Replay.{begin, config_of, events_of, files_of, journal_of, machine_of, report_at, report_of, sizes, whole}
+use Rattle.lard_app.specs.declared.status.Status.{Status}
+use Rattle.lard_app.specs.Run.{Ran, Reads}
+use Rattle.lard_app.proofs.Endings.{caused}
 use Rattle.lard_app.proofs.Keeping.{IsUnseen, whole-keeps}
 use Rattle.lard_app.proofs.Ranges.{IsGivenFile, sizes-ranges}
 
@@ -47,6 +52,9 @@ module _ (text : List ℕ) where
   pub network : IsNetwork (journal_of text)
   network = (reached-holds (config_of text) (files_of text) (machine_of text) reached).linked.each
 
+  pub places : ActsInPlace (journal_of text)
+  places = (reached-holds (config_of text) (files_of text) (machine_of text) reached).places
+
   pub ownership : IsOwnership (journal_of text)
   ownership = reached-may (config_of text) (files_of text) (machine_of text) reached MayOwn (λ past x l. l.0)
 
@@ -61,6 +69,14 @@ module _ (text : List ℕ) where
 
   pub takers : ClientsTakeInOrder → TakesInOrder (journal_of text)
   takers law = law (config_of text) (files_of text) (machine_of text) small reached
+
+  -- ---- laws of steps
+
+  pub tables : ClientsKeepTheirTables → KeepsTables (journal_of text)
+  tables law = law (config_of text) (files_of text) (machine_of text) reached
+
+  pub taken_once : TheFrontEndTakesOnce → TakesOnce (journal_of text)
+  taken_once law = law (config_of text) (files_of text) (machine_of text) reached
 
   -- ---- laws of bytes
 
@@ -129,3 +145,47 @@ tells_all law tells text also same =
     alike (machine_of text) (machine_of also)
     (tells (config_of text) (config_of also) (sizes (files_of text)) (sizes (files_of also)) (journal_of text) (journal_of also) (ranges text law) (ranges also law))
     (whole text).0.reader.stage (whole also).0.reader.stage (whole-keeps text).unseen (whole-keeps also).unseen same
+
+-- ---- the whole of a run
+
+-- the laws of all journals that a run's rests on
+pub record Laws : Type 0 where
+  pub takers : ClientsTakeInOrder
+  pub tables : ClientsKeepTheirTables
+  pub taken_once : TheFrontEndTakesOnce
+  pub tells : JournalsTellTheTruth
+  pub prefix : ClientsAcceptAnswers
+  pub service : JournalsServeTheAnswers
+  pub quiet : JournalsAreComplete
+  pub records : RecordsAreInRange
+  pub reports : ReportsTellAll
+
+pub ran : Laws → (status : Status) (left left_now old new : Option (List ℕ)) → Reads status left left_now old new → Ran status left left_now old new
+ran laws status left left_now old new r = record {
+  text = r.text;
+  consumed = r.consumed;
+  bounded = r.bounded;
+  ended = r.ended;
+  causes = caused r.text;
+  config = config_of r.text;
+  files = files_of r.text;
+  events = events_of r.text;
+  journal = journal_of r.text;
+  are = (refl, refl, refl, refl);
+  machine = (machine_of r.text, machine r.text, refl);
+  follows = follows r.text;
+  network = network r.text;
+  places = places r.text;
+  ownership = ownership r.text;
+  sole_sender = sole_sender r.text;
+  writers = writers r.text;
+  takers = takers r.text laws.takers;
+  tables = tables r.text laws.tables;
+  taken_once = taken_once r.text laws.taken_once;
+  tells = tells r.text laws.tells;
+  prefix = prefix r.text laws.prefix;
+  service = service r.text laws.service;
+  resets = resets r.text;
+  quiet = quiet r.text laws.quiet;
+  tells_all = tells_all laws.records laws.reports r.text;
+}

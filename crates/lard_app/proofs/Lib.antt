@@ -11,6 +11,7 @@ mod Lawful
 mod Numbers
 mod Passing
 mod Ranges
+mod Reading
 mod Reached
 mod Settled
 mod Steps

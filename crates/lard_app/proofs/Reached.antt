@@ -5,7 +5,7 @@ use Rattle.lard_base.specs.declared.config.Config.{Config}
 use Rattle.lard_history.specs.Journal.{answered_bytes, is_lost, numbers_of, packet_bytes, sent_count, tale}
 use Rattle.lard_history.proofs.Tales.{numbers-tale}
 use Rattle.lard_laws_places.specs.Places.{ClientStands, client_tale, lost_in}
-use Rattle.lard_laws_places.proofs.Reached.{reached-holds}
+use Rattle.lard_laws_places.proofs.Reached.{connections-stand, reached-holds}
 use Rattle.lard_machine.specs.Machine.{IsReached}
 use Rattle.lard_machine.specs.declared.machine.Machine.{Machine}
 use Rattle.lard_rules.specs.declared.places.Station.{Station}
@@ -28,6 +28,6 @@ reached-told config files m r =
       bytes = h.linked.is.bytes;
       answered = h.linked.bytes;
       lost = λ k p at. h.linked.is.lost k ∙ ap lost_in at;
-      opened = λ c x at. subst (λ n. IsSome n) (sym (numbers-tale m.journal c ∙ (subst (λ o. ClientStands c o (client_tale (tale m.journal c))) at (h.stands c).client).numbers)) refl;
-      unopened = λ c at. numbers-tale m.journal c ∙ (subst (λ o. ClientStands c o (client_tale (tale m.journal c))) at (h.stands c).client).numbers;
+      opened = λ c x at. subst (λ n. IsSome n) (sym (numbers-tale m.journal c ∙ (subst (λ o. ClientStands c o (client_tale (tale m.journal c))) at (connections-stand config files m r c).client).numbers)) refl;
+      unopened = λ c at. numbers-tale m.journal c ∙ (subst (λ o. ClientStands c o (client_tale (tale m.journal c))) at (connections-stand config files m r c).client).numbers;
     }

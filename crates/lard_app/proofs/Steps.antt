@@ -33,7 +33,7 @@ ruled (event.Timer (place.Node n) c) m r = cc
 ruled (event.Disk n j) m r = cc
 ruled (event.Clock ms) m r = cc
 ruled (event.Settle rounds) m r = cc
-ruled (event.Inject c bytes) m r = cc
+ruled (event.Inject c bytes) m r = (r.1.0, r.1.1)
 
 -- the journal is the old one with some records after it
 abbrev pub Grows : Machine → Machine → Type 0
@@ -67,6 +67,7 @@ forms-grow m = record {
   aborts = λ c x is. client-grows m _ _ c x.iss _ _;
   holds = λ c x is. client-grows m _ _ c x.iss _ _;
   takes = λ c x is. client-grows m _ _ c x.iss _ _;
+  injects = λ c bytes x rule is. client-grows m _ _ c x.iss _ _;
   client_timer = λ d c x same is. client-grows m _ _ c x.iss _ _;
   front_timer = λ c x is. front-grows m _ _ c _;
   front_gets = λ k c p x at on from to is. front-grows m _ _ c _;

@@ -117,6 +117,7 @@ IsOfClient (event.Abort d) c = d ≡ c
 IsOfClient (event.Hold d) c = d ≡ c
 IsOfClient (event.Take d) c = d ≡ c
 IsOfClient (event.Timer place d) c = d ≡ c
+IsOfClient (event.Inject d bytes) c = d ≡ c
 IsOfClient _ c = ⊥
 
 abbrev pub Opens : Event → ℕ → Type 0

@@ -15,7 +15,7 @@ use Rattle.lard_app.specs.Status.{form_word}
 -- the forms of line that are not built
 abbrev pub unbuilt_forms : List Form
 unbuilt_forms =
-    form.Disk ∷ form.Clock ∷ form.Settle ∷ form.Inject ∷ form.Key key.Nodes ∷ form.Key key.Low
+    form.Disk ∷ form.Clock ∷ form.Settle ∷ form.Key key.Nodes ∷ form.Key key.Low
     ∷ form.Key key.High ∷ form.Key key.Age ∷ form.Key key.Idle ∷ form.Key key.Over ∷ form.Key key.Miss ∷ form.Key key.Cache ∷ []
 
 -- the first of the forms whose lines begin with this word
@@ -47,4 +47,4 @@ missing (Timer place c) = missing_timer place
 missing (Disk n j) = Some form.Disk
 missing (Clock ms) = Some form.Clock
 missing (Settle rounds) = Some form.Settle
-missing (Inject c bytes) = Some form.Inject
+missing (Inject c bytes) = None

@@ -1,6 +1,6 @@
 -- What a schedule stands for, line by line: how far a replay comes, and what its report gains.
-use Rattle.std.specs.Prelude.{◌≡◌, ℕ, ◌+◌, ◌≤◌, Bool, List, [], ◌∷◌, ◌++◌, length, map, drop, Option, Some, None, Result, Ok, Err, nat_eq, nat_lt, if◌then◌else◌}
-use Rattle.std.specs.List.{slice_split, flat_map}
+use Rattle.std.specs.Prelude.{◌≡◌, ℕ, ◌+◌, ◌≤◌, Bool, List, [], ◌∷◌, ◌++◌, length, map, drop, Option, Some, None, Result, Ok, Err, nat_lt, if◌then◌else◌}
+use Rattle.std.specs.List.{flat_map}
 use Rattle.std.specs.Io.KnownBytes.{Appends}
 use Rattle.lard_base.specs.Causes.{Rose}
 use Rattle.lard_base.specs.Config.{config_check, range_check, set_key, standard}
@@ -15,6 +15,7 @@ use Rattle.lard_files.specs.declared.fault.FileFault.{FileFault}
 use Rattle.lard_files.specs.declared.fault.FileFault.TheVariants as file_fault
 use Rattle.lard_journal.specs.declared.rec.Rec.{Rec}
 use Rattle.lard_journal.specs.Report.{file_text, heading_line, rec_line, report}
+use Rattle.lard_lines.specs.Lines.{lines_of}
 use Rattle.lard_machine.specs.Machine.{machine_step}
 use Rattle.lard_machine.specs.Machine as machine
 use Rattle.lard_machine.specs.declared.fault.StepFault.{StepFault}
@@ -149,13 +150,6 @@ ending s [] = ended_at s.lines s.reader.stage
 ending s (b ∷ bs) = if nat_lt MAX_INPUT_BYTES (s.read + length (b ∷ bs)) then Limit (s.lines + 1) Input else Refused (s.lines + 1) why.Syntax
 
 -- ---- the whole text
-
-abbrev pub is_feed : ℕ → Bool
-is_feed b = nat_eq b 10
-
--- a text's lines; the last part is what comes after the last line feed
-abbrev pub lines_of : List ℕ → List (List ℕ)
-lines_of text = slice_split is_feed text
 
 -- how far a replay comes from a state on, and its status
 abbrev pub replayed : Progress → List (List ℕ) → Progress × Status

@@ -1,58 +1,105 @@
--- What an answer of `run` says of the bytes that were read and written.
-use Rattle.std.specs.Prelude.{◌≡◌, ℕ, ◌+◌, ◌≤◌, ◌⊎◌, List, [], ◌∷◌, length, map, take, codes, Option, Some, None}
+-- What an answer of `run` says: of the bytes that were read and written, of what they stand for, and of its journal.
+use Rattle.std.specs.Prelude.{◌≡◌, ◌↔◌, ℕ, ◌+◌, ◌≤◌, ◌⊎◌, List, [], ◌∷◌, ◌++◌, length, map, codes, Option, Some, None}
 use Rattle.std.specs.Io.KnownBytes.{Appends, Consumes, IsAtEnd}
 use Rattle.std.specs.String.{string_bytes}
 use Rattle.std.specs.declared.string.String.{String}
 use Rattle.std.specs.declared.alloc.Global.{Global}
+use Rattle.lard_base.specs.declared.config.Config.{Config}
+use Rattle.lard_base.specs.declared.event.Event.{Event}
 use Rattle.lard_base.specs.declared.limits.TheConstants.{MAX_INPUT_BYTES}
 use Rattle.lard_base.specs.Outside.{WrotePrefix}
+use Rattle.lard_files.specs.Files.{file_at}
+use Rattle.lard_history.specs.Laws.{AcceptsOnlyAnswers, ActsInPlace, Follows, IsNetwork, IsOwnership, IsSoleSender, ResetsAtTheLimit, ServesTheAnswers, TellsTheTruth, WritesWhileOpen}
+use Rattle.lard_journal.specs.declared.rec.Rec.{Rec}
+use Rattle.lard_laws_clients.specs.Laws.{TakesInOrder}
+use Rattle.lard_laws_quiet.specs.Quiet.{IsCompleteWhenQuiet}
+use Rattle.lard_laws_steps.specs.Clients.{KeepsTables}
+use Rattle.lard_laws_steps.specs.Fronts.{TakesOnce}
+use Rattle.lard_lines.specs.Lines.{lines_of}
+use Rattle.lard_machine.specs.Machine.{Passes, start}
+use Rattle.lard_machine.specs.declared.machine.Machine.{Machine}
+use Rattle.lard_app.specs.Causes.{Ends, Leads}
 use Rattle.lard_app.specs.declared.status.Status.{Status}
 use Rattle.lard_app.specs.declared.status.Status.TheVariants.{Done, Usage, Refused, ReadFault, WriteFault, NoMemory, Limit}
-use Rattle.lard_app.specs.Replay.{whole, report_of}
+use Rattle.lard_app.specs.Replay.{begin, config_of, events_of, files_of, journal_of, report_of, sizes, whole}
 
 -- the words ask for a replay
 abbrev pub IsReplay : List (String Global) → Type 0
 IsReplay words = map string_bytes words ≡ codes "replay" ∷ []
+
+-- ---- how a run ends over the text that it read
 
 -- the status is that of the whole text, and the whole report of its replay was written
 pub record Completes (status : Status) (text : List ℕ) (old new : Option (List ℕ)) : Type 0 where
   pub status_is : (whole text).1 ≡ status
   pub written : Appends old new (report_of (whole text).0)
 
--- how the replay of a text ends, once the text is read
-abbrev pub Replays : Status → List ℕ → Option (List ℕ) → Option (List ℕ) → Type 0
-Replays Done text old new = (length text ≤ MAX_INPUT_BYTES) × Completes Done text old new
-Replays (Refused line why) text old new = Completes (Refused line why) text old new
-Replays (Limit line what) text old new = Completes (Limit line what) text old new
-Replays WriteFault text old new = WrotePrefix old new (report_of (whole text).0)
-Replays NoMemory text old new = WrotePrefix old new (report_of (whole text).0)
-Replays ReadFault text old new = ⊥
-Replays Usage text old new = ⊥
+-- the text is the whole input, or whatever follows it, its replay is the same
+abbrev pub IsDecided : List ℕ → Option (List ℕ) → Type 0
+IsDecided text left = IsAtEnd left ⊎ ((more : List ℕ) → whole (text ++ more) ≡ whole text)
 
--- the text is the whole input, or the first 2^26 + 1 bytes of a longer one
-abbrev pub IsRead : List ℕ → Option (List ℕ) → Type 0
-IsRead text left = IsAtEnd left ⊎ (length text ≡ MAX_INPUT_BYTES + 1)
+-- each line of the text that has its line feed was passed
+abbrev pub HasPassed : List ℕ → Type 0
+HasPassed text = (lines : List (List ℕ)) × (last : List ℕ) × (lines_of text ≡ lines ++ last ∷ []) × Leads begin lines (whole text).0
 
--- How a run ends over the text that it read. A fault of reading ends it before anything is written; a fault of
--- writing and running out of memory leave a prefix of the report.
+-- A fault of reading comes behind lines that were all passed, and leaves their report. A fault of writing and running out
+-- of memory leave a prefix of the report.
 abbrev pub Ended : Status → List ℕ → Option (List ℕ) → Option (List ℕ) → Option (List ℕ) → Type 0
 Ended Done text left old new = IsAtEnd left × (length text ≤ MAX_INPUT_BYTES) × Completes Done text old new
-Ended (Refused line why) text left old new = IsRead text left × Completes (Refused line why) text old new
-Ended (Limit line what) text left old new = IsRead text left × Completes (Limit line what) text old new
-Ended WriteFault text left old new = IsRead text left × WrotePrefix old new (report_of (whole text).0)
-Ended ReadFault text left old new = Appends old new []
+Ended (Refused line why) text left old new = IsDecided text left × Completes (Refused line why) text old new
+Ended (Limit line what) text left old new = IsDecided text left × Completes (Limit line what) text old new
+Ended ReadFault text left old new = (length text ≤ MAX_INPUT_BYTES) × HasPassed text × Appends old new (report_of (whole text).0)
+Ended WriteFault text left old new = WrotePrefix old new (report_of (whole text).0)
 Ended NoMemory text left old new = WrotePrefix old new (report_of (whole text).0)
 Ended Usage text left old new = ⊥
 
--- The text that was read, and what came of it. Where no fault of reading came and memory did not run out, it is the whole
--- input, or the first 2^26 + 1 bytes of a longer one.
-pub record Ran (status : Status) (left left_now old new : Option (List ℕ)) : Type 0 where
+-- the text that was read, and how the run ended over it
+pub record Reads (status : Status) (left left_now old new : Option (List ℕ)) : Type 0 where
   pub text : List ℕ
   pub consumed : Consumes left left_now text
   pub bounded : length text ≤ MAX_INPUT_BYTES + 1
   pub ended : Ended status text left_now old new
 
--- The status is that of the first 2^26 + 1 bytes of a known input, unless memory ran out.
+-- ---- the whole of a run
+
+-- All that a run says: the text that was read, what it stands for, how the run ended over it, and the journal with its laws.
+pub record Ran (status : Status) (left left_now old new : Option (List ℕ)) : Type 0 where
+  -- the bytes that were read, at most 2^26 + 1, and what was written of their report
+  pub text : List ℕ
+  pub consumed : Consumes left left_now text
+  pub bounded : length text ≤ MAX_INPUT_BYTES + 1
+  pub ended : Ended status text left_now old new
+  -- its replay ends with a status exactly where a line, or the text's end, gives its cause
+  pub causes : (other : Status) → ((whole text).1 ≡ other) ↔ Ends (lines_of text) other
+  -- what the lines that were passed stand for, and the journal of their replay
+  pub config : Config
+  pub files : List (List ℕ × List ℕ)
+  pub events : List Event
+  pub journal : List Rec
+  pub are : (config_of text ≡ config) × (files_of text ≡ files) × (events_of text ≡ events) × (journal_of text ≡ journal)
+  -- the journal is the machine's, after these events, and each step of it is an event's
+  pub machine : (m : Machine) × Passes (start config files) events m × (m.journal ≡ journal)
+  pub follows : Follows 1 events journal
+  -- the laws that it obeys
+  pub network : IsNetwork journal
+  pub places : ActsInPlace journal
+  pub ownership : IsOwnership journal
+  pub sole_sender : IsSoleSender journal
+  pub writers : WritesWhileOpen journal
+  pub takers : TakesInOrder journal
+  pub tables : KeepsTables journal
+  pub taken_once : TakesOnce journal
+  pub tells : TellsTheTruth (file_at files) journal
+  pub prefix : AcceptsOnlyAnswers (file_at files) journal
+  pub service : ServesTheAnswers (file_at files) journal
+  pub resets : ResetsAtTheLimit config.stream journal
+  pub quiet : IsCompleteWhenQuiet (file_at files) journal
+  -- The report tells all of this: a text with the same report has the same configuration, files with the same paths and
+  -- lengths, and the same journal.
+  pub tells_all : (also : List ℕ) → report_of (whole text).0 ≡ report_of (whole also).0
+      → (config ≡ config_of also) × (sizes files ≡ sizes (files_of also)) × (journal ≡ journal_of also)
+
+-- the status is that of a known input, unless memory ran out
 abbrev pub IsSettled : Status → Option (List ℕ) → Type 0
 IsSettled status None = Unit {0}
-IsSettled status (Some input) = (status ≡ (whole (take (MAX_INPUT_BYTES + 1) input)).1) ⊎ (status ≡ NoMemory)
+IsSettled status (Some input) = (status ≡ (whole input).1) ⊎ (status ≡ NoMemory)

@@ -8,11 +8,10 @@ use lard_base::{Event, Key, Place};
 use lard_schedule::first_word;
 
 /// The forms of line that are not built.
-const UNBUILT: [Form; 12] = [
+const UNBUILT: [Form; 11] = [
     Form::Disk,
     Form::Clock,
     Form::Settle,
-    Form::Inject,
     Form::Key(Key::Nodes),
     Form::Key(Key::Low),
     Form::Key(Key::High),
@@ -61,7 +60,7 @@ pub fn missing(event: &Event) -> Option<Form>
         Event::Disk { .. } => Some(Form::Disk),
         Event::Clock(_) => Some(Form::Clock),
         Event::Settle(_) => Some(Form::Settle),
-        Event::Inject { .. } => Some(Form::Inject),
+        Event::Inject { .. } => None,
     }
 }
 

@@ -1,5 +1,5 @@
 -- Laws of a journal: what each record may say where it stands, and how the steps follow the events.
-use Rattle.std.specs.Prelude.{◌≡◌, ◌⊎◌, ℕ, ◌+◌, ◌<◌, ◌≤◌, Bool, true, false, not, List, [], ◌∷◌, ◌++◌, length, Some, None, Ok, IsSome}
+use Rattle.std.specs.Prelude.{◌≡◌, ◌⊎◌, ℕ, ◌+◌, ◌<◌, ◌≤◌, Bool, true, false, not, List, [], ◌∷◌, ◌++◌, length, Option, Some, None, Ok, IsSome}
 use Rattle.std.specs.List.{list_all}
 use Rattle.std.specs.Option.{option_map}
 use Rattle.lard_answers.specs.Answers.{FilesAt, IsPrefix, answer_bytes, answer_code}
@@ -33,6 +33,29 @@ MayInNetwork past _ = Unit {0}
 
 abbrev pub IsNetwork : List Rec → Type 0
 IsNetwork J = EachMay MayInNetwork [] J
+
+-- ---- the acting place
+
+-- the place that a record names first, of those that a place of the cluster or a client writes of itself
+abbrev pub first_place : Rec → Option Place
+first_place (rec.Sent k from to bytes) = Some from
+first_place (rec.Took place c epoch) = Some place
+first_place (rec.Gave place c epoch) = Some place
+first_place (rec.Served place c r code size via) = Some place
+first_place (rec.Hit n path) = Some (Node n)
+first_place (rec.Queued n m c r path) = Some (Node n)
+first_place (rec.Read n m c r path) = Some (Node n)
+first_place (rec.Armed place c kind) = Some place
+first_place (rec.Cleared place c kind) = Some place
+first_place (rec.Reset place c total) = Some place
+first_place _ = None
+
+-- it is the one that acts in the step: that of the event, or that to which the delivered packet was sent
+abbrev pub MayAct : List Rec → Rec → Type 0
+MayAct past r = (p : Place) → first_place r ≡ Some p → acting past ≡ Some p
+
+abbrev pub ActsInPlace : List Rec → Type 0
+ActsInPlace J = EachMay MayAct [] J
 
 -- ---- the ownership law
 

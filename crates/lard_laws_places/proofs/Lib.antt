@@ -5,6 +5,7 @@ pub mod Following
 pub mod FrontRules
 pub mod Linked
 pub mod Lookups
+pub mod Places
 pub mod Reached
 pub mod Standing
 pub mod Telling

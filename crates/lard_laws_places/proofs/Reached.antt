@@ -4,7 +4,7 @@ use Rattle.std.specs.FinMap as table
 use Rattle.lard_base.specs.declared.config.Config.{Config}
 use Rattle.lard_base.specs.declared.event.Event.{Event}
 use Rattle.lard_history.specs.Journal.{Tale, tale}
-use Rattle.lard_history.specs.Laws.{EachMay, Follows}
+use Rattle.lard_history.specs.Laws.{ActsInPlace, EachMay, Follows}
 use Rattle.lard_history.proofs.Each.{each_weaker}
 use Rattle.lard_history.proofs.Lifting.{tale-own}
 use Rattle.lard_journal.specs.declared.rec.Rec.{Rec}
@@ -13,6 +13,7 @@ use Rattle.lard_laws_places.specs.Places.{FrontStands, Stands, front_tale}
 use Rattle.lard_laws_places.proofs.Between.{AreBetween, forms-between}
 use Rattle.lard_laws_places.proofs.Counting.{IsLinked, forms-link, more-events, start-linked}
 use Rattle.lard_laws_places.proofs.Following.{Adds, forms-add}
+use Rattle.lard_laws_places.proofs.Places.{LawfulOn, forms-lawful, lawful-on}
 use Rattle.lard_laws_places.proofs.Standing.{StandsLawful, standing}
 use Rattle.lard_laws_places.proofs.Telling.{IsLawful, MayStand, lawful-local}
 use Rattle.lard_machine.specs.declared.machine.Machine.{Machine}
@@ -52,6 +53,7 @@ reached-may config files m r may weaker =
 pub record Holds (m : Machine) : Type 0 where
   pub linked : IsLinked m
   pub between : AreBetween m
+  pub places : ActsInPlace m.journal
   pub events : m.events ≤ length m.journal
 
 -- a step adds its records, and keeps what holds
@@ -62,11 +64,12 @@ step-holds : (m n : Machine) (e : Event) → IsViewed m → Holds m → HasRule 
 step-holds m n e view h rule is = record {
   linked = step_has m n e (λ d k. IsLinked k) (forms-link m h.linked (number m n e view rule is)) rule is;
   between = step_has m n e (λ d k. AreBetween k) (forms-between m h.between (number m n e view rule is)) rule is;
+  places = lawful-on m n h.places (step_has m n e (λ d k. LawfulOn m k) (forms-lawful m h.linked (number m n e view rule is)) rule is);
   events = more-events m n e (step-adds m n e view rule is) h.events;
 }
 
 pub reached-holds : Always Holds
-reached-holds config files m r = carried-keep config files Holds (record { linked = start-linked config files; between = tt; events = omega arith })
+reached-holds config files m r = carried-keep config files Holds (record { linked = start-linked config files; between = tt; places = tt; events = omega arith })
     (λ k n e on view h rule is. step-holds k n e view h rule is) m r
 
 pub numbers-bounded : NumbersAreBounded

@@ -4,7 +4,7 @@ use Rattle.std.specs.FinMap as table
 use Rattle.lard_base.specs.declared.config.Config.{Config}
 use Rattle.lard_base.specs.declared.event.Event.{Event}
 use Rattle.lard_history.specs.Journal.{answered_bytes, tale}
-use Rattle.lard_history.specs.Laws.{Follows, IsNetwork, IsOwnership, IsSoleSender, ResetsAtTheLimit, WritesWhileOpen}
+use Rattle.lard_history.specs.Laws.{ActsInPlace, Follows, IsNetwork, IsOwnership, IsSoleSender, ResetsAtTheLimit, WritesWhileOpen}
 use Rattle.lard_laws_places.specs.Places.{IsBetween, IsNetOf, Stands, StandsAt}
 use Rattle.lard_machine.specs.declared.machine.Machine.{Machine}
 use Rattle.lard_machine.specs.Bounds.{IsBounded}
@@ -50,6 +50,9 @@ ResponsesAreCounted = Always (λ m. answered_bytes m.journal ≡ m.answered)
 
 abbrev pub NetworksAreLawful : Type 0
 NetworksAreLawful = Always (λ m. IsNetwork m.journal)
+
+abbrev pub PlacesAreLawful : Type 0
+PlacesAreLawful = Always (λ m. ActsInPlace m.journal)
 
 abbrev pub OwnersAreLawful : Type 0
 OwnersAreLawful = Always (λ m. IsOwnership m.journal)

@@ -1,11 +1,12 @@
 //! The rows: for each input the status and the report that the rules give, worked out by hand.
 
 use crate::report::{HEADING, PARTS};
-use crate::rows::{ROWS, TOLD};
-use crate::slow::{Drip, Trickle};
+use crate::rows::{ONE_REQUEST, REQUEST_IN_PARTS, ROWS, TOLD};
+use crate::slow::{Counting, Drip, Trickle, Waiting};
 use lard_app::{FileFault, Form, Status, What, Why, run};
 use lard_base::{Bytes, Calls, Key, MemSink, MemSource, NoMemory};
 use std::alloc::Global;
+use std::cell::Cell;
 use std::process::Abort;
 use std::test::Fail;
 
@@ -206,7 +207,6 @@ fn forms_that_are_not_built(rt: HostRuntime) -> Result<(), Fail> {
             ("lard 1\nclock\n", form(2, Form::Clock), 0),
             ("lard 1\nnodes 3\n", form(2, Form::Key(Key::Nodes)), 0),
             ("lard 1\ncache x y z\n", form(2, Form::Key(Key::Cache)), 0),
-            ("lard 1\ngo\ninject 1 00\n", form(3, Form::Inject), 1),
             ("lard 1\ngo\nsettle 10\n", form(3, Form::Settle), 1),
             ("lard 1\ngo\ndisk", refused(3, Why::Syntax), 1),
             ("lard 1\ngo\ndrain 1\n", refused(3, Why::Syntax), 1),
@@ -350,19 +350,76 @@ fn a_sink_whose_third_call_fails(rt: HostRuntime) -> Result<(), Fail> {
     Ok(())
 }
 
+/// How long the front of a report is that stands before an event.
+fn before_event(alloc: Global, report: &str, event: usize) -> Result<usize, NoMemory> {
+    let line = format!(in alloc; "\nevent {event} ")?;
+    match report.find(line.as_str()) {
+        Some(at) => Ok(at + 1),
+        None => Ok(report.len()),
+    }
+}
+
+/// Runs `replay` over an input that fails behind so many bytes.
+fn broken(alloc: Global, input: &[u8], before_fault: usize) -> Result<(Status, Bytes), NoMemory> {
+    let words = words_of(alloc, "replay")?;
+    let mut source = Trickle {
+        rest: input,
+        before_fault,
+        faults: 0,
+    };
+    let mut sink = MemSink::new(alloc, 10_000, Calls::new(alloc))?;
+    let status = run(alloc, words.as_slice(), &mut source, &mut sink);
+    Ok((status, Bytes::from_slice(alloc, sink.bytes())?))
+}
+
+#[test]
+fn a_source_that_fails_behind_each_byte(rt: HostRuntime) -> Result<(), Fail> {
+    let alloc = rt.alloc();
+    for row in [&ONE_REQUEST, &REQUEST_IN_PARTS] {
+        let input = row.input.as_bytes();
+        for at in 0..input.len() {
+            let (status, report) = broken(alloc, input, at)?;
+            let lines = input[..at].iter().filter(|byte| **byte == b'\n').count();
+            let wanted = match lines.checked_sub(1) {
+                Some(event) if event > 0 => before_event(alloc, row.report, event)?,
+                _ => 0,
+            };
+            assert_eq!(rt; status, Status::ReadFault, "at {at}");
+            assert_eq!(rt;
+                report.as_slice(),
+                &row.report.as_bytes()[..wanted],
+                "at {at}"
+            );
+        }
+    }
+    Ok(())
+}
+
 #[test]
 fn a_source_that_fails_in_the_middle_of_a_line(rt: HostRuntime) -> Result<(), Fail> {
     let alloc = rt.alloc();
-    let words = words_of(alloc, "replay")?;
-    let mut source = Trickle {
-        rest: WORKED.as_bytes(),
-        before_fault: 44,
-        faults: 0,
-    };
-    let mut sink = MemSink::new(alloc, 1_000, Calls::new(alloc))?;
-    let status = run(alloc, words.as_slice(), &mut source, &mut sink);
+    let (status, report) = broken(alloc, WORKED.as_bytes(), 44)?;
     assert_eq!(rt; status, Status::ReadFault);
-    assert_eq!(rt; sink.bytes().len(), 0);
+    assert_eq!(rt; report.as_slice(), first_parts(alloc, 2)?.as_slice());
+    Ok(())
+}
+
+#[test]
+fn a_source_that_waits_for_the_steps_before(rt: HostRuntime) -> Result<(), Fail> {
+    let alloc = rt.alloc();
+    let words = words_of(alloc, "replay")?;
+    let taken = Cell::new(0);
+    let mut source = Waiting {
+        rest: b"lard 1\ngo\nopen 1 1000 5000 65535 1460\n",
+        line: b"timer front 1\n",
+        times: 100_000,
+        taken: &taken,
+        before_last: 0,
+    };
+    let mut sink = Counting { taken: &taken };
+    let status = run(alloc, words.as_slice(), &mut source, &mut sink);
+    assert_eq!(rt; status, Status::Done);
+    assert!(rt; source.before_last > 2_000_000);
     Ok(())
 }
 

@@ -1,13 +1,17 @@
 //! The program `lardsim`: a thin `main` over `lard_app::run`.
 //!
-//! It answers `--help` and `--version` itself. All other words go to `run`, with standard input and output; the
-//! status is said in a line on standard error, and is the exit status.
+//! It answers `--help` and `--version` itself. All other words go to `run`, with standard input and output, which it ties
+//! together; the status is said in a line on standard error, and is the exit status.
 #![tactic(auto)]
 
+mod edges;
+
+use crate::edges::{Inlet, Outlet, Report};
 use lard_app::{Status, flush_report, run};
 use lard_base::{StdSink, StdSource};
+use std::cell::RefCell;
 use std::env;
-use std::io::{self, ErrorKind};
+use std::io::{self, ErrorKind, Write};
 use std::process::ExitCode;
 use std::rt::Env;
 
@@ -83,14 +87,32 @@ fn print(rt: &impl Print, text: &str) -> Status {
     }
 }
 
-/// Runs the words over standard input and output. What the sink holds back is passed on at the end.
+/// Runs the words over standard input and output. What is held back is passed on at the end.
 fn run_all(rt: &(impl Input + Print + AllocGlobal), words: &[String]) -> Status {
-    let mut source = StdSource::new(rt.reader());
-    let Ok(mut sink) = StdSink::new(rt.alloc(), io::writer(rt)) else {
+    let Ok(sink) = StdSink::new(rt.alloc(), io::writer(rt)) else {
         return Status::NoMemory;
     };
-    let status = run(rt.alloc(), words, &mut source, &mut sink);
-    flush_report(&mut sink, status)
+    let outlet = RefCell::new(Outlet {
+        sink,
+        is_broken: false,
+    });
+    let status = run_tied(rt, words, &outlet);
+    let mut outlet = outlet.into_inner();
+    flush_report(&mut outlet.sink, status)
+}
+
+/// Runs the words over standard input, tied to where the report goes to.
+fn run_tied<W: Write + Drop>(
+    rt: &(impl Input + AllocGlobal),
+    words: &[String],
+    outlet: &RefCell<Outlet<W>>,
+) -> Status {
+    let mut source = Inlet {
+        source: StdSource::new(rt.reader()),
+        outlet,
+    };
+    let mut report = Report { outlet, faults: 0 };
+    run(rt.alloc(), words, &mut source, &mut report)
 }
 
 /// Says the status on standard error. Nothing is said for `Done`, nor where the line finds no memory.

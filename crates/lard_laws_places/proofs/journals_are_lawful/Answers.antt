@@ -6,6 +6,7 @@ use Rattle.lard_laws_places.proofs.journals_are_lawful.Goals as goal
 pub returns : goal.returns
 returns c = record {
   network = λ config files m r. (reached-holds config files m r).linked.each;
+  places = λ config files m r. (reached-holds config files m r).places;
   owners = λ config files m r. reached-may config files m r MayOwn (λ past x l. l.0);
   senders = λ config files m r. reached-may config files m r MaySend (λ past x l. l.1);
   writers = λ config files m r. reached-may config files m r MayWrite (λ past x l. l.2);

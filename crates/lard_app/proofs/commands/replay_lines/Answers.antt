@@ -1,36 +1,55 @@
-use Rattle.std.proofs.Common.{List, ℕ, ◌+◌, refl, sym, ◌∙◌, subst}
-use Rattle.lard_schedule.proofs.Cuts.{slice_rest}
+use Rattle.std.proofs.Common.{◌≡◌, ℕ, ◌+◌, ◌-◌, ◌<◌, List, take, Ok, Err, refl, sym, ap, ◌∙◌, subst, arith}
+use Rattle.std.specs.Io.KnownBytes.{Appends}
+use Rattle.lard_base.specs.declared.limits.TheConstants.{MAX_INPUT_BYTES}
+use Rattle.lard_app.specs.Replay.{Passes, ending, gain, passed}
 use Rattle.lard_app.specs.Seen.{seen}
-use Rattle.lard_app.proofs.Faults.{counted-from}
-use Rattle.lard_app.proofs.Going.{Going, going_end, going_first, going_on, going_stop, keeps-sound}
+use Rattle.lard_app.proofs.Passing.{passed-read}
+use Rattle.lard_app.proofs.Reading.{Reading, reading_end, reading_failed, reading_first, reading_more, reading_on, reading_starved, reading_stop}
 use Rattle.lard_app.proofs.commands.replay_lines.Goals as goal
 
-pub loop-at-init : goal.loop-at-init
-loop-at-init g c = record {
-  going = going_first c.args.text.now (seen c.args.replay.now) _ c.requires.begins;
+pub loop-len-init : goal.loop-len-init
+loop-len-init g c = record {
+  reading = reading_first _ _ _ _ c.requires.unread c.requires.begins;
   usable = c.requires.usable;
+  read_faults = refl;
   faults = refl;
 }
 
-pub pass-requires-clause-sound : goal.pass-requires-clause-sound
-pass-requires-clause-sound g c = keeps-sound _ _ c.loop-at.invariant.going.keeps
+pub loop-len-smaller : goal.loop-len-smaller
+loop-len-smaller g c = less where
+  less : MAX_INPUT_BYTES + 1 - c.pass.new.self.read < MAX_INPUT_BYTES + 1 - c.loop-len.replay.read
+  less = let counted = (passed-read (seen c.loop-len.replay) (seen c.pass.new.self) _ c.in-Ok.ensures.passed.0).1 in omega (arith, counted, c.loop-len.invariant.reading.going.keeps.read)
 
-pub returns-in-Err-clause-replayed : goal.returns-in-Err-clause-replayed
-returns-in-Err-clause-replayed g c = going_stop _ _ _ _ _ c.loop-at.invariant.going c.in-Some.at (sym c.in-Some.ensures) c.in-Err.status (seen c.pass.new.self) _ c.in-Err.ensures.passed
-
-pub returns-in-Err-clause-faults : goal.returns-in-Err-clause-faults
-returns-in-Err-clause-faults g c = counted-from _ _ _ c.in-Err.status c.loop-at.invariant.faults c.in-Err.ensures.faults
-
-pub loop-at-preserved : goal.loop-at-preserved
-loop-at-preserved g c = record {
-  going = subst (λ (rest : List ℕ). Going c.args.text.now rest (seen c.pass.new.self) (g.K.Sink.written c.args.sink.now) (g.K.Sink.written c.pass.new.sink)) (sym (slice_rest c.loop-at.rest.now (c.in-Some.at + 1)))
-      (going_on _ _ _ _ _ c.loop-at.invariant.going c.in-Some.at (sym c.in-Some.ensures) (seen c.pass.new.self) _ c.in-Ok.ensures.passed);
+pub loop-len-preserved : goal.loop-len-preserved
+loop-len-preserved g c = record {
+  reading = reading_on _ _ _ _ c.find_line.new.self (seen c.loop-len.replay) more c.in-Ok-Some.len c.pass-in-Ok.new.self (seen c.pass.new.self) _ (sym c.in-Ok-Some.ensures.found ∙ c.in-Ok-Some.field-0-is) c.pass-in-Ok.ensures
+      (subst (λ (rest : List ℕ). (passed (seen c.loop-len.replay) (take c.in-Ok-Some.len rest) ≡ Ok (seen c.pass.new.self)) × Appends (g.K.Sink.written c.loop-len.sink) (g.K.Sink.written c.pass.new.sink) (gain (seen c.loop-len.replay) (take c.in-Ok-Some.len rest)))
+      c.rest.ensures.value c.in-Ok.ensures.passed);
   usable = c.in-Ok.ensures.usable;
-  faults = c.in-Ok.ensures.faults ∙ c.loop-at.invariant.faults;
-}
+  read_faults = c.find_line.ensures.same (λ e. cc) ∙ c.loop-len.invariant.read_faults;
+  faults = c.in-Ok.ensures.faults ∙ c.loop-len.invariant.faults;
+} where
+  more : Reading (g.S.Source.left c.args.source.now) (g.S.Source.left c.find_line.new.source) c.find_line.new.self (seen c.loop-len.replay) (g.K.Sink.written c.args.sink.now) (g.K.Sink.written c.loop-len.sink)
+  more = reading_more _ _ _ _ _ _ _ _ c.loop-len.invariant.reading c.find_line.ensures.taken c.find_line.ensures.count c.find_line.ensures.bound
 
-pub end-requires-clause-sound : goal.end-requires-clause-sound
-end-requires-clause-sound g c = keeps-sound _ _ c.loop-at.invariant.going.keeps
+pub returns-in-Err-clause-reads : goal.returns-in-Err-clause-reads
+returns-in-Err-clause-reads g c = reading_stop _ _ _ _ c.find_line.new.self (seen c.loop-len.replay) more c.in-Ok-Some.len c.in-Err.status (seen c.pass.new.self) _ (sym c.in-Ok-Some.ensures.found ∙ c.in-Ok-Some.field-0-is)
+    (subst (λ (rest : List ℕ). Passes (passed (seen c.loop-len.replay) (take c.in-Ok-Some.len rest)) (gain (seen c.loop-len.replay) (take c.in-Ok-Some.len rest)) (g.K.Sink.written c.loop-len.sink) (g.K.Sink.written c.pass.new.sink) (seen c.pass.new.self) (Err c.in-Err.status))
+    c.rest.ensures.value c.in-Err.ensures.passed) where
+      more : Reading (g.S.Source.left c.args.source.now) (g.S.Source.left c.find_line.new.source) c.find_line.new.self (seen c.loop-len.replay) (g.K.Sink.written c.args.sink.now) (g.K.Sink.written c.loop-len.sink)
+      more = reading_more _ _ _ _ _ _ _ _ c.loop-len.invariant.reading c.find_line.ensures.taken c.find_line.ensures.count c.find_line.ensures.bound
 
-pub returns-clause-replayed : goal.returns-clause-replayed
-returns-clause-replayed g c = going_end _ _ _ _ _ c.loop-at.invariant.going (sym c.feed_in.ensures ∙ c.in_default.is) c.end.result c.end.ensures
+pub returns-in-Ok-None-clause-reads : goal.returns-in-Ok-None-clause-reads
+returns-in-Ok-None-clause-reads g c = reading_end _ _ _ _ c.find_line.new.self (seen c.loop-len.replay) more (sym c.in-Ok-None.ensures.found ∙ c.in-Ok-None.field-0-is) c.end.result (c.in-Ok-None.ensures.ended c.in-Ok-None.field-0-is) (c.end.ensures ∙ ap (ending (seen c.loop-len.replay)) c.rest-in-Ok-None.ensures.value) where
+  more : Reading (g.S.Source.left c.args.source.now) (g.S.Source.left c.find_line.new.source) c.find_line.new.self (seen c.loop-len.replay) (g.K.Sink.written c.args.sink.now) (g.K.Sink.written c.loop-len.sink)
+  more = reading_more _ _ _ _ _ _ _ _ c.loop-len.invariant.reading c.find_line.ensures.taken c.find_line.ensures.count c.find_line.ensures.bound
+
+pub returns-in-Err-Failed-clause-reads : goal.returns-in-Err-Failed-clause-reads
+returns-in-Err-Failed-clause-reads g c = reading_failed _ _ _ _ c.find_line.new.self (seen c.loop-len.replay) more c.in-Err-Failed.ensures.err c.in-Err-Failed.ensures.within where
+  more : Reading (g.S.Source.left c.args.source.now) (g.S.Source.left c.find_line.new.source) c.find_line.new.self (seen c.loop-len.replay) (g.K.Sink.written c.args.sink.now) (g.K.Sink.written c.loop-len.sink)
+  more = reading_more _ _ _ _ _ _ _ _ c.loop-len.invariant.reading c.find_line.ensures.taken c.find_line.ensures.count c.find_line.ensures.bound
+
+pub returns-in-Err-NoMemory-clause-reads : goal.returns-in-Err-NoMemory-clause-reads
+returns-in-Err-NoMemory-clause-reads g c = reading_starved _ _ _ _ c.find_line.new.self (seen c.loop-len.replay) more c.in-Err-NoMemory.ensures.err where
+  more : Reading (g.S.Source.left c.args.source.now) (g.S.Source.left c.find_line.new.source) c.find_line.new.self (seen c.loop-len.replay) (g.K.Sink.written c.args.sink.now) (g.K.Sink.written c.loop-len.sink)
+  more = reading_more _ _ _ _ _ _ _ _ c.loop-len.invariant.reading c.find_line.ensures.taken c.find_line.ensures.count c.find_line.ensures.bound

@@ -1,14 +1,16 @@
-use Rattle.std.proofs.Common.{◌≡◌, false, length}
+use Rattle.std.proofs.Common.{◌≡◌, ◌+◌, ◌-◌, false}
+use Rattle.lard_base.specs.declared.limits.TheConstants.{MAX_INPUT_BYTES}
 use Rattle.lard_app.specs.Seen.{seen}
-use Rattle.lard_app.proofs.Going.{Going}
+use Rattle.lard_app.proofs.Reading.{Reading}
 use Rattle.lard_app.proofs.commands.replay_lines.Given as goal
 
-abbrev pub invariant-loop-at : goal.invariant-loop-at
-invariant-loop-at g l = record {
-  going : Going l.text l.rest (seen l.replay) (g.K.Sink.written l.fn.sink) (g.K.Sink.written l.sink);
+abbrev pub invariant-loop-len : goal.invariant-loop-len
+invariant-loop-len g l = record {
+  reading : Reading (g.S.Source.left l.fn.source) (g.S.Source.left l.source) l.lines (seen l.replay) (g.K.Sink.written l.fn.sink) (g.K.Sink.written l.sink);
   usable : l.replay.world.spoiled ≡ false;
+  read_faults : g.S.Source.faults l.source ≡ g.S.Source.faults l.fn.source;
   faults : g.K.Sink.faults l.sink ≡ g.K.Sink.faults l.fn.sink;
 }
 
-abbrev pub decreases-loop-at : goal.decreases-loop-at
-decreases-loop-at g l = length l.rest
+abbrev pub decreases-loop-len : goal.decreases-loop-len
+decreases-loop-len g l = MAX_INPUT_BYTES + 1 - l.replay.read

@@ -1,0 +1,116 @@
+-- What is read of a source, a piece after another, and how a run over it ends.
+use Rattle.std.proofs.Common.{◌≡◌, ◌⊎◌, inl, inr, ℕ, ◌+◌, ◌≤◌, List, [], ◌∷◌, ◌++◌, length, take, drop, Bool, true, false, cond, Option, Some, None, Result, Ok, Err, refl, sym, ap, ◌∙◌, subst, arith, length-append}
+use Rattle.std.proofs.KnownBytes.{Consumes-nil, Consumes-trans}
+use Rattle.std.specs.Io.KnownBytes.{Appends, Consumes, IsAtEnd}
+use Rattle.std.specs.List.{position}
+use Rattle.std.specs.Prelude.{nat_lt}
+use Rattle.lard_base.specs.declared.limits.TheConstants.{MAX_INPUT_BYTES}
+use Rattle.lard_base.specs.Outside.{TakesIn}
+use Rattle.lard_lines.specs.Lines.{Held, is_feed}
+use Rattle.lard_machine.specs.declared.fault.What.TheVariants.{Input}
+use Rattle.lard_schedule.specs.declared.reader.Stage.{Stage}
+use Rattle.lard_schedule.specs.declared.reader.Stage.TheVariants.{Start, Settings, Files, Running}
+use Rattle.lard_app.specs.declared.status.Status.{Status}
+use Rattle.lard_app.specs.declared.status.Status.TheVariants.{Done, Usage, Refused, ReadFault, WriteFault, NoMemory, Limit}
+use Rattle.lard_app.specs.declared.status.Why.TheVariants.{Syntax}
+use Rattle.lard_app.specs.Replay.{begin, ended_at, ending, gain, passed, EndsCount, Passes, Progress}
+use Rattle.lard_app.specs.Run.{Ended, Reads}
+use Rattle.lard_app.proofs.Going.{Going, going_end, going_failed, going_first, going_more, going_on, going_starved, going_stop}
+
+-- ---- what is read of a source
+
+-- what was read of a source and written to a sink: the text, and what of it is held
+pub record Reading (left left_now : Option (List ℕ)) (held : Held) (s : Progress) (old now : Option (List ℕ)) : Type 0 where
+  pub text : List ℕ
+  pub consumed : Consumes left left_now text
+  pub count : length text ≡ held.read
+  pub bound : held.read ≤ MAX_INPUT_BYTES + 1
+  pub going : Going text held.rest s old now
+
+pub reading_first : (left old : Option (List ℕ)) (held : Held) (s : Progress) → held ≡ record { rest = []; read = 0 } → s ≡ begin → Reading left left held s old old
+reading_first left old held s h e = subst (λ (k : Held). Reading left left k s old old) (sym h) (record { text = []; consumed = Consumes-nil left; count = refl; bound = omega arith; going = going_first s old e })
+
+module _ (left mid now old new : Option (List ℕ)) (held more : Held) (s : Progress) where
+  -- more is read
+  pub reading_more : Reading left mid held s old new → TakesIn mid now held.rest more.rest → more.read + length held.rest ≡ held.read + length more.rest → more.read ≤ MAX_INPUT_BYTES + 1 → Reading left now more s old new
+  reading_more r t count bound = record {
+    text = r.text ++ t.taken;
+    consumed = Consumes-trans left mid now r.text t.taken r.consumed t.consumed;
+    count = let grown : length more.rest ≡ length held.rest + length t.taken = ap length t.text ∙ length-append held.rest t.taken in omega (arith, grown, count, r.count, length-append r.text t.taken);
+    bound = bound;
+    going = subst (λ (rest : List ℕ). Going (r.text ++ t.taken) rest s old new) (sym t.text) (going_more r.text held.rest t.taken s old new r.going);
+  }
+
+module _ (left left_now old now : Option (List ℕ)) (held : Held) (s : Progress) (r : Reading left left_now held s old now) where
+  -- a line is passed
+  pub reading_on : (at : ℕ) (next : Held) (t : Progress) (new : Option (List ℕ)) → position is_feed held.rest ≡ Some at → next ≡ record { rest = drop (at + 1) held.rest; read = held.read }
+      → (passed s (take at held.rest) ≡ Ok t) × Appends now new (gain s (take at held.rest)) → Reading left left_now next t old new
+  reading_on at next t new is e h = subst (λ (k : Held). Reading left left_now k t old new) (sym e) (record {
+    text = r.text;
+    consumed = r.consumed;
+    count = r.count;
+    bound = r.bound;
+    going = going_on r.text held.rest s old now r.going at is t new h;
+  })
+
+  ended_as : (status : Status) (new : Option (List ℕ)) → Ended status r.text left_now old new → Reads status left left_now old new
+  ended_as status new e = record { text = r.text; consumed = r.consumed; bounded = subst (λ n. n ≤ MAX_INPUT_BYTES + 1) (sym r.count) r.bound; ended = e }
+
+  -- a line ends the run
+  pub reading_stop : (at : ℕ) (status : Status) (t : Progress) (new : Option (List ℕ)) → position is_feed held.rest ≡ Some at → Passes (passed s (take at held.rest)) (gain s (take at held.rest)) now new t (Err status)
+      → Reads status left left_now old new
+  reading_stop at status t new is h = ended_as status new (going_stop r.text held.rest s old now r.going at is status t left_now new h)
+
+  module _ (none : position is_feed held.rest ≡ None) where
+    -- the input ends
+    pub reading_end : (status : Status) → IsAtEnd left_now ⊎ (held.read ≡ MAX_INPUT_BYTES + 1) → status ≡ ending s held.rest → Reads status left left_now old now
+    reading_end status how e = ended_as status now (going_end r.text held.rest s old now r.going none left_now (full how) status e) where
+      full : IsAtEnd left_now ⊎ (held.read ≡ MAX_INPUT_BYTES + 1) → IsAtEnd left_now ⊎ (length r.text ≡ MAX_INPUT_BYTES + 1)
+      full (inl end) = inl end
+      full (inr most) = inr (r.count ∙ most)
+
+    -- the source fails
+    pub reading_failed : held.read ≤ MAX_INPUT_BYTES → Reads ReadFault left left_now old now
+    reading_failed small = ended_as ReadFault now (going_failed r.text held.rest s old now r.going none left_now (subst (λ n. n ≤ MAX_INPUT_BYTES) (sym r.count) small))
+
+    -- memory runs out
+    pub reading_starved : Reads NoMemory left left_now old now
+    reading_starved = ended_as NoMemory now (going_starved r.text held.rest s old now r.going none left_now)
+
+-- no line ends a run by a fault of reading, nor does the text's end
+pub stop_no_read : (given : Result Progress Status) (text : List ℕ) (old new : Option (List ℕ)) (t : Progress) (status : Status) → Passes given text old new t (Err status) → ¬ (status ≡ ReadFault)
+stop_no_read given text old new t ReadFault h e = h
+stop_no_read given text old new t Done h e = cc
+stop_no_read given text old new t Usage h e = cc
+stop_no_read given text old new t (Refused line why) h e = cc
+stop_no_read given text old new t (Limit line what) h e = cc
+stop_no_read given text old new t WriteFault h e = cc
+stop_no_read given text old new t NoMemory h e = cc
+
+end_no_read : (s : Progress) (stage : Stage) → ¬ (ended_at s.lines stage ≡ ReadFault)
+end_no_read s Start e = cc
+end_no_read s Settings e = cc
+end_no_read s Files e = cc
+end_no_read s Running e = cc
+
+pub ending_no_read : (s : Progress) (rest : List ℕ) → ¬ (ending s rest ≡ ReadFault)
+ending_no_read s [] e = end_no_read s s.reader.stage e
+ending_no_read s (b ∷ bs) e = go (nat_lt MAX_INPUT_BYTES (s.read + length (b ∷ bs))) e where
+  go : (t : Bool) → cond t (Limit (s.lines + 1) Input) (Refused (s.lines + 1) Syntax) ≡ ReadFault → ⊥
+  go true f = cc
+  go false f = cc
+
+pub ending_no_write : (s : Progress) (rest : List ℕ) (before : ℕ) (status : Status) → status ≡ ending s rest → EndsCount before before status
+ending_no_write s rest before status e = subst (EndsCount before before) (sym e) (go rest) where
+  stage_end : (stage : Stage) → EndsCount before before (ended_at s.lines stage)
+  stage_end Start = refl
+  stage_end Settings = refl
+  stage_end Files = refl
+  stage_end Running = refl
+
+  go : (r : List ℕ) → EndsCount before before (ending s r)
+  go [] = stage_end s.reader.stage
+  go (b ∷ bs) = past (nat_lt MAX_INPUT_BYTES (s.read + length (b ∷ bs))) where
+    past : (t : Bool) → EndsCount before before (cond t (Limit (s.lines + 1) Input) (Refused (s.lines + 1) Syntax))
+    past true = refl
+    past false = refl

@@ -1,0 +1,234 @@
+-- The steps of the machine, one by one: what a record says of a place, the place that acts says.
+use Rattle.std.proofs.Common.{◌≡◌, ◌≢◌, ◌⊎◌, ℕ, ◌+◌, ◌-◌, ◌≤◌, ◌<◌, List, [], ◌∷◌, ◌++◌, length, Bool, true, false, cond, Option, Some, None, inl, inr, ⊎_elim, refl, sym, ap, ◌∙◌, subst, arith, append_assoc, append-nil, nat_eq}
+use Rattle.std.proofs.lemmas.Bool.Decides.{nat_tests}
+use Rattle.std.proofs.lemmas.Option.{slice_get_within}
+use Rattle.std.specs.FinMap as table
+use Rattle.std.specs.Prelude.{slice_get}
+use Rattle.lard_base.specs.declared.event.Event.{Event}
+use Rattle.lard_base.specs.declared.event.Event.TheVariants as event
+use Rattle.lard_base.specs.declared.place.Place.{Place}
+use Rattle.lard_base.specs.declared.place.Place.TheVariants as place
+use Rattle.lard_client.specs.Control.{ClientBlock, is_armed}
+use Rattle.lard_history.specs.Journal.{acting, acting_at, acting_in, event_step, goal_of, goal_step, last_event, request}
+use Rattle.lard_history.specs.Laws.{EachMay, MayAct, first_place}
+use Rattle.lard_history.specs.Steps.{is_opening}
+use Rattle.lard_history.proofs.Counts.{goal_of-append, last_event-append}
+use Rattle.lard_history.proofs.Each.{Each, Each-append, Each-weaker, each_append}
+use Rattle.lard_journal.specs.declared.rec.Rec.{Rec}
+use Rattle.lard_journal.specs.declared.rec.Rec.TheVariants as rec
+use Rattle.lard_laws_places.specs.Places.{goal_in}
+use Rattle.lard_laws_places.proofs.Counting.{IsLinked}
+use Rattle.lard_machine.specs.declared.machine.Machine.{Machine}
+use Rattle.lard_machine.specs.Machine.{Act, acted, client_acted, client_put, env_of, front_acted, front_armed, front_put, passed, records, sent_records, timer_change}
+use Rattle.lard_machine.proofs.Forms.{Forms}
+use Rattle.lard_net.specs.Net.{Packet, lose_at, packet_at}
+use Rattle.lard_rules.specs.declared.places.FrontConn.{FrontConn}
+use Rattle.lard_rules.specs.declared.places.Station.{Station}
+use Rattle.lard_rules.specs.declared.places.Turn.{Turn}
+use Rattle.lard_rules.specs.Client.{client_aborts, client_gets, client_holds, client_injects, client_opens, client_shuts, client_takes, client_timer, client_writes}
+use Rattle.lard_rules.specs.Front.{front_gets, front_timer}
+use Rattle.lard_segment.specs.declared.segment.Dir.TheVariants.{ToClient, ToCluster}
+use Rattle.lard_segment.specs.Segment.{decoded}
+use Rattle.lard_view.proofs.Turns.{IsClientTurn, IsFrontTurn, NotedAt, aborts-turn, fires-turn, front_fires-turn, front_gets-turn, hears-turn, holds-turn, injects-turn, opens-turn, shuts-turn, takes-turn, writes-turn}
+
+-- ---- records of the acting place
+
+-- it names no place, or this
+abbrev IsAt : Place → Rec → Type 0
+IsAt p r = (first_place r ≡ None) ⊎ (first_place r ≡ Some p)
+
+-- it begins no step, and leaves who acts in a step of this event
+record IsSteady (e : Event) (r : Rec) : Type 0 where
+  inside : is_opening r ≡ false
+  same : (past : List Rec) → acting_in (past ++ r ∷ []) e ≡ acting_in past e
+
+event-same : (past : List Rec) (r : Rec) → is_opening r ≡ false → last_event (past ++ r ∷ []) ≡ last_event past
+event-same past r n = last_event-append past (r ∷ []) ∙ go r n where
+  go : (r : Rec) → is_opening r ≡ false → event_step (last_event past) r ≡ last_event past
+  go (rec.Event i e) n = let no : true ≡ false = n in absurd cc
+  go (rec.Inner e) n = let no : true ≡ false = n in absurd cc
+  go _ n = refl
+
+at-acts : (p : Place) (past : List Rec) (r : Rec) → acting past ≡ Some p → IsAt p r → MayAct past r
+at-acts p past r acts at q is = ⊎_elim
+    (λ (none : first_place r ≡ None). let no : None ≡ Some q = sym none ∙ is in absurd cc)
+    (λ (some : first_place r ≡ Some p). acts ∙ sym some ∙ is) at
+
+module _ (e : Event) (p : Place) where
+  -- behind the event all records of the acting place may stand
+  acts-on : (past rs : List Rec) → last_event past ≡ Some e → acting_in past e ≡ Some p → Each (IsAt p) rs → Each (IsSteady e) rs → EachMay MayAct past rs
+  acts-on past [] last acts at steady = tt
+  acts-on past (r ∷ rs) last acts at steady =
+      let last' : last_event (past ++ r ∷ []) ≡ Some e = event-same past r steady.0.inside ∙ last in
+      let acts' : acting_in (past ++ r ∷ []) e ≡ Some p = steady.0.same past ∙ acts in
+      (at-acts p past r (ap (acting_at past) last ∙ acts) at.0, acts-on (past ++ r ∷ []) rs last' acts' at.1 steady.1)
+
+-- ---- notes, segments, timers
+
+note-at : (p : Place) (c : ℕ) (r : Rec) → NotedAt p c r → IsAt p r
+note-at (place.Client e) c (rec.Wrote d bytes) h = inl refl
+note-at (place.Client e) c (rec.Accepted d bytes) h = inl refl
+note-at (place.Client e) c (rec.Eof d) h = inl refl
+note-at (place.Client e) c (rec.Aborted d) h = inl refl
+note-at place.Front c (rec.Took place.Front d epoch) h = inr refl
+note-at place.Front c (rec.Served place.Front d r code size via) h = inr refl
+note-at place.Front c (rec.Reset place.Front d total) h = inr refl
+note-at _ c _ h = absurd h
+
+sents-at : (k : ℕ) (p : Place) (ss : List (Place × List ℕ)) → Each (IsAt p) (sent_records k p ss)
+sents-at k p [] = tt
+sents-at k p (s ∷ ss) = (inr refl, sents-at (k + 1) p ss)
+
+timer-at : (p : Place) (c : ℕ) (a b : Bool) → Each (IsAt p) (timer_change p c a b)
+timer-at p c false false = tt
+timer-at p c false true = (inr refl, tt)
+timer-at p c true false = (inr refl, tt)
+timer-at p c true true = tt
+
+-- ---- records that leave who acts
+
+-- the record sends no packet of this number
+abbrev IsNot : ℕ → Rec → Type 0
+IsNot k (rec.Sent j from to bytes) = nat_eq j k ≡ false
+IsNot k _ = Unit {0}
+
+abbrev IsInside : ℕ → Rec → Type 0
+IsInside k r = (is_opening r ≡ false) × IsNot k r
+
+note-inside : (p : Place) (c k : ℕ) (r : Rec) → NotedAt p c r → IsInside k r
+note-inside (place.Client e) c k (rec.Wrote d bytes) h = (refl, tt)
+note-inside (place.Client e) c k (rec.Accepted d bytes) h = (refl, tt)
+note-inside (place.Client e) c k (rec.Eof d) h = (refl, tt)
+note-inside (place.Client e) c k (rec.Aborted d) h = (refl, tt)
+note-inside place.Front c k (rec.Took place.Front d epoch) h = (refl, tt)
+note-inside place.Front c k (rec.Served place.Front d r code size via) h = (refl, tt)
+note-inside place.Front c k (rec.Reset place.Front d total) h = (refl, tt)
+note-inside _ c k _ h = absurd h
+
+above : (j k : ℕ) → k < j → nat_eq j k ≡ false
+above j k h = grind (arith, nat_tests, h)
+
+sents-inside : (k j : ℕ) (p : Place) (ss : List (Place × List ℕ)) → k < j → Each (IsInside k) (sent_records j p ss)
+sents-inside k j p [] h = tt
+sents-inside k j p (s ∷ ss) h = ((refl, above j k h), sents-inside k (j + 1) p ss (omega (arith, h)))
+
+timer-inside : (k : ℕ) (p : Place) (c : ℕ) (a b : Bool) → Each (IsInside k) (timer_change p c a b)
+timer-inside k p c false false = tt
+timer-inside k p c false true = ((refl, tt), tt)
+timer-inside k p c true false = ((refl, tt), tt)
+timer-inside k p c true true = tt
+
+-- ---- a step
+
+-- an event at which p acts, by packet k where one comes
+record IsActing (J : List Rec) (e : Event) (p : Place) (k : ℕ) : Type 0 where
+  acts : acting_in (J ++ rec.Event 0 e ∷ []) e ≡ Some p
+  begins : (i : ℕ) → acting_in (J ++ rec.Event i e ∷ []) e ≡ acting_in (J ++ rec.Event 0 e ∷ []) e
+  steady : (r : Rec) → IsNot k r → (past : List Rec) → acting_in (past ++ r ∷ []) e ≡ acting_in past e
+
+module _ (m : Machine) where
+  abbrev pub LawfulOn : Machine → Type 0
+  LawfulOn n = (rows : List Rec) × (n.journal ≡ m.journal ++ rows) × EachMay MayAct m.journal rows
+
+  acted-lawful : (w : Machine) (e : Event) (own : List Rec) (a : Act) (k : ℕ) → w.net ≡ m.net → w.journal ≡ m.journal → k ≤ length m.net → IsActing m.journal e a.place k
+      → Each (IsAt a.place) own → Each (IsInside k) own → Each (NotedAt a.place a.c) a.turn.notes → LawfulOn (acted w e own a)
+  unfolding acted
+  acted-lawful w e own a k net journal few acting at inside notes =
+      let S : List Rec = sent_records (length w.net + 1) a.place a.turn.segments in
+      let T : List Rec = timer_change a.place a.c a.was_armed a.is_armed in
+      let E : Rec = rec.Event (w.events + 1) e in
+      let J : List Rec = m.journal ++ E ∷ [] in
+      let rest : List Rec = ((own ++ a.turn.notes) ++ S) ++ T in
+      let number : k < length w.net + 1 = subst (λ (ps : List Packet). k < length ps + 1) (sym net) (omega (arith, few)) in
+      let all_at : Each (IsAt a.place) rest =
+      Each-append (IsAt a.place) ((own ++ a.turn.notes) ++ S) T (Each-append (IsAt a.place) (own ++ a.turn.notes) S
+      (Each-append (IsAt a.place) own a.turn.notes at (Each-weaker (NotedAt a.place a.c) (IsAt a.place) (note-at a.place a.c) a.turn.notes notes))
+      (sents-at (length w.net + 1) a.place a.turn.segments)) (timer-at a.place a.c a.was_armed a.is_armed) in
+      let all_inside : Each (IsInside k) rest =
+      Each-append (IsInside k) ((own ++ a.turn.notes) ++ S) T (Each-append (IsInside k) (own ++ a.turn.notes) S
+      (Each-append (IsInside k) own a.turn.notes inside (Each-weaker (NotedAt a.place a.c) (IsInside k) (note-inside a.place a.c k) a.turn.notes notes))
+      (sents-inside k (length w.net + 1) a.place a.turn.segments number)) (timer-inside k a.place a.c a.was_armed a.is_armed) in
+      let steady : Each (IsSteady e) rest = Each-weaker (IsInside k) (IsSteady e) (λ r h. record { inside = h.0; same = acting.steady r h.1 }) rest all_inside in
+      (
+        E ∷ rest,
+        ap (λ (K : List Rec). K ++ (E ∷ rest)) journal,
+        ((λ p is. let no : None ≡ Some p = is in absurd cc), acts-on e a.place J rest (last_event-append m.journal (E ∷ [])) (acting.begins (w.events + 1) ∙ acting.acts) all_at steady),
+      )
+
+  passed-lawful : (w : Machine) (e : Event) (r : Rec) → w.journal ≡ m.journal → first_place r ≡ None → LawfulOn (passed w e (r ∷ []))
+  passed-lawful w e r journal none = (
+    rec.Event (w.events + 1) e ∷ r ∷ [],
+    ap (λ (K : List Rec). K ++ (rec.Event (w.events + 1) e ∷ r ∷ [])) journal,
+    ((λ p is. let no : None ≡ Some p = is in absurd cc), ((λ p is. let no : None ≡ Some p = sym none ∙ is in absurd cc), tt)),
+  )
+
+  client-lawful : (e : Event) (own : List Rec) (c iss : ℕ) (was : Bool) (given : ClientBlock × Turn) (k : ℕ) → k ≤ length m.net → IsActing m.journal e (place.Client c) k
+      → Each (IsAt (place.Client c)) own → Each (IsInside k) own → IsClientTurn c given → LawfulOn (client_acted m e own c iss was given)
+  client-lawful e own c iss was given k few acting at inside turn =
+      acted-lawful (client_put m c (record { client = given.0; iss = iss })) e own (record { place = place.Client c; c = c; turn = given.1; was_armed = was; is_armed = is_armed given.0 }) k refl refl few acting at inside turn.notes
+
+  front-lawful : (e : Event) (own : List Rec) (c : ℕ) (given : Option FrontConn × Turn) (k : ℕ) → k ≤ length m.net → IsActing m.journal e place.Front k
+      → Each (IsAt place.Front) own → Each (IsInside k) own → IsFrontTurn c (table.get m.conns c) given → LawfulOn (front_acted m e own c given)
+  front-lawful e own c given k few acting at inside turn = go given.0 where
+    act : Bool → Act
+    act is = record { place = place.Front; c = c; turn = given.1; was_armed = front_armed (table.get m.conns c); is_armed = is }
+
+    go : (f : Option FrontConn) → LawfulOn (front_acted m e own c (f, given.1))
+    go None = acted-lawful m e own (act false) k refl refl few acting at inside turn.notes
+    go (Some y) = acted-lawful (front_put m c (Some y)) e own (act (front_armed (Some y))) k refl refl few acting at inside turn.notes
+
+  module _ (l : IsLinked m) where
+    -- a packet that comes to p
+    comes : (k : ℕ) (q : Packet) (p : Place) → packet_at m.net k ≡ Some q → q.to ≡ p → IsActing m.journal (event.Deliver k) p k
+    comes k q p at to = record {
+      acts = goal_of-append m.journal (rec.Event 0 (event.Deliver k) ∷ []) k ∙ l.is.goals k ∙ ap goal_in at ∙ ap Some to;
+      begins = λ i. goal_of-append m.journal (rec.Event i (event.Deliver k) ∷ []) k ∙ sym (goal_of-append m.journal (rec.Event 0 (event.Deliver k) ∷ []) k);
+      steady = λ r n past. goal_of-append past (r ∷ []) k ∙ still r n (goal_of past k);
+    } where
+      still : (r : Rec) → IsNot k r → (o : Option Place) → goal_step k o r ≡ o
+      still (rec.Sent j from to bytes) n o = ap (λ b. cond b (Some to) o) n
+      still _ n o = refl
+
+    few : (k : ℕ) (q : Packet) → packet_at m.net k ≡ Some q → k ≤ length m.net
+    few k q at = go (nat_eq k 0) at where
+      go : (b : Bool) → cond b None (slice_get m.net (k - 1)) ≡ Some q → k ≤ length m.net
+      go true e = let no : None ≡ Some q = e in absurd cc
+      go false e = let h : k - 1 < length m.net = slice_get_within m.net (k - 1) q e in omega (arith, h)
+
+    got : (p : Place) (k : ℕ) → Each (IsAt p) (rec.Got k ∷ []) × Each (IsInside k) (rec.Got k ∷ [])
+    got p k = ((inl refl, tt), ((refl, tt), tt))
+
+    -- an event that names who acts
+    named : (e : Event) (p : Place) → ((J : List Rec) → acting_in J e ≡ Some p) → IsActing m.journal e p 0
+    named e p acts = record { acts = acts (m.journal ++ rec.Event 0 e ∷ []); begins = λ i. acts (m.journal ++ rec.Event i e ∷ []) ∙ sym (acts (m.journal ++ rec.Event 0 e ∷ [])); steady = λ r n past. acts (past ++ r ∷ []) ∙ sym (acts past) }
+
+    simply : (e : Event) (c : ℕ) (x : Station) (given : ClientBlock × Turn) → ((J : List Rec) → acting_in J e ≡ Some (place.Client c)) → IsClientTurn c given
+        → LawfulOn (client_acted m e [] c x.iss (is_armed x.client) given)
+    simply e c x given acts turn = client-lawful e [] c x.iss (is_armed x.client) given 0 (omega arith) (named e (place.Client c) acts) tt tt turn
+
+    pub forms-lawful : ((c : ℕ) (x : Station) → table.get m.clients c ≡ Some x → x.client.c ≡ c) → Forms m (λ e n. LawfulOn n)
+    forms-lawful number = record {
+      opens = λ c isn iss wnd mss rule none. client-lawful (event.Open c isn iss wnd mss) (rec.Opened c isn iss wnd mss ∷ []) c iss false (client_opens c isn wnd mss) 0 (omega arith)
+          (named (event.Open c isn iss wnd mss) (place.Client c) (λ J. refl)) (inl refl, tt) ((refl, tt), tt) (opens-turn c isn wnd mss);
+      gets = λ c path x is le. simply (event.Get c path) c x (client_writes x.client (request path)) (λ J. refl) (writes-turn c x.client (number c x is) (request path));
+      writes = λ c bytes x is le. simply (event.Write c bytes) c x (client_writes x.client bytes) (λ J. refl) (writes-turn c x.client (number c x is) bytes);
+      shuts = λ c x is. simply (event.Shut c) c x (client_shuts x.client) (λ J. refl) (shuts-turn c x.client (number c x is));
+      aborts = λ c x is. simply (event.Abort c) c x (client_aborts x.client) (λ J. refl) (aborts-turn c x.client (number c x is));
+      holds = λ c x is. simply (event.Hold c) c x (client_holds x.client) (λ J. refl) (holds-turn c x.client (number c x is));
+      takes = λ c x is. simply (event.Take c) c x (client_takes x.client) (λ J. refl) (takes-turn c x.client (number c x is));
+      injects = λ c bytes x rule is. client-lawful (event.Inject c bytes) (rec.Injected c ∷ []) c x.iss (is_armed x.client) (client_injects x.client bytes) 0 (omega arith)
+          (named (event.Inject c bytes) (place.Client c) (λ J. refl)) (inl refl, tt) ((refl, tt), tt) (injects-turn c x.client (number c x is) bytes);
+      client_timer = λ d c x same is. simply (event.Timer (place.Client d) c) c x (client_timer x.client) (λ J. ap (λ z. Some (place.Client z)) same) (fires-turn c x.client (number c x is));
+      front_timer = λ c x is. front-lawful (event.Timer place.Front c) [] c (front_timer (env_of m c x.iss) (table.get m.conns c)) 0 (omega arith) (named (event.Timer place.Front c) place.Front (λ J. refl)) tt tt
+          (front_fires-turn (env_of m c x.iss) (table.get m.conns c));
+      front_gets = λ k c p x at on from to is. front-lawful (event.Deliver k) (rec.Got k ∷ []) c (front_gets (env_of m c x.iss) (table.get m.conns c) (decoded p.bytes c ToCluster)) k (few k p at) (comes k p place.Front at to)
+          (got place.Front k).0 (got place.Front k).1 (front_gets-turn (env_of m c x.iss) (table.get m.conns c) (decoded p.bytes c ToCluster));
+      client_gets = λ k c p x at on to is. client-lawful (event.Deliver k) (rec.Got k ∷ []) c x.iss (is_armed x.client) (client_gets x.client (decoded p.bytes c ToClient)) k (few k p at) (comes k p (place.Client c) at to)
+          (got (place.Client c) k).0 (got (place.Client c) k).1 (hears-turn c x.client (number c x is) (decoded p.bytes c ToClient));
+      nobody = λ k p at on. passed-lawful m (event.Deliver k) (rec.Got k) refl refl;
+      loses = λ k p at on. passed-lawful (record m { net = lose_at (k - 1) m.net }) (event.Lose k) (rec.Lost k) refl refl;
+    }
+
+-- a lawful journal goes on
+pub lawful-on : (m n : Machine) → EachMay MayAct [] m.journal → LawfulOn m n → EachMay MayAct [] n.journal
+lawful-on m n h on = subst (λ (J : List Rec). EachMay MayAct [] J) (sym on.1) (each_append MayAct [] m.journal on.0 h on.2)
