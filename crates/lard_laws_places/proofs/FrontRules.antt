@@ -23,7 +23,8 @@ use Rattle.lard_history.proofs.Tales.{told_on-append}
 use Rattle.lard_journal.specs.declared.rec.Rec.{Rec}
 use Rattle.lard_journal.specs.declared.rec.Rec.TheVariants as rec
 use Rattle.lard_laws_places.specs.Places.{FrontStands, FrontTale, IsFronts, IsServing, IsUntaken, client_tale, front_tale}
-use Rattle.lard_view.proofs.Endpoints.{AllTo, ready-to, segment-many, speaks-to, speaks_symbols-to, timer-many}
+use Rattle.lard_rules.proofs.Totals.{segment-many, timer-many}
+use Rattle.lard_view.proofs.Endpoints.{AllTo, ready-to, speaks-to, speaks_symbols-to}
 use Rattle.lard_laws_places.proofs.Telling.{MayStand, Tells}
 use Rattle.lard_view.proofs.Rows.{TellsBy-append}
 use Rattle.lard_rules.specs.declared.places.FrontConn.{FrontConn}

@@ -22,7 +22,7 @@ use Rattle.lard_segment.specs.Segment.{Said}
 use Rattle.lard_send.specs.Send.{acknowledged_bytes, queued_too}
 use Rattle.lard_view.proofs.ClientTurns.{arrived-hears}
 use Rattle.lard_laws_records.proofs.Bytes.{AreBytes, bytes-append, bytes-index, bytes-spelled, each-drop, each-take}
-use Rattle.lard_laws_records.proofs.Halves.{client-arrived, client-emit, client-fires, client-shuts}
+use Rattle.lard_rules.proofs.Halves.{client-arrived, client-emit, client-fires, client-shuts}
 use Rattle.lard_laws_records.proofs.Kept.{IsKept, kept-sending, left-few}
 
 -- a segment goes to a place in range, and has bytes

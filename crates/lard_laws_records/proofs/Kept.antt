@@ -11,7 +11,7 @@ use Rattle.lard_send.specs.Send.{Sending, after_ack, after_next, after_resend, i
 use Rattle.lard_seq.specs.Seq.{one_if, seq_offset}
 use Rattle.std.proofs.Common.{sym, subst}
 use Rattle.lard_laws_records.proofs.Bytes.{AreBytes, bytes-append, each-drop, each-take}
-use Rattle.lard_laws_records.proofs.Halves.{KeptBySending, endpoint-emit, endpoint-fires, endpoint-segment}
+use Rattle.lard_rules.proofs.Halves.{KeptBySending, endpoint-emit, endpoint-fires, endpoint-segment}
 
 -- ---- a sending half
 

@@ -84,6 +84,10 @@ no-rows place c p = go (armed_at place p) where
 
 -- ---- rule by rule
 
+-- the data of a packet that was sent
+heard : (x : Conn) → IsRanged x → (from to : Place) (dir : Dir) (bytes : List ℕ) → Was x from to bytes → (said : Said) → decoded bytes x.c dir ≡ Ok said → AreBytes said.payload
+heard x h from to dir bytes was said is = bytes-decoded bytes x.c dir said is (has-each (record { from = from; to = to; bytes = bytes }) IsLetter x.letters was h.letters).1
+
 module _ (x : Conn) (s : Station) (there : x.part.station ≡ Some s) (sound : IsSound x) (h : IsRanged x) where
   kept : IsNumber x.c × ClientKeeps s.client
   kept = subst (StationKeeps x.c) there h.station
@@ -91,15 +95,15 @@ module _ (x : Conn) (s : Station) (there : x.part.station ≡ Some s) (sound : I
   number : IsNumber s.client.c
   number = subst IsNumber (sym (sound.number s there)) kept.0
 
-  -- the data of a packet that was sent
-  heard : (from to : Place) (dir : Dir) (bytes : List ℕ) → Was x from to bytes → (said : Said) → decoded bytes x.c dir ≡ Ok said → AreBytes said.payload
-  heard from to dir bytes was said is = bytes-decoded bytes x.c dir said is (has-each (record { from = from; to = to; bytes = bytes }) IsLetter x.letters was h.letters).1
+  client-moves : (heads : List Seen) (given : ClientBlock × Turn) → (IsNumber s.client.c → ClientKeeps s.client → ClientFits given) → MovesInRange x (client_does x s heads given)
+  client-moves heads given rule =
+      let fits : ClientFits given = rule number kept.1 in
+      record { station = (kept.0, fits.keeps); front = h.front; place = kept.0; turn = fits.turn; timers = rows-range (Client x.c) x.c x.part _ kept.0 kept.0 }
 
-  client-moves : (heads : List Seen) (given : ClientBlock × Turn) → ClientFits given → MovesInRange x (client_does x s heads given)
-  client-moves heads given fits = record { station = (kept.0, fits.keeps); front = h.front; place = kept.0; turn = fits.turn; timers = rows-range (Client x.c) x.c x.part _ kept.0 kept.0 }
-
-  front-moves : (heads : List Seen) (given : Option FrontConn × Turn) → FrontFits given → MovesInRange x (front_does x heads given)
-  front-moves heads given fits = record { station = h.station; front = fits.keeps; place = tt; turn = fits.turn; timers = rows-range Front x.c x.part _ tt kept.0 }
+  front-moves : (heads : List Seen) (given : Option FrontConn × Turn) → (IsNumber x.c → FrontFits given) → MovesInRange x (front_does x heads given)
+  front-moves heads given rule =
+      let fits : FrontFits given = rule kept.0 in
+      record { station = h.station; front = fits.keeps; place = tt; turn = fits.turn; timers = rows-range Front x.c x.part _ tt kept.0 }
 
 module _ (k : Setting) (small : k.stream ≤ 2 ^ 30) (are : AreFiles k.files) where
   -- no more is written than the stream limit
@@ -113,23 +117,22 @@ module _ (k : Setting) (small : k.stream ≤ 2 ^ 30) (are : AreFiles k.files) wh
         let fits : ClientFits (client_opens x.c isn wnd mss) = opens-fits x.c isn wnd mss in
         record { station = (c, fits.keeps); front = h.front; place = c; turn = fits.turn; timers = rows-range (Client x.c) x.c x.part _ c c };
     gets = λ x s path there le sound h g. client-moves x s there sound h (event_seen (event.Get x.c path)) (client_writes s.client (request path))
-        (writes-fits s.client (number x s there sound h) (kept x s there sound h).1 (request path) (request-bytes path (index-bytes path g.0.1)) (within s.client (request path) le));
+        (λ n keeps. writes-fits s.client n keeps (request path) (request-bytes path (index-bytes path g.0.1)) (within s.client (request path) le));
     writes = λ x s bytes there le sound h g. client-moves x s there sound h (event_seen (event.Write x.c bytes)) (client_writes s.client bytes)
-        (writes-fits s.client (number x s there sound h) (kept x s there sound h).1 bytes (index-bytes bytes g.0.0.1) (within s.client bytes le));
-    shuts = λ x s there sound h g. client-moves x s there sound h (event_seen (event.Shut x.c)) (client_shuts s.client) (shuts-fits s.client (number x s there sound h) (kept x s there sound h).1);
-    aborts = λ x s there sound h g. client-moves x s there sound h (event_seen (event.Abort x.c)) (client_aborts s.client) (aborts-fits s.client (number x s there sound h) (kept x s there sound h).1);
-    holds = λ x s there sound h g. client-moves x s there sound h (event_seen (event.Hold x.c)) (client_holds s.client) (holds-fits s.client (number x s there sound h) (kept x s there sound h).1);
-    takes = λ x s there sound h g. client-moves x s there sound h (event_seen (event.Take x.c)) (client_takes s.client) (takes-fits s.client (number x s there sound h) (kept x s there sound h).1);
+        (λ n keeps. writes-fits s.client n keeps bytes (index-bytes bytes g.0.0.1) (within s.client bytes le));
+    shuts = λ x s there sound h g. client-moves x s there sound h (event_seen (event.Shut x.c)) (client_shuts s.client) (shuts-fits s.client);
+    aborts = λ x s there sound h g. client-moves x s there sound h (event_seen (event.Abort x.c)) (client_aborts s.client) (aborts-fits s.client);
+    holds = λ x s there sound h g. client-moves x s there sound h (event_seen (event.Hold x.c)) (client_holds s.client) (holds-fits s.client);
+    takes = λ x s there sound h g. client-moves x s there sound h (event_seen (event.Take x.c)) (client_takes s.client) (takes-fits s.client);
     injects = λ x s bytes there rule sound h g. client-moves x s there sound h (inject_seen x.c bytes) (client_injects s.client bytes)
-        (injects-fits s.client (number x s there sound h) (kept x s there sound h).1 bytes (index-bytes bytes g.0.0.1));
-    client_fires = λ x s there sound h g. client-moves x s there sound h (event_seen (event.Timer (Client x.c) x.c)) (client_timer s.client)
-        (fires-fits s.client (number x s there sound h) (kept x s there sound h).1);
+        (λ n keeps. injects-fits s.client n keeps bytes (index-bytes bytes g.0.0.1));
+    client_fires = λ x s there sound h g. client-moves x s there sound h (event_seen (event.Timer (Client x.c) x.c)) (client_timer s.client) (fires-fits s.client);
     client_hears = λ x s bytes there was sound h g. client-moves x s there sound h (packet_seen Front (Client x.c) bytes) (client_gets s.client (decoded bytes x.c ToClient))
-        (gets-fits s.client (number x s there sound h) (kept x s there sound h).1 (decoded bytes x.c ToClient) (heard x s there sound h Front (Client x.c) ToClient bytes was));
+        (λ n keeps. gets-fits s.client n keeps (decoded bytes x.c ToClient) (heard x h Front (Client x.c) ToClient bytes was));
     front_fires = λ x s there sound h g. front-moves x s there sound h (event_seen (event.Timer Front x.c)) (front_timer (env_at k x s) x.part.front)
-        (front.fires-fits (env_at k x s) (kept x s there sound h).0 small are x.part.front h.front);
+        (λ n. front.fires-fits (env_at k x s) n small are x.part.front h.front);
     front_hears = λ x s bytes there was sound h g. front-moves x s there sound h (packet_seen (Client x.c) Front bytes) (front_gets (env_at k x s) x.part.front (decoded bytes x.c ToCluster))
-        (front.gets-fits (env_at k x s) (kept x s there sound h).0 small are x.part.front (decoded bytes x.c ToCluster) (heard x s there sound h (Client x.c) Front ToCluster bytes was) h.front);
+        (λ n. front.gets-fits (env_at k x s) n small are x.part.front (decoded bytes x.c ToCluster) (heard x h (Client x.c) Front ToCluster bytes was) h.front);
     ignores = λ x from to bytes was sound h g. record {
       station = h.station;
       front = h.front;

@@ -1,6 +1,5 @@
 pub mod Bytes
 pub mod Content
-pub mod Halves
 pub mod Kept
 pub mod Clients
 pub mod Fronts

@@ -1,5 +1,5 @@
 -- What a client says in its turn, and that it stays the client of its connection.
-use Rattle.std.proofs.Common.{◌≡◌, ℕ, zero, suc, Bool, true, false, cond, nat_lt, ◌==◌, not, ◌&&◌, ◌||◌, List, [], ◌∷◌, length, Option, Some, None, refl, sym, ap, ◌∙◌}
+use Rattle.std.proofs.Common.{◌≡◌, ℕ, Bool, true, false, cond, nat_lt, ◌==◌, not, ◌&&◌, ◌||◌, List, length, Option, Some, None, refl, sym, ap, ◌∙◌}
 use Rattle.std.proofs.lemmas.Bool.{cond_both, and_left, and_right}
 use Rattle.lard_arrival.specs.Arrival.{bare, is_acceptable, is_allowed, peer_mss}
 use Rattle.lard_base.specs.declared.place.Place.{Place}
@@ -9,11 +9,12 @@ use Rattle.lard_client.specs.declared.phase.Phase.{Phase}
 use Rattle.lard_client.specs.declared.phase.Phase.TheVariants.{Open, Aborted, Reset}
 use Rattle.lard_client.specs.Arriving.{accepting, answers_syn, arrived, begins_after, ends, established, fresh_len, heard_in, nothing, on_ack, on_fresh, on_greeting, on_rst, on_segment, on_syn, on_text, on_unacceptable, owing, part_of, reply_to, reset_by_peer}
 use Rattle.lard_client.specs.Control.{ClientBlock, aborted, held_on, is_established, is_open, is_open_in, is_writing, rcv_nxt, rcv_wnd, shut_down, taken, written}
-use Rattle.lard_client.specs.Leaving.{after_emit, after_owed, after_piece, after_timer, emitted, owes, told, unsaid}
+use Rattle.lard_client.specs.Leaving.{after_emit, after_owed, after_piece, after_timer, owes, told}
 use Rattle.lard_view.proofs.Endpoints.{AllTo}
-use Rattle.lard_view.proofs.Sides.{IsSameSide, ack-side, next-side, resend-side, same_side}
+use Rattle.lard_rules.proofs.Loops.{KeptByTelling, client_keeps}
+use Rattle.lard_rules.proofs.Sides.{IsSameSide, ack-side, next-side, resend-side, same_side}
 use Rattle.lard_rules.specs.Client.{ready_of}
-use Rattle.lard_rules.specs.Speaking.{client_emits, client_speaks, to_front}
+use Rattle.lard_rules.specs.Speaking.{client_speaks}
 use Rattle.lard_segment.specs.declared.segment.Ready.{Ready}
 use Rattle.lard_segment.specs.Segment.{Said}
 use Rattle.lard_send.specs.declared.piece.Piece.{Piece}
@@ -63,20 +64,11 @@ pub record SpeaksOn (x : ClientBlock) (given : List (Place × List ℕ) × Clien
   pub to : AllTo Front given.0
   pub on : GoesOn x given.1
 
-emits-on : (n : ℕ) (x : ClientBlock) → SpeaksOn x (client_emits n x)
-unfolding client_emits
-emits-on zero x = record { to = tt; on = as_before x }
-emits-on (suc n) x = go (emitted x) (emits-on n (after_emit x)) where
-  go : (o : Option Ready) → SpeaksOn (after_emit x) (client_emits n (after_emit x))
-      → SpeaksOn x (elim o [
-        | None ↦ ([], x)
-        | Some r ↦ (to_front (after_emit x) r ∷ (client_emits n (after_emit x)).0, (client_emits n (after_emit x)).1)
-      ])
-  go None h = record { to = tt; on = as_before x }
-  go (Some r) h = record { to = (refl, h.to); on = then_on x (after_emit x) (client_emits n (after_emit x)).1 (emit-on x) h.on }
+telling-on : KeptByTelling (λ x ss y. SpeaksOn x (ss, y))
+telling-on = record { rests = λ x. record { to = tt; on = as_before x }; says = λ x r ss y e later. record { to = (refl, later.to); on = then_on x (after_emit x) y (emit-on x) later.on } }
 
 pub speaks-on : (x : ClientBlock) → SpeaksOn x (client_speaks x)
-speaks-on x = emits-on (unsaid x) x
+speaks-on x = client_keeps (λ x ss y. SpeaksOn x (ss, y)) telling-on x
 
 pub ready-to : (x : ClientBlock) (o : Option Ready) → AllTo Front (ready_of x o)
 ready-to x None = tt

@@ -7,6 +7,5 @@ pub mod InSteps
 pub mod Moving
 pub mod Rows
 pub mod Shapes
-pub mod Sides
 pub mod Steps
 pub mod Turns

@@ -2,13 +2,13 @@
 use Rattle.std.proofs.Common.{◌≡◌, ◌≤◌, arith, subst, ap, ◌∙◌}
 use Rattle.lard_endpoint.specs.declared.control.arriving.Arrival.{Arrival}
 use Rattle.lard_endpoint.specs.Control.{ControlBlock}
-use Rattle.lard_rules.proofs.Totals.{arrival_total}
+use Rattle.lard_rules.proofs.Totals.{segment-many}
 use Rattle.lard_segment.specs.Segment.{said}
 use Rattle.lard_world.specs.Front.{IsCountedIn}
 use Rattle.lard_world.proofs.front.hear.Goals as goal
 
 pub read_on-requires-clause-counted : goal.read_on-requires-clause-counted
 read_on-requires-clause-counted c =
-    let same : c.arrive-arrival.new.self.send.total ≡ c.in-Held.endpoint.send.total = ap (λ (p : Arrival × ControlBlock). p.1.send.total) c.arrive-arrival.ensures ∙ arrival_total c.in-Held.endpoint (said c.args.segment.now) in
+    let same : c.arrive-arrival.new.self.send.total ≡ c.in-Held.endpoint.send.total = ap (λ (p : Arrival × ControlBlock). p.1.send.total) c.arrive-arrival.ensures ∙ segment-many c.in-Held.endpoint (said c.args.segment.now) in
     let counted : c.in-Held.count ≤ c.in-Held.endpoint.send.total = subst IsCountedIn c.in-Held.is c.requires.counted in
     omega arith

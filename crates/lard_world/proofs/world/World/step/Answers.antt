@@ -2,9 +2,11 @@
 use Rattle.std.proofs.Common.{◌∙◌, ap, sym, subst, ℕ, List}
 use Rattle.lard_base.specs.declared.config.Config.{Config}
 use Rattle.lard_files.specs.Files.{file_at}
-use Rattle.lard_history.specs.Laws.{AcceptsOnlyAnswers, IsNetwork, IsOwnership, IsSoleSender, ResetsAtTheLimit, ServesTheAnswers, TellsTheTruth, WritesWhileOpen}
+use Rattle.lard_history.specs.Laws.{AcceptsOnlyAnswers, ActsInPlace, IsNetwork, IsOwnership, IsSoleSender, ResetsAtTheLimit, ServesTheAnswers, TellsTheTruth, WritesWhileOpen}
 use Rattle.lard_laws_clients.specs.Laws.{TakesInOrder}
 use Rattle.lard_laws_quiet.specs.Quiet.{IsCompleteWhenQuiet}
+use Rattle.lard_laws_steps.specs.Clients.{KeepsTables}
+use Rattle.lard_laws_steps.specs.Fronts.{TakesOnce}
 use Rattle.lard_world.specs.World.{Standing}
 use Rattle.lard_world.proofs.Runs.{runs-on, still}
 use Rattle.lard_world.proofs.world.World.step.Goals as goal
@@ -24,6 +26,12 @@ returns-clause-network c =
     let run = c.self.invariant (ap (λ w. w.spoiled) c.self.view_is ∙ c.requires.usable) in
     still c.self.inside.machine c.step-done.new.machine c.args.event run c.requires.ruled IsNetwork
     (λ m r s f. c.journals_are_lawful.ensures.network m.config m.files m r.reached) c.step-done.result c.step-done.ensures
+
+pub returns-clause-places : goal.returns-clause-places
+returns-clause-places c =
+    let run = c.self.invariant (ap (λ w. w.spoiled) c.self.view_is ∙ c.requires.usable) in
+    still c.self.inside.machine c.step-done.new.machine c.args.event run c.requires.ruled ActsInPlace
+    (λ m r s f. c.journals_are_lawful.ensures.places m.config m.files m r.reached) c.step-done.result c.step-done.ensures
 
 pub returns-clause-ownership : goal.returns-clause-ownership
 returns-clause-ownership c =
@@ -48,6 +56,18 @@ returns-clause-takers c =
     let run = c.self.invariant (ap (λ w. w.spoiled) c.self.view_is ∙ c.requires.usable) in
     still c.self.inside.machine c.step-done.new.machine c.args.event run c.requires.ruled TakesInOrder
     (λ m r s f. c.clients_take_what_comes_next.ensures m.config m.files m r.stream r.reached) c.step-done.result c.step-done.ensures
+
+pub returns-clause-tables : goal.returns-clause-tables
+returns-clause-tables c =
+    let run = c.self.invariant (ap (λ w. w.spoiled) c.self.view_is ∙ c.requires.usable) in
+    still c.self.inside.machine c.step-done.new.machine c.args.event run c.requires.ruled KeepsTables
+    (λ m r s f. c.clients_keep_their_tables.ensures m.config m.files m r.reached) c.step-done.result c.step-done.ensures
+
+pub returns-clause-taken_once : goal.returns-clause-taken_once
+returns-clause-taken_once c =
+    let run = c.self.invariant (ap (λ w. w.spoiled) c.self.view_is ∙ c.requires.usable) in
+    still c.self.inside.machine c.step-done.new.machine c.args.event run c.requires.ruled TakesOnce
+    (λ m r s f. c.the_front_end_takes_once.ensures m.config m.files m r.reached) c.step-done.result c.step-done.ensures
 
 pub returns-clause-resets : goal.returns-clause-resets
 returns-clause-resets c =
