@@ -30,11 +30,6 @@ module _ (may : List Rec → Rec → Type 0) where
   each_front past [] ys e = tt
   each_front past (x ∷ xs) ys e = (e.0, each_front (past ++ x ∷ []) xs ys e.1)
 
-  -- and what is left of it
-  pub each_behind : (past xs ys : List Rec) → EachMay may past (xs ++ ys) → EachMay may (past ++ xs) ys
-  each_behind past [] ys e = subst (λ (zs : List Rec). EachMay may zs ys) (sym (append-nil past)) e
-  each_behind past (x ∷ xs) ys e = subst (λ (zs : List Rec). EachMay may zs ys) (append_assoc past (x ∷ []) xs) (each_behind (past ++ x ∷ []) xs ys e.1)
-
   -- at every moment a lawful journal is lawful
   pub each_then : (J past later : List Rec) → J ≡ past ++ later → EachMay may [] J → EachMay may [] past
   each_then J past later is e = each_front [] past later (subst (EachMay may []) is e)

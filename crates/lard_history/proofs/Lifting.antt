@@ -155,10 +155,9 @@ pub record IsLocal (may : List Rec → Rec → Type 0) (mine : ℕ → List Seen
   pub somebody : (J : List Rec) (r : Rec) (c : ℕ) → whose r ≡ Some c → mine c (own c J) (plain r) → may J r
 
 module _ (may : List Rec → Rec → Type 0) (mine : ℕ → List Seen → Rec → Type 0) (local : IsLocal may mine) where
-  -- what each connection's own records of these may say, behind what it saw, the journal may say behind its past
-  pub each_seen : (past rs : List Rec) → ((c : ℕ) → EachRow (mine c) (own c past) (seen_on c (net_of past) rs)) → EachMay may past rs
-  each_seen past [] h = tt
-  each_seen past (r ∷ rs) h = (head (whose r) refl, each_seen (past ++ r ∷ []) rs later) where
+  goes : (past rs : List Rec) → ((c : ℕ) → EachRow (mine c) (own c past) (seen_on c (net_of past) rs)) → EachMay may past rs
+  goes past [] h = tt
+  goes past (r ∷ rs) h = (head (whose r) refl, goes (past ++ r ∷ []) rs later) where
     net : List Packet
     net = net_step (net_of past) r
 
@@ -181,4 +180,4 @@ module _ (may : List Rec → Rec → Type 0) (mine : ℕ → List Seen → Rec �
   -- what each connection's own records may say, the journal may say
   pub each_from_own : (J : List Rec) → ((c : ℕ) → EachRow (mine c) [] (own c J)) → EachMay may [] J
   unfolding own
-  each_from_own J h = each_seen [] J h
+  each_from_own J h = goes [] J h

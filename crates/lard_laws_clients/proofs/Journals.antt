@@ -1,87 +1,151 @@
--- From what each connection sees of a step to the step's records.
-use Rattle.std.proofs.Common.{◌≡◌, ℕ, ◌+◌, List, [], ◌∷◌, ◌++◌, length, true, false, Option, Some, None, refl, sym, ap, ◌∙◌, subst}
-use Rattle.std.proofs.lemmas.Bool.{both_ways}
+-- From the move of one connection to the records of its step: the packet that came is the one that was delivered last.
+use Rattle.std.proofs.Common.{◌≡◌, ◌⊎◌, ⊎_elim, ℕ, ◌+◌, List, [], ◌∷◌, ◌++◌, length, Bool, true, false, Option, Some, None, refl, sym, ap, ◌∙◌, subst}
+use Rattle.std.proofs.lemmas.List.Sums.{fold-append}
+use Rattle.lard_answers.specs.Answers.{FilesAt}
 use Rattle.lard_base.specs.declared.event.Event.{Event}
-use Rattle.lard_history.specs.Journal.{Tale, accepted, is_touched}
-use Rattle.lard_history.specs.Laws.{EachMay, IsStep, is_own}
-use Rattle.lard_history.specs.Own.{Letter, net_of, own, plain, seen_on, tale_of, whose}
-use Rattle.lard_history.proofs.Each.{Each, each_append, each_behind}
-use Rattle.lard_history.proofs.Lifting.{IsLocal, each_seen, tale-own}
+use Rattle.lard_base.specs.declared.event.Event.TheVariants as event
+use Rattle.lard_base.specs.declared.place.Place.{Place}
+use Rattle.lard_history.specs.Journal.{Tale, accepted, accepted_step, is_touched, numbers_of, numbers_step, tale_step, touched_step}
+use Rattle.lard_history.specs.Laws.{EachMay}
+use Rattle.lard_history.specs.Own.{Letter, Came, letter_of, net_of, net_step, own, tale_of}
+use Rattle.lard_history.proofs.Each.{Each, each_append}
+use Rattle.lard_history.proofs.Lifting.{tale-own}
 use Rattle.lard_history.proofs.Tales.{accepted-tale, numbers-tale, touched-tale}
 use Rattle.lard_journal.specs.declared.rec.Rec.{Rec}
 use Rattle.lard_journal.specs.declared.rec.Rec.TheVariants as rec
-use Rattle.lard_laws_clients.specs.Laws.{Gets, MayTake}
-use Rattle.lard_laws_clients.proofs.Delivered.{AreOfEvent, AreOthers, IsGot, came_first, got-first, of-event, others-parts, still-got}
-use Rattle.lard_laws_clients.proofs.Taking.{GetsBy, StepTakes, TakesBy}
-use Rattle.lard_segment.specs.declared.segment.Dir.TheVariants.{ToClient}
-use Rattle.lard_segment.specs.Segment.{decoded}
+use Rattle.lard_laws_bytes.specs.Truthful.{IsTruthfulAt}
+use Rattle.lard_laws_clients.specs.Laws.{Gets, MayTake, got_step, last_got}
+use Rattle.lard_laws_clients.proofs.Taking.{GetsBy, Owes, TakesBy, TakesNothing}
+use Rattle.lard_machine.specs.declared.machine.Machine.{Machine}
+use Rattle.lard_machine.specs.Machine.{sent_records, timer_change}
+use Rattle.lard_net.specs.Net.{Packet, packet_at}
 use Rattle.lard_seq.specs.Seq.{seq_add}
+use Rattle.lard_view.specs.Carry.{TellsBy, Untouched}
+use Rattle.lard_view.specs.View.{IsSound, Part, armed_at, conn, part_of, timer_rows}
+use Rattle.lard_view.proofs.Acts.{Acts, IsDelivered, behind}
 
--- an event's own records take nothing
-own-may : (J rs : List Rec) → Each (λ r. is_own r ≡ true) rs → EachMay MayTake J rs
-own-may J [] n = tt
-own-may J (r ∷ rs) n = (one r n.0, own-may (J ++ r ∷ []) rs n.1) where
-  one : (q : Rec) → is_own q ≡ true → MayTake J q
-  one (rec.Accepted c bytes) e = absurd (both_ways false refl e)
-  one (rec.Eof c) e = absurd (both_ways false refl e)
-  one _ e = tt
+-- ---- records that take nothing
 
--- where this packet comes first to each connection
-module _ (first : ℕ → Option Letter) where
-  -- by what its connection sees, a record takes of it
-  abbrev MaySee : List Rec → Rec → Type 0
-  MaySee J r = (c : ℕ) → whose r ≡ Some c → TakesBy (first c) c (tale_of c (own c J)) (plain r)
+may-pass : (J : List Rec) (r : Rec) → TakesNothing r → MayTake J r
+may-pass J (rec.Accepted c bytes) n = absurd n
+may-pass J (rec.Eof c) n = absurd n
+may-pass J _ n = tt
 
-  local : IsLocal MaySee (λ c past r. TakesBy (first c) c (tale_of c past) r)
-  local = record {
-    nobody = λ J r e c f. let no : None ≡ Some c = sym e ∙ f in absurd cc;
-    somebody = λ J r c e h d f. let both : Some c ≡ Some d = sym e ∙ f in let same : c ≡ d = cc in subst (λ (q : ℕ). TakesBy (first q) q (tale_of q (own q J)) (plain r)) same h;
+all-may : (J rs : List Rec) → Each TakesNothing rs → EachMay MayTake J rs
+all-may J [] n = tt
+all-may J (r ∷ rs) n = (may-pass J r n.0, all-may (J ++ r ∷ []) rs n.1)
+
+behind-nothing : (e : Event) → Each TakesNothing (behind e)
+behind-nothing (event.Open c isn iss wnd mss) = (tt, tt)
+behind-nothing (event.Deliver k) = (tt, tt)
+behind-nothing (event.Lose k) = (tt, tt)
+behind-nothing (event.Inject c bytes) = (tt, tt)
+behind-nothing _ = tt
+
+sents-nothing : (k : ℕ) (place : Place) (ss : List (Place × List ℕ)) → Each TakesNothing (sent_records k place ss)
+sents-nothing k place [] = tt
+sents-nothing k place (s ∷ ss) = (tt, sents-nothing (k + 1) place ss)
+
+timers-nothing : (place : Place) (c : ℕ) (p p' : Part) → Each TakesNothing (timer_rows place c p p')
+unfolding timer_rows
+timers-nothing place c p p' = go (armed_at place p) (armed_at place p') where
+  go : (a b : Bool) → Each TakesNothing (timer_change place c a b)
+  go false false = tt
+  go false true = (tt, tt)
+  go true false = (tt, tt)
+  go true true = tt
+
+-- ---- records that take of a packet
+
+module _ (c k : ℕ) (net : List Packet) (p : Packet) (at : packet_at net k ≡ Some p) where
+  -- while they stand there, the packet is the one that was delivered last, and this is told of the connection
+  record Stage (J : List Rec) (t : Tale) : Type 0 where
+    last : last_got J ≡ Some k
+    packets : net_of J ≡ net
+    numbers : numbers_of J c ≡ t.numbers
+    taken : accepted J c ≡ t.accepted
+    touched : is_touched J c ≡ t.touched
+
+  more : (J : List Rec) (t : Tale) (r : Rec) → ((last : Option ℕ) → got_step last r ≡ last) → ((ps : List Packet) → net_step ps r ≡ ps) → Stage J t → Stage (J ++ r ∷ []) (tale_step c t r)
+  more J t r still keeps s = record {
+    last = fold-append got_step None J (r ∷ []) ∙ still (last_got J) ∙ s.last;
+    packets = fold-append net_step [] J (r ∷ []) ∙ keeps (net_of J) ∙ s.packets;
+    numbers = fold-append (numbers_step c) None J (r ∷ []) ∙ ap (λ n. numbers_step c n r) s.numbers;
+    taken = fold-append (accepted_step c) [] J (r ∷ []) ∙ ap (λ l. accepted_step c l r) s.taken;
+    touched = fold-append (touched_step c) false J (r ∷ []) ∙ ap (λ b. touched_step c b r) s.touched;
   }
 
-  -- it was delivered last
-  abbrev AreGot : List Rec → Type 0
-  AreGot J = (d : ℕ) (l : Letter) → first d ≡ Some l → IsGot J l
+  abbrev gets : (J : List Rec) (t : Tale) → Stage J t → GetsBy (letter_of p) c t → Gets J c
+  gets J t s g = record {
+    number = k;
+    last = s.last;
+    packet = p;
+    sent = ap (λ (ps : List Packet). packet_at ps k) s.packets ∙ at;
+    goal = g.goal;
+    said = g.said;
+    decodes = g.decodes;
+    numbers = g.numbers;
+    opened = s.numbers ∙ g.opened;
+  }
 
-  module _ (J : List Rec) (d : ℕ) (u : is_touched J d ≡ false) (got : AreGot J) where
-    untouched : (tale_of d (own d J)).touched ≡ false
-    untouched = ap (λ (t : Tale). t.touched) (sym (tale-own J d)) ∙ sym (touched-tale J d) ∙ u
+  next : (J : List Rec) (t : Tale) → Stage J t → (iss seq : ℕ) → seq ≡ seq_add iss (1 + length t.accepted) → seq ≡ seq_add iss (1 + length (accepted J c))
+  next J t s iss seq e = e ∙ ap (λ (l : List ℕ). seq_add iss (1 + length l)) (sym s.taken)
 
-    abbrev gets : GetsBy (first d) d (tale_of d (own d J)) → Gets J d
-    gets g = record {
-      number = (got d g.letter g.is).number;
-      last = (got d g.letter g.is).last;
-      packet = (got d g.letter g.is).packet;
-      sent = (got d g.letter g.is).sent;
-      goal = ap (λ (l : Letter). l.to) (got d g.letter g.is).is ∙ g.goal;
-      said = g.said;
-      decodes = ap (λ (l : Letter). decoded l.bytes d ToClient) (got d g.letter g.is).is ∙ g.decodes;
-      numbers = g.numbers;
-      opened = numbers-tale J d ∙ ap (λ (t : Tale). t.numbers) (tale-own J d) ∙ g.opened;
-    }
+  takes-all : (J : List Rec) (t : Tale) (rs : List Rec) → Stage J t → TellsBy (TakesBy (letter_of p) c) c t rs → EachMay MayTake J rs
+  takes-all J t [] s m = tt
+  takes-all J t (rec.Accepted d bytes ∷ rs) s m = (
+    subst (λ (q : ℕ). MayTake J (rec.Accepted q bytes)) (sym m.0.0)
+        (λ u. let y = m.0.1 (sym s.touched ∙ u) in (gets J t s y.0, y.1, next J t s y.0.numbers.iss (seq_add y.0.said.seq y.1) y.2, y.3, y.4)),
+    takes-all (J ++ rec.Accepted d bytes ∷ []) (tale_step c t (rec.Accepted d bytes)) rs (more J t (rec.Accepted d bytes) (λ last. refl) (λ ps. refl) s) m.1,
+  )
+  takes-all J t (rec.Eof d ∷ rs) s m = (
+    subst (λ (q : ℕ). MayTake J (rec.Eof q)) (sym m.0.0)
+        (λ u. let y = m.0.1 (sym s.touched ∙ u) in (gets J t s y.0, y.1, next J t s y.0.numbers.iss (seq_add y.0.said.seq (length y.0.said.payload)) y.2)),
+    takes-all (J ++ rec.Eof d ∷ []) (tale_step c t (rec.Eof d)) rs (more J t (rec.Eof d) (λ last. refl) (λ ps. refl) s) m.1,
+  )
+  takes-all J t (_ ∷ rs) s m = absurd m.0
 
-    next : (iss seq : ℕ) → seq ≡ seq_add iss (1 + length (tale_of d (own d J)).accepted) → seq ≡ seq_add iss (1 + length (accepted J d))
-    next iss seq e = e ∙ ap (λ (l : List ℕ). seq_add iss (1 + length l)) (ap (λ (t : Tale). t.accepted) (sym (tale-own J d)) ∙ sym (accepted-tale J d))
+-- ---- a step
 
-  one-may : (J : List Rec) (r : Rec) → AreGot J → MaySee J r → MayTake J r
-  one-may J (rec.Accepted d bytes) got m = λ u. let t = m d refl (untouched J d u got) in (gets J d u got t.0, t.1, next J d u got t.0.numbers.iss (seq_add t.0.said.seq t.1) t.2, t.3, t.4)
-  one-may J (rec.Eof d) got m = λ u. let t = m d refl (untouched J d u got) in (gets J d u got t.0, t.1, next J d u got t.0.numbers.iss (seq_add t.0.said.seq (length t.0.said.payload)) t.2)
-  one-may J _ got m = tt
+module _ (files : FilesAt) (m : Machine) (told : net_of m.journal ≡ m.net) (sound : (q : ℕ) → IsSound (conn m q)) (truthful : (q : ℕ) → Untouched (IsTruthfulAt files) (conn m q)) (i : ℕ) where
+  -- behind the event that delivers it
+  delivered : (c k : ℕ) (p : Packet) (at : packet_at m.net k ≡ Some p) → Stage c k m.net p at (m.journal ++ rec.Event i (event.Deliver k) ∷ rec.Got k ∷ []) (tale_of c (own c m.journal))
+  delivered c k p at =
+      let J : List Rec = m.journal in
+      let rs : List Rec = rec.Event i (event.Deliver k) ∷ rec.Got k ∷ [] in
+      record {
+        last = fold-append got_step None J rs;
+        packets = fold-append net_step [] J rs ∙ told;
+        numbers = fold-append (numbers_step c) None J rs ∙ numbers-tale J c ∙ ap (λ (t : Tale). t.numbers) (tale-own J c);
+        taken = fold-append (accepted_step c) [] J rs ∙ accepted-tale J c ∙ ap (λ (t : Tale). t.accepted) (tale-own J c);
+        touched = fold-append (touched_step c) false J rs ∙ touched-tale J c ∙ ap (λ (t : Tale). t.touched) (tale-own J c);
+      }
 
-  others-may : (J rs : List Rec) → AreGot J → AreOthers rs → EachMay MaySee J rs → EachMay MayTake J rs
-  others-may J [] got others m = tt
-  others-may J (r ∷ rs) got others m =
-      let both = others-parts r rs others in
-      (one-may J r got m.0, others-may (J ++ r ∷ []) rs (λ d l e. still-got J l r both.0 (got d l e)) both.1 m.1)
+  acts-may : (e : Event) (adds : List Rec) (a : Acts (Owes files) m e adds) → EachMay MayTake (m.journal ++ rec.Event i e ∷ behind e) a.move.turn.notes
+  unfolding conn
+  acts-may e adds a = ⊎_elim
+      (λ n. all-may (m.journal ++ rec.Event i e ∷ behind e) a.move.turn.notes n)
+      (λ (t : (l : Letter) × (a.move.heads ≡ Came l ∷ []) × TellsBy (TakesBy l a.c) a.c (tale_of a.c (own a.c m.journal)) a.move.turn.notes).
+      let d : Each (IsDelivered m.net e) (Came t.0 ∷ []) = subst (Each (IsDelivered m.net e)) t.1 a.came in
+      subst (λ (z : Event). EachMay MayTake (m.journal ++ rec.Event i z ∷ behind z) a.move.turn.notes) (sym d.0.2)
+      (takes-all a.c d.0.0 m.net d.0.1 d.0.3 (m.journal ++ rec.Event i (event.Deliver d.0.0) ∷ rec.Got d.0.0 ∷ []) (tale_of a.c (own a.c m.journal)) a.move.turn.notes
+      (delivered a.c d.0.0 d.0.1 d.0.3)
+      (subst (λ (l : Letter). TellsBy (TakesBy l a.c) a.c (tale_of a.c (own a.c m.journal)) a.move.turn.notes) (sym d.0.4) t.2)))
+      (a.does (sound a.c) (truthful a.c))
 
--- what each connection sees of a step takes in order, and so does the step
-pub step-may : (J : List Rec) (i : ℕ) (e : Event) (s : List Rec) → IsStep i e s → ((c : ℕ) → StepTakes c (own c J) (seen_on c (net_of J) s)) → EachMay MayTake J s
-step-may J i e s is sees =
-    let E : List Rec = rec.Event i e ∷ is.own in
-    let first : ℕ → Option Letter = λ c. came_first (seen_on c (net_of J) s) in
-    let of : AreOfEvent is.own = of-event e is.own is.own_are in
-    let all : EachMay (MaySee first) J s = each_seen (MaySee first) (λ c past r. TakesBy (first c) c (tale_of c past) r) (local first) J s sees in
-    subst (EachMay MayTake J) (sym is.is)
-    (each_append MayTake J E is.others (own-may J E (refl, of.own))
-    (others-may first (J ++ E) is.others
-    (λ d l f. got-first J i e is.others is.alone d l is.own of (subst (λ (rs : List Rec). came_first (seen_on d (net_of J) rs) ≡ Some l) is.is f))
-    is.alone (each_behind (MaySee first) J E is.others (subst (EachMay (MaySee first) J) is.is all))))
+  pub step-may : (e : Event) (adds : List Rec) → (adds ≡ behind e) ⊎ Acts (Owes files) m e adds → EachMay MayTake m.journal (rec.Event i e ∷ adds)
+  step-may e adds acts = ⊎_elim
+      (λ same. subst (λ (rs : List Rec). EachMay MayTake m.journal (rec.Event i e ∷ rs)) (sym same) begun)
+      (λ (a : Acts (Owes files) m e adds).
+      let E : List Rec = rec.Event i e ∷ behind e in
+      let N : List Rec = a.move.turn.notes in
+      let S : List Rec = sent_records (length m.net + 1) a.move.place a.move.turn.segments in
+      let T : List Rec = timer_rows a.move.place a.c (part_of m a.c) a.move.part in
+      subst (λ (rs : List Rec). EachMay MayTake m.journal (rec.Event i e ∷ rs)) (sym a.are)
+      (each_append MayTake m.journal ((E ++ N) ++ S) T
+      (each_append MayTake m.journal (E ++ N) S (each_append MayTake m.journal E N begun (acts-may e adds a))
+      (all-may (m.journal ++ (E ++ N)) S (sents-nothing (length m.net + 1) a.move.place a.move.turn.segments)))
+      (all-may (m.journal ++ ((E ++ N) ++ S)) T (timers-nothing a.move.place a.c (part_of m a.c) a.move.part))))
+      acts where
+        begun : EachMay MayTake m.journal (rec.Event i e ∷ behind e)
+        begun = all-may m.journal (rec.Event i e ∷ behind e) (tt, behind-nothing e)

@@ -1,6 +1,6 @@
 //! What clients take is what comes next: the law of the machine that speaks of each record of a client.
 //!
-//! It stands above the laws of places and of bytes, and holds for every run. It has no code.
+//! It stands above the laws of bytes, and holds for every run. It has no code.
 #![tactic(auto)]
 
 ghost use Rattle.lard_laws_clients.specs.Laws.{ClientsTakeInOrder};

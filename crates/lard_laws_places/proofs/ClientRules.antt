@@ -50,7 +50,7 @@ module _ (stream c iss : ℕ) (u : Tale) where
     pub notes : Each IsOfClient given.1.notes
     pub stands : IsOpened c (record { client = given.0; iss = iss }) (client_tale (told_on c u given.1.notes))
     pub to : AllTo Front given.1.segments
-  
+
   goes-at : (x y : ClientBlock) (t : ClientTale) → GoesOn x y → IsClientAt x t → IsClientAt y t
   goes-at x y t on h = record {
     number = on.number ∙ h.number;
@@ -115,7 +115,7 @@ module _ (stream c iss : ℕ) (u : Tale) where
           notes = (tt, tt);
           stands = record { number = on.number ∙ h.number; numbers = h.numbers ∙ ap (λ n. Some (record { isn = n; iss = iss })) (sym on.first); writes = λ w. absurd (cc) };
           to = ready-to (aborted x) (abort_ready x);
-          }
+        }
 
     -- ---- segments that come
 

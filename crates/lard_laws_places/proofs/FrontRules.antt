@@ -212,7 +212,7 @@ module _ (env : FrontEnv) (u : Tale) where
         stands = rested-stands (speaks env.c w.block).1 w.count t (many-serves None w.count w.block.send.total (speaks env.c w.block).1.send.total t said.many s);
         to = Each-append (λ s. s.0 ≡ place.Client env.c) before (speaks env.c w.block).0 to said.to;
         none = tt;
-          }
+      }
 
   cut_off-says : (x : Option FrontConn) (w : Service) (total : ℕ) → w.over ≡ Some total → IsAnswering w → FrontSays x (cut_off env w)
   cut_off-says x w total over h =
@@ -225,7 +225,7 @@ module _ (env : FrontEnv) (u : Tale) where
         stands = (s.0, λ e. s.1);
         to = Each-append (λ s. s.0 ≡ place.Client env.c) (speaks_symbols env.c w.block).0 (told env (limit_said (final_of (speaks_symbols env.c w.block).1 reason.Limit)) ∷ []) said.to (refl, tt);
         none = tt;
-          }
+      }
 
   settled-says : (x : Option FrontConn) (w : Service) → IsAnswering w → FrontSays x (settled env w)
   settled-says x w h = go w.over refl where
