@@ -1,5 +1,5 @@
 -- What a slot says of its connection, and all slots together of all connections.
-use Rattle.std.specs.Prelude.{ℕ, ◌+◌, List, [], ◌∷◌, Option, Some, None, take}
+use Rattle.std.specs.Prelude.{ℕ, ◌+◌, Bool, false, nat_eq, List, [], ◌∷◌, Option, Some, None, take}
 use Rattle.std.specs.FinMap as map
 use Rattle.std.specs.FinMap.{FinMap}
 use Rattle.std.specs.Ordering.{nat_cmp}
@@ -11,6 +11,11 @@ use Rattle.lard_loads.specs.Tally.{Standing}
 -- the shares that are open
 abbrev pub open_in : Slot → List Share
 open_in s = take s.count s.shares
+
+-- a home that is this node
+abbrev pub is_at : Option ℕ → ℕ → Bool
+is_at None n = false
+is_at (Some h) n = nat_eq n h
 
 abbrev pub standing : Option ℕ → List Share → Option Standing
 standing None xs = None

@@ -36,9 +36,13 @@ coded_tally = code_by _ (coded× coded_ℕ (coded× (coded_list coded_ℕ) (map.
 abbrev pub numbers : ℕ → List ℕ
 numbers nodes = range_with_len 1 nodes
 
+-- how many connections there can be
+unfoldable pub most_connections : ℕ
+most_connections = 16384
+
 -- the numbers that a connection can have
-unfoldable pub connections : List ℕ
-connections = range_with_len 1 16384
+abbrev pub connections : List ℕ
+connections = range_with_len 1 most_connections
 
 -- what a share counts at a node
 abbrev pub units_of_share : ℕ → Share → ℕ

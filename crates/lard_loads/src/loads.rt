@@ -1,11 +1,11 @@
 //! The loads of all nodes, as connections and their shares come and go.
 
-ghost use Rattle.std.specs.Prelude.{◌≡◌, ℕ, ◌+◌, ◌<◌, ◌≤◌, Some, None, nat_lt, true, is_some, IfOk, IfSome};
+ghost use Rattle.std.specs.Prelude.{◌≡◌, ℕ, ◌+◌, ◌-◌, ◌<◌, ◌≤◌, Some, None, nat_lt, true, is_some, IfOk, IfSome};
 ghost use Rattle.std.specs.FinMap as map;
 ghost use Rattle.lard_base.specs.Members.{has};
-ghost use Rattle.lard_loads.specs.Tally.{admitted as admitted_of, any_below as any_below_of, batch_ended, closed, connected, has_other_open, home as home_of, is_open as is_open_of, least as least_node, least_of as least_member, load, most_of as most_member, open_shares, released, shared, start};
+ghost use Rattle.lard_loads.specs.Tally.{admitted as admitted_of, any_below as any_below_of, batch_ended, closed, connected, has_other_open as has_other_open_of, home as home_of, is_open as is_open_of, least as least_node, least_of as least_member, load, most_of as most_member, open_shares, released, shared, start};
 
-use crate::ranking::Ranking;
+use crate::ranking::{Ranking, node};
 use crate::slot::{MAX_SHARES, Share, Slot};
 use lard_base::{ConnId, Members, NoMemory, NodeId};
 use std::alloc::Global;
@@ -87,7 +87,7 @@ impl Loads {
         requires room { open_shares self.old c < 8 }
         ensures { self.new ≡ shared self.old c n size }
     {
-        if self.slots[at(c)].home() == Some(n) {
+        if self.slots[at(c)].is_home(n) {
             return;
         }
         let number = n.number();
@@ -169,26 +169,35 @@ impl Loads {
         self.of(self.least()) < units
     }
 
+    /// Whether a node other than this one is open.
+    pub fn has_other_open(&self, n: NodeId) -> bool
+        ensures { result ≡ has_other_open_of self.now n }
+    {
+        self.ranking.least_of(self.open.without(n)).is_some()
+    }
+
     /// Closes a node to new assignments; connections stay there. Another node is open.
     pub fn close(&mut self, n: NodeId)
-        requires other { has_other_open self.old n ≡ true }
+        requires other { has_other_open_of self.old n ≡ true }
         ensures { self.new ≡ closed self.old n }
     {
         self.open = self.open.without(n);
     }
 
-    /// Whether the node is open to new assignments.
+    /// Whether the node is one of these, and open to new assignments.
     pub fn is_open(&self, n: NodeId) -> bool
-        requires node { n ≤ self.now.nodes }
         ensures { result ≡ is_open_of self.now n }
     {
-        self.open.has(n)
+        n.number() as usize <= self.ranking.nodes() && self.open.has(n)
     }
 
     /// Ends the share of an admitted connection that was opened last, and answers whether there was one.
     fn end_share(&mut self, c: ConnId) -> bool
         requires admitted { is_some (map.get self.old.standings c) ≡ true }
-        ensures { result ≡ nat_lt 0 (open_shares self.old c) }
+        ensures open { result ≡ nat_lt 0 (open_shares self.old c) }
+        ensures fewer { open_shares self.new c ≡ open_shares self.old c - 1 }
+        ensures others { batch_ended self.new c ≡ batch_ended self.old c }
+        ensures admitted { is_some (map.get self.new.standings c) ≡ true }
     {
         let Some(share) = self.slots[at(c)].pop() else {
             return false;
@@ -225,8 +234,8 @@ fn first_nodes(nodes: u8) -> Members
     ensures { (k : ℕ) → 1 ≤ k → k ≤ nodes → has result k ≡ true }
 {
     let mut members = Members::none();
-    for number in 1..=nodes as u32 {
-        members = members.with(NodeId::new(number).unwrap());
+    for below in 0..nodes as u32 {
+        members = members.with(node(below + 1));
     }
     members
 }

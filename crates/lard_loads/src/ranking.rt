@@ -120,7 +120,7 @@ impl Ranking {
 }
 
 /// The node with this number, 1 to 64.
-fn node(number: u32) -> NodeId
+pub fn node(number: u32) -> NodeId
     requires some { 1 ≤ number }
     requires most { number ≤ 64 }
     ensures { result ≡ number }

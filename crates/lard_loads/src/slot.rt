@@ -1,6 +1,7 @@
 //! What is counted for one connection, in a slot of its own.
 
-ghost use Rattle.std.specs.Prelude.{◌≡◌, ◌<◌, ◌≤◌, ◌+◌, ◌-◌, ◌∷◌, ◌++◌, [], Some, None, length, option_to_list};
+ghost use Rattle.std.specs.Option.{IfNone};
+ghost use Rattle.std.specs.Prelude.{◌≡◌, ◌<◌, ◌≤◌, ◌+◌, ◌-◌, ◌∷◌, ◌++◌, [], Some, None, length, IfSome};
 
 use lard_base::NodeId;
 
@@ -28,7 +29,7 @@ pub struct Slot {
 }
 
 impl Slot {
-    ghost use Rattle.lard_loads.specs.Slot.{open_in};
+    ghost use Rattle.lard_loads.specs.Slot.{is_at, open_in};
 
     /// Of no connection.
     pub const FREE: Slot = Slot {
@@ -44,6 +45,16 @@ impl Slot {
         self.home
     }
 
+    /// Whether the node is the home of its connection.
+    pub fn is_home(&self, n: NodeId) -> bool
+        ensures { result ≡ is_at self.now.home n }
+    {
+        match self.home {
+            Some(home) => n.number() == home.number(),
+            None => false,
+        }
+    }
+
     /// A connection with this home comes, without a share.
     pub fn occupy(&mut self, home: NodeId)
         ensures home { self.new.home ≡ Some home }
@@ -55,7 +66,8 @@ impl Slot {
 
     /// The connection goes.
     pub fn vacate(&mut self)
-        ensures { self.new.home ≡ None }
+        ensures home { self.new.home ≡ None }
+        ensures shares { open_in self.new ≡ open_in self.old }
     {
         self.home = None;
     }
@@ -73,7 +85,9 @@ impl Slot {
     /// Closes the share that was opened last, and answers it. `None` where no share is open.
     pub fn pop(&mut self) -> Option<Share>
         ensures home { self.new.home ≡ self.old.home }
-        ensures shares { open_in self.old ≡ open_in self.new ++ option_to_list result }
+        ensures last { IfSome result (λ share. open_in self.old ≡ open_in self.new ++ share ∷ []) }
+        ensures none { IfNone result (open_in self.old ≡ []) }
+        ensures same { IfNone result (self.new ≡ self.old) }
     {
         if self.count == 0 {
             return None;
