@@ -1,5 +1,5 @@
 -- What each call does to one slot and one load.
-use Rattle.std.proofs.Common.{◌≡◌, ◌≢◌, ℕ, zero, suc, ◌+◌, ◌-◌, ◌*◌, ◌<◌, ◌≤◌, Bool, true, false, cond, nat_eq, All, IfSome, List, [], ◌∷◌, ◌++◌, length, set, get_or, take, sum_by, Option, Some, None, is_some, refl, sym, ap, subst, ◌∙◌, ◌⊎◌, inl, inr, ⊎_elim, arith}
+use Rattle.std.proofs.Common.{◌≡◌, ℕ, ◌+◌, ◌-◌, ◌<◌, ◌≤◌, true, cond, nat_eq, All, IfSome, List, [], ◌∷◌, ◌++◌, length, set, get_or, sum_by, Option, Some, None, is_some, refl, sym, ap, subst, ◌∙◌, arith}
 use Rattle.std.proofs.lemmas.Bool.Decides.{nat_tests}
 use Rattle.std.proofs.lemmas.List.{length-set, nil_from_length}
 use Rattle.std.proofs.lemmas.List.Elements.{All-nil, All-pop, All-push}
@@ -10,7 +10,7 @@ use Rattle.std.specs.FinMap as map
 use Rattle.lard_loads.specs.Loads.{IsNode, IsShare, IsSlot, IsTallied, tally_of}
 use Rattle.lard_loads.specs.Ranking.{at_node}
 use Rattle.lard_loads.specs.Slot.{open_in, standing, standing_of}
-use Rattle.lard_loads.specs.Tally.{Standing, Tally, home, home_of, open_shares, shares_of, units_of, units_of_share}
+use Rattle.lard_loads.specs.Tally.{Tally, home, home_of, open_shares, shares_of, units_of, units_of_share}
 use Rattle.lard_loads.proofs.Batches.{HasHome, has_home}
 use Rattle.lard_loads.proofs.Standings.{one_if}
 use Rattle.lard_loads.proofs.Tallies.{at-lowered, at-raised, changed, found_in, old_slot, some_taken, there}

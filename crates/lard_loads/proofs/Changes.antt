@@ -1,7 +1,7 @@
 -- The load of one node is another: all other nodes still stand in order.
-use Rattle.std.proofs.Common.{◌≡◌, ◌≢◌, ℕ, ◌+◌, ◌-◌, ◌*◌, ◌<◌, ◌≤◌, List, length, get_or, set, refl, sym, ap, subst, ◌∙◌, arith}
+use Rattle.std.proofs.Common.{◌≡◌, ◌≢◌, ℕ, ◌+◌, ◌-◌, ◌*◌, ◌<◌, ◌≤◌, List, length, get_or, set, sym, ap, ◌∙◌, arith}
 use Rattle.std.proofs.lemmas.List.{get_or_read, get_or-set_same, get_or-set_other, length-set}
-use Rattle.lard_loads.specs.Ranking.{IsAboveFront, IsBelowRest, IsPlaced, IsRanked, IsRankedBut, at_node, rank}
+use Rattle.lard_loads.specs.Ranking.{IsAboveFront, IsBelowRest, IsRanked, IsRankedBut, at_node, rank}
 
 module _ (loads new order places : List ℕ) (n v place : ℕ) (is : IsRanked loads order places) (some : 1 ≤ n) (most : n ≤ length loads)
     (changed : new ≡ set loads (n - 1) v) (at : place ≡ get_or places (n - 1) place) where

@@ -1,13 +1,13 @@
 -- Choices on the loads that run are choices on the loads of the tally.
-use Rattle.std.proofs.Common.{◌≡◌, ℕ, ◌+◌, ◌<◌, ◌≤◌, Bool, true, false, not, ◌&&◌, ◌||◌, nat_lt, nat_eq, List, length, IfSome, Option, Some, None, refl, sym, ap, ◌∙◌, arith}
+use Rattle.std.proofs.Common.{◌≡◌, ℕ, ◌<◌, ◌≤◌, Bool, true, false, not, ◌&&◌, ◌||◌, nat_lt, nat_eq, List, length, IfSome, Option, Some, None, sym, ap, ◌∙◌, arith}
 use Rattle.std.specs.List.{filter, list_any}
 use Rattle.lard_base.specs.Members.{has}
 use Rattle.lard_loads.specs.declared.slot.Slot.{Slot}
-use Rattle.lard_loads.specs.Loads.{IsTallied, tally_of}
+use Rattle.lard_loads.specs.Loads.{IsTallied}
 use Rattle.lard_loads.specs.Order.{first_in, is_before, least_in, most_in}
 use Rattle.lard_loads.specs.Ranking.{at_node}
 use Rattle.lard_loads.specs.Slot.{standings_from}
-use Rattle.lard_loads.specs.Tally.{Tally, load_of, numbers}
+use Rattle.lard_loads.specs.Tally.{load_of, numbers}
 use Rattle.lard_loads.proofs.Firsts.{IsIn, any-filter, filter-both, first-agree, first_passes, from_filter, from_range, in_range, none-filter}
 
 -- orders by loads that agree at two nodes

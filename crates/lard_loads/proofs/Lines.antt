@@ -1,10 +1,10 @@
 -- Nodes that are ranked stand in the order of their loads, and those in the reverse order in the reverse.
-use Rattle.std.proofs.Common.{◌≡◌, ℕ, ◌+◌, ◌-◌, ◌*◌, ◌<◌, ◌≤◌, Bool, true, false, ◌&&◌, ◌||◌, nat_lt, nat_eq, List, length, reverse, get_or, refl, sym, ap, subst, ◌∙◌, arith}
+use Rattle.std.proofs.Common.{◌≡◌, ℕ, ◌+◌, ◌-◌, ◌*◌, ◌<◌, ◌≤◌, Bool, true, false, ◌&&◌, ◌||◌, nat_lt, nat_eq, List, length, reverse, get_or, sym, ap, subst, ◌∙◌, arith}
 use Rattle.std.proofs.lemmas.Bool.Decides.{nat_tests}
 use Rattle.std.proofs.lemmas.List.{get_or-reverse, length-reverse}
 use Rattle.std.specs.List.{filter, find}
 use Rattle.lard_loads.specs.Order.{is_before, least_in, most_in}
-use Rattle.lard_loads.specs.Ranking.{IsRanked, at_node, rank}
+use Rattle.lard_loads.specs.Ranking.{IsRanked, at_node}
 use Rattle.lard_loads.specs.Tally.{numbers}
 use Rattle.lard_loads.proofs.Firsts.{IsLineOf, first_of_line}
 

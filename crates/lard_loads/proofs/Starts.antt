@@ -1,5 +1,5 @@
 -- Nodes without load stand in the order of their numbers.
-use Rattle.std.proofs.Common.{◌≡◌, ℕ, zero, suc, ◌+◌, ◌-◌, ◌*◌, ◌<◌, ◌≤◌, List, [], ◌∷◌, ◌++◌, length, get_or, replicate, refl, sym, ap, subst, ◌∙◌, arith}
+use Rattle.std.proofs.Common.{◌≡◌, ℕ, zero, suc, ◌+◌, ◌-◌, ◌*◌, ◌<◌, ◌≤◌, List, [], ◌∷◌, ◌++◌, length, get_or, replicate, sym, ap, ◌∙◌, arith}
 use Rattle.std.proofs.lemmas.List.{get_or-replicate, length-replicate}
 use Rattle.std.proofs.lemmas.List.FromFn.{get_or-range_with_len, length-range_with_len}
 use Rattle.std.specs.List.{range_with_len}
@@ -15,8 +15,8 @@ range_more : (a k j : ℕ) → a + k ≡ j → range_with_len a (k + 1) ≡ rang
 range_more a k j e = ap (range_with_len a) (let f : k + 1 ≡ suc k = omega arith in f) ∙ range_suc a k j e
 
 -- a list of numbers in a row is one longer
-pub pushed : {old new : List ℕ} {a k j : ℕ} → new ≡ old ++ j ∷ [] → old ≡ range_with_len a k → a + k ≡ j → new ≡ range_with_len a (k + 1)
-pushed {old} {new} {a} {k} {j} push row next = push ∙ ap (λ (ns : List ℕ). ns ++ j ∷ []) row ∙ sym (range_more a k j next)
+pub pushed : (a k : ℕ) {j : ℕ} {old new : List ℕ} → new ≡ old ++ j ∷ [] → old ≡ range_with_len a k → a + k ≡ j → new ≡ range_with_len a (k + 1)
+pushed a k {j} {old} {new} push row next = push ∙ ap (λ (ns : List ℕ). ns ++ j ∷ []) row ∙ sym (range_more a k j next)
 
 module _ (nodes : ℕ) (few : nodes ≤ 64) where
   abbrev order : List ℕ

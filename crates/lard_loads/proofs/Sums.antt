@@ -1,5 +1,5 @@
 -- What all connections count, and what it is once one of them counts another amount.
-use Rattle.std.proofs.Common.{◌≡◌, ◌≢◌, ℕ, zero, suc, ◌+◌, ◌-◌, ◌*◌, ◌<◌, ◌≤◌, Bool, true, false, cond, nat_lt, List, [], ◌∷◌, length, sum_by, Option, Some, None, is_some, refl, sym, ap, subst, ◌∙◌, ◌⊎◌, inl, inr, ⊎_elim, arith}
+use Rattle.std.proofs.Common.{◌≡◌, ◌≢◌, ℕ, zero, suc, ◌+◌, ◌*◌, ◌<◌, ◌≤◌, sum_by, Option, refl, ap, subst, ◌∙◌, ◌⊎◌, inl, inr, arith}
 use Rattle.std.proofs.Math.Nat.{suc-mul}
 use Rattle.std.proofs.lemmas.Bool.{cases_eq}
 use Rattle.std.proofs.lemmas.List.Sums.{sum_by-cons}
@@ -9,7 +9,7 @@ use Rattle.std.specs.List.{range_with_len}
 use Rattle.std.specs.Ordering.{nat_cmp}
 use Rattle.lard_table.specs.Table.{put_or}
 use Rattle.lard_table.proofs.Map.{get_put_other, get_put_same}
-use Rattle.lard_loads.specs.Tally.{Standing, connections, load_of, most_connections, units_of}
+use Rattle.lard_loads.specs.Tally.{Standing, load_of, most_connections, units_of}
 
 pub most-is : most_connections ≡ 16384
 unfolding most_connections

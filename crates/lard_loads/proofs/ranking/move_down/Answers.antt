@@ -1,5 +1,5 @@
 -- One exchange more, or none is left.
-use Rattle.std.proofs.Common.{◌≡◌, ◌+◌, ◌-◌, ◌<◌, length, arith, subst, ℕ, sym, refl}
+use Rattle.std.proofs.Common.{◌-◌, arith, refl}
 use Rattle.std.proofs.lemmas.Bool.{false≢true}
 use Rattle.lard_loads.proofs.Moves.{moved_down_to, ranks_read, read_ranks, down_done}
 use Rattle.lard_loads.proofs.ranking.move_down.Goals as goal

@@ -1,7 +1,6 @@
 -- No more are admitted than have a slot.
-use Rattle.std.proofs.Common.{arith, ◌≤◌}
+use Rattle.std.proofs.Common.{arith}
 use Rattle.lard_loads.proofs.Standings.{len-standings}
-use Rattle.lard_loads.proofs.Sums.{load-put}
 use Rattle.lard_loads.proofs.loads.Loads.admitted.Goals as goal
 
 pub returns-clause-most : goal.returns-clause-most

@@ -1,5 +1,5 @@
 -- Where any open node is below, the least loaded is.
-use Rattle.std.proofs.Common.{◌≡◌, nat_lt, ap, sym, ◌∙◌}
+use Rattle.std.proofs.Common.{nat_lt, ap, sym, ◌∙◌}
 use Rattle.lard_loads.specs.Tally.{load}
 use Rattle.lard_loads.proofs.Firsts.{any-least}
 use Rattle.lard_loads.proofs.loads.Loads.any_below.Goals as goal

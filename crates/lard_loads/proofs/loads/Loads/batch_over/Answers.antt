@@ -1,5 +1,5 @@
 -- The last call found no share, so nothing was left to end.
-use Rattle.std.proofs.Common.{◌≡◌, ◌∙◌, sym, false, nat_lt, arith}
+use Rattle.std.proofs.Common.{◌≡◌, ◌∙◌, sym, arith}
 use Rattle.std.proofs.lemmas.Bool.Decides.{nat_tests}
 use Rattle.lard_loads.specs.Tally.{open_shares}
 use Rattle.lard_loads.proofs.Batches.{ended-none}

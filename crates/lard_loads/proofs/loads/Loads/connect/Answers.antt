@@ -1,5 +1,5 @@
 -- One more connection, with a whole at its home.
-use Rattle.std.proofs.Common.{◌≡◌, ◌+◌, ◌-◌, ℕ, arith, ◌≤◌, length, ap, sym, ◌∙◌, None}
+use Rattle.std.proofs.Common.{◌≡◌, ◌+◌, ◌-◌, arith, length, ap, sym, ◌∙◌, None}
 use Rattle.std.proofs.lemmas.List.{length-set}
 use Rattle.lard_loads.specs.Slot.{standing_of}
 use Rattle.lard_loads.specs.Ranking.{at_node}

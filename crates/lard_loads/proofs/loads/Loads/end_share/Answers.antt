@@ -1,12 +1,10 @@
 -- The last share is closed, and its node has as much less; or there is none, and nothing is written.
-use Rattle.std.proofs.Common.{◌≡◌, ◌+◌, ◌-◌, ◌∷◌, ◌++◌, [], true, false, is_some, ℕ, List, arith, ◌≤◌, length, set, ap, sym, subst, ◌∙◌, Some, None}
+use Rattle.std.proofs.Common.{◌-◌, true, false, List, length, set, ap, sym, subst, ◌∙◌}
 use Rattle.std.proofs.lemmas.List.{length-set}
-use Rattle.std.specs.FinMap as map
-use Rattle.lard_loads.specs.declared.slot.Share.{Share}
 use Rattle.lard_loads.specs.declared.slot.Slot.{Slot}
-use Rattle.lard_loads.specs.Loads.{IsShare, IsTallied, tally_of}
+use Rattle.lard_loads.specs.Loads.{IsTallied, tally_of}
 use Rattle.lard_loads.specs.Ranking.{at_node}
-use Rattle.lard_loads.specs.Slot.{open_in, standing_of}
+use Rattle.lard_loads.specs.Slot.{open_in}
 use Rattle.lard_loads.proofs.Batches.{EndsShare, HasHome, ends_none, ends_share}
 use Rattle.lard_loads.proofs.Calls.{home_known, last_in_range, now_short, share_there, standing-is, unsharing}
 use Rattle.lard_loads.proofs.Tallies.{found_in, kept, seen_as}

@@ -1,8 +1,7 @@
 -- The slot is free, and the home has a whole less.
-use Rattle.std.proofs.Common.{◌≡◌, ◌-◌, ℕ, [], List, length, Some, refl, ap, sym, subst, ◌∙◌}
+use Rattle.std.proofs.Common.{◌≡◌, ◌-◌, length, Some, refl, ap, ◌∙◌}
 use Rattle.std.proofs.lemmas.List.{length-set}
 use Rattle.lard_loads.specs.Ranking.{at_node}
-use Rattle.lard_loads.specs.Slot.{open_in}
 use Rattle.lard_loads.proofs.Batches.{HasHome}
 use Rattle.lard_loads.proofs.Calls.{freeing, home_known, home_read, none_known, now_gone, someone, whole_there}
 use Rattle.lard_loads.proofs.Tallies.{seen_as}

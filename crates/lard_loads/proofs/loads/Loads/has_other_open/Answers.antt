@@ -1,5 +1,5 @@
 -- The others are those that are flagged once this one is not.
-use Rattle.std.proofs.Common.{◌≡◌, ℕ, List, not, nat_eq, is_some, length, ap, sym, ◌∙◌}
+use Rattle.std.proofs.Common.{ℕ, List, not, nat_eq, is_some, length, ap, sym, ◌∙◌}
 use Rattle.std.specs.List.{filter}
 use Rattle.lard_base.specs.Members.{has}
 use Rattle.lard_loads.specs.Order.{is_before, least_in}

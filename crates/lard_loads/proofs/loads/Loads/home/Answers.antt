@@ -1,5 +1,5 @@
 -- The slot says what the tally says.
-use Rattle.std.proofs.Common.{◌≡◌, ◌∙◌}
+use Rattle.std.proofs.Common.{◌∙◌}
 use Rattle.lard_loads.proofs.Calls.{same_home}
 use Rattle.lard_loads.proofs.loads.Loads.home.Goals as goal
 

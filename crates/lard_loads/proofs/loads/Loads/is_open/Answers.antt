@@ -1,5 +1,5 @@
 -- The open ones are those that are flagged.
-use Rattle.std.proofs.Common.{◌≡◌, ◌<◌, ◌≤◌, ℕ, Bool, false, nat_le, length, ap, sym, ◌∙◌, arith}
+use Rattle.std.proofs.Common.{◌≡◌, false, nat_le, length, ap, ◌∙◌, arith}
 use Rattle.std.proofs.lemmas.Bool.Decides.{nat_tests}
 use Rattle.lard_loads.specs.Tally.{Tally, is_open}
 use Rattle.lard_loads.proofs.Choices.{none-open, open-is}

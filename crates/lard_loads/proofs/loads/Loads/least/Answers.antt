@@ -1,5 +1,5 @@
 -- The first of all open nodes is there, and the loads that run are those of the tally.
-use Rattle.std.proofs.Common.{◌≡◌, ◌≤◌, ℕ, length, refl, sym, ap, subst, ◌∙◌}
+use Rattle.std.proofs.Common.{◌≤◌, length, sym, ap, subst, ◌∙◌}
 use Rattle.lard_base.specs.Members.{has}
 use Rattle.lard_loads.specs.Order.{is_before}
 use Rattle.lard_loads.specs.Ranking.{at_node}

@@ -1,5 +1,5 @@
 -- The loads that run are those of the tally.
-use Rattle.std.proofs.Common.{◌≡◌, ◌≤◌, ℕ, true, IfSome, length, refl, sym, ap, subst, ◌∙◌}
+use Rattle.std.proofs.Common.{length, ap, ◌∙◌}
 use Rattle.lard_base.specs.Members.{has}
 use Rattle.lard_loads.specs.Order.{is_before}
 use Rattle.lard_loads.specs.Ranking.{at_node}

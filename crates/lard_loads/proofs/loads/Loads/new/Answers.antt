@@ -1,5 +1,5 @@
 -- No slot is taken, no node has a load.
-use Rattle.std.proofs.Common.{◌≡◌, ◌≤◌, refl}
+use Rattle.std.proofs.Common.{refl}
 use Rattle.lard_loads.proofs.Beginnings.{begun, begun_is}
 use Rattle.lard_loads.proofs.loads.Loads.new.Goals as goal
 

@@ -1,5 +1,5 @@
 -- No node has more than all connections with all their shares.
-use Rattle.std.proofs.Common.{◌≡◌, ℕ, arith, ◌≤◌, length, ap}
+use Rattle.std.proofs.Common.{◌≡◌, arith, length, ap}
 use Rattle.lard_loads.specs.Tally.{Tally}
 use Rattle.lard_loads.proofs.Tallies.{load-most}
 use Rattle.lard_loads.proofs.loads.Loads.of.Goals as goal

@@ -1,6 +1,6 @@
 -- The batch is over, and the home is freed.
-use Rattle.std.proofs.Common.{◌≡◌, ◌∙◌, sym, ap, ℕ}
-use Rattle.lard_loads.specs.Tally.{Tally, batch_ended, open_shares, released}
+use Rattle.std.proofs.Common.{◌∙◌, ap}
+use Rattle.lard_loads.specs.Tally.{Tally, open_shares, released}
 use Rattle.lard_loads.proofs.Batches.{ended-admitted, ended-open, released-ended}
 use Rattle.lard_loads.proofs.loads.Loads.release.Goals as goal
 

@@ -1,8 +1,7 @@
 -- A share more, away from home.
-use Rattle.std.proofs.Common.{◌≡◌, ◌+◌, ◌-◌, ◌/◌, ◌≤◌, ◌∷◌, ◌++◌, [], ℕ, Some, Option, true, false, nat_eq, length, arith, sym, ap, ◌∙◌}
+use Rattle.std.proofs.Common.{◌≡◌, ◌+◌, ◌-◌, ◌/◌, ◌∷◌, ◌++◌, [], ℕ, Some, Option, true, false, nat_eq, length, arith, sym, ap, ◌∙◌}
 use Rattle.std.proofs.Math.Nat.{div-le_self}
 use Rattle.std.proofs.lemmas.List.{length-set}
-use Rattle.lard_loads.specs.declared.slot.Share.{Share}
 use Rattle.lard_loads.specs.Ranking.{at_node}
 use Rattle.lard_loads.specs.Slot.{is_at, open_in}
 use Rattle.lard_loads.specs.Tally.{Tally}

@@ -1,7 +1,7 @@
 -- All but the node whose load is another stand in order.
-use Rattle.std.proofs.Common.{ℕ, ◌≡◌, ◌+◌, ◌-◌, ◌≤◌, List, length, get_or, sym, ap, subst, arith}
+use Rattle.std.proofs.Common.{◌≡◌, ◌-◌, ◌≤◌, length, arith}
 use Rattle.std.proofs.lemmas.List.{get_or_read}
-use Rattle.lard_loads.specs.Ranking.{IsAboveFront, IsBelowRest, IsRankedBut, at_node}
+use Rattle.lard_loads.specs.Ranking.{at_node}
 use Rattle.lard_loads.proofs.Changes.{changed_rest, changed_others}
 use Rattle.lard_loads.proofs.ranking.Ranking.lower.Goals as goal
 

@@ -1,6 +1,6 @@
 -- What is found in the order is the first of all members.
-use Rattle.std.proofs.Common.{◌≡◌, ◌∙◌, ℕ, List, reverse, length, sym, ap}
-use Rattle.std.specs.List.{filter, find}
+use Rattle.std.proofs.Common.{◌∙◌, ℕ, List, reverse, ap}
+use Rattle.std.specs.List.{find}
 use Rattle.lard_base.specs.Members.{has}
 use Rattle.lard_loads.proofs.Lines.{most_found}
 use Rattle.lard_loads.proofs.ranking.Ranking.most_of.Goals as goal
