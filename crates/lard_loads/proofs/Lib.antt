@@ -1,0 +1,13 @@
+mod Batches
+mod Beginnings
+mod Calls
+mod Changes
+mod Choices
+mod Exchanges
+pub mod Firsts
+mod Lines
+mod Moves
+mod Standings
+mod Starts
+mod Sums
+mod Tallies
