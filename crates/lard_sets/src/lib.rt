@@ -9,4 +9,4 @@ mod sets;
 #[cfg(test)]
 mod tests;
 
-pub use sets::{ServerSet, Sets};
+pub use sets::{ServerSet, Sets, with_member, without_member};

@@ -87,12 +87,12 @@ impl Sets {
         ensures succeeds { has_place self.old target.now ≡ true → IsOk result }
     {
         if let Some(set) = self.sets.get_mut(target) {
-            set.members = with(set.members, n);
+            set.members = with_member(set.members, n);
             set.modified = now;
             return Ok(());
         }
         let set = ServerSet {
-            members: with(Members::none(), n),
+            members: with_member(Members::none(), n),
             modified: now,
         };
         self.insert(target, set)
@@ -104,7 +104,7 @@ impl Sets {
         ensures { self.new ≡ removed self.old target.now n now }
     {
         if let Some(set) = self.sets.get_mut(target) {
-            set.members = without(set.members, n);
+            set.members = without_member(set.members, n);
             set.modified = now;
         }
     }
@@ -114,7 +114,7 @@ impl Sets {
         ensures { self.new ≡ closed self.old n }
     {
         self.sets.retain(|_, set| {
-            set.members = without(set.members, n);
+            set.members = without_member(set.members, n);
             true
         });
     }
@@ -132,7 +132,7 @@ impl Sets {
 }
 
 /// The members with the node among them.
-fn with(members: Members, n: NodeId) -> Members
+pub fn with_member(members: Members, n: NodeId) -> Members
     ensures { result ≡ with_member members n }
 {
     let _number = n.number();
@@ -140,7 +140,7 @@ fn with(members: Members, n: NodeId) -> Members
 }
 
 /// The members without the node.
-fn without(members: Members, n: NodeId) -> Members
+pub fn without_member(members: Members, n: NodeId) -> Members
     ensures { result ≡ without_member members n }
 {
     let _number = n.number();

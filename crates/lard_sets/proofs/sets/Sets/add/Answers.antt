@@ -11,18 +11,18 @@ pub returns-in-Some-clause-ok : goal.returns-in-Some-clause-ok
 returns-in-Some-clause-ok c =
     let there = found c.self.inside.sets.entries c.args.self.now c.args.target.now (Some c.in-Some.set.now) c.self.view_is c.in-Some.ensures.value in
     let kept = ap (λ o. (unwrap_or o no_servers).members) there in
-    let new : ServerSet = record { members = c.with-set.result; modified = c.args.now } in
+    let new : ServerSet = record { members = c.with_member-set.result; modified = c.args.now } in
     written c.self.inside.sets.entries (c.get_mut.follows.lender new).entries c.args.self.now c.args.target.now c.in-Some.set.now new
     c.self.view_is c.in-Some.ensures.value (c.get_mut.follows.holds new).0
-    ∙ ap (λ m. put c.args.self.now c.args.target.now (record { members = m; modified = c.args.now })) (c.with-set.ensures ∙ ap (λ m. with_member m c.args.n) (sym kept))
+    ∙ ap (λ m. put c.args.self.now c.args.target.now (record { members = m; modified = c.args.now })) (c.with_member-set.ensures ∙ ap (λ m. with_member m c.args.n) (sym kept))
 
 pub returns-clause-ok : goal.returns-clause-ok
 returns-clause-ok c =
     let same = ap (λ m. shown m.entries) c.get_mut.follows.holds-at-none ∙ c.self.view_is in
     let none = none_there c.args.self.now c.args.target.now (found c.self.inside.sets.entries c.args.self.now c.args.target.now None c.self.view_is c.in_default.ensures.value) in
-    let members = c.with.ensures ∙ ap (λ m. with_member m c.args.n) (no_flags c.none.result c.none.ensures ∙ ap (λ (s : ServerSet). s.members) (sym none)) in
+    let members = c.with_member.ensures ∙ ap (λ m. with_member m c.args.n) (no_flags c.none.result c.none.ensures ∙ ap (λ (s : ServerSet). s.members) (sym none)) in
     on_ok_weaker c.insert.result
-    (λ e. e ∙ ap (λ m. put m c.args.target.now (record { members = c.with.result; modified = c.args.now })) same
+    (λ e. e ∙ ap (λ m. put m c.args.target.now (record { members = c.with_member.result; modified = c.args.now })) same
     ∙ ap (λ m. put c.args.self.now c.args.target.now (record { members = m; modified = c.args.now })) members)
     c.insert.ensures.ok
 

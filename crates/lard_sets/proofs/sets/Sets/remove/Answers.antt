@@ -14,11 +14,11 @@ returns c =
       | in-Some w ↦
           let there = found c.self.inside.sets.entries c.args.self.now c.args.target.now (Some w.in-Some.set.now) c.self.view_is w.in-Some.ensures.value in
           let kept = ap (λ o. (unwrap_or o no_servers).members) there in
-          let new : ServerSet = record { members = w.without-set.result; modified = c.args.now } in
+          let new : ServerSet = record { members = w.without_member-set.result; modified = c.args.now } in
           ap (λ i. shown i.sets.entries) w.self-inside-is
           ∙ written c.self.inside.sets.entries (c.get_mut.follows.lender new).entries c.args.self.now c.args.target.now w.in-Some.set.now new
           c.self.view_is w.in-Some.ensures.value (c.get_mut.follows.holds new).0
-          ∙ ap (λ m. put c.args.self.now c.args.target.now (record { members = m; modified = c.args.now })) (w.without-set.ensures ∙ ap (λ m. without_member m c.args.n) (sym kept))
+          ∙ ap (λ m. put c.args.self.now c.args.target.now (record { members = m; modified = c.args.now })) (w.without_member-set.ensures ∙ ap (λ m. without_member m c.args.n) (sym kept))
           ∙ ap after (sym (ap is_some there))
       | in_default w ↦
           let none = found c.self.inside.sets.entries c.args.self.now c.args.target.now None c.self.view_is w.in_default.ensures.value in

@@ -1,0 +1,3 @@
+pub use Rattle.lard_loads.specs.Tally
+pub mod Costs
+pub mod Later

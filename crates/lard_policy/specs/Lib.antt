@@ -1,0 +1,2 @@
+pub use Rattle.lard_loads.specs.Tally
+pub mod First
