@@ -1,1 +1,2 @@
+mod Cheapest
 mod Members

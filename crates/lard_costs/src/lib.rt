@@ -6,6 +6,7 @@
 
 mod cost;
 mod later;
+pub mod laws;
 #[cfg(test)]
 mod tests;
 

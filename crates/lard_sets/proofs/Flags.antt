@@ -1,5 +1,5 @@
 -- Flags are told by the members that they stand for.
-use Rattle.std.proofs.Common.{◌≡◌, ◌≢◌, ◌≤◌, ◌<◌, ◌+◌, ◌-◌, ◌^◌, ◌%◌, ◌||◌, ◌&&◌, ℕ, Bool, true, false, not, nat_eq, max, refl, sym, ap, ◌∙◌, arith}
+use Rattle.std.proofs.Common.{◌≡◌, ◌≢◌, ◌≤◌, ◌<◌, ◌+◌, ◌-◌, ◌^◌, ◌%◌, ◌||◌, ◌&&◌, ℕ, zero, suc, Bool, true, false, not, nat_eq, max, refl, sym, ap, ◌∙◌, arith}
 use Rattle.std.proofs.lemmas.Bool.Decides.{nat_tests}
 use Rattle.std.proofs.lemmas.Nat.Bits.{bit_at_or, bit_at_xor, bit_at-lt, bit_at-zero, bit_at-pow_same, bit_at-pow_other, same_from_bits}
 use Rattle.std.specs.Int.{bit_at}
@@ -60,3 +60,22 @@ pub no_flags : (m : ℕ) → ((k : ℕ) → has m k ≡ false) → m ≡ 0
 no_flags m none = same_flags m 0 (λ k h. none k ∙ sym (empty (k - 1))) where
   empty : (i : ℕ) → nat_eq (bit_at 0 i) 1 ≡ false
   empty i = let zero : bit_at 0 i ≡ 0 = omega (arith, bit_at-zero i) in ap (λ b. nat_eq b 1) zero
+
+-- all members are among the lowest numbers
+abbrev pub AreWithin : ℕ → ℕ → Type 0
+AreWithin most members = (k : ℕ) → has members k ≡ true → k ≤ most
+
+-- and still are with one more of these, and with one less
+pub within-with_member : (m n most : ℕ) → 1 ≤ n → n ≤ most → AreWithin most m → AreWithin most (with_member m n)
+within-with_member m n most some low all zero h = omega arith
+within-with_member m n most some low all (suc k) h = go (nat_eq (suc k) n) refl (sym (has-with_member m n (suc k) some (omega arith)) ∙ h) where
+  go : (b : Bool) → nat_eq (suc k) n ≡ b → (b || has m (suc k)) ≡ true → suc k ≤ most
+  go true e p = let same : suc k ≡ n = grind (arith, nat_tests, e) in omega (arith, same, low)
+  go false e p = all (suc k) p
+
+pub within-without_member : (m n most : ℕ) → 1 ≤ n → AreWithin most m → AreWithin most (without_member m n)
+within-without_member m n most some all zero h = omega arith
+within-without_member m n most some all (suc k) h = go (not (nat_eq (suc k) n)) (sym (has-without_member m n (suc k) some (omega arith)) ∙ h) where
+  go : (b : Bool) → (b && has m (suc k)) ≡ true → suc k ≤ most
+  go true p = all (suc k) p
+  go false p = cc

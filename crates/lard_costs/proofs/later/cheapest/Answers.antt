@@ -8,7 +8,7 @@ use Rattle.lard_costs.proofs.later.cheapest.Goals as goal
 pub loop-number-init : goal.loop-number-init
 loop-number-init c = record {
   rest = ap (cheapest (cost_at c.args.loads.now c.args.cfg.now c.args.set) c.args.h) (members_from-one c.args.set);
-  within = c.requires.home
+  within = c.requires.home;
 }
 
 pub loop-number-preserved : goal.loop-number-preserved
@@ -19,7 +19,7 @@ loop-number-preserved c =
     record {
       rest = cheapest-next c.args.set (cost_at c.args.loads.now c.args.cfg.now c.args.set) c.loop-number.best c.loop-number.number c.after_member-best.result low (c.after_member-best.ensures.node some most)
           ∙ c.loop-number.invariant.rest;
-      within = c.after_member-best.ensures.within
+      within = c.after_member-best.ensures.within;
     }
 
 pub returns-clause-node : goal.returns-clause-node
