@@ -5,6 +5,7 @@
 #![tactic(auto)]
 
 mod first;
+pub mod laws;
 #[cfg(test)]
 mod tests;
 
