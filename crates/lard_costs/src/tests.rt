@@ -130,51 +130,53 @@ fn loads_of(rt: &impl Abort, alloc: Global, counts: [u8; 2], closed: bool) -> Re
     Ok(loads)
 }
 
-/// The members with one more, where the loads have such a node.
-fn with(loads: &Loads, set: Members, n: NodeId) -> Members
-    requires { (k : ℕ) → has set k ≡ true → k ≤ loads.now.nodes }
+/// The members, with one more where it is to be one.
+fn with(loads: &Loads, set: Members, n: NodeId, is_member: bool) -> Members
+    requires node { n ≤ loads.now.nodes }
+    requires within { (k : ℕ) → has set k ≡ true → k ≤ loads.now.nodes }
     ensures { (k : ℕ) → has result k ≡ true → k ≤ loads.now.nodes }
 {
-    let Some(n) = loads.least_of(Members::none().with(n)) else {
+    if !is_member {
         return set;
-    };
+    }
     let _number = n.number();
     with_member(set, n)
 }
 
+/// Those of two nodes that are to be members.
+fn members_of(loads: &Loads, one: NodeId, two: NodeId, flags: [bool; 2]) -> Members
+    requires one { one ≤ loads.now.nodes }
+    requires two { two ≤ loads.now.nodes }
+    ensures { (k : ℕ) → has result k ≡ true → k ≤ loads.now.nodes }
+{
+    let first = with(loads, Members::none(), one, flags[0]);
+    with(loads, first, two, flags[1])
+}
+
+/// What both nodes cost, and the choice.
+fn chosen(loads: &Loads, flags: [bool; 2], queue: u32) -> Option<([Cost; 2], (u32, u32))> {
+    let cfg = Config::standard();
+    let one = loads.least_of(Members::none().with(NodeId::new(1)?))?;
+    let two = loads.least_of(Members::none().with(NodeId::new(2)?))?;
+    let set = members_of(loads, one, two, flags);
+    let costs = [
+        cost_at(loads, &cfg, set, one),
+        cost_at(loads, &cfg, set, two),
+    ];
+    let choice = choose_later(one, set, loads, queue, &cfg);
+    let joins = match choice.add {
+        Some(n) => n.number(),
+        None => 0,
+    };
+    Some((costs, (choice.node.number(), joins)))
+}
+
 #[test]
 fn the_cheapest_is_chosen(rt: HostRuntime) -> Result<(), Fail> {
-    let cfg = Config::standard();
     for (counts, closed, flags, queue, costs, want) in ROWS.iter() {
         let loads = loads_of(&rt, rt.alloc(), *counts, *closed)?;
-        let one = loads
-            .least_of(Members::none().with(node(&rt, 1)))
-            .ok_or("a node")?;
-        let two = loads
-            .least_of(Members::none().with(node(&rt, 2)))
-            .ok_or("a node")?;
-        let mut set = Members::none();
-        if flags[0] {
-            set = with(&loads, set, one);
-        }
-        if flags[1] {
-            set = with(&loads, set, two);
-        }
-        let found = [
-            cost_at(&loads, &cfg, set, one),
-            cost_at(&loads, &cfg, set, two),
-        ];
-        assert_eq!(rt; found, *costs, "at {counts:?}");
-        let choice = choose_later(one, set, &loads, *queue, &cfg);
-        let joins = match choice.add {
-            Some(n) => n.number(),
-            None => 0,
-        };
-        assert_eq!(rt;
-            (choice.node.number(), joins),
-            *want,
-            "at {counts:?}, {queue}"
-        );
+        let found = chosen(&loads, *flags, *queue);
+        assert_eq!(rt; found, Some((*costs, *want)), "at {counts:?}, {queue}");
     }
     Ok(())
 }
