@@ -4,6 +4,10 @@
 //! request and for those of later ones, and tells it who ended and who left.
 #![tactic(auto)]
 
+mod dispatch;
 mod line;
+#[cfg(test)]
+mod tests;
 
+pub use dispatch::{Ask, Dispatch, First, Later};
 pub use line::{Line, Waiting};
