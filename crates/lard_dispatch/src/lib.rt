@@ -5,6 +5,7 @@
 #![tactic(auto)]
 
 mod dispatch;
+pub mod laws;
 mod line;
 #[cfg(test)]
 mod tests;

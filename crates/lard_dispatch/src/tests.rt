@@ -132,7 +132,7 @@ struct Waited {
     left: bool,
 }
 
-fn waited(alloc: Global, c: [ConnId; 6]) -> Result<Waited, NoMemory> {
+fn six_connections(alloc: Global, c: [ConnId; 6]) -> Result<Waited, NoMemory> {
     let mut config = Config::standard();
     config.low = 2;
     config.high = 3;
@@ -170,7 +170,7 @@ fn the_first_of_the_line_is_admitted(rt: HostRuntime) -> Result<(), Fail> {
         conn(&rt, 5),
         conn(&rt, 6),
     ];
-    let waited = waited(rt.alloc(), c).ok().ok_or("memory")?;
+    let waited = six_connections(rt.alloc(), c).ok().ok_or("memory")?;
     assert_eq!(rt; waited.nodes, [1, 2, 1, 2, 0, 0]);
     assert_eq!(rt; waited.admitted, Some((5, 1)));
     assert_eq!(rt; waited.waiting, [false, true]);
