@@ -1,20 +1,19 @@
 -- The node of a choice serves the target from then on.
-use Rattle.std.proofs.Common.{◌≡◌, ◌≢◌, ◌⊎◌, ◌+◌, ◌-◌, ◌*◌, ◌≤◌, ◌<◌, ℕ, zero, suc, Bool, true, false, not, ◌&&◌, ◌||◌, nat_lt, nat_le, nat_eq, List, [], ◌∷◌, filter, count_by, sum_by, Option, Some, None, IsSome, unwrap_or, cond, refl, sym, ap, ◌∙◌, subst, inl, inr, ⊎_elim, arith}
+use Rattle.std.proofs.Common.{◌≡◌, ◌≢◌, ◌+◌, ◌-◌, ◌≤◌, ◌<◌, ℕ, zero, suc, Bool, true, false, not, ◌&&◌, ◌||◌, nat_lt, nat_eq, List, [], ◌∷◌, filter, count_by, Option, Some, None, cond, refl, sym, ap, ◌∙◌, subst, inl, inr, ⊎_elim, arith}
 use Rattle.std.proofs.lemmas.Bool.Decides.{nat_tests}
 use Rattle.std.proofs.lemmas.List.Sums.{sum_by-cons}
 use Rattle.std.specs.List.{list_any, range_with_len}
 use Rattle.lard_base.specs.declared.config.Config.{Config}
-use Rattle.lard_base.specs.declared.ids.Millis.{Millis}
 use Rattle.lard_base.specs.Members.{has, node_numbers}
-use Rattle.lard_loads.specs.Order.{first_in, is_before}
+use Rattle.lard_loads.specs.Order.{is_before}
 use Rattle.lard_loads.specs.Tally.{Tally, load, is_open, least, least_of, most_of, numbers}
-use Rattle.lard_sets.specs.Sets.{with_member, without_member}
+use Rattle.lard_sets.specs.Sets.{with_member}
 use Rattle.lard_sets.proofs.Flags.{has-with_member, has-without_member}
 use Rattle.lard_policy.specs.declared.first.FirstChoice.{FirstChoice}
-use Rattle.lard_policy.specs.First.{least_node, is_overloaded, relieved, joining, may_shrink, leaving, chosen, first_choice}
+use Rattle.lard_policy.specs.First.{least_node, is_overloaded, relieved, joining, may_shrink, leaving, first_choice}
 use Rattle.lard_policy.specs.Laws.{joined, left, set_after, HasOpenNodes, AreOpen, TheNodeServes}
 use Rattle.lard_policy.proofs.Choice.{by_least}
-use Rattle.lard_policy.proofs.Order.{IsIn, IsOrder, by_load, flipped, first_in-is_in, first_in-none_before, one_node}
+use Rattle.lard_policy.proofs.Order.{IsIn, by_load, flipped, first_in-is_in, first_in-none_before, one_node}
 use Rattle.lard_policy.proofs.Relief.{is_least}
 
 -- ---- who is in a list
