@@ -1,5 +1,6 @@
 -- The entries of the map of vectors, seen as pairs of a target and its set.
-use Rattle.std.proofs.Common.{◌≡◌, ℕ, Bool, true, false, List, [], ◌∷◌, map, Option, Some, None, is_some, unwrap_or, cond, refl, sym, ap, ◌∙◌, Vec, Global}
+use Rattle.std.proofs.Common.{◌≡◌, ℕ, Bool, true, false, List, [], ◌∷◌, map, Option, Some, None, is_some, unwrap_or, cond, refl, sym, ap, ◌∙◌, Vec, Global, zero, suc, length, take}
+use Rattle.std.proofs.lemmas.List.{length-map}
 use Rattle.std.specs.Str.{bytes_eq}
 use Rattle.std.specs.Map.{lookup, set_value}
 use Rattle.indexmap.specs.IndexMap.{insert_entry}
@@ -67,3 +68,13 @@ not_there sets q h = go (place sets q) h where
   go : (o : Option ServerSet) → is_some o ≡ false → o ≡ None
   go None h = refl
   go (Some s) h = cc
+
+-- there are as many pairs as entries
+pub length-shown : (es : List (Vec ℕ Global × ServerSet)) → length (shown es) ≡ length es
+length-shown es = length-map es (λ e. (e.0.items, e.1))
+
+-- the first entries are seen as the first pairs
+pub take-shown : (n : ℕ) (es : List (Vec ℕ Global × ServerSet)) → shown (take n es) ≡ take n (shown es)
+take-shown zero es = refl
+take-shown (suc n) [] = refl
+take-shown (suc n) (e ∷ es) = ap (λ (xs : List (List ℕ × ServerSet)). (e.0.items, e.1) ∷ xs) (take-shown n es)

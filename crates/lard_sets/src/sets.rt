@@ -1,6 +1,6 @@
 //! The map from targets to their server sets.
 
-ghost use Rattle.std.specs.Prelude.{◌≡◌, true, [], IsOk, OnOk, OnErr};
+ghost use Rattle.std.specs.Prelude.{◌≡◌, true, [], IsOk, OnOk, OnErr, length, take};
 ghost use Rattle.lard_sets.specs.Sets.{with_member, without_member, set_of, has_place, put, touched, added, removed, closed};
 
 use indexmap::IndexMap;
@@ -77,6 +77,20 @@ impl Sets {
             modified: Millis(0),
         };
         self.insert(target, set)
+    }
+
+    /// How many targets have a place.
+    pub fn places(&self) -> usize
+        ensures { result ≡ length self.now }
+    {
+        self.sets.len()
+    }
+
+    /// Gives up the places that were kept last, down to so many.
+    pub fn truncate(&mut self, places: usize)
+        ensures { self.new ≡ take places self.old }
+    {
+        self.sets.truncate(places);
     }
 
     /// Makes the node one of those that serve a target, which changes its set at this time. Where a place is kept for the

@@ -41,4 +41,8 @@ fn sets_follow_their_changes(rt: HostRuntime) {
     assert!(rt; are(sets.members(b"/c"), &rt, false, false, false));
     assert_eq!(rt; sets.last_mod(b"/b"), Millis(8));
     assert_eq!(rt; sets.last_mod(b"/c"), Millis(0));
+    assert_eq!(rt; sets.places(), 2);
+    sets.truncate(1);
+    assert_eq!(rt; sets.places(), 1);
+    assert!(rt; are(sets.members(b"/b"), &rt, false, false, false));
 }
