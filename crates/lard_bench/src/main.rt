@@ -1,14 +1,16 @@
-//! Loads for `bench/run`: heads that are judged, and bytes that go through a pair of endpoints. It reads no clock;
-//! `bench/run` measures how long it takes.
+//! Loads for `bench/run`: heads that are judged, bytes that go through a pair of endpoints, and connections that come and
+//! go at nodes. It reads no clock; `bench/run` measures how long it takes.
 //!
 //! It stands on the leaves alone, and nothing stands on it.
 #![tactic(auto)]
 
 mod heads;
+mod loads;
 mod pair;
 
 use heads::judge_heads;
 use lard_base::{StdSource, read_up_to};
+use loads::churn;
 use pair::push;
 use std::env;
 use std::process::ExitCode;
@@ -24,8 +26,8 @@ fn main(rt: HostRuntime) -> ExitCode {
     }
 }
 
-/// Does what the words ask for: `heads N` judges the head on standard input so many times, and `segments N`
-/// pushes N bytes through a pair of endpoints. Nothing where they ask for nothing that there is, or where memory or a
+/// Does what the words ask for: `heads N` judges the head on standard input so many times, `segments N` pushes N bytes
+/// through a pair of endpoints, and `loads N` releases and connects a connection so many times. Nothing where they ask for nothing that there is, or where memory or a
 /// write fails.
 fn load(rt: &(impl Env + Input + Print + AllocGlobal)) -> Option<()> {
     let mut words = env::args(rt).ok()?;
@@ -36,6 +38,7 @@ fn load(rt: &(impl Env + Input + Print + AllocGlobal)) -> Option<()> {
     match what.as_str() {
         "heads" => tell_heads(rt, number),
         "segments" => tell_segments(rt, number),
+        "loads" => tell_loads(rt, number),
         _ => None,
     }
 }
@@ -51,4 +54,9 @@ fn tell_heads(rt: &(impl Input + Print + AllocGlobal), times: u32) -> Option<()>
 fn tell_segments(rt: &(impl Print + AllocGlobal), bytes: u32) -> Option<()> {
     let pushed = push(rt.alloc(), bytes).ok()?;
     println!(rt; "{} segments, {} bytes", pushed.segments, pushed.bytes).ok()
+}
+
+fn tell_loads(rt: &(impl Print + AllocGlobal), times: u32) -> Option<()> {
+    let second = churn(rt.alloc(), times)?;
+    println!(rt; "{times} times released and connected, {second} times node 2 least").ok()
 }

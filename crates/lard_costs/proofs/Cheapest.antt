@@ -1,12 +1,10 @@
 -- The cheapest of some candidates is the first of those that cost least.
-use Rattle.std.proofs.Common.{◌≡◌, ℕ, Bool, true, false, nat_lt, List, [], ◌∷◌, ◌++◌, cond, refl, sym, ap, ◌∙◌, subst, arith}
+use Rattle.std.proofs.Common.{◌≡◌, ℕ, Bool, true, false, List, [], ◌∷◌, ◌++◌, cond, refl, sym, ap, subst, arith}
 use Rattle.std.proofs.lemmas.Bool.Decides.{nat_tests}
-use Rattle.lard_base.specs.declared.config.Config.{Config}
-use Rattle.lard_loads.specs.Tally.{Tally}
 use Rattle.lard_costs.specs.declared.cost.Cost.{Cost}
 use Rattle.lard_costs.specs.declared.cost.Cost.TheVariants.{Units, Over}
 use Rattle.lard_costs.specs.Costs.{cost_at, is_less}
-use Rattle.lard_costs.specs.Later.{stays, cheaper, cheapest, members_of, later_choice}
+use Rattle.lard_costs.specs.Later.{cheaper, cheapest, members_of, later_choice}
 use Rattle.lard_costs.specs.Laws.{CostMore, CostNoLess, IsFirstCheapest, TakesTheCheapest, StaysAtHome}
 
 -- costs in order

@@ -1,5 +1,5 @@
 -- What holds of every later choice.
-use Rattle.std.specs.Prelude.{◌≡◌, ℕ, Bool, true, false, List, [], ◌∷◌, ◌++◌}
+use Rattle.std.specs.Prelude.{◌≡◌, ℕ, true, false, List, [], ◌∷◌, ◌++◌}
 use Rattle.lard_base.specs.declared.config.Config.{Config}
 use Rattle.lard_loads.specs.Tally.{Tally}
 use Rattle.lard_costs.specs.declared.cost.Cost.{Cost}

@@ -7,6 +7,8 @@
 pub mod loads;
 pub mod ranking;
 pub mod slot;
+#[cfg(test)]
+mod tests;
 
 pub use loads::Loads;
 pub use slot::Share;

@@ -3,7 +3,7 @@
 ghost use Rattle.std.specs.Prelude.{◌≡◌, ℕ, ◌+◌, ◌-◌, ◌<◌, ◌≤◌, Some, None, nat_lt, true, is_some, IfOk, IfSome};
 ghost use Rattle.std.specs.FinMap as map;
 ghost use Rattle.lard_base.specs.Members.{has};
-ghost use Rattle.lard_loads.specs.Tally.{admitted as admitted_of, any_below as any_below_of, batch_ended, closed, connected, has_other_open as has_other_open_of, home as home_of, is_open as is_open_of, least as least_node, least_of as least_member, load, most_of as most_member, open_shares, released, shared, start};
+ghost use Rattle.lard_loads.specs.Tally.{admitted as admitted_of, any_below as any_below_of, batch_ended, closed, connected, has_other_open as has_other_open_of, home as home_of, is_open as is_open_of, least as least_node, least_of as least_member, load, most_of as most_member, open_shares as open_shares_of, released, shared, start};
 
 use crate::ranking::{Ranking, node};
 use crate::slot::{MAX_SHARES, Share, Slot};
@@ -84,7 +84,7 @@ impl Loads {
         requires node { n ≤ self.old.nodes }
         requires some { 1 ≤ size }
         requires few { size ≤ 8 }
-        requires room { open_shares self.old c < 8 }
+        requires room { open_shares_of self.old c < 8 }
         ensures { self.new ≡ shared self.old c n size }
     {
         if self.slots[at(c)].is_home(n) {
@@ -102,7 +102,7 @@ impl Loads {
     /// Ends the batch of an admitted connection, and answers whether shares of it were open.
     pub fn batch_over(&mut self, c: ConnId) -> bool
         requires admitted { is_some (map.get self.old.standings c) ≡ true }
-        ensures open { result ≡ nat_lt 0 (open_shares self.old c) }
+        ensures open { result ≡ nat_lt 0 (open_shares_of self.old c) }
         ensures after { self.new ≡ batch_ended self.old c }
     {
         let mut any = false;
@@ -134,6 +134,17 @@ impl Loads {
         ensures { result ≡ home_of self.now c }
     {
         self.slots[at(c)].home()
+    }
+
+    /// How many shares of a connection are open, to eight. None is where it is not admitted.
+    pub fn open_shares(&self, c: ConnId) -> usize
+        ensures { result ≡ open_shares_of self.now c }
+    {
+        let slot = &self.slots[at(c)];
+        match slot.home() {
+            Some(_) => slot.open_shares(),
+            None => 0,
+        }
     }
 
     /// The least loaded open node, the lowest number at a tie.
@@ -194,8 +205,8 @@ impl Loads {
     /// Ends the share of an admitted connection that was opened last, and answers whether there was one.
     fn end_share(&mut self, c: ConnId) -> bool
         requires admitted { is_some (map.get self.old.standings c) ≡ true }
-        ensures open { result ≡ nat_lt 0 (open_shares self.old c) }
-        ensures fewer { open_shares self.new c ≡ open_shares self.old c - 1 }
+        ensures open { result ≡ nat_lt 0 (open_shares_of self.old c) }
+        ensures fewer { open_shares_of self.new c ≡ open_shares_of self.old c - 1 }
         ensures others { batch_ended self.new c ≡ batch_ended self.old c }
         ensures admitted { is_some (map.get self.new.standings c) ≡ true }
     {
@@ -209,7 +220,7 @@ impl Loads {
     /// Frees the slot of an admitted connection without shares.
     fn free(&mut self, c: ConnId)
         requires admitted { is_some (map.get self.old.standings c) ≡ true }
-        requires no_shares { open_shares self.old c ≡ 0 }
+        requires no_shares { open_shares_of self.old c ≡ 0 }
         ensures { self.new ≡ released self.old c }
     {
         let slot = &mut self.slots[at(c)];

@@ -45,6 +45,13 @@ impl Slot {
         self.home
     }
 
+    /// How many shares are open.
+    pub fn open_shares(&self) -> usize
+        ensures { result ≡ length (open_in self.now) }
+    {
+        self.count as usize
+    }
+
     /// Whether the node is the home of its connection.
     pub fn is_home(&self, n: NodeId) -> bool
         ensures { result ≡ is_at self.now.home n }

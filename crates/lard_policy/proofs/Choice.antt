@@ -1,5 +1,5 @@
 -- The first choice, by whether somebody serves the target.
-use Rattle.std.proofs.Common.{◌≡◌, ◌-◌, ℕ, Option, Some, None, ap}
+use Rattle.std.proofs.Common.{◌≡◌, ◌-◌, ℕ, Option, ap}
 use Rattle.lard_base.specs.declared.config.Config.{Config}
 use Rattle.lard_base.specs.declared.ids.Millis.{Millis}
 use Rattle.lard_loads.specs.Tally.{Tally, least_of}

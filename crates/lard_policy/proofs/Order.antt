@@ -1,11 +1,8 @@
--- The first of a list of nodes in the order of their loads, and the last.
-use Rattle.std.proofs.Common.{◌≡◌, ◌⊎◌, ◌≤◌, ◌<◌, ℕ, Bool, true, false, ◌&&◌, ◌||◌, nat_lt, nat_eq, List, [], ◌∷◌, Option, Some, None, cond, refl, sym, ap, ◌∙◌, subst, inl, inr, ⊎_elim, arith}
+-- None of a list of nodes is before its first, in the order of their loads and in the other.
+use Rattle.std.proofs.Common.{◌≡◌, ℕ, Bool, true, false, ◌&&◌, ◌||◌, nat_lt, nat_eq, List, [], ◌∷◌, Option, Some, None, cond, refl, subst, ⊎_elim, arith}
 use Rattle.std.proofs.lemmas.Bool.Decides.{nat_tests}
+use Rattle.lard_loads.proofs.Firsts.{IsIn}
 use Rattle.lard_loads.specs.Order.{earlier, first_in, is_before}
-
-abbrev pub IsIn : ℕ → List ℕ → Type 0
-IsIn n [] = ⊥
-IsIn n (x ∷ xs) = (x ≡ n) ⊎ IsIn n xs
 
 -- ---- an order of nodes
 
@@ -15,18 +12,7 @@ pub record IsOrder (before : ℕ → ℕ → Bool) : Type 0 where
   pub through : (a b c : ℕ) → before a b ≡ false → before b c ≡ false → before a c ≡ false
 
 module _ (before : ℕ → ℕ → Bool) (o : IsOrder before) where
-  -- the first of a list is in it
-  pub first_in-is_in : (xs : List ℕ) (n : ℕ) → first_in before xs ≡ Some n → IsIn n xs
-  first_in-is_in [] n e = cc
-  first_in-is_in (x ∷ xs) n e = go (first_in before xs) refl (first_in-is_in xs) e where
-    go : (f : Option ℕ) → first_in before xs ≡ f → ((m : ℕ) → first_in before xs ≡ Some m → IsIn m xs) → Some (earlier before x f) ≡ Some n → IsIn n (x ∷ xs)
-    go None f more h = inl (let k : x ≡ n = cc in k)
-    go (Some m) f more h = pick (before m x) h where
-      pick : (b : Bool) → Some (cond b m x) ≡ Some n → IsIn n (x ∷ xs)
-      pick true h = let k : m ≡ n = cc in inr (subst (λ y. IsIn y xs) k (more m f))
-      pick false h = inl (let k : x ≡ n = cc in k)
-
-  -- and none of the list is before it
+  -- none of a list is before its first
   pub first_in-none_before : (xs : List ℕ) (n k : ℕ) → first_in before xs ≡ Some n → IsIn k xs → before k n ≡ false
   first_in-none_before [] n k e h = absurd h
   first_in-none_before (x ∷ xs) n k e h = go (first_in before xs) refl (λ m g i. first_in-none_before xs m k g i) e h where

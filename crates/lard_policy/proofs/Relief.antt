@@ -1,12 +1,11 @@
 -- Which load the node of a choice has.
-use Rattle.std.proofs.Common.{◌≡◌, ◌⊎◌, ◌-◌, ◌*◌, ◌≤◌, ◌<◌, ℕ, Bool, true, false, ◌&&◌, ◌||◌, nat_lt, nat_le, Option, Some, None, IsSome, unwrap_or, cond, refl, sym, ap, ◌∙◌, subst, inl, inr, arith}
+use Rattle.std.proofs.Common.{◌≡◌, ◌⊎◌, ◌*◌, ◌≤◌, ◌<◌, ℕ, Bool, true, false, ◌&&◌, ◌||◌, nat_lt, nat_le, Option, Some, None, IsSome, unwrap_or, cond, refl, sym, subst, inl, inr, arith}
 use Rattle.std.proofs.lemmas.Bool.Decides.{nat_tests}
 use Rattle.lard_base.specs.declared.config.Config.{Config}
-use Rattle.lard_base.specs.declared.ids.Millis.{Millis}
 use Rattle.lard_loads.specs.declared.loads.TheConstants.{WHOLE}
 use Rattle.lard_loads.specs.Tally.{Tally, load, least, least_of, any_below}
 use Rattle.lard_policy.specs.declared.first.FirstChoice.{FirstChoice}
-use Rattle.lard_policy.specs.First.{least_node, is_overloaded, relieved, chosen, first_choice}
+use Rattle.lard_policy.specs.First.{least_node, is_overloaded, relieved, first_choice}
 use Rattle.lard_policy.specs.Laws.{MayTakeMore, RelievesNodes}
 use Rattle.lard_policy.proofs.Choice.{by_least}
 

@@ -1,20 +1,20 @@
 -- The node of a choice serves the target from then on.
-use Rattle.std.proofs.Common.{◌≡◌, ◌≢◌, ◌⊎◌, ◌+◌, ◌-◌, ◌*◌, ◌≤◌, ◌<◌, ℕ, zero, suc, Bool, true, false, not, ◌&&◌, ◌||◌, nat_lt, nat_le, nat_eq, List, [], ◌∷◌, filter, count_by, sum_by, Option, Some, None, IsSome, unwrap_or, cond, refl, sym, ap, ◌∙◌, subst, inl, inr, ⊎_elim, arith}
+use Rattle.std.proofs.Common.{◌≡◌, ◌+◌, ◌-◌, ◌≤◌, ◌<◌, ℕ, zero, suc, Bool, true, false, not, ◌&&◌, ◌||◌, nat_lt, nat_eq, List, [], ◌∷◌, filter, count_by, Option, Some, None, cond, refl, sym, ap, ◌∙◌, subst, inl, inr, ⊎_elim, arith}
 use Rattle.std.proofs.lemmas.Bool.Decides.{nat_tests}
 use Rattle.std.proofs.lemmas.List.Sums.{sum_by-cons}
 use Rattle.std.specs.List.{list_any, range_with_len}
 use Rattle.lard_base.specs.declared.config.Config.{Config}
-use Rattle.lard_base.specs.declared.ids.Millis.{Millis}
 use Rattle.lard_base.specs.Members.{has, node_numbers}
-use Rattle.lard_loads.specs.Order.{first_in, is_before}
+use Rattle.lard_loads.proofs.Firsts.{IsIn, first-is_in, first_passes, in_filter, in_range}
+use Rattle.lard_loads.specs.Order.{is_before}
 use Rattle.lard_loads.specs.Tally.{Tally, load, is_open, least, least_of, most_of, numbers}
-use Rattle.lard_sets.specs.Sets.{with_member, without_member}
+use Rattle.lard_sets.specs.Sets.{with_member}
 use Rattle.lard_sets.proofs.Flags.{has-with_member, has-without_member}
 use Rattle.lard_policy.specs.declared.first.FirstChoice.{FirstChoice}
-use Rattle.lard_policy.specs.First.{least_node, is_overloaded, relieved, joining, may_shrink, leaving, chosen, first_choice}
+use Rattle.lard_policy.specs.First.{least_node, is_overloaded, relieved, joining, may_shrink, leaving, first_choice}
 use Rattle.lard_policy.specs.Laws.{joined, left, set_after, HasOpenNodes, AreOpen, TheNodeServes}
 use Rattle.lard_policy.proofs.Choice.{by_least}
-use Rattle.lard_policy.proofs.Order.{IsIn, IsOrder, by_load, flipped, first_in-is_in, first_in-none_before, one_node}
+use Rattle.lard_policy.proofs.Order.{by_load, flipped, first_in-none_before, one_node}
 use Rattle.lard_policy.proofs.Relief.{is_least}
 
 -- ---- who is in a list
@@ -42,31 +42,6 @@ in-is_open (x ∷ xs) n h = go (nat_eq n x) refl (in-is_open xs n) h where
   go : (b : Bool) → nat_eq n x ≡ b → (list_any (nat_eq n) xs ≡ true → IsIn n xs) → b || list_any (nat_eq n) xs ≡ true → IsIn n (x ∷ xs)
   go true e more k = inl (sym (eq_true n x e))
   go false e more k = inr (more k)
-
-in-filter : (test : ℕ → Bool) (n : ℕ) (xs : List ℕ) → test n ≡ true → IsIn n xs → IsIn n (filter test xs)
-in-filter test n [] t h = h
-in-filter test n (x ∷ xs) t h = go (test x) refl (in-filter test n xs t) h where
-  go : (b : Bool) → test x ≡ b → (IsIn n xs → IsIn n (filter test xs)) → IsIn n (x ∷ xs) → IsIn n (cond b (x ∷ filter test xs) (filter test xs))
-  go true e more h = ⊎_elim (λ k. inl k) (λ k. inr (more k)) h
-  go false e more h = ⊎_elim (λ k. let never : false ≡ true = sym e ∙ ap test k ∙ t in absurd cc) more h
-
-passes-filter : (test : ℕ → Bool) (n : ℕ) (xs : List ℕ) → IsIn n (filter test xs) → (test n ≡ true) × IsIn n xs
-passes-filter test n [] h = absurd h
-passes-filter test n (x ∷ xs) h = go (test x) refl (passes-filter test n xs) h where
-  go : (b : Bool) → test x ≡ b → (IsIn n (filter test xs) → (test n ≡ true) × IsIn n xs) → IsIn n (cond b (x ∷ filter test xs) (filter test xs)) → (test n ≡ true) × IsIn n (x ∷ xs)
-  go true e more k = ⊎_elim (λ f. (sym (ap test f) ∙ e, inl f)) (λ f. let r = more f in (r.0, inr r.1)) k
-  go false e more k = let r = more k in (r.0, inr r.1)
-
-in-range : (a len n : ℕ) → a ≤ n → n < a + len → IsIn n (range_with_len a len)
-in-range a zero n low high = absurd (omega (arith, low, high))
-in-range a (suc len) n low high = go (nat_eq a n) refl (in-range (a + 1) len n) where
-  go : (b : Bool) → nat_eq a n ≡ b → (a + 1 ≤ n → n < a + 1 + len → IsIn n (range_with_len (a + 1) len)) → IsIn n (a ∷ range_with_len (a + 1) len)
-  go true e more = inl (eq_true a n e)
-  go false e more = let apart : a ≢ n = grind (arith, nat_tests, e) in inr (more (omega (arith, apart, low)) (omega (arith, high)))
-
-some-range : (a len n : ℕ) → IsIn n (range_with_len a len) → a ≤ n
-some-range a zero n h = absurd h
-some-range a (suc len) n h = ⊎_elim (λ e. omega (arith, e)) (λ i. let more : a + 1 ≤ n = some-range (a + 1) len n i in omega (arith, more)) h
 
 -- ---- how many pass a test
 
@@ -105,7 +80,7 @@ one-counted q p a (suc len) all = go (q a) refl (one-counted q p (a + 1) len (λ
 module _ (t : Tally) (set : ℕ) (stands : HasOpenNodes t) (members : AreOpen t set) where
   -- the least loaded node is open, and no open node is before it
   least-open : (p : ℕ) → least t ≡ Some p → is_open t p ≡ true
-  least-open p e = is_open-in t.open_nodes p (first_in-is_in (is_before (load t)) (by_load (load t)) t.open_nodes p e)
+  least-open p e = is_open-in t.open_nodes p (first-is_in (is_before (load t)) t.open_nodes p e)
 
   least-first : (p k : ℕ) → least t ≡ Some p → is_open t k ≡ true → is_before (load t) k p ≡ false
   least-first p k e h = first_in-none_before (is_before (load t)) (by_load (load t)) t.open_nodes p k e (in-is_open t.open_nodes k h)
@@ -114,7 +89,7 @@ module _ (t : Tally) (set : ℕ) (stands : HasOpenNodes t) (members : AreOpen t 
   member-in : (k : ℕ) → 1 ≤ k → has set k ≡ true → IsIn k (filter (has set) (numbers t.nodes))
   member-in k some h =
       let most : k ≤ t.nodes = stands.nodes k (members k some h) in
-      in-filter (has set) k (numbers t.nodes) h (in-range 1 t.nodes k some (omega (arith, most)))
+      in_filter (has set) k (numbers t.nodes) h (in_range 1 t.nodes k some (omega (arith, most)))
 
   -- the node of a choice: it has a number, and no member is before it
   abbrev IsFirst : ℕ → Type 0
@@ -126,11 +101,10 @@ module _ (t : Tally) (set : ℕ) (stands : HasOpenNodes t) (members : AreOpen t 
       ((stands.range (least_node t) (least-open (least_node t) found)).0, λ k some h. least-first (least_node t) k found (members k some h))
 
   least_of-first : (n : ℕ) → least_of t set ≡ Some n → IsFirst n
-  least_of-first n e =
-      let there = passes-filter (has set) n (numbers t.nodes) (first_in-is_in (is_before (load t)) (by_load (load t)) (filter (has set) (numbers t.nodes)) n e) in (
-        some-range 1 t.nodes n there.1,
-        λ k some h. first_in-none_before (is_before (load t)) (by_load (load t)) (filter (has set) (numbers t.nodes)) n k e (member-in k some h),
-      )
+  least_of-first n e = (
+    (first_passes (is_before (load t)) (has set) t.nodes n e).0,
+    λ k some h. first_in-none_before (is_before (load t)) (by_load (load t)) (filter (has set) (numbers t.nodes)) n k e (member-in k some h),
+  )
 
   relieved-first : (cfg : Config) (n : ℕ) → least_of t set ≡ Some n → IsFirst (relieved t cfg n)
   relieved-first cfg n e = go (is_overloaded t cfg n) where
@@ -139,9 +113,7 @@ module _ (t : Tally) (set : ℕ) (stands : HasOpenNodes t) (members : AreOpen t 
     go false = least_of-first n e
 
   most-some : (m : ℕ) → most_of t set ≡ Some m → 1 ≤ m
-  most-some m e =
-      let there = passes-filter (has set) m (numbers t.nodes) (first_in-is_in (λ a b. is_before (load t) b a) (flipped (is_before (load t)) (by_load (load t))) (filter (has set) (numbers t.nodes)) m e) in
-      some-range 1 t.nodes m there.1
+  most-some m e = (first_passes (λ a b. is_before (load t) b a) (has set) t.nodes m e).0
 
   -- the node serves once it has joined
   joined-serves : (p : ℕ) → 1 ≤ p → has (joined set (joining set p)) p ≡ true

@@ -1,7 +1,7 @@
 -- The choice is that of the definition, by whether somebody serves the target.
 use Rattle.std.proofs.Common.{◌≡◌, ◌-◌, ◌∙◌, sym, ap, Some, None, unwrap_or}
 use Rattle.lard_policy.specs.declared.first.FirstChoice.{FirstChoice}
-use Rattle.lard_policy.specs.First.{first_choice, relieved, joining, leaving, least_node}
+use Rattle.lard_policy.specs.First.{relieved, joining, leaving, least_node}
 use Rattle.lard_policy.proofs.Choice.{by_least}
 use Rattle.lard_policy.proofs.first.choose_first.Goals as goal
 
