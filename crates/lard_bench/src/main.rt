@@ -1,16 +1,18 @@
-//! Loads for `bench/run`: heads that are judged, bytes that go through a pair of endpoints, and connections that come and
-//! go at nodes. It reads no clock; `bench/run` measures how long it takes.
+//! Loads for `bench/run`: heads that are judged, bytes that go through a pair of endpoints, connections that come and go at
+//! nodes, and look-ups in a cache. It reads no clock; `bench/run` measures how long it takes.
 //!
 //! It stands on the leaves alone, and nothing stands on it.
 #![tactic(auto)]
 
 mod heads;
 mod loads;
+mod lookups;
 mod pair;
 
 use heads::judge_heads;
 use lard_base::{StdSource, read_up_to};
 use loads::churn;
+use lookups::look_up;
 use pair::push;
 use std::env;
 use std::process::ExitCode;
@@ -27,8 +29,8 @@ fn main(rt: HostRuntime) -> ExitCode {
 }
 
 /// Does what the words ask for: `heads N` judges the head on standard input so many times, `segments N` pushes N bytes
-/// through a pair of endpoints, and `loads N` releases and connects a connection so many times. Nothing where they ask for nothing that there is, or where memory or a
-/// write fails.
+/// through a pair of endpoints, `loads N` releases and connects a connection so many times, and `lookups N` looks up so many
+/// paths in a cache. Nothing where they ask for nothing that there is, or where memory or a write fails.
 fn load(rt: &(impl Env + Input + Print + AllocGlobal)) -> Option<()> {
     let mut words = env::args(rt).ok()?;
     let _name = words.next();
@@ -39,6 +41,7 @@ fn load(rt: &(impl Env + Input + Print + AllocGlobal)) -> Option<()> {
         "heads" => tell_heads(rt, number),
         "segments" => tell_segments(rt, number),
         "loads" => tell_loads(rt, number),
+        "lookups" => tell_lookups(rt, number),
         _ => None,
     }
 }
@@ -59,4 +62,9 @@ fn tell_segments(rt: &(impl Print + AllocGlobal), bytes: u32) -> Option<()> {
 fn tell_loads(rt: &(impl Print + AllocGlobal), times: u32) -> Option<()> {
     let second = churn(rt.alloc(), times)?;
     println!(rt; "{times} times released and connected, {second} times node 2 least").ok()
+}
+
+fn tell_lookups(rt: &(impl Print + AllocGlobal), times: u32) -> Option<()> {
+    let hits = look_up(rt.alloc(), times).ok()?;
+    println!(rt; "{times} look-ups, {hits} hits").ok()
 }
