@@ -1,14 +1,18 @@
-//! Loads for `bench/run`: heads that are judged, and bytes that go through a pair of endpoints. It reads no clock;
-//! `bench/run` measures how long it takes.
+//! Loads for `bench/run`: heads that are judged, bytes that go through a pair of endpoints, connections that come and go at
+//! nodes, and look-ups in a cache. It reads no clock; `bench/run` measures how long it takes.
 //!
 //! It stands on the leaves alone, and nothing stands on it.
 #![tactic(auto)]
 
 mod heads;
+mod loads;
+mod lookups;
 mod pair;
 
 use heads::judge_heads;
 use lard_base::{StdSource, read_up_to};
+use loads::churn;
+use lookups::look_up;
 use pair::push;
 use std::env;
 use std::process::ExitCode;
@@ -24,9 +28,9 @@ fn main(rt: HostRuntime) -> ExitCode {
     }
 }
 
-/// Does what the words ask for: `heads N` judges the head on standard input so many times, and `segments N`
-/// pushes N bytes through a pair of endpoints. Nothing where they ask for nothing that there is, or where memory or a
-/// write fails.
+/// Does what the words ask for: `heads N` judges the head on standard input so many times, `segments N` pushes N bytes
+/// through a pair of endpoints, `loads N` releases and connects a connection so many times, and `lookups N` looks up so many
+/// paths in a cache. Nothing where they ask for nothing that there is, or where memory or a write fails.
 fn load(rt: &(impl Env + Input + Print + AllocGlobal)) -> Option<()> {
     let mut words = env::args(rt).ok()?;
     let _name = words.next();
@@ -36,6 +40,8 @@ fn load(rt: &(impl Env + Input + Print + AllocGlobal)) -> Option<()> {
     match what.as_str() {
         "heads" => tell_heads(rt, number),
         "segments" => tell_segments(rt, number),
+        "loads" => tell_loads(rt, number),
+        "lookups" => tell_lookups(rt, number),
         _ => None,
     }
 }
@@ -51,4 +57,14 @@ fn tell_heads(rt: &(impl Input + Print + AllocGlobal), times: u32) -> Option<()>
 fn tell_segments(rt: &(impl Print + AllocGlobal), bytes: u32) -> Option<()> {
     let pushed = push(rt.alloc(), bytes).ok()?;
     println!(rt; "{} segments, {} bytes", pushed.segments, pushed.bytes).ok()
+}
+
+fn tell_loads(rt: &(impl Print + AllocGlobal), times: u32) -> Option<()> {
+    let second = churn(rt.alloc(), times)?;
+    println!(rt; "{times} times released and connected, {second} times node 2 least").ok()
+}
+
+fn tell_lookups(rt: &(impl Print + AllocGlobal), times: u32) -> Option<()> {
+    let hits = look_up(rt.alloc(), times).ok()?;
+    println!(rt; "{times} look-ups, {hits} hits").ok()
 }

@@ -1,0 +1,93 @@
+// The look-ups of `lard_bench lookups N` in plain C, beside which bench/run measures the cache: lookups N. A path that is
+// there goes to the front, any other is put in front, and paths drop from the end while there are too many.
+#include <stdint.h>
+#include <stdio.h>
+#include <stdlib.h>
+#include <string.h>
+
+enum { PATHS = 100000, MOST = 65536, BUCKETS = 1 << 17, SIZE = 1024 };
+
+struct entry {
+    struct entry *chained, *before, *behind;
+    uint32_t len, size;
+    unsigned char path[];
+};
+
+static struct entry *buckets[BUCKETS], ends;
+static uint64_t count, bytes, limit = (uint64_t)MOST * SIZE;
+
+static uint64_t hash_of(const unsigned char *path, uint32_t len) {
+    uint64_t hash = 14695981039346656037u;
+    for (uint32_t i = 0; i < len; i++) hash = (hash ^ path[i]) * 1099511628211u;
+    return hash ^ hash >> 32;
+}
+
+static struct entry **place_of(const unsigned char *path, uint32_t len) {
+    struct entry **at = &buckets[hash_of(path, len) % BUCKETS];
+    while (*at && ((*at)->len != len || memcmp((*at)->path, path, len))) at = &(*at)->chained;
+    return at;
+}
+
+static void unlink_entry(struct entry *e) { e->before->behind = e->behind; e->behind->before = e->before; }
+
+static void put_first(struct entry *e) {
+    e->before = &ends;
+    e->behind = ends.behind;
+    ends.behind->before = e;
+    ends.behind = e;
+}
+
+static int hit(const unsigned char *path, uint32_t len) {
+    struct entry *e = *place_of(path, len);
+    if (!e) return 0;
+    unlink_entry(e);
+    put_first(e);
+    return 1;
+}
+
+static int put(const unsigned char *path, uint32_t len, uint32_t size) {
+    if (size > limit) return 1;
+    struct entry **at = place_of(path, len);
+    if (*at) {
+        unlink_entry(*at);
+        bytes -= (*at)->size;
+    } else {
+        *at = malloc(sizeof **at + len);
+        if (!*at) return 0;
+        (*at)->chained = NULL;
+        (*at)->len = len;
+        memcpy((*at)->path, path, len);
+        count++;
+    }
+    (*at)->size = size;
+    bytes += size;
+    put_first(*at);
+    while (count > MOST || bytes > limit) {
+        struct entry *last = ends.before, **from = place_of(last->path, last->len);
+        *from = last->chained;
+        unlink_entry(last);
+        count--;
+        bytes -= last->size;
+        free(last);
+    }
+    return 1;
+}
+
+int main(int argc, char **argv) {
+    long times = argc > 1 ? atol(argv[1]) : 1, hits = 0;
+    static unsigned char paths[PATHS][11];
+    uint64_t seed = 1;
+    ends.before = ends.behind = &ends;
+    for (uint32_t i = 0; i < PATHS; i++) {
+        memcpy(paths[i], "/files/", 7);
+        for (int k = 0; k < 4; k++) paths[i][7 + k] = (unsigned char)(i >> (24 - 8 * k));
+    }
+    for (long i = 0; i < times; i++) {
+        seed = (seed * 1103515245 + 12345) % (1u << 31);
+        const unsigned char *path = paths[seed % PATHS];
+        if (hit(path, 11)) hits++;
+        else if (!put(path, 11, SIZE)) return 1;
+    }
+    printf("%ld look-ups, %ld hits\n", times, hits);
+    return 0;
+}

@@ -1,0 +1,2 @@
+mod Cheapest
+mod Members

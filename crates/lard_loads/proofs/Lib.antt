@@ -1,0 +1,14 @@
+mod Batches
+mod Beginnings
+mod Calls
+mod Changes
+mod Choices
+mod Exchanges
+pub mod Firsts
+mod Lines
+mod Moves
+mod Standings
+pub mod Nodes
+mod Starts
+mod Sums
+mod Tallies

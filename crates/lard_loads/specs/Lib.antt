@@ -1,0 +1,5 @@
+pub mod Loads
+pub mod Order
+pub mod Ranking
+pub mod Slot
+pub mod Tally

@@ -1,0 +1,4 @@
+mod Choice
+mod Order
+mod Relief
+mod Serving

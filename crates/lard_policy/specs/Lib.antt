@@ -1,0 +1,3 @@
+pub use Rattle.lard_loads.specs.Tally
+pub mod First
+pub mod Laws

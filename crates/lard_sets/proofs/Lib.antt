@@ -1,0 +1,3 @@
+pub mod Changes
+mod Entries
+pub mod Flags

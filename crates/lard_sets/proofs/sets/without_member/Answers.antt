@@ -1,0 +1,7 @@
+-- The flags are told by the members.
+use Rattle.std.proofs.Common.{◌∙◌, sym, arith}
+use Rattle.lard_sets.proofs.Flags.{same_flags, has-without_member}
+use Rattle.lard_sets.proofs.sets.without_member.Goals as goal
+
+pub returns : goal.returns
+returns c = same_flags _ _ (λ k h. c.without.ensures k h ∙ sym (has-without_member c.args.members c.args.n k (omega arith) h))
