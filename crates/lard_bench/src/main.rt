@@ -1,14 +1,18 @@
-//! Loads for `bench/run`: heads that are judged, and bytes that go through a pair of endpoints. It reads no clock;
-//! `bench/run` measures how long it takes.
+//! Loads for `bench/run`: heads that are judged, bytes that go through a pair of endpoints, messages that are written and
+//! read, and connections that are handed over. It reads no clock; `bench/run` measures how long it takes.
 //!
 //! It stands on the leaves alone, and nothing stands on it.
 #![tactic(auto)]
 
+mod handoffs;
 mod heads;
+mod messages;
 mod pair;
 
+use handoffs::{Way, pass};
 use heads::judge_heads;
 use lard_base::{StdSource, read_up_to};
+use messages::carry;
 use pair::push;
 use std::env;
 use std::process::ExitCode;
@@ -24,9 +28,10 @@ fn main(rt: HostRuntime) -> ExitCode {
     }
 }
 
-/// Does what the words ask for: `heads N` judges the head on standard input so many times, and `segments N`
-/// pushes N bytes through a pair of endpoints. Nothing where they ask for nothing that there is, or where memory or a
-/// write fails.
+/// Does what the words ask for: `heads N` judges the head on standard input so many times, `segments N` pushes N bytes
+/// through a pair of endpoints, `messages N` writes and reads so many messages, and `handoffs N` hands over so many
+/// connections with the head on standard input unread; in `stays N` they end where they began. Nothing where the words ask
+/// for nothing that there is, or where memory or a write fails.
 fn load(rt: &(impl Env + Input + Print + AllocGlobal)) -> Option<()> {
     let mut words = env::args(rt).ok()?;
     let _name = words.next();
@@ -36,14 +41,23 @@ fn load(rt: &(impl Env + Input + Print + AllocGlobal)) -> Option<()> {
     match what.as_str() {
         "heads" => tell_heads(rt, number),
         "segments" => tell_segments(rt, number),
+        "messages" => tell_messages(rt, number),
+        "stays" => tell_connections(rt, number, Way::Stays),
+        "handoffs" => tell_connections(rt, number, Way::Moves),
         _ => None,
     }
 }
 
-fn tell_heads(rt: &(impl Input + Print + AllocGlobal), times: u32) -> Option<()> {
+/// The head on standard input.
+fn head(rt: &(impl Input + AllocGlobal)) -> Option<Vec<u8>> {
     let mut head = Vec::new(rt.alloc());
     let mut source = StdSource::new(rt.reader());
     read_up_to(&mut source, &mut head, MOST_BYTES).ok()?;
+    Some(head)
+}
+
+fn tell_heads(rt: &(impl Input + Print + AllocGlobal), times: u32) -> Option<()> {
+    let head = head(rt)?;
     let served = judge_heads(rt.alloc(), head.as_slice(), times).ok()?;
     println!(rt; "{times} heads, {served} served").ok()
 }
@@ -51,4 +65,19 @@ fn tell_heads(rt: &(impl Input + Print + AllocGlobal), times: u32) -> Option<()>
 fn tell_segments(rt: &(impl Print + AllocGlobal), bytes: u32) -> Option<()> {
     let pushed = push(rt.alloc(), bytes).ok()?;
     println!(rt; "{} segments, {} bytes", pushed.segments, pushed.bytes).ok()
+}
+
+fn tell_messages(rt: &(impl Print + AllocGlobal), times: u32) -> Option<()> {
+    let carried = carry(rt.alloc(), times).ok()?;
+    println!(rt; "{} messages, {} bytes", carried.messages, carried.bytes).ok()
+}
+
+fn tell_connections(rt: &(impl Input + Print + AllocGlobal), times: u32, way: Way) -> Option<()> {
+    let head = head(rt)?;
+    let ended = pass(rt.alloc(), times, head.as_slice(), way).ok()?;
+    println!(rt;
+        "{} connections, {} bytes of offers",
+        ended.connections, ended.bytes
+    )
+    .ok()
 }
