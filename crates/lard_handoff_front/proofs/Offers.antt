@@ -1,8 +1,9 @@
 -- An endpoint that is taken out to be offered, and what then becomes of its row.
-use Rattle.std.proofs.Common.{◌≡◌, ℕ, ◌<◌, Bool, arith, Option, Some, None, IsSome, option_map, ◌==◌, eq-eqb, refl, sym, ap, ◌∙◌, subst}
+use Rattle.std.proofs.Common.{◌≡◌, ℕ, ◌<◌, Bool, true, arith, Option, Some, None, IsSome, option_map, ◌==◌, eq-eqb, refl, sym, ap, ◌∙◌, subst}
 use Rattle.std.specs.FinMap.{get, insert}
 use Rattle.lard_base.specs.declared.ids.Epoch.{Epoch}
 use Rattle.lard_endpoint.specs.Control.{ControlBlock}
+use Rattle.lard_endpoint.specs.declared.control.moving.Final.{Final}
 use Rattle.lard_table.proofs.Map.{get_inserted, insert_twice, put_got}
 use Rattle.lard_table.specs.Table.{put_or}
 use Rattle.lard_handoff_front.specs.declared.row.FrontConn.{FrontConn}
@@ -11,7 +12,7 @@ use Rattle.lard_handoff_front.specs.declared.row.FrontRow.{FrontRow}
 use Rattle.lard_handoff_front.specs.Row.{held_in, is_away, is_waiting}
 use Rattle.lard_handoff_front.specs.Front.{Fronts, AreRows, after_ended, end_answer, ended_row, IsSmall, MayBeOffered, in_stage, leaving_of, next_epoch, offered, with_stage}
 use Rattle.std.proofs.lemmas.Bool.{cond-true}
-use Rattle.lard_handoff_front.specs.Laws.{EndsOnce}
+use Rattle.lard_handoff_front.specs.Laws.{EndsOnce, OffersOnce}
 use Rattle.lard_handoff_front.proofs.Rows.{row_put}
 
 -- a row stays where its stage is set
@@ -81,11 +82,22 @@ put_back m n c waiting epoch before b e h s t = go (get m c) refl e h s where
       ap (with_stage n c (in_stage waiting b)) there ∙ ap (λ (x : FrontConn). insert n c (record lent { stage = x })) same ∙ ap (λ (x : Fronts). insert x c row) e
       ∙ insert_twice m c lent row ∙ ap (put_or m c) (sym g) ∙ put_got m c
 
--- ---- an end is new once
+-- ---- an end is new once, and an epoch is offered once
+
+end_is : (m : Fronts) (c : ℕ) (epoch : Epoch) (last : Final) (row : FrontRow) → get m c ≡ Some row → is_away epoch.0 row.stage ≡ true
+    → get (after_ended m c epoch last (get m c)) c ≡ Some (ended_row epoch last row)
+end_is m c epoch last row h away =
+    ap (λ (x : Fronts). get x c) (ap (after_ended m c epoch last) h ∙ cond-true (is_away epoch.0 row.stage) _ _ away) ∙ get_inserted m c (ended_row epoch last row)
 
 pub once : EndsOnce
 once m c epoch last other row h away =
-    let after : Fronts = insert m c (ended_row epoch last row) in
-    let is : after_ended m c epoch last (get m c) ≡ after = ap (after_ended m c epoch last) h ∙ cond-true (is_away epoch.0 row.stage) _ _ away in
-    let there : get (after_ended m c epoch last (get m c)) c ≡ Some (ended_row epoch last row) = ap (λ (x : Fronts). get x c) is ∙ get_inserted m c (ended_row epoch last row) in
+    let there = end_is m c epoch last row h away in
     (ap (end_answer epoch.0) there ∙ cond-true (epoch.0 == epoch.0) _ _ (eq-eqb epoch.0 epoch.0 refl), ap (after_ended (after_ended m c epoch last (get m c)) c epoch other) there)
+
+pub rises : OffersOnce
+rises m c row h =
+    let epoch_of : Option FrontRow → Option Epoch = option_map (λ (r : FrontRow). r.epoch) in (
+      λ node. ap (λ (o : Option FrontRow). epoch_of (get (offered m c node o) c)) h ∙ ap epoch_of (get_inserted m c _),
+      λ epoch last away. ap epoch_of (end_is m c epoch last row h away),
+      λ stage. ap (λ (o : Option FrontRow). epoch_of (get (with_stage m c stage o) c)) h ∙ ap epoch_of (get_inserted m c _),
+    )

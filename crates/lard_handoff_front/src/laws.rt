@@ -1,8 +1,13 @@
 //! What holds of the table over its calls.
 
-ghost use Rattle.lard_handoff_front.specs.Laws.{EndsOnce};
+ghost use Rattle.lard_handoff_front.specs.Laws.{EndsOnce, OffersOnce};
 
 /// An end is new once: behind it the same epoch is answered by Again, and changes nothing.
 pub fn ends_once()
     ensures { EndsOnce }
+{}
+
+/// An epoch is offered once: an Offer takes the next one, and no call makes the epoch fall.
+pub fn offers_once()
+    ensures { OffersOnce }
 {}

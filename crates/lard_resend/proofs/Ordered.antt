@@ -25,10 +25,10 @@ itself a r = grind (arith, nat_tests)
 
 -- ---- one more
 
-put_behind : (k x : Kept) (xs : List Kept) → comes_before k.kind k.r x ≡ true → put_in k (x ∷ xs) ≡ x ∷ put_in k xs
+pub put_behind : (k x : Kept) (xs : List Kept) → comes_before k.kind k.r x ≡ true → put_in k (x ∷ xs) ≡ x ∷ put_in k xs
 put_behind k x xs h = ap (λ (n : ℕ). insert (x ∷ xs) n k) (cond-true (comes_before k.kind k.r x) _ _ h ∙ add-one (place_of k.kind k.r xs))
 
-put_here : (k x : Kept) (xs : List Kept) → comes_before k.kind k.r x ≡ false → put_in k (x ∷ xs) ≡ k ∷ x ∷ xs
+pub put_here : (k x : Kept) (xs : List Kept) → comes_before k.kind k.r x ≡ false → put_in k (x ∷ xs) ≡ k ∷ x ∷ xs
 put_here k x xs h = ap (λ (n : ℕ). insert (x ∷ xs) n k) (cond-false (comes_before k.kind k.r x) _ _ h)
 
 -- what holds of each, and of one more
@@ -101,7 +101,7 @@ drop_all P kind r (x ∷ xs) h = go (is_under kind r x) (drop_all P kind r xs h.
   go true ih = ih
   go false ih = (h.0, ih)
 
-drop_keeps : (kind : TimerKind) (r : ℕ) (ks : List Kept) → AreInOrder ks → AreInOrder (without kind r ks)
+pub drop_keeps : (kind : TimerKind) (r : ℕ) (ks : List Kept) → AreInOrder ks → AreInOrder (without kind r ks)
 drop_keeps kind r [] h = tt
 drop_keeps kind r (x ∷ xs) h = go (is_under kind r x) (drop_keeps kind r xs h.1) where
   go : (t : Bool) → AreInOrder (without kind r xs) → AreInOrder (cond (not t) (x ∷ without kind r xs) (without kind r xs))

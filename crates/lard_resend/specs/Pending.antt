@@ -1,5 +1,5 @@
 -- What is held of each connection.
-use Rattle.std.specs.Prelude.{ℕ, List, [], ◌∷◌, Option, Some, None, is_some, if◌then◌else◌}
+use Rattle.std.specs.Prelude.{◌≡◌, ℕ, List, [], ◌∷◌, Option, Some, None, is_some, if◌then◌else◌}
 use Rattle.std.specs.FinMap.{FinMap, get, insert}
 use Rattle.std.specs.FinMap as map
 use Rattle.std.specs.List.{find}
@@ -7,7 +7,7 @@ use Rattle.std.specs.Ordering.{nat_cmp}
 use Rattle.lard_base.specs.declared.place.Place.{Place}
 use Rattle.lard_base.specs.declared.place.TimerKind.{TimerKind}
 use Rattle.lard_resend.specs.declared.kept.Kept.{Kept}
-use Rattle.lard_resend.specs.Kept.{is_under, put_in, without}
+use Rattle.lard_resend.specs.Kept.{is_under, put_in, without, AreInOrder}
 
 abbrev pub list_of : Option (List Kept) → List Kept
 list_of None = []
@@ -15,6 +15,11 @@ list_of (Some ks) = ks
 
 abbrev pub held : FinMap nat_cmp (List Kept) → ℕ → List Kept
 held m c = list_of (get m c)
+
+-- what holds of all that is held: each connection's messages stand in order, and there is one
+pub record AreHeld (m : FinMap nat_cmp (List Kept)) : Type 0 where
+  pub ordered : (c : ℕ) → AreInOrder (held m c)
+  pub some : (c : ℕ) → get m c ≡ Some [] → ⊥
 
 -- what is held of a connection under a kind and a number
 abbrev pub under : FinMap nat_cmp (List Kept) → ℕ → TimerKind → ℕ → Option Kept

@@ -3,7 +3,7 @@
 ghost use Rattle.std.specs.Prelude.{◌≡◌, Some, None, false, is_some, IsSome, [], ◌∷◌, OnOk, OnErr, option_copied, option_map};
 ghost use Rattle.std.specs.FinMap as map;
 ghost use Rattle.std.specs.List.{find};
-ghost use Rattle.lard_resend.specs.Kept.{is_under, put_in, without};
+ghost use Rattle.lard_resend.specs.Kept.{is_under, put_in, without, AreInOrder};
 ghost use Rattle.lard_resend.specs.Pending.{held, holding, put_list, sent_of, settled, under};
 
 use crate::kept::{Kept, PendingKey, found, is_under, place_of};
@@ -32,10 +32,15 @@ impl Model for Pending {
     ghost coded = { map.code coded_ℕ (coded_list kept.the_row.coded) };
 
     ghost view = { λ p. p.all };
+
+    ghost use Rattle.lard_resend.specs.Pending.{AreHeld};
+
+    ghost invariant = { λ p. AreHeld p.all };
 }
 
 impl Pending {
     /// Nothing awaits an answer. It takes no memory yet.
+    #[tactic(auto, using(crate::proofs::Held::none_held))]
     pub fn new(alloc: Global) -> Pending
         ensures { result ≡ map.empty }
     {
@@ -46,7 +51,6 @@ impl Pending {
     }
 
     /// Holds a message that was sent to this place. Without memory nothing changes. Nothing is held under the key.
-    #[tactic(auto, using(crate::proofs::Maps::back_again, lard_table::proofs::Map::insert_twice))]
     pub fn hold(&mut self, key: PendingKey, to: Place, bytes: Bytes) -> Result<(), NoMemory>
         requires { is_some (under self.old key.c key.kind key.r) ≡ false }
         ensures ok { OnOk result (self.new ≡ holding self.old key.c (record { kind = key.kind; r = key.r; to = to; bytes = bytes })) }
@@ -58,18 +62,10 @@ impl Pending {
             to,
             bytes,
         };
-        let c = key.c.number();
-        if self.all.get(c).is_none() {
-            return begin(&mut self.all, self.alloc, c, kept);
-        }
-        let mut list = take_list(&mut self.all, self.alloc, c);
-        let done = insert_in(&mut list, kept);
-        let _ = self.all.replace(c, Items::from_vec(list));
-        done
+        add(&mut self.all, self.alloc, key.c.number(), kept)
     }
 
     /// Drops what is held under the key, and answers whether something was.
-    #[tactic(auto, using(crate::proofs::Maps::put_list_again))]
     pub fn settle(&mut self, key: PendingKey) -> bool
         ensures value { result ≡ is_some (under self.old key.c key.kind key.r) }
         ensures after { self.new ≡ settled self.old key.c key.kind key.r }
@@ -77,10 +73,7 @@ impl Pending {
         if !self.holds(&key) {
             return false;
         }
-        let c = key.c.number();
-        let mut list = take_list(&mut self.all, self.alloc, c);
-        leave_out(&mut list, key.kind, key.r);
-        put_back(&mut self.all, c, list);
+        drop_one(&mut self.all, self.alloc, &key);
         true
     }
 
@@ -110,7 +103,8 @@ impl Pending {
 
     /// All that is held of a connection, in order, lent.
     pub fn of(&self, c: ConnId) -> &[Kept]
-        ensures { result.now ≡ held self.now c }
+        ensures value { result.now ≡ held self.now c }
+        ensures order { AreInOrder result.now }
     {
         match self.all.get(c.number()) {
             Some(list) => list.as_slice(),
@@ -119,6 +113,7 @@ impl Pending {
     }
 
     /// Drops all that is held of a connection.
+    #[tactic(auto, using(crate::proofs::Held::forgotten))]
     pub fn forget(&mut self, c: ConnId)
         ensures { self.new ≡ map.remove self.old c }
     {
@@ -131,6 +126,33 @@ impl Pending {
         while let Some(_list) = all.pop() {}
         all.destroy_empty();
     }
+}
+
+/// Holds one message more. Without memory nothing changes.
+#[tactic(auto, using(crate::proofs::Maps::back_again, lard_table::proofs::Map::insert_twice))]
+fn add(all: &mut Table<Items<Kept>>, alloc: Global, c: u32, kept: Kept) -> Result<(), NoMemory>
+    ensures ok { OnOk result (all.new ≡ holding all.old c kept) }
+    ensures err { OnErr result (all.new ≡ all.old) }
+{
+    if all.get(c).is_none() {
+        return begin(all, alloc, c, kept);
+    }
+    let mut list = take_list(all, alloc, c);
+    let done = insert_in(&mut list, kept);
+    let _ = all.replace(c, Items::from_vec(list));
+    done
+}
+
+/// Drops what is held under the key, of a connection of which something is held.
+#[tactic(auto, using(crate::proofs::Maps::put_list_again))]
+fn drop_one(all: &mut Table<Items<Kept>>, alloc: Global, key: &PendingKey)
+    requires { IsSome (map.get all.old key.now.c) }
+    ensures { all.new ≡ put_list all.old key.now.c (without key.now.kind key.now.r (held all.old key.now.c)) }
+{
+    let c = key.c.number();
+    let mut list = take_list(all, alloc, c);
+    leave_out(&mut list, key.kind, key.r);
+    put_back(all, c, list);
 }
 
 /// Holds the first message of a connection.

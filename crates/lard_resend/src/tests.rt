@@ -65,7 +65,8 @@ fn what_is_held_is_found_in_order(rt: HostRuntime) -> Result<(), Fail> {
     let order = numbers(&pending, one);
     let again = pending.again(fetch(one, 3)) == Some((node, b"three".as_slice()))
         && pending.again(sole(one, TimerKind::Ask)) == Some((Place::Front, b"asked".as_slice()))
-        && pending.again(fetch(one, 4)).is_none();
+        && pending.again(fetch(one, 4)).is_none()
+        && pending.get(&fetch(one, 7)).is_some();
     let settled = (
         pending.settle(fetch(one, 3)),
         pending.settle(fetch(one, 3)),
