@@ -1,7 +1,6 @@
 //! Loads for `bench/run`: heads that are judged, bytes that go through a pair of endpoints, connections that come and go at
-//! nodes, and look-ups in a cache. It reads no clock; `bench/run` measures how long it takes.
-//! Loads for `bench/run`: heads that are judged, bytes that go through a pair of endpoints, messages that are written and
-//! read, and connections that are handed over. It reads no clock; `bench/run` measures how long it takes.
+//! nodes, look-ups in a cache, messages that are written and read, and connections that are handed over. It reads no clock;
+//! `bench/run` measures how long it takes.
 //!
 //! It stands on the leaves alone, and nothing stands on it.
 #![tactic(auto)]
@@ -35,11 +34,10 @@ fn main(rt: HostRuntime) -> ExitCode {
 }
 
 /// Does what the words ask for: `heads N` judges the head on standard input so many times, `segments N` pushes N bytes
-/// through a pair of endpoints, `loads N` releases and connects a connection so many times, and `lookups N` looks up so many
-/// paths in a cache. Nothing where they ask for nothing that there is, or where memory or a write fails.
-/// through a pair of endpoints, `messages N` writes and reads so many messages, and `handoffs N` hands over so many
-/// connections with the head on standard input unread; in `stays N` they end where they began. Nothing where the words ask
-/// for nothing that there is, or where memory or a write fails.
+/// through a pair of endpoints, `loads N` releases and connects a connection so many times, `lookups N` looks up so many
+/// paths in a cache, `messages N` writes and reads so many messages, and `handoffs N` hands over so many connections with
+/// the head on standard input unread; in `stays N` they end where they began. Nothing where the words ask for nothing that
+/// there is, or where memory or a write fails.
 fn load(rt: &(impl Env + Input + Print + AllocGlobal)) -> Option<()> {
     let mut words = env::args(rt).ok()?;
     let _name = words.next();
@@ -85,6 +83,8 @@ fn tell_loads(rt: &(impl Print + AllocGlobal), times: u32) -> Option<()> {
 fn tell_lookups(rt: &(impl Print + AllocGlobal), times: u32) -> Option<()> {
     let hits = look_up(rt.alloc(), times).ok()?;
     println!(rt; "{times} look-ups, {hits} hits").ok()
+}
+
 fn tell_messages(rt: &(impl Print + AllocGlobal), times: u32) -> Option<()> {
     let carried = carry(rt.alloc(), times).ok()?;
     println!(rt; "{} messages, {} bytes", carried.messages, carried.bytes).ok()
