@@ -148,8 +148,7 @@ module _ (m : Machine) where
       Each-append (IsInside k) ((own ++ a.turn.notes) ++ S) T (Each-append (IsInside k) (own ++ a.turn.notes) S
       (Each-append (IsInside k) own a.turn.notes inside (Each-weaker (NotedAt a.place a.c) (IsInside k) (note-inside a.place a.c k) a.turn.notes notes))
       (sents-inside k (length w.net + 1) a.place a.turn.segments number)) (timer-inside k a.place a.c a.was_armed a.is_armed) in
-      let steady : Each (IsSteady e) rest = Each-weaker (IsInside k) (IsSteady e) (λ r h. record { inside = h.0; same = acting.steady r h.1 }) rest all_inside in
-      (
+      let steady : Each (IsSteady e) rest = Each-weaker (IsInside k) (IsSteady e) (λ r h. record { inside = h.0; same = acting.steady r h.1 }) rest all_inside in (
         E ∷ rest,
         ap (λ (K : List Rec). K ++ (E ∷ rest)) journal,
         ((λ p is. let no : None ≡ Some p = is in absurd cc), acts-on e a.place J rest (last_event-append m.journal (E ∷ [])) (acting.begins (w.events + 1) ∙ acting.acts) all_at steady),
