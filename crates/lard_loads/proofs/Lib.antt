@@ -8,6 +8,7 @@ pub mod Firsts
 mod Lines
 mod Moves
 mod Standings
+mod Charged
 pub mod Nodes
 mod Starts
 mod Sums

@@ -1,3 +1,4 @@
+pub mod Charges
 pub mod Loads
 pub mod Order
 pub mod Ranking

@@ -4,6 +4,7 @@
 //! the least and the most loaded node of a set.
 #![tactic(auto)]
 
+pub mod laws;
 pub mod loads;
 pub mod ranking;
 pub mod slot;

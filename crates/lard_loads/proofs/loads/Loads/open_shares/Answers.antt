@@ -1,5 +1,5 @@
 -- The slot has as many as the tally, and none is where there is no home.
-use Rattle.std.proofs.Common.{◌≡◌, ℕ, Option, None, length, ap, sym, ◌∙◌}
+use Rattle.std.proofs.Common.{ℕ, Option, length, ap, sym, ◌∙◌}
 use Rattle.lard_loads.specs.Slot.{open_in, standing}
 use Rattle.lard_loads.specs.Tally.{shares_of}
 use Rattle.lard_loads.proofs.Calls.{shares_known}
