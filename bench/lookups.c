@@ -75,10 +75,12 @@ static int put(const unsigned char *path, uint32_t len, uint32_t size) {
 
 int main(int argc, char **argv) {
     long times = argc > 1 ? atol(argv[1]) : 1, hits = 0;
-    static unsigned char paths[PATHS][11];
+    static unsigned char *paths[PATHS];
     uint64_t seed = 1;
     ends.before = ends.behind = &ends;
     for (uint32_t i = 0; i < PATHS; i++) {
+        paths[i] = malloc(11);
+        if (!paths[i]) return 1;
         memcpy(paths[i], "/files/", 7);
         for (int k = 0; k < 4; k++) paths[i][7 + k] = (unsigned char)(i >> (24 - 8 * k));
     }

@@ -13,21 +13,9 @@ fn conn(rt: &impl Abort, number: u32) -> ConnId {
     ConnId::new(number).expect(rt, "the number of a connection")
 }
 
-/// The node of a choice, or 0 of one that waits.
-fn node_of(first: First) -> u32 {
-    match first {
-        First::Go(choice) => choice.node.number(),
-        First::Waits => 0,
-    }
-}
-
-/// A connection comes with its first request, where it is neither admitted nor waits.
-fn first(
-    dispatch: &mut Dispatch,
-    alloc: Global,
-    c: ConnId,
-    target: &[u8],
-) -> Result<First, NoMemory>
+/// A connection comes with its first request, where it is neither admitted nor waits: the node that it goes to, or 0 where
+/// it waits.
+fn first(dispatch: &mut Dispatch, alloc: Global, c: ConnId, target: &[u8]) -> Result<u32, NoMemory>
     requires { AreBefore 0 dispatch.old.books.sets }
     ensures { OnOk result (AreBefore 0 dispatch.new.books.sets) }
 {
@@ -39,17 +27,21 @@ fn first(
         None => {}
     }
     let target = Path::from_slice(alloc, target)?;
-    dispatch.first(c, &target, Millis(0))
+    match dispatch.first(c, &target, Millis(0))? {
+        First::Go(choice) => Ok(choice.node.number()),
+        First::Waits => Ok(0),
+    }
 }
 
-/// Asks for so many further requests, all for one path, of an admitted connection.
+/// Asks for so many further requests, all for one path, of an admitted connection: whether the batch before it was over, how
+/// many choices come, and how many of them are node 2.
 fn later(
     dispatch: &mut Dispatch,
     alloc: Global,
     c: ConnId,
     size: u8,
     count: usize,
-) -> Result<Later, NoMemory>
+) -> Result<(bool, usize, usize), NoMemory>
     requires { AreBefore 0 dispatch.old.books.sets }
     ensures { OnOk result (AreBefore 0 dispatch.new.books.sets) }
 {
@@ -72,7 +64,8 @@ fn later(
         size,
         paths,
     };
-    dispatch.later(&ask, Millis(0))
+    let later = dispatch.later(&ask, Millis(0))?;
+    Ok((later.over, later.choices.len(), count_of(&later, 2)))
 }
 
 /// How many of the choices are this node.
@@ -85,26 +78,33 @@ fn count_of(later: &Later, number: u32) -> usize {
         .count()
 }
 
-/// The first requests of three connections, and two batches of the third.
-fn asked(alloc: Global, c: [ConnId; 3]) -> Result<([u32; 3], Later, Later), NoMemory> {
+/// What becomes of the first requests of three connections, and of two batches of the third.
+#[derive(Drop)]
+struct Asked {
+    nodes: [u32; 3],
+    batches: [(bool, usize, usize); 2],
+}
+
+fn three_connections(alloc: Global, c: [ConnId; 3]) -> Result<Asked, NoMemory> {
     let mut dispatch = Dispatch::new(alloc, Config::standard())?;
-    let one = first(&mut dispatch, alloc, c[0], b"/a")?;
-    let two = first(&mut dispatch, alloc, c[1], b"/b")?;
-    let three = first(&mut dispatch, alloc, c[2], b"/a")?;
-    let seven = later(&mut dispatch, alloc, c[2], 8, 7)?;
-    let again = later(&mut dispatch, alloc, c[2], 1, 1)?;
-    Ok(([node_of(one), node_of(two), node_of(three)], seven, again))
+    let nodes = [
+        first(&mut dispatch, alloc, c[0], b"/a")?,
+        first(&mut dispatch, alloc, c[1], b"/b")?,
+        first(&mut dispatch, alloc, c[2], b"/a")?,
+    ];
+    let batches = [
+        later(&mut dispatch, alloc, c[2], 8, 7)?,
+        later(&mut dispatch, alloc, c[2], 1, 1)?,
+    ];
+    Ok(Asked { nodes, batches })
 }
 
 #[test]
 fn requests_are_assigned(rt: HostRuntime) -> Result<(), Fail> {
     let c = [conn(&rt, 1), conn(&rt, 2), conn(&rt, 3)];
-    let (nodes, seven, again) = asked(rt.alloc(), c).ok().ok_or("memory")?;
+    let Asked { nodes, batches } = three_connections(rt.alloc(), c).ok().ok_or("memory")?;
     assert_eq!(rt; nodes, [1, 2, 1]);
-    assert!(rt; !seven.over);
-    assert_eq!(rt; (seven.choices.len(), count_of(&seven, 2)), (7, 7));
-    assert!(rt; again.over);
-    assert_eq!(rt; (again.choices.len(), count_of(&again, 2)), (1, 1));
+    assert_eq!(rt; batches, [(false, 7, 7), (true, 1, 1)]);
     Ok(())
 }
 
@@ -142,12 +142,12 @@ fn six_connections(alloc: Global, c: [ConnId; 6]) -> Result<Waited, NoMemory> {
     }
     let mut dispatch = Dispatch::new(alloc, config)?;
     let nodes = [
-        node_of(first(&mut dispatch, alloc, c[0], b"/a")?),
-        node_of(first(&mut dispatch, alloc, c[1], b"/b")?),
-        node_of(first(&mut dispatch, alloc, c[2], b"/c")?),
-        node_of(first(&mut dispatch, alloc, c[3], b"/d")?),
-        node_of(first(&mut dispatch, alloc, c[4], b"/a")?),
-        node_of(first(&mut dispatch, alloc, c[5], b"/b")?),
+        first(&mut dispatch, alloc, c[0], b"/a")?,
+        first(&mut dispatch, alloc, c[1], b"/b")?,
+        first(&mut dispatch, alloc, c[2], b"/c")?,
+        first(&mut dispatch, alloc, c[3], b"/d")?,
+        first(&mut dispatch, alloc, c[4], b"/a")?,
+        first(&mut dispatch, alloc, c[5], b"/b")?,
     ];
     let admitted = ended(&mut dispatch, c[0])?;
     let waiting = [dispatch.waits(c[4]), dispatch.waits(c[5])];
