@@ -572,8 +572,67 @@ wrote 1 474554202f7820485454502f312e310d0a486f73743a206c6172640d0a0d0a
 ",
 };
 
+/// Two packets that the client did not send, of which neither is a segment: one byte, and its request with a wrong last byte.
+pub const NO_SEGMENTS_INJECTED: Row = Row {
+    input: "\
+lard 1
+go
+open 1 1000 5000 65535 1460
+get 1 /x
+deliver 1
+deliver 2
+deliver 3
+deliver 4
+deliver 5
+inject 1 00
+deliver 6
+inject 1 9c400050000003e9000013895018ffff0dd50000474554202f7820485454502f312e310d0a486f73743a206c6172640d0a0d0b
+deliver 7
+",
+    status: Status::Done,
+    report: "\
+report 1 nodes 2 low 25 high 65 age 20000 idle 25 over 130 miss 50 cache 1048576 stream 1073741824
+event 1 open 1 1000 5000 65535 1460
+opened 1 1000 5000 65535 1460
+sent 1 c1 front 9c400050000003e8000000006002ffffe3ab0000020405b4
+armed c1 1 tcp
+event 2 get 1 /x
+wrote 1 474554202f7820485454502f312e310d0a486f73743a206c6172640d0a0d0a
+event 3 deliver 1
+got 1
+took front 1 1
+sent 2 front c1 00509c4000001388000003e96012400090120000020405b4
+armed front 1 tcp
+event 4 deliver 2
+got 2
+sent 3 c1 front 9c400050000003e9000013895018ffff0dd50000474554202f7820485454502f312e310d0a486f73743a206c6172640d0a0d0a
+event 5 deliver 3
+got 3
+served front 1 1 404 45 own
+sent 4 front c1 00509c4000001389000004085018400089300000485454502f312e3120343034204e6f7420466f756e640d0a436f6e74656e742d4c656e6774683a20300d0a0d0a
+event 6 deliver 4
+got 4
+accepted 1 485454502f312e3120343034204e6f7420466f756e640d0a436f6e74656e742d4c656e6774683a20300d0a0d0a
+sent 5 c1 front 9c40005000000408000013b65010ffffe7830000
+cleared c1 1 tcp
+event 7 deliver 5
+got 5
+cleared front 1 tcp
+event 8 inject 1 00
+injected 1
+sent 6 c1 front 00
+event 9 deliver 6
+got 6
+event 10 inject 1 9c400050000003e9000013895018ffff0dd50000474554202f7820485454502f312e310d0a486f73743a206c6172640d0a0d0b
+injected 1
+sent 7 c1 front 9c400050000003e9000013895018ffff0dd50000474554202f7820485454502f312e310d0a486f73743a206c6172640d0a0d0b
+event 11 deliver 7
+got 7
+",
+};
+
 /// All rows.
-pub const ROWS: [Row; 18] = [
+pub const ROWS: [Row; 19] = [
     HEADING_ALONE,
     NO_INPUT,
     ONE_REQUEST,
@@ -592,6 +651,7 @@ pub const ROWS: [Row; 18] = [
     TWO_FILES_ASKED,
     FOUR_REQUESTS_WRITTEN,
     REQUEST_ON_ITS_WAY,
+    NO_SEGMENTS_INJECTED,
 ];
 
 /// An input that ends well, and lines that stand in its report, in this order.
