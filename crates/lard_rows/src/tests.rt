@@ -377,6 +377,7 @@ fn a_source_that_fails_behind_each_byte(rt: HostRuntime) -> Result<(), Fail> {
     let alloc = rt.alloc();
     for row in [&ONE_REQUEST, &REQUEST_IN_PARTS] {
         let input = row.input.as_bytes();
+        let whole = row.report.as_bytes();
         for at in 0..input.len() {
             let (status, report) = broken(alloc, input, at)?;
             let lines = input[..at].iter().filter(|byte| **byte == b'\n').count();
@@ -384,12 +385,9 @@ fn a_source_that_fails_behind_each_byte(rt: HostRuntime) -> Result<(), Fail> {
                 Some(event) if event > 0 => before_event(alloc, row.report, event)?,
                 _ => 0,
             };
+            let front = &whole[..wanted.min(whole.len())];
             assert_eq!(rt; status, Status::ReadFault, "at {at}");
-            assert_eq!(rt;
-                report.as_slice(),
-                &row.report.as_bytes()[..wanted],
-                "at {at}"
-            );
+            assert_eq!(rt; report.as_slice(), front, "at {at}");
         }
     }
     Ok(())
