@@ -86,7 +86,8 @@ impl Dispatch {
     /// No connection, and no server set. The configuration passes its check.
     pub fn new(alloc: Global, config: Config) -> Result<Dispatch, NoMemory>
         requires { config_check config ≡ Ok tt }
-        ensures { IfOk result (λ d. d ≡ begun config) }
+        ensures value { IfOk result (λ d. d ≡ begun config) }
+        ensures clock { IfOk result (λ d. AreBefore 0 d.books.sets) }
     {
         let Ok(()) = config.check() else {
             unreachable!();

@@ -78,36 +78,6 @@ fn count_of(later: &Later, number: u32) -> usize {
         .count()
 }
 
-/// What becomes of the first requests of three connections, and of two batches of the third.
-#[derive(Drop)]
-struct Asked {
-    nodes: [u32; 3],
-    batches: [(bool, usize, usize); 2],
-}
-
-fn three_connections(alloc: Global, c: [ConnId; 3]) -> Result<Asked, NoMemory> {
-    let mut dispatch = Dispatch::new(alloc, Config::standard())?;
-    let nodes = [
-        first(&mut dispatch, alloc, c[0], b"/a")?,
-        first(&mut dispatch, alloc, c[1], b"/b")?,
-        first(&mut dispatch, alloc, c[2], b"/a")?,
-    ];
-    let batches = [
-        later(&mut dispatch, alloc, c[2], 8, 7)?,
-        later(&mut dispatch, alloc, c[2], 1, 1)?,
-    ];
-    Ok(Asked { nodes, batches })
-}
-
-#[test]
-fn requests_are_assigned(rt: HostRuntime) -> Result<(), Fail> {
-    let c = [conn(&rt, 1), conn(&rt, 2), conn(&rt, 3)];
-    let Asked { nodes, batches } = three_connections(rt.alloc(), c).ok().ok_or("memory")?;
-    assert_eq!(rt; nodes, [1, 2, 1]);
-    assert_eq!(rt; batches, [(false, 7, 7), (true, 1, 1)]);
-    Ok(())
-}
-
 /// An admitted connection ends: who is admitted in its place, and where.
 fn ended(dispatch: &mut Dispatch, c: ConnId) -> Result<Option<(u32, u32)>, NoMemory>
     requires { AreBefore 0 dispatch.old.books.sets }
@@ -123,57 +93,85 @@ fn ended(dispatch: &mut Dispatch, c: ConnId) -> Result<Option<(u32, u32)>, NoMem
     }
 }
 
-/// What becomes of six connections where four are admitted at a time, as the first ends and the last leaves.
-#[derive(Drop)]
-struct Waited {
-    nodes: [u32; 6],
-    admitted: Option<(u32, u32)>,
-    waiting: [bool; 2],
-    left: bool,
+/// With the standard numbers and two nodes: connections by their numbers, the targets of their first requests, and the nodes
+/// that they go to, or 0.
+const PLACED: &[(u32, &[u8], u32)] = &[(1, b"/a", 1), (2, b"/b", 2), (3, b"/a", 1)];
+
+/// Where four are admitted at a time.
+const CROWDED: &[(u32, &[u8], u32)] = &[
+    (1, b"/a", 1),
+    (2, b"/b", 2),
+    (3, b"/c", 1),
+    (4, b"/d", 2),
+    (5, b"/a", 0),
+    (6, b"/b", 0),
+];
+
+/// Whether connections go where the rows say.
+fn are_placed(
+    dispatch: &mut Dispatch,
+    alloc: Global,
+    rows: &[(u32, &[u8], u32)],
+) -> Result<bool, NoMemory>
+    requires { AreBefore 0 dispatch.old.books.sets }
+    ensures { OnOk result (AreBefore 0 dispatch.new.books.sets) }
+{
+    let mut right = true;
+    'rows: for (number, target, node) in rows {
+        let Some(c) = ConnId::new(*number) else {
+            return Err(NoMemory);
+        };
+        let placed = first(dispatch, alloc, c, target)?;
+        right = right && placed == *node;
+    }
+    Ok(right)
 }
 
-fn six_connections(alloc: Global, c: [ConnId; 6]) -> Result<Waited, NoMemory> {
-    let mut config = Config::standard();
-    config.low = 2;
-    config.high = 3;
+type Batch = (bool, usize, usize);
+
+/// Whether the first requests go where the rows say, and what two batches of one connection get.
+fn assigned(alloc: Global, c: ConnId) -> Result<(bool, Batch, Batch), NoMemory> {
+    let mut dispatch = Dispatch::new(alloc, Config::standard())?;
+    let right = are_placed(&mut dispatch, alloc, PLACED)?;
+    let seven = later(&mut dispatch, alloc, c, 8, 7)?;
+    let one = later(&mut dispatch, alloc, c, 1, 1)?;
+    Ok((right, seven, one))
+}
+
+#[test]
+fn requests_are_assigned(rt: HostRuntime) -> Result<(), Fail> {
+    let found = assigned(rt.alloc(), conn(&rt, 3)).ok().ok_or("memory")?;
+    assert_eq!(rt; found, (true, (false, 7, 7), (true, 1, 1)));
+    Ok(())
+}
+
+/// Whether the first requests go where the rows say, who is admitted once the first ends, and whether the fifth and the sixth
+/// wait then, and the sixth once it has left.
+fn admitted(
+    alloc: Global,
+    config: Config,
+    c: [ConnId; 3],
+) -> Result<(bool, Option<(u32, u32)>, [bool; 3]), NoMemory> {
     match config.check() {
         Ok(()) => {}
         Err(_) => return Err(NoMemory),
     }
     let mut dispatch = Dispatch::new(alloc, config)?;
-    let nodes = [
-        first(&mut dispatch, alloc, c[0], b"/a")?,
-        first(&mut dispatch, alloc, c[1], b"/b")?,
-        first(&mut dispatch, alloc, c[2], b"/c")?,
-        first(&mut dispatch, alloc, c[3], b"/d")?,
-        first(&mut dispatch, alloc, c[4], b"/a")?,
-        first(&mut dispatch, alloc, c[5], b"/b")?,
-    ];
-    let admitted = ended(&mut dispatch, c[0])?;
-    let waiting = [dispatch.waits(c[4]), dispatch.waits(c[5])];
-    dispatch.leave(c[5]);
-    Ok(Waited {
-        nodes,
-        admitted,
-        waiting,
-        left: dispatch.waits(c[5]),
-    })
+    let right = are_placed(&mut dispatch, alloc, CROWDED)?;
+    let next = ended(&mut dispatch, c[0])?;
+    let waiting = [dispatch.waits(c[1]), dispatch.waits(c[2])];
+    dispatch.leave(c[2]);
+    let left = dispatch.waits(c[2]);
+    Ok((right, next, [waiting[0], waiting[1], left]))
 }
 
 #[test]
 fn the_first_of_the_line_is_admitted(rt: HostRuntime) -> Result<(), Fail> {
-    let c = [
-        conn(&rt, 1),
-        conn(&rt, 2),
-        conn(&rt, 3),
-        conn(&rt, 4),
-        conn(&rt, 5),
-        conn(&rt, 6),
-    ];
-    let waited = six_connections(rt.alloc(), c).ok().ok_or("memory")?;
-    assert_eq!(rt; waited.nodes, [1, 2, 1, 2, 0, 0]);
-    assert_eq!(rt; waited.admitted, Some((5, 1)));
-    assert_eq!(rt; waited.waiting, [false, true]);
-    assert!(rt; !waited.left);
+    let mut config = Config::standard();
+    config.low = 2;
+    config.high = 3;
+    let c = [conn(&rt, 1), conn(&rt, 5), conn(&rt, 6)];
+    let found = admitted(rt.alloc(), config, c).ok().ok_or("memory")?;
+    assert_eq!(rt; found, (true, Some((5, 1)), [false, true, false]));
     Ok(())
 }

@@ -1,9 +1,9 @@
 -- Nothing has been decided.
-use Rattle.std.proofs.Common.{sym, subst, List, []}
+use Rattle.std.proofs.Common.{sym, subst, List, [], arith}
 use Rattle.lard_base.proofs.Ranges.{room_bound}
 use Rattle.lard_loads.specs.Tally.{Tally, start}
 use Rattle.lard_dispatch.specs.declared.line.Waiting.{Waiting}
-use Rattle.lard_dispatch.specs.Sound.{IsSound}
+use Rattle.lard_dispatch.specs.Sound.{AreBefore, IsSound}
 use Rattle.lard_dispatch.proofs.Servers.{Sets}
 use Rattle.lard_dispatch.proofs.Soundness.{begun-sound}
 use Rattle.lard_dispatch.proofs.dispatch.Dispatch.new.Goals as goal
@@ -16,3 +16,6 @@ invariant_of-result c = (
       (subst (λ (line : List Waiting). IsSound (record { config = c.args.config; books = record { loads = start c.args.config.nodes; sets = []; line = line } })) (sym c.in_ok-line.ensures)
       (begun-sound c.args.config c.requires (room_bound c.args.config c.in-Ok.ensures.in_range).some_node))),
 )
+
+pub returns-clause-clock : goal.returns-clause-clock
+returns-clause-clock c = subst (AreBefore 0) (sym c.new-sets.ensures) (λ target. omega arith)
