@@ -175,3 +175,21 @@ fn the_first_of_the_line_is_admitted(rt: HostRuntime) -> Result<(), Fail> {
     assert_eq!(rt; found, (true, Some((5, 1)), [false, true, false]));
     Ok(())
 }
+
+/// Whether a node was open when it was closed, and whether it is still.
+fn closed(alloc: Global, n: NodeId) -> Result<(bool, bool), NoMemory> {
+    let mut dispatch = Dispatch::new(alloc, Config::standard())?;
+    if n.number() > 2 || !dispatch.loads().has_other_open(n) {
+        return Err(NoMemory);
+    }
+    let before = dispatch.close(n);
+    Ok((before, dispatch.loads().is_open(n)))
+}
+
+#[test]
+fn a_node_is_closed(rt: HostRuntime) -> Result<(), Fail> {
+    let node = NodeId::new(1).expect(&rt, "the number of a node");
+    let found = closed(rt.alloc(), node).ok().ok_or("memory")?;
+    assert_eq!(rt; found, (true, false));
+    Ok(())
+}
