@@ -9,10 +9,10 @@ use Rattle.lard_client.specs.Control.{ClientBlock}
 use Rattle.lard_journal.specs.declared.rec.Rec.{Rec}
 use Rattle.lard_machine.proofs.Forms.{Forms, step_has}
 use Rattle.lard_machine.specs.Bounds.{HasRule}
-use Rattle.lard_machine.specs.Machine.{acted, client_acted, client_put, front_acted, front_put, machine_step, passed, Act}
+use Rattle.lard_machine.specs.Machine.{Act, acted, client_acted, client_put, front_acted, machine_step, passed, with_seat}
 use Rattle.lard_machine.specs.declared.machine.Machine.{Machine}
-use Rattle.lard_rules.specs.declared.places.FrontConn.{FrontConn}
 use Rattle.lard_rules.specs.declared.places.Turn.{Turn}
+use Rattle.lard_rules.specs.Seat.{Seat}
 use Rattle.lard_schedule.specs.Events.{IsInRange}
 use Rattle.lard_app.specs.Forms.{missing}
 
@@ -52,11 +52,8 @@ acted-grows m e own a = with_more m.journal _
 client-grows : (m : Machine) (e : Event) (own : List Rec) (c iss : ℕ) (was : Bool) (given : ClientBlock × Turn) → Grows m (client_acted m e own c iss was given)
 client-grows m e own c iss was given = acted-grows (client_put m c (record { client = given.0; iss = iss })) e own _
 
-front-grows : (m : Machine) (e : Event) (own : List Rec) (c : ℕ) (given : Option FrontConn × Turn) → Grows m (front_acted m e own c given)
-front-grows m e own c given = go given.0 _ where
-  go : (x : Option FrontConn) (a : Act) → Grows m (acted (front_put m c x) e own a)
-  go None a = acted-grows m e own a
-  go (Some x) a = acted-grows (front_put m c (Some x)) e own a
+front-grows : (m : Machine) (e : Event) (own : List Rec) (c : ℕ) (given : Seat × Turn) → Grows m (front_acted m e own c given)
+front-grows m e own c given = acted-grows (with_seat m c given.0) e own _
 
 forms-grow : (m : Machine) → Forms m (λ e n. Grows m n)
 forms-grow m = record {

@@ -22,12 +22,11 @@ use Rattle.lard_laws_bytes.proofs.Notes.{or-false}
 use Rattle.lard_laws_bytes.proofs.Reading.{Goes, IsReading, Serves, or-last, reads-goes}
 use Rattle.lard_laws_bytes.proofs.Serving.{noted-nothing}
 use Rattle.lard_laws_bytes.proofs.Stopping.{Stops, reads-stops, stopped-alike, stopped-arrived, stopped-begun}
-use Rattle.lard_rules.specs.declared.places.FrontConn.{FrontConn}
-use Rattle.lard_rules.specs.declared.places.FrontConn.TheVariants.{Held, Lent, Closed}
 use Rattle.lard_rules.specs.declared.places.Turn.{Turn}
 use Rattle.lard_rules.specs.Front.{FrontEnv, Service, begun, cut_off, front_gets, front_timer, heard, is_plain_syn, is_telling, last_ack, last_words, limit_said, met, ready_of, reads, refusal, settled, spoken, told, tombstone}
 use Rattle.lard_rules.specs.Client.{silent}
 use Rattle.lard_rules.specs.Speaking.{speaks, speaks_symbols}
+use Rattle.lard_rules.specs.Seat.{Seat, Nowhere, AtFront, Away, Over}
 use Rattle.lard_request.specs.declared.verdict.Verdict.{Verdict}
 use Rattle.lard_segment.specs.declared.segment.Ready.{Ready}
 use Rattle.lard_segment.specs.Segment.{Said}
@@ -53,7 +52,7 @@ closed-open b = go b.reset refl where
   go false e f = e
 
 module _ (env : FrontEnv) (w out : Stream) (vs : List Verdict) (was_reset : Bool) where
-  abbrev Turned : Option FrontConn × Turn → Type 0
+  abbrev Turned : Seat × Turn → Type 0
   Turned given = FrontTurned env.files env.c w out vs was_reset given
 
   abbrev reset_in : Service → Bool
@@ -92,13 +91,13 @@ module _ (env : FrontEnv) (w out : Stream) (vs : List Verdict) (was_reset : Bool
       let said = speaks env.c s.block in
       let talk : Spoke env.c w g.out_now r s.block said = emits-spoke env.c w g.out_now r (emits_left s.block) s.block g.between in
       let holds = still-holds s g r said talk read stops in
-      let P : FrontConn → Type 0 = λ f. FrontAgrees w g.out_now g.vs_now r (Some f) in
+      let P : Seat → Type 0 = λ f. FrontAgrees w g.out_now g.vs_now r f in
       record {
         out_after = g.out_now;
         vs_after = g.vs_now;
         longer = g.longer;
         says = g.says;
-        agrees = cond_both (may_end said.1) (Closed (final_of said.1 (end_reason said.1))) (Held said.1 s.count) P
+        agrees = cond_both (may_end said.1) (Over (final_of said.1 (end_reason said.1))) (AtFront said.1 s.count) P
             (λ may. ended-it g.out_now g.vs_now said.1 (end_reason said.1) r talk.between (λ e. absurd (not_limit said.1 e))
             (ended-as g.out_now g.vs_now said.1 s.count holds may))
             (λ e. holds (or_parts said.1.reset (is_closed said.1) e).0);
@@ -140,7 +139,7 @@ module _ (env : FrontEnv) (w out : Stream) (vs : List Verdict) (was_reset : Bool
     go (Some total) e reset = cut_off-turned s g.0 reset
 
   -- nothing is noted, and the streams stay
-  still-turned : (f : Option FrontConn) (segments : List (Place × List ℕ)) → SaysAnswers env.files w out vs → FrontAgrees w out vs was_reset f
+  still-turned : (f : Seat) (segments : List (Place × List ℕ)) → SaysAnswers env.files w out vs → FrontAgrees w out vs was_reset f
       → AreReplies env.c w out (was_reset || false) segments → Turned (f, record { notes = []; segments = segments; answered = 0 })
   still-turned f segments says agrees sent = record {
     out_after = out;
@@ -185,7 +184,7 @@ module _ (env : FrontEnv) (w out : Stream) (vs : List Verdict) (was_reset : Bool
       let stops = reads-stops env start (λ _. stopped-arrived b s (same-finished w out b (on_segment b s).1 before after) h.stopped) in
       settled-turned (reads env start) (reads-goes env w out vs most (length (on_segment b s).1.recv.unread + 1) start first) stops
 
-  timer-turned : (b : ControlBlock) (count : ℕ) → SaysAnswers env.files w out vs → HoldsIt w out vs b count → Turned (front_timer env (Some (Held b count)))
+  timer-turned : (b : ControlBlock) (count : ℕ) → SaysAnswers env.files w out vs → HoldsIt w out vs b count → Turned (front_timer env (AtFront b count))
   unfolding turn-begins
   timer-turned b count says h =
       let before = held-between b count h in
@@ -226,9 +225,9 @@ module _ (env : FrontEnv) (w out : Stream) (vs : List Verdict) (was_reset : Bool
       }) [] (nothing-read s env.iss none) (λ _. stopped-begun s env.iss) tt
 
   met-turned : (s : Said) → env.iss ≡ out.first → SaysAnswers env.files w out vs → (vs ≡ []) × (out.ended ≡ false) → IsTrueOf w s → Turned (met env s)
-  met-turned s begins says h t = cond_both (is_plain_syn s) (begun env s) (None, silent) Turned
+  met-turned s begins says h t = cond_both (is_plain_syn s) (begun env s) (Nowhere, silent) Turned
       (λ syn. begun-turned s begins says h.0 h.1 (t.greets (and_parts s.flags.syn _ syn).0))
-      (λ _. still-turned None [] says h tt)
+      (λ _. still-turned Nowhere [] says h tt)
 
   -- ---- a connection that ended
 
@@ -259,29 +258,29 @@ module _ (env : FrontEnv) (w out : Stream) (vs : List Verdict) (was_reset : Bool
       (λ _. tt)
 
   tombstone-turned : (last : Final) (o : Option Said) → SaysAnswers env.files w out vs → EndedIt w out vs was_reset last → IfSome o (IsReply w out (was_reset || false))
-      → Turned (Some (Closed last), tombstone env o)
-  tombstone-turned last None says h k = still-turned (Some (Closed last)) [] says h tt
-  tombstone-turned last (Some s) says h k = still-turned (Some (Closed last)) (told env s ∷ []) says h ((refl, (s, refl, k), tt))
+      → Turned (Over last, tombstone env o)
+  tombstone-turned last None says h k = still-turned (Over last) [] says h tt
+  tombstone-turned last (Some s) says h k = still-turned (Over last) (told env s ∷ []) says h ((refl, (s, refl, k), tt))
 
   -- ---- the two rules
 
-  gets-turned : env.stream ≤ 2 ^ 30 → env.iss ≡ out.first → (f : Option FrontConn) (s : Said) → IsStream w → SaysAnswers env.files w out vs
+  gets-turned : env.stream ≤ 2 ^ 30 → env.iss ≡ out.first → (f : Seat) (s : Said) → IsStream w → SaysAnswers env.files w out vs
       → FrontAgrees w out vs was_reset f → s.ack < 2 ^ 32 → IsTrueOf w s → Turned (front_gets env f (Ok s))
-  gets-turned most begins None s is says h fits t = met-turned s begins says h t
-  gets-turned most begins (Some (Held b count)) s is says h fits t = heard-turned most b count s is says h t
-  gets-turned most begins (Some Lent) s is says h fits t = absurd h
-  gets-turned most begins (Some (Closed last)) s is says h fits t = tombstone-turned last (last_words last.reason last s) says h (words-reply last.reason last s fits refl h)
+  gets-turned most begins Nowhere s is says h fits t = met-turned s begins says h t
+  gets-turned most begins (AtFront b count) s is says h fits t = heard-turned most b count s is says h t
+  gets-turned most begins Away s is says h fits t = absurd h
+  gets-turned most begins (Over last) s is says h fits t = tombstone-turned last (last_words last.reason last s) says h (words-reply last.reason last s fits refl h)
 
-  fires-turned : (f : Option FrontConn) → SaysAnswers env.files w out vs → FrontAgrees w out vs was_reset f → Turned (front_timer env f)
-  fires-turned None says h = still-turned None [] says h tt
-  fires-turned (Some (Held b count)) says h = timer-turned b count says h
-  fires-turned (Some Lent) says h = absurd h
-  fires-turned (Some (Closed last)) says h = still-turned (Some (Closed last)) [] says h tt
+  fires-turned : (f : Seat) → SaysAnswers env.files w out vs → FrontAgrees w out vs was_reset f → Turned (front_timer env f)
+  fires-turned Nowhere says h = still-turned Nowhere [] says h tt
+  fires-turned (AtFront b count) says h = timer-turned b count says h
+  fires-turned Away says h = absurd h
+  fires-turned (Over last) says h = still-turned (Over last) [] says h tt
 
 -- ---- the laws
 
 -- the surroundings have the connection's own number and files
-for-its-own : (files : FilesAt) (c : ℕ) (w out : Stream) (vs : List Verdict) (was_reset : Bool) (env : FrontEnv) (given : Option FrontConn × Turn) → IsEnv files c out env
+for-its-own : (files : FilesAt) (c : ℕ) (w out : Stream) (vs : List Verdict) (was_reset : Bool) (env : FrontEnv) (given : Seat × Turn) → IsEnv files c out env
     → (SaysAnswers env.files w out vs → FrontTurned env.files env.c w out vs was_reset given) → SaysAnswers files w out vs → FrontTurned files c w out vs was_reset given
 for-its-own files c w out vs was_reset env given i turned says =
     let Says : FilesAt → Type 0 = λ fs. SaysAnswers fs w out vs in

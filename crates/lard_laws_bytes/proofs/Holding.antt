@@ -14,13 +14,13 @@ use Rattle.lard_history.specs.Journal.{Tale, event_shuts, request, tale_step, to
 use Rattle.lard_history.specs.Own.{EachRow, Letter, Seen, seen_step, tale_of}
 use Rattle.lard_journal.specs.declared.rec.Rec.{Rec}
 use Rattle.lard_journal.specs.declared.rec.Rec.TheVariants as rec
-use Rattle.lard_rules.specs.declared.places.FrontConn.{FrontConn}
 use Rattle.lard_rules.specs.declared.places.Station.{Station}
 use Rattle.lard_rules.specs.declared.places.Turn.{Turn}
 use Rattle.lard_machine.specs.Bounds.{HasRule}
 use Rattle.lard_rules.specs.Client.{client_aborts, client_gets, client_holds, client_opens, client_shuts, client_takes, client_timer, client_writes}
 use Rattle.lard_rules.specs.Front.{front_gets, front_timer}
-use Rattle.lard_machine.specs.Machine.{timer_change}
+use Rattle.lard_rules.specs.Outs.{timer_change}
+use Rattle.lard_rules.specs.Seat.{Seat, Nowhere}
 use Rattle.lard_segment.proofs.Again.{again}
 use Rattle.lard_segment.specs.declared.fault.SegFault.{SegFault}
 use Rattle.lard_segment.specs.declared.segment.Dir.TheVariants.{ToClient, ToCluster}
@@ -57,13 +57,13 @@ Keeps files x v = IsSound x → Unit {0} → (tale_at x).touched ≡ false → I
 -- of a connection whose client opened
 pub record IsOpen (files : FilesAt) (x : Conn) (s : Station) : Type 0 where
   pub talk : Talk
-  pub agreed : Agrees files x.c talk.w talk.out talk.vs s x.part.front (tale_at x)
+  pub agreed : Agrees files x.c talk.w talk.out talk.vs s x.part.seat (tale_at x)
   pub reset_is : (tale_at x).was_reset ≡ talk.was_reset
   pub fair : AreFairOn x.c talk x.letters
 
 pub at-station : (files : FilesAt) (x : Conn) (s : Station) → IsTruthfulAt files x → x.part.station ≡ Some s → IsOpen files x s
 at-station files x s h there =
-    let it : ConnAgrees files x.c h.talk (Some s) x.part.front (tale_at x) = subst (λ (o : Option Station). ConnAgrees files x.c h.talk o x.part.front (tale_at x)) there h.agrees in
+    let it : ConnAgrees files x.c h.talk (Some s) x.part.seat (tale_at x) = subst (λ (o : Option Station). ConnAgrees files x.c h.talk o x.part.seat (tale_at x)) there h.agrees in
     record { talk = h.talk; agreed = it.0; reset_is = it.1; fair = h.packets }
 
 -- what is seen before the notes tells at most that the client shut its side
@@ -117,7 +117,7 @@ module _ (files : FilesAt) (x : Conn) (s : Station) (there : x.part.station ≡ 
     client-truthful = record {
       talk = spoken;
       agrees = (
-        client-agrees files x.c h.talk.w h.talk.out h.talk.vs s x.part.front (tale_at x) h.agreed given (tale_at (grown x says)) k client-adds,
+        client-agrees files x.c h.talk.w h.talk.out h.talk.vs s x.part.seat (tale_at x) h.agreed given (tale_at (grown x says)) k client-adds,
         client-adds.was_reset ∙ sym (or-false (tale_at x).was_reset) ∙ h.reset_is,
       );
       fresh = λ e. let no : Some (record { client = given.0; iss = s.iss }) ≡ None = e in absurd cc;
@@ -145,7 +145,7 @@ module _ (files : FilesAt) (x : Conn) (s : Station) (there : x.part.station ≡ 
       (client-truthful given h (turned h), client-seen given h (turned h))
 
   -- the front end's
-  module _ (given : Option FrontConn × Turn) (h : IsOpen files x s) (k : FrontTurned files x.c h.talk.w h.talk.out h.talk.vs (tale_at x).was_reset given) where
+  module _ (given : Seat × Turn) (h : IsOpen files x s) (k : FrontTurned files x.c h.talk.w h.talk.out h.talk.vs (tale_at x).was_reset given) where
     abbrev answers : Move
     answers = front_does x heads given
 
@@ -163,7 +163,7 @@ module _ (files : FilesAt) (x : Conn) (s : Station) (there : x.part.station ≡ 
         (list_any resets given.1.notes) (omega arith) (omega arith) before-adds (front-notes x.c before given.1.notes k.noted.front)
 
     told-moment : Moment h.talk.w k.out_after k.vs_after reset told
-    told-moment = front-moment files x.c h.talk.w h.talk.out h.talk.vs s x.part.front (tale_at x) h.agreed given told k told-adds
+    told-moment = front-moment files x.c h.talk.w h.talk.out h.talk.vs s x.part.seat (tale_at x) h.agreed given told k told-adds
 
     end-moment : Moment h.talk.w k.out_after k.vs_after reset (tale_at (grown x answers))
     end-moment = subst (Moment h.talk.w k.out_after k.vs_after reset) (sym (grown-tale x answers))
@@ -176,7 +176,7 @@ module _ (files : FilesAt) (x : Conn) (s : Station) (there : x.part.station ≡ 
     front-truthful = record {
       talk = answered;
       agrees = subst (λ (o : Option Station). ConnAgrees files x.c answered o given.0 (tale_at (grown x answers))) (sym there) (
-        front-agrees files x.c h.talk.w h.talk.out h.talk.vs s x.part.front (tale_at x) h.agreed given (tale_at (grown x answers)) k end-moment end-accepted,
+        front-agrees files x.c h.talk.w h.talk.out h.talk.vs s x.part.seat (tale_at x) h.agreed given (tale_at (grown x answers)) k end-moment end-accepted,
         end-moment.was_reset,
       );
       fresh = λ e. let no : Some s ≡ None = sym there ∙ e in absurd cc;
@@ -196,7 +196,7 @@ module _ (files : FilesAt) (x : Conn) (s : Station) (there : x.part.station ≡ 
         (k.noted.serve before tells-so))
         (replies-true files x.c h.talk.w k.out_after k.vs_after reset told given.1.segments k.says k.sent told-moment)
 
-  front-keeps : (given : Option FrontConn × Turn) → ((h : IsOpen files x s) → FrontTurned files x.c h.talk.w h.talk.out h.talk.vs (tale_at x).was_reset given)
+  front-keeps : (given : Seat × Turn) → ((h : IsOpen files x s) → FrontTurned files x.c h.talk.w h.talk.out h.talk.vs (tale_at x).was_reset given)
       → Keeps files x (front_does x heads given)
   front-keeps given turned sound unit untouched inv =
       let h : IsOpen files x s = at-station files x s inv there in
@@ -227,14 +227,14 @@ module _ (files : FilesAt) (x : Conn) (isn iss wnd mss : ℕ) (rule : HasRule (e
   it : ClientOpened x.c (unwritten isn) nobody given
   it = opens-agreeing x.c isn wnd mss nobody rule.4 rule.3 rule.1 rule.2
 
-  unknown : (x.part.front ≡ None) × (tale_at x ≡ untold)
-  unknown = subst (λ (o : Option Station). ConnAgrees files x.c h.talk o x.part.front (tale_at x)) none h.agrees
+  unknown : (x.part.seat ≡ Nowhere) × (tale_at x ≡ untold)
+  unknown = subst (λ (o : Option Station). ConnAgrees files x.c h.talk o x.part.seat (tale_at x)) none h.agrees
 
   told-is : tale_at (grown x v) ≡ opening untold
   told-is = grown-tale x v ∙ client-sends-tale x.c x.c given.1.segments (told_on x.c (tale_before x v) given.1.notes)
       ∙ ap (λ (ns : List Rec). told_on x.c (tale_before x v) ns) it.notes ∙ ap opening unknown.1
 
-  agrees : ConnAgrees files x.c begins (Some after) None (opening untold)
+  agrees : ConnAgrees files x.c begins (Some after) Nowhere (opening untold)
   agrees = (
     record {
       begins = refl;
@@ -256,8 +256,8 @@ module _ (files : FilesAt) (x : Conn) (isn iss wnd mss : ℕ) (rule : HasRule (e
   opens-truthful : IsTruthfulAt files (grown x v)
   opens-truthful = record {
     talk = begins;
-    agrees = subst (λ (t : Tale). ConnAgrees files x.c begins (Some after) x.part.front t) (sym told-is)
-        (subst (λ (f : Option FrontConn). ConnAgrees files x.c begins (Some after) f (opening untold)) (sym unknown.0) agrees);
+    agrees = subst (λ (t : Tale). ConnAgrees files x.c begins (Some after) x.part.seat t) (sym told-is)
+        (subst (λ (f : Seat). ConnAgrees files x.c begins (Some after) f (opening untold)) (sym unknown.0) agrees);
     fresh = λ e. let no : Some after ≡ None = e in absurd cc;
     packets = subst (λ (ls : List Letter). AreFairOn x.c begins (ls ++ letters_of v)) (sym (h.fresh none)) (words-fair x.c begins given.1.segments it.sent);
   }
@@ -274,7 +274,7 @@ ignores-keeps files x from to bytes sound unit untouched h =
     let v : Move = ignoring x from to bytes in (
       record {
         talk = h.talk;
-        agrees = subst (λ (t : Tale). ConnAgrees files x.c h.talk x.part.station x.part.front t) (sym (grown-tale x v)) h.agrees;
+        agrees = subst (λ (t : Tale). ConnAgrees files x.c h.talk x.part.station x.part.seat t) (sym (grown-tale x v)) h.agrees;
         fresh = λ e. append-nil x.letters ∙ h.fresh e;
         packets = subst (AreFairOn x.c h.talk) (sym (append-nil x.letters)) h.packets;
       },
@@ -314,22 +314,22 @@ module _ (k : Setting) (small : k.stream ≤ 2 ^ 30) where
   env x s h = record { number = refl; begins = sym h.agreed.begins; files_are = refl; most = small }
 
   front-hears : (x : Conn) (s : Station) (bytes : List ℕ) → x.part.station ≡ Some s → Was x (Client x.c) Front bytes
-      → Keeps k.files x (front_does x (packet_seen (Client x.c) Front bytes) (front_gets (env_at k x s) x.part.front (decoded bytes x.c ToCluster)))
+      → Keeps k.files x (front_does x (packet_seen (Client x.c) Front bytes) (front_gets (env_at k x s) x.part.seat (decoded bytes x.c ToCluster)))
   front-hears x s bytes there was = front-keeps k.files x s there (packet_seen (Client x.c) Front bytes) (packet-quiet k.files x (Client x.c) Front bytes)
-      (front_gets (env_at k x s) x.part.front (decoded bytes x.c ToCluster)) turned where
+      (front_gets (env_at k x s) x.part.seat (decoded bytes x.c ToCluster)) turned where
         turned : (h : IsOpen k.files x s)
-            → FrontTurned k.files x.c h.talk.w h.talk.out h.talk.vs (tale_at x).was_reset (front_gets (env_at k x s) x.part.front (decoded bytes x.c ToCluster))
+            → FrontTurned k.files x.c h.talk.w h.talk.out h.talk.vs (tale_at x).was_reset (front_gets (env_at k x s) x.part.seat (decoded bytes x.c ToCluster))
         turned h =
             let f : IsFairOn x.c h.talk (Client x.c) Front bytes = fair-letter x.c h.talk (record { from = Client x.c; to = Front; bytes = bytes }) x.letters was h.fair in
             let bounded : IsStream h.talk.w = subst IsStream (sym h.agreed.client.w_is) (speaks-stream s.client.send h.talk.w.bytes h.agreed.client.speaks) in
-            subst (λ (r : Result Said SegFault). FrontTurned k.files x.c h.talk.w h.talk.out h.talk.vs (tale_at x).was_reset (front_gets (env_at k x s) x.part.front r))
+            subst (λ (r : Result Said SegFault). FrontTurned k.files x.c h.talk.w h.talk.out h.talk.vs (tale_at x).was_reset (front_gets (env_at k x s) x.part.seat r))
             (sym (ap (λ (l : List ℕ). decoded l x.c ToCluster) f.1.1 ∙ again x.c ToCluster f.1.0 f.1.2.sendable))
-            (hears-truth k.files x.c h.talk.w h.talk.out h.talk.vs (tale_at x).was_reset (env_at k x s) x.part.front f.1.0 (env x s h) bounded h.agreed.says h.agreed.front
+            (hears-truth k.files x.c h.talk.w h.talk.out h.talk.vs (tale_at x).was_reset (env_at k x s) x.part.seat f.1.0 (env x s h) bounded h.agreed.says h.agreed.front
             f.1.2.sendable.ack_fits f.1.2.true_of)
 
-  front-fires : (x : Conn) (s : Station) → x.part.station ≡ Some s → Keeps k.files x (front_does x (event_seen (event.Timer Front x.c)) (front_timer (env_at k x s) x.part.front))
-  front-fires x s there = front-keeps k.files x s there (event_seen (event.Timer Front x.c)) (event-quiet k.files x (event.Timer Front x.c)) (front_timer (env_at k x s) x.part.front)
-      (λ h. timer-true k.files x.c h.talk.w h.talk.out h.talk.vs (tale_at x).was_reset (env_at k x s) x.part.front (env x s h) h.agreed.says h.agreed.front)
+  front-fires : (x : Conn) (s : Station) → x.part.station ≡ Some s → Keeps k.files x (front_does x (event_seen (event.Timer Front x.c)) (front_timer (env_at k x s) x.part.seat))
+  front-fires x s there = front-keeps k.files x s there (event_seen (event.Timer Front x.c)) (event-quiet k.files x (event.Timer Front x.c)) (front_timer (env_at k x s) x.part.seat)
+      (λ h. timer-true k.files x.c h.talk.w h.talk.out h.talk.vs (tale_at x).was_reset (env_at k x s) x.part.seat (env x s h) h.agreed.says h.agreed.front)
 
   keeping : UntouchedRules k (Keeps k.files)
   keeping = record {

@@ -10,10 +10,9 @@ use Rattle.lard_history.specs.Journal.{Tale, fin_sent, tale, tale_step}
 use Rattle.lard_history.proofs.Tales.{fin-tale}
 use Rattle.lard_journal.specs.declared.rec.Rec.{Rec}
 use Rattle.lard_journal.specs.declared.rec.Rec.TheVariants as rec
-use Rattle.lard_rules.specs.declared.places.FrontConn.{FrontConn}
-use Rattle.lard_rules.specs.declared.places.FrontConn.TheVariants.{Held, Lent, Closed}
 use Rattle.lard_rules.specs.declared.places.Station.{Station}
 use Rattle.lard_rules.specs.declared.places.Turn.{Turn}
+use Rattle.lard_rules.specs.Seat.{Seat, Nowhere, AtFront, Away, Over}
 use Rattle.lard_request.specs.declared.verdict.Verdict.{Verdict}
 use Rattle.lard_endpoint.specs.declared.control.moving.Final.{Final}
 use Rattle.lard_seq.specs.Seq.{seq_add}
@@ -58,11 +57,11 @@ module _ (w v : Stream) (g : GoesOn w v) where
   ended-grown : (out : Stream) (vs : List Verdict) (last : Final) → EndedAs w out vs last → EndedAs v out vs last
   ended-grown out vs last h = record { block = h.block; count = h.count; held = holds-grown out vs h.block h.count h.held; both = h.both; is = h.is }
 
-  pub front-grown : (out : Stream) (vs : List Verdict) (reset : Bool) (f : Option FrontConn) → FrontAgrees w out vs reset f → FrontAgrees v out vs reset f
-  front-grown out vs reset None h = h
-  front-grown out vs reset (Some (Held b count)) h = holds-grown out vs b count h
-  front-grown out vs reset (Some Lent) h = h
-  front-grown out vs reset (Some (Closed last)) h = record {
+  pub front-grown : (out : Stream) (vs : List Verdict) (reset : Bool) (f : Seat) → FrontAgrees w out vs reset f → FrontAgrees v out vs reset f
+  front-grown out vs reset Nowhere h = h
+  front-grown out vs reset (AtFront b count) h = holds-grown out vs b count h
+  front-grown out vs reset Away h = h
+  front-grown out vs reset (Over last) h = record {
     snd_fits = h.snd_fits;
     acks = acks-grown last h.acks;
     limit = h.limit;
@@ -74,7 +73,7 @@ module _ (w v : Stream) (g : GoesOn w v) where
 plus-zero : (n m : ℕ) → n ≡ m + 0 → n ≡ m
 plus-zero n m e = omega (arith, e)
 
-module _ (files : FilesAt) (c : ℕ) (w out : Stream) (vs : List Verdict) (x : Station) (f : Option FrontConn) (t : Tale) (a : Agrees files c w out vs x f t) where
+module _ (files : FilesAt) (c : ℕ) (w out : Stream) (vs : List Verdict) (x : Station) (f : Seat) (t : Tale) (a : Agrees files c w out vs x f t) where
   -- after a client's turn
   pub client-agrees : (given : ClientBlock × Turn) (u : Tale) (k : ClientTurned c w out x.client given)
       → Adds t (written_in given.1.notes) (accepted_in given.1.notes) 0 0 false u → Agrees files c k.w_after out vs (record { client = given.0; iss = x.iss }) f u
@@ -100,7 +99,7 @@ module _ (files : FilesAt) (c : ℕ) (w out : Stream) (vs : List Verdict) (x : S
   }
 
   -- at the end of the notes of the front end's turn
-  pub front-moment : (given : Option FrontConn × Turn) (u : Tale) (k : FrontTurned files c w out vs t.was_reset given)
+  pub front-moment : (given : Seat × Turn) (u : Tale) (k : FrontTurned files c w out vs t.was_reset given)
       → Adds t [] [] (served_in given.1.notes) (size_in given.1.notes) (list_any resets given.1.notes) u → Moment w k.out_after k.vs_after (t.was_reset || list_any resets given.1.notes) u
   front-moment given u k adds = record {
     numbers = adds.numbers ∙ a.tale.numbers ∙ ap (λ (n : ℕ). Some (record { isn = w.first; iss = n })) (sym k.longer.first);
@@ -112,7 +111,7 @@ module _ (files : FilesAt) (c : ℕ) (w out : Stream) (vs : List Verdict) (x : S
   }
 
   -- after the front end's turn
-  pub front-agrees : (given : Option FrontConn × Turn) (u : Tale) (k : FrontTurned files c w out vs t.was_reset given)
+  pub front-agrees : (given : Seat × Turn) (u : Tale) (k : FrontTurned files c w out vs t.was_reset given)
       → Moment w k.out_after k.vs_after (t.was_reset || list_any resets given.1.notes) u → u.accepted ≡ t.accepted → Agrees files c w k.out_after k.vs_after x given.0 u
   front-agrees given u k m same = record {
     begins = k.longer.first ∙ a.begins;

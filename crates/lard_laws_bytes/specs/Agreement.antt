@@ -13,9 +13,8 @@ use Rattle.lard_endpoint.specs.Control.{ControlBlock, IsControlBlock}
 use Rattle.lard_endpoint.specs.declared.control.moving.Final.{Final}
 use Rattle.lard_endpoint.specs.Moving.{is_closed, final_of}
 use Rattle.lard_history.specs.Journal.{Tale}
-use Rattle.lard_rules.specs.declared.places.FrontConn.{FrontConn}
-use Rattle.lard_rules.specs.declared.places.FrontConn.TheVariants.{Held, Lent, Closed}
 use Rattle.lard_rules.specs.declared.places.Station.{Station}
+use Rattle.lard_rules.specs.Seat.{Seat, Nowhere, AtFront, Away, Over}
 use Rattle.lard_request.specs.declared.verdict.Verdict.{Verdict}
 use Rattle.lard_segment.specs.declared.segment.Dir.TheVariants.{ToClient, ToCluster}
 use Rattle.lard_segment.specs.Segment.{Said, IsSendable, spelled}
@@ -90,11 +89,11 @@ pub record EndedIt (w out : Stream) (vs : List Verdict) (was_reset : Bool) (last
   pub limit : last.reason ≡ reason.Limit → was_reset ≡ true
   pub closed : last.reason ≡ reason.Closed → EndedAs w out vs last
 
-abbrev pub FrontAgrees : Stream → Stream → List Verdict → Bool → Option FrontConn → Type 0
-FrontAgrees w out vs was_reset None = (vs ≡ []) × (out.ended ≡ false)
-FrontAgrees w out vs was_reset (Some (Held b count)) = HoldsIt w out vs b count
-FrontAgrees w out vs was_reset (Some Lent) = ⊥
-FrontAgrees w out vs was_reset (Some (Closed last)) = EndedIt w out vs was_reset last
+abbrev pub FrontAgrees : Stream → Stream → List Verdict → Bool → Seat → Type 0
+FrontAgrees w out vs was_reset Nowhere = (vs ≡ []) × (out.ended ≡ false)
+FrontAgrees w out vs was_reset (AtFront b count) = HoldsIt w out vs b count
+FrontAgrees w out vs was_reset Away = ⊥
+FrontAgrees w out vs was_reset (Over last) = EndedIt w out vs was_reset last
 
 -- What was said to the client are the answers to these verdicts, which are the first on what the client wrote, however
 -- that goes on.
@@ -127,7 +126,7 @@ pub record TaleAgrees (w out : Stream) (vs : List Verdict) (x : ClientBlock) (t 
   pub fin : t.fin_sent ≡ true → out.ended ≡ true
 
 -- ---- all of one connection
-pub record Agrees (files : FilesAt) (c : ℕ) (w out : Stream) (vs : List Verdict) (x : Station) (f : Option FrontConn) (t : Tale) : Type 0 where
+pub record Agrees (files : FilesAt) (c : ℕ) (w out : Stream) (vs : List Verdict) (x : Station) (f : Seat) (t : Tale) : Type 0 where
   pub begins : out.first ≡ x.iss
   pub says : SaysAnswers files w out vs
   pub client : ClientAgrees c w out x.client

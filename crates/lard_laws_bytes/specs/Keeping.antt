@@ -8,10 +8,10 @@ use Rattle.lard_history.specs.Journal.{Tale, tale}
 use Rattle.lard_history.specs.Laws.{MayServe}
 use Rattle.lard_journal.specs.declared.rec.Rec.{Rec}
 use Rattle.lard_journal.specs.declared.rec.Rec.TheVariants as rec
-use Rattle.lard_rules.specs.declared.places.FrontConn.{FrontConn}
 use Rattle.lard_rules.specs.declared.places.Turn.{Turn}
 use Rattle.lard_rules.specs.Client.{client_gets, client_opens, client_writes}
 use Rattle.lard_rules.specs.Front.{FrontEnv, front_gets, front_timer}
+use Rattle.lard_rules.specs.Seat.{Seat}
 use Rattle.lard_request.specs.declared.verdict.Verdict.{Verdict}
 use Rattle.lard_segment.specs.Segment.{Said}
 use Rattle.lard_truth.specs.Truth.{Stream, IsStream, GoesOn, IsTrueOf}
@@ -69,7 +69,7 @@ pub record AreNoted (files : FilesAt) (c : ℕ) (w out : Stream) (vs vs_after : 
 
 -- Between the front end's states before and after a turn: the cluster's stream goes on by the answers to more verdicts,
 -- as its notes say, and all that was sent is true of it.
-pub record FrontTurned (files : FilesAt) (c : ℕ) (w out : Stream) (vs : List Verdict) (was_reset : Bool) (given : Option FrontConn × Turn) : Type 0 where
+pub record FrontTurned (files : FilesAt) (c : ℕ) (w out : Stream) (vs : List Verdict) (was_reset : Bool) (given : Seat × Turn) : Type 0 where
   pub out_after : Stream
   pub vs_after : List Verdict
   pub longer : GoesOn out out_after
@@ -86,12 +86,12 @@ pub record IsEnv (files : FilesAt) (c : ℕ) (out : Stream) (env : FrontEnv) : T
   pub most : env.stream ≤ MAX_STREAM_BYTES
 
 abbrev pub FrontHearsTruth : Type 0
-FrontHearsTruth = (files : FilesAt) (c : ℕ) (w out : Stream) (vs : List Verdict) (was_reset : Bool) (env : FrontEnv) (f : Option FrontConn) (s : Said)
+FrontHearsTruth = (files : FilesAt) (c : ℕ) (w out : Stream) (vs : List Verdict) (was_reset : Bool) (env : FrontEnv) (f : Seat) (s : Said)
     → IsEnv files c out env → IsStream w → SaysAnswers files w out vs → FrontAgrees w out vs was_reset f → s.ack < 2 ^ 32 → IsTrueOf w s
     → FrontTurned files c w out vs was_reset (front_gets env f (Ok s))
 
 abbrev pub FrontTimerIsTrue : Type 0
-FrontTimerIsTrue = (files : FilesAt) (c : ℕ) (w out : Stream) (vs : List Verdict) (was_reset : Bool) (env : FrontEnv) (f : Option FrontConn)
+FrontTimerIsTrue = (files : FilesAt) (c : ℕ) (w out : Stream) (vs : List Verdict) (was_reset : Bool) (env : FrontEnv) (f : Seat)
     → IsEnv files c out env → SaysAnswers files w out vs → FrontAgrees w out vs was_reset f
     → FrontTurned files c w out vs was_reset (front_timer env f)
 

@@ -8,8 +8,8 @@ use Rattle.lard_history.specs.Laws.{MayServe, MayTell}
 use Rattle.lard_history.specs.Own.{Letter}
 use Rattle.lard_journal.specs.declared.rec.Rec.{Rec}
 use Rattle.lard_journal.specs.declared.rec.Rec.TheVariants as rec
-use Rattle.lard_rules.specs.declared.places.FrontConn.{FrontConn}
 use Rattle.lard_rules.specs.declared.places.Station.{Station}
+use Rattle.lard_rules.specs.Seat.{Seat, Nowhere}
 use Rattle.lard_request.specs.declared.verdict.Verdict.{Verdict}
 use Rattle.lard_segment.specs.declared.segment.Dir.TheVariants.{ToClient, ToCluster}
 use Rattle.lard_segment.specs.Segment.{Said, spelled}
@@ -26,8 +26,8 @@ pub record Talk : Type 0 where
   pub was_reset : Bool
 
 -- One connection agrees; of one whose client has not opened nothing is kept or said.
-abbrev pub ConnAgrees : FilesAt → ℕ → Talk → Option Station → Option FrontConn → Tale → Type 0
-ConnAgrees files c k None f t = (f ≡ None) × (t ≡ untold)
+abbrev pub ConnAgrees : FilesAt → ℕ → Talk → Option Station → Seat → Tale → Type 0
+ConnAgrees files c k None f t = (f ≡ Nowhere) × (t ≡ untold)
 ConnAgrees files c k (Some x) f t = Agrees files c k.w k.out k.vs x f t × (t.was_reset ≡ k.was_reset)
 
 -- A packet of the connection is true now: of the client's stream, or of the cluster's.
@@ -43,7 +43,7 @@ AreFairOn c k (l ∷ ls) = IsFairOn c k l.from l.to l.bytes × AreFairOn c k ls
 -- What its client, the front end, the journal and all its packets say agrees.
 pub record IsTruthfulAt (files : FilesAt) (x : Conn) : Type 0 where
   pub talk : Talk
-  pub agrees : ConnAgrees files x.c talk x.part.station x.part.front (tale_at x)
+  pub agrees : ConnAgrees files x.c talk x.part.station x.part.seat (tale_at x)
   pub fresh : x.part.station ≡ None → x.letters ≡ []
   pub packets : AreFairOn x.c talk x.letters
 

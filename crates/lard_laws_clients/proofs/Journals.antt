@@ -17,12 +17,13 @@ use Rattle.lard_laws_bytes.specs.Truthful.{IsTruthfulAt}
 use Rattle.lard_laws_clients.specs.Laws.{Gets, MayTake, got_step, last_got}
 use Rattle.lard_laws_clients.proofs.Taking.{GetsBy, Owes, TakesBy, TakesNothing}
 use Rattle.lard_machine.specs.declared.machine.Machine.{Machine}
-use Rattle.lard_machine.specs.Machine.{sent_records, timer_change}
+use Rattle.lard_machine.specs.Machine.{sent_records}
 use Rattle.lard_net.specs.Net.{Packet, packet_at}
 use Rattle.lard_seq.specs.Seq.{seq_add}
 use Rattle.lard_view.specs.Carry.{TellsBy, Untouched}
 use Rattle.lard_view.specs.View.{IsSound, Part, armed_at, conn, part_of, timer_rows}
 use Rattle.lard_view.proofs.Acts.{Acts, IsDelivered, behind}
+use Rattle.lard_rules.specs.Outs.{timer_change}
 
 -- ---- records that take nothing
 

@@ -16,12 +16,12 @@ use Rattle.lard_journal.specs.declared.rec.Rec.{Rec}
 use Rattle.lard_journal.specs.declared.rec.Rec.TheVariants as rec
 use Rattle.lard_laws_places.specs.Places.{IsBetween}
 use Rattle.lard_machine.specs.declared.machine.Machine.{Machine}
-use Rattle.lard_rules.specs.declared.places.FrontConn.{FrontConn}
 use Rattle.lard_rules.specs.declared.places.Station.{Station}
 use Rattle.lard_rules.specs.declared.places.Turn.{Turn}
 use Rattle.lard_rules.specs.Client.{client_aborts, client_gets, client_holds, client_injects, client_opens, client_shuts, client_takes, client_timer, client_writes}
 use Rattle.lard_rules.specs.Front.{front_gets, front_timer}
-use Rattle.lard_machine.specs.Machine.{acted, client_acted, env_of, front_acted, packets_of}
+use Rattle.lard_rules.specs.Seat.{Seat}
+use Rattle.lard_machine.specs.Machine.{acted, client_acted, env_of, front_acted, packets_of, seat}
 use Rattle.lard_machine.proofs.Forms.{Forms}
 use Rattle.lard_net.specs.Net.{Packet, lose_at, packet_at}
 use Rattle.lard_segment.specs.declared.segment.Dir.TheVariants.{ToClient, ToCluster}
@@ -69,17 +69,11 @@ module _ (m : Machine) (h : AreBetween m) where
       (Each-weaker (IsBetween m.clients) (IsBetween more) (still-between m.clients more (opened-grows m.clients c x)) m.net h)
       (sent-between more c (place.Client c) place.Front opened (inl (refl, refl)) given.1.segments turn.to)
 
-  front-between : (e : Event) (own : List Rec) (c : ℕ) (x : Station) (given : Option FrontConn × Turn) → table.get m.clients c ≡ Some x → IsFrontTurn c (table.get m.conns c) given
+  front-between : (e : Event) (own : List Rec) (c : ℕ) (x : Station) (given : Seat × Turn) → table.get m.clients c ≡ Some x → IsFrontTurn c (seat m c) given
       → AreBetween (front_acted m e own c given)
   unfolding acted
-  front-between e own c x given is turn = go given.0 where
-    all : Each (IsBetween m.clients) (m.net ++ packets_of place.Front given.1.segments)
-    all = Each-append (IsBetween m.clients) m.net (packets_of place.Front given.1.segments) h
-        (sent-between m.clients c place.Front (place.Client c) (subst (λ (o : Option Station). IsSome o) (sym is) refl) (inr (refl, refl)) given.1.segments turn.to)
-
-    go : (f : Option FrontConn) → AreBetween (front_acted m e own c (f, given.1))
-    go None = all
-    go (Some y) = all
+  front-between e own c x given is turn = Each-append (IsBetween m.clients) m.net (packets_of place.Front given.1.segments) h
+      (sent-between m.clients c place.Front (place.Client c) (subst (λ (o : Option Station). IsSome o) (sym is) refl) (inr (refl, refl)) given.1.segments turn.to)
 
   pub forms-between : ((c : ℕ) (x : Station) → table.get m.clients c ≡ Some x → x.client.c ≡ c) → Forms m (λ e n. AreBetween n)
   forms-between number = record {
@@ -92,9 +86,9 @@ module _ (m : Machine) (h : AreBetween m) where
     takes = λ c x is. client-between (event.Take c) [] c x.iss (is_armed x.client) (client_takes x.client) (takes-turn c x.client (number c x is));
     injects = λ c bytes x rule is. client-between (event.Inject c bytes) (rec.Injected c ∷ []) c x.iss (is_armed x.client) (client_injects x.client bytes) (injects-turn c x.client (number c x is) bytes);
     client_timer = λ d c x same is. client-between (event.Timer (place.Client d) c) [] c x.iss (is_armed x.client) (client_timer x.client) (fires-turn c x.client (number c x is));
-    front_timer = λ c x is. front-between (event.Timer place.Front c) [] c x (front_timer (env_of m c x.iss) (table.get m.conns c)) is (front_fires-turn (env_of m c x.iss) (table.get m.conns c));
-    front_gets = λ k c p x at on from to is. front-between (event.Deliver k) (rec.Got k ∷ []) c x (front_gets (env_of m c x.iss) (table.get m.conns c) (decoded p.bytes c ToCluster)) is
-        (front_gets-turn (env_of m c x.iss) (table.get m.conns c) (decoded p.bytes c ToCluster));
+    front_timer = λ c x is. front-between (event.Timer place.Front c) [] c x (front_timer (env_of m c x.iss) (seat m c)) is (front_fires-turn (env_of m c x.iss) (seat m c));
+    front_gets = λ k c p x at on from to is. front-between (event.Deliver k) (rec.Got k ∷ []) c x (front_gets (env_of m c x.iss) (seat m c) (decoded p.bytes c ToCluster)) is
+        (front_gets-turn (env_of m c x.iss) (seat m c) (decoded p.bytes c ToCluster));
     client_gets = λ k c p x at on to is. client-between (event.Deliver k) (rec.Got k ∷ []) c x.iss (is_armed x.client) (client_gets x.client (decoded p.bytes c ToClient)) (hears-turn c x.client (number c x is) (decoded p.bytes c ToClient));
     nobody = λ k p at on. h;
     loses = λ k p at on. lost-between m.clients (k - 1) m.net h;

@@ -17,12 +17,12 @@ use Rattle.lard_laws_places.specs.Places.{goal_in, lost_in}
 use Rattle.lard_laws_places.proofs.Following.{Adds}
 use Rattle.lard_laws_places.proofs.Linked.{IsUncounted, Linked, acted-linked, delivers, loses, uncounted-all}
 use Rattle.lard_machine.specs.declared.machine.Machine.{Machine}
-use Rattle.lard_rules.specs.declared.places.FrontConn.{FrontConn}
 use Rattle.lard_rules.specs.declared.places.Station.{Station}
 use Rattle.lard_rules.specs.declared.places.Turn.{Turn}
 use Rattle.lard_rules.specs.Client.{client_aborts, client_gets, client_holds, client_injects, client_opens, client_shuts, client_takes, client_timer, client_writes}
 use Rattle.lard_rules.specs.Front.{front_gets, front_timer}
-use Rattle.lard_machine.specs.Machine.{Act, acted, client_acted, client_put, env_of, front_acted, front_armed, front_put, start}
+use Rattle.lard_rules.specs.Seat.{Seat, front_armed}
+use Rattle.lard_machine.specs.Machine.{Act, acted, client_acted, client_put, env_of, front_acted, seat, start, with_seat}
 use Rattle.lard_machine.proofs.Forms.{Forms}
 use Rattle.lard_net.specs.Net.{Packet, packet_at}
 use Rattle.lard_segment.specs.declared.segment.Dir.TheVariants.{ToClient, ToCluster}
@@ -56,18 +56,11 @@ module _ (m : Machine) (l : IsLinked m) where
       let a : Act = record { place = place.Client c; c = c; turn = given.1; was_armed = was; is_armed = is_armed given.0 } in
       acted-linked (client_put m c (record { client = given.0; iss = iss })) e own a (Each-weaker (NotedAt (place.Client c) c) IsUncounted (note-uncounted (place.Client c) c) given.1.notes turn.notes) turn.answered b
 
-  front-linked : (e : Event) (own : List Rec) (c : ℕ) (given : Option FrontConn × Turn) → Begun e own → IsFrontTurn c (table.get m.conns c) given → IsLinked (front_acted m e own c given)
+  front-linked : (e : Event) (own : List Rec) (c : ℕ) (given : Seat × Turn) → Begun e own → IsFrontTurn c (seat m c) given → IsLinked (front_acted m e own c given)
   unfolding acted
-  front-linked e own c given b turn = go given.0 where
-    act : Bool → Act
-    act is = record { place = place.Front; c = c; turn = given.1; was_armed = front_armed (table.get m.conns c); is_armed = is }
-
-    few : Each IsUncounted given.1.notes
-    few = Each-weaker (NotedAt place.Front c) IsUncounted (note-uncounted place.Front c) given.1.notes turn.notes
-
-    go : (f : Option FrontConn) → IsLinked (front_acted m e own c (f, given.1))
-    go None = acted-linked m e own (act false) few turn.answered b
-    go (Some y) = acted-linked (front_put m c (Some y)) e own (act (front_armed (Some y))) few turn.answered b
+  front-linked e own c given b turn =
+      let a : Act = record { place = place.Front; c = c; turn = given.1; was_armed = front_armed (seat m c); is_armed = front_armed given.0 } in
+      acted-linked (with_seat m c given.0) e own a (Each-weaker (NotedAt place.Front c) IsUncounted (note-uncounted place.Front c) given.1.notes turn.notes) turn.answered b
 
   pub forms-link : ((c : ℕ) (x : Station) → table.get m.clients c ≡ Some x → x.client.c ≡ c) → Forms m (λ e n. IsLinked n)
   forms-link number = record {
@@ -82,10 +75,10 @@ module _ (m : Machine) (l : IsLinked m) where
     injects = λ c bytes x rule is. client-linked (event.Inject c bytes) (rec.Injected c ∷ []) c x.iss (is_armed x.client) (client_injects x.client bytes)
         (begun (event.Inject c bytes) (rec.Injected c ∷ []) (tt, tt) refl) (injects-turn c x.client (number c x is) bytes);
     client_timer = λ d c x same is. client-linked (event.Timer (place.Client d) c) [] c x.iss (is_armed x.client) (client_timer x.client) (begun (event.Timer (place.Client d) c) [] tt refl) (fires-turn c x.client (number c x is));
-    front_timer = λ c x is. front-linked (event.Timer place.Front c) [] c (front_timer (env_of m c x.iss) (table.get m.conns c)) (begun (event.Timer place.Front c) [] tt refl)
-        (front_fires-turn (env_of m c x.iss) (table.get m.conns c));
-    front_gets = λ k c p x at on from to is. front-linked (event.Deliver k) (rec.Got k ∷ []) c (front_gets (env_of m c x.iss) (table.get m.conns c) (decoded p.bytes c ToCluster))
-        (delivers m.journal m.net m.answered (m.events + 1) k p at on l) (front_gets-turn (env_of m c x.iss) (table.get m.conns c) (decoded p.bytes c ToCluster));
+    front_timer = λ c x is. front-linked (event.Timer place.Front c) [] c (front_timer (env_of m c x.iss) (seat m c)) (begun (event.Timer place.Front c) [] tt refl)
+        (front_fires-turn (env_of m c x.iss) (seat m c));
+    front_gets = λ k c p x at on from to is. front-linked (event.Deliver k) (rec.Got k ∷ []) c (front_gets (env_of m c x.iss) (seat m c) (decoded p.bytes c ToCluster))
+        (delivers m.journal m.net m.answered (m.events + 1) k p at on l) (front_gets-turn (env_of m c x.iss) (seat m c) (decoded p.bytes c ToCluster));
     client_gets = λ k c p x at on to is. client-linked (event.Deliver k) (rec.Got k ∷ []) c x.iss (is_armed x.client) (client_gets x.client (decoded p.bytes c ToClient))
         (delivers m.journal m.net m.answered (m.events + 1) k p at on l) (hears-turn c x.client (number c x is) (decoded p.bytes c ToClient));
     nobody = λ k p at on. delivers m.journal m.net m.answered (m.events + 1) k p at on.0 l;

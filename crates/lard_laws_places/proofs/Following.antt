@@ -16,12 +16,13 @@ use Rattle.lard_journal.specs.declared.rec.Rec.{Rec}
 use Rattle.lard_journal.specs.declared.rec.Rec.TheVariants as rec
 use Rattle.lard_machine.proofs.Forms.{Forms}
 use Rattle.lard_machine.specs.declared.machine.Machine.{Machine}
-use Rattle.lard_rules.specs.declared.places.FrontConn.{FrontConn}
 use Rattle.lard_rules.specs.declared.places.Station.{Station}
 use Rattle.lard_rules.specs.declared.places.Turn.{Turn}
 use Rattle.lard_rules.specs.Client.{client_aborts, client_gets, client_holds, client_injects, client_opens, client_shuts, client_takes, client_timer, client_writes, silent, speaking}
 use Rattle.lard_rules.specs.Front.{front_gets, front_timer}
-use Rattle.lard_machine.specs.Machine.{Act, acted, client_acted, env_of, front_acted, front_armed, front_put, passed, records, sent_records, timer_change}
+use Rattle.lard_rules.specs.Outs.{timer_change}
+use Rattle.lard_rules.specs.Seat.{Seat, front_armed}
+use Rattle.lard_machine.specs.Machine.{Act, acted, client_acted, env_of, front_acted, passed, records, seat, sent_records, with_seat}
 use Rattle.lard_net.specs.Net.{lose_at}
 use Rattle.lard_segment.specs.declared.fault.SegFault.{SegFault}
 use Rattle.lard_segment.specs.declared.segment.Dir.TheVariants.{ToClient, ToCluster}
@@ -115,11 +116,9 @@ module _ (m : Machine) where
   client-adds e own c iss was given has =
       acted-adds (record m { clients = table.insert m.clients c (record { client = given.0; iss = iss }) }) e own (record { place = place.Client c; c = c; turn = given.1; was_armed = was; is_armed = is_armed given.0 }) refl refl has
 
-  front-adds : (e : Event) (own : List Rec) (c : ℕ) (given : Option FrontConn × Turn) → HasOwn e (own ++ given.1.notes) → Adds m (front_acted m e own c given) e
-  front-adds e own c given has = go given.0 where
-    go : (conn : Option FrontConn) → Adds m (front_acted m e own c (conn, given.1)) e
-    go None = acted-adds m e own (record { place = place.Front; c = c; turn = given.1; was_armed = front_armed (table.get m.conns c); is_armed = false }) refl refl has
-    go (Some conn) = acted-adds (front_put m c (Some conn)) e own (record { place = place.Front; c = c; turn = given.1; was_armed = front_armed (table.get m.conns c); is_armed = front_armed (Some conn) }) refl refl has
+  front-adds : (e : Event) (own : List Rec) (c : ℕ) (given : Seat × Turn) → HasOwn e (own ++ given.1.notes) → Adds m (front_acted m e own c given) e
+  front-adds e own c given has =
+      acted-adds (with_seat m c given.0) e own (record { place = place.Front; c = c; turn = given.1; was_armed = front_armed (seat m c); is_armed = front_armed given.0 }) refl refl has
 
   -- a client writes these bytes or none
   writes-own : (x : ClientBlock) (c : ℕ) (bytes : List ℕ) → x.c ≡ c
@@ -148,12 +147,12 @@ module _ (m : Machine) where
     injects = λ c bytes x rule is. client-adds (event.Inject c bytes) (rec.Injected c ∷ []) c x.iss (is_armed x.client) (client_injects x.client bytes) (rec.Injected c ∷ [], [], refl, refl, refl);
     client_timer = λ d c x same is. client-adds (event.Timer (place.Client d) c) [] c x.iss (is_armed x.client) (client_timer x.client) ([], [], refl, refl, refl);
     front_timer = λ c x is.
-        let given = front_timer (env_of m c x.iss) (table.get m.conns c) in
-        front-adds (event.Timer place.Front c) [] c given ([], given.1.notes, refl, refl, fronts-others c given.1.notes (front_fires-turn (env_of m c x.iss) (table.get m.conns c)).notes);
+        let given = front_timer (env_of m c x.iss) (seat m c) in
+        front-adds (event.Timer place.Front c) [] c given ([], given.1.notes, refl, refl, fronts-others c given.1.notes (front_fires-turn (env_of m c x.iss) (seat m c)).notes);
     front_gets = λ k c p x at on from to is.
-        let given = front_gets (env_of m c x.iss) (table.get m.conns c) (decoded p.bytes c ToCluster) in
+        let given = front_gets (env_of m c x.iss) (seat m c) (decoded p.bytes c ToCluster) in
         front-adds (event.Deliver k) (rec.Got k ∷ []) c given
-        (rec.Got k ∷ [], given.1.notes, refl, refl, fronts-others c given.1.notes (front_gets-turn (env_of m c x.iss) (table.get m.conns c) (decoded p.bytes c ToCluster)).notes);
+        (rec.Got k ∷ [], given.1.notes, refl, refl, fronts-others c given.1.notes (front_gets-turn (env_of m c x.iss) (seat m c) (decoded p.bytes c ToCluster)).notes);
     client_gets = λ k c p x at on to is.
         let given = client_gets x.client (decoded p.bytes c ToClient) in
         client-adds (event.Deliver k) (rec.Got k ∷ []) c x.iss (is_armed x.client) given (rec.Got k ∷ [], given.1.notes, refl, refl, gets-others x.client (decoded p.bytes c ToClient));

@@ -23,16 +23,16 @@ use Rattle.lard_history.proofs.Tales.{told_on-append}
 use Rattle.lard_journal.specs.declared.rec.Rec.{Rec}
 use Rattle.lard_journal.specs.declared.rec.Rec.TheVariants as rec
 use Rattle.lard_laws_places.specs.Places.{FrontStands, FrontTale, IsFronts, IsServing, IsUntaken, client_tale, front_tale}
+use Rattle.lard_rules.proofs.Sound.{answer-some}
 use Rattle.lard_rules.proofs.Totals.{segment-many, timer-many}
 use Rattle.lard_view.proofs.Endpoints.{AllTo, ready-to, speaks-to, speaks_symbols-to}
 use Rattle.lard_laws_places.proofs.Telling.{MayStand, Tells}
 use Rattle.lard_view.proofs.Rows.{TellsBy-append}
-use Rattle.lard_rules.specs.declared.places.FrontConn.{FrontConn}
-use Rattle.lard_rules.specs.declared.places.FrontConn.TheVariants.{Held, Lent, Closed}
 use Rattle.lard_rules.specs.declared.places.Turn.{Turn}
 use Rattle.lard_rules.specs.Client.{silent}
 use Rattle.lard_rules.specs.Front.{FrontEnv, Service, answered, begun, closed_behind, consumed, cut_off, front_gets, front_hears, front_timer, is_plain_syn, last_words, limit_said, may_read, met, passed_over, queued, read_found, reads_on, ready_of, replied, rested, settled, spoken, told, tombstone}
 use Rattle.lard_rules.specs.Speaking.{speaks, speaks_symbols}
+use Rattle.lard_rules.specs.Seat.{Seat, Nowhere, AtFront, Away, Over}
 use Rattle.lard_request.specs.declared.verdict.Code.{Code}
 use Rattle.lard_request.specs.declared.verdict.Code.TheVariants as code
 use Rattle.lard_request.specs.declared.verdict.Verdict.{Verdict}
@@ -60,20 +60,7 @@ pub fronts-client : (c : ℕ) (t : Tale) (rs : List Rec) → Each IsOfFront rs �
 fronts-client c t [] e = refl
 fronts-client c t (r ∷ rs) e = fronts-client c (tale_step c t r) rs e.1 ∙ front-client c t r e.0
 
--- ---- responses
-
-response-some : (code : Code) (body : List ℕ) (head close : Bool) → 1 ≤ length (response code body head close)
-unfolding response
-response-some code body head close = omega arith
-
-found-some : (o : Option (List ℕ)) (head close : Bool) → 1 ≤ length (found o head close)
-found-some None head close = response-some code.NotFound [] head close
-found-some (Some body) head close = response-some code.Ok body head close
-
--- each response has a byte
-pub answer-some : (files : FilesAt) (v : Verdict) → 1 ≤ length (answer files v)
-answer-some files (Serve path head close) = found-some (files path) head close
-answer-some files (Fault fault) = response-some fault [] false true
+-- ---- what is answered
 
 own : (c : ℕ) → nat_eq c c ≡ true
 own c = grind (arith, nat_tests)
@@ -84,13 +71,15 @@ Serves stream None count total t = IsServing stream count total t
 Serves stream (Some over) count total t = IsFronts t × (t.was_reset ≡ true)
 
 -- a connection that nobody took was none before, and nothing goes out of it
-abbrev pub SaysNothing : Option FrontConn → Option FrontConn → List (Place × List ℕ) → Type 0
-SaysNothing x None segments = (x ≡ None) × (segments ≡ [])
-SaysNothing x (Some conn) segments = Unit {0}
+abbrev pub SaysNothing : Seat → Seat → List (Place × List ℕ) → Type 0
+SaysNothing x Nowhere segments = (x ≡ Nowhere) × (segments ≡ [])
+SaysNothing x (AtFront b count) segments = Unit {0}
+SaysNothing x Away segments = Unit {0}
+SaysNothing x (Over last) segments = Unit {0}
 
 module _ (env : FrontEnv) (u : Tale) where
   -- the connection after its rule, and the front end's turn, where so much was told of it before
-  pub record FrontSays (x : Option FrontConn) (given : Option FrontConn × Turn) : Type 0 where
+  pub record FrontSays (x : Seat) (given : Seat × Turn) : Type 0 where
     pub told : Tells env.stream env.c u given.1.notes
     pub notes : Each IsOfFront given.1.notes
     pub stands : FrontStands env.stream given.0 (front_tale (told_on env.c u given.1.notes))
@@ -196,12 +185,15 @@ module _ (env : FrontEnv) (u : Tale) where
     go true i = cc
     go false i = cc
 
-  rested-stands : (b : ControlBlock) (count : ℕ) (t : FrontTale) → IsServing env.stream count b.send.total t → FrontStands env.stream (Some (rested b count)) t
-  rested-stands b count t s = cond_both (may_end b) (Closed (final_of b (end_reason b))) (Held b count) (λ conn. FrontStands env.stream (Some conn) t)
+  rested-stands : (b : ControlBlock) (count : ℕ) (t : FrontTale) → IsServing env.stream count b.send.total t → FrontStands env.stream (rested b count) t
+  rested-stands b count t s = cond_both (may_end b) (Over (final_of b (end_reason b))) (AtFront b count) (λ (f : Seat). FrontStands env.stream f t)
       (λ e. (s.taken, never_limit b t))
       (λ e. s)
 
-  spoken-says : (x : Option FrontConn) (w : Service) (before : List (Place × List ℕ)) → w.over ≡ None → AllTo (place.Client env.c) before → IsAnswering w → FrontSays x (spoken env w before)
+  rested-none : (x : Seat) (b : ControlBlock) (count : ℕ) (segments : List (Place × List ℕ)) → SaysNothing x (rested b count) segments
+  rested-none x b count segments = cond_both (may_end b) (Over (final_of b (end_reason b))) (AtFront b count) (λ (f : Seat). SaysNothing x f segments) (λ e. tt) (λ e. tt)
+
+  spoken-says : (x : Seat) (w : Service) (before : List (Place × List ℕ)) → w.over ≡ None → AllTo (place.Client env.c) before → IsAnswering w → FrontSays x (spoken env w before)
   spoken-says x w before none to h =
       let t = front_tale (told_on env.c u w.notes) in
       let said = speaks-to env.c w.block in
@@ -211,10 +203,10 @@ module _ (env : FrontEnv) (u : Tale) where
         notes = h.notes;
         stands = rested-stands (speaks env.c w.block).1 w.count t (many-serves None w.count w.block.send.total (speaks env.c w.block).1.send.total t said.many s);
         to = Each-append (λ s. s.0 ≡ place.Client env.c) before (speaks env.c w.block).0 to said.to;
-        none = tt;
+        none = rested-none x (speaks env.c w.block).1 w.count (before ++ (speaks env.c w.block).0);
       }
 
-  cut_off-says : (x : Option FrontConn) (w : Service) (total : ℕ) → w.over ≡ Some total → IsAnswering w → FrontSays x (cut_off env w)
+  cut_off-says : (x : Seat) (w : Service) (total : ℕ) → w.over ≡ Some total → IsAnswering w → FrontSays x (cut_off env w)
   cut_off-says x w total over h =
       let t = front_tale (told_on env.c u w.notes) in
       let said = speaks_symbols-to env.c w.block in
@@ -227,7 +219,7 @@ module _ (env : FrontEnv) (u : Tale) where
         none = tt;
       }
 
-  settled-says : (x : Option FrontConn) (w : Service) → IsAnswering w → FrontSays x (settled env w)
+  settled-says : (x : Seat) (w : Service) → IsAnswering w → FrontSays x (settled env w)
   settled-says x w h = go w.over refl where
     go : (o : Option ℕ) → w.over ≡ o → FrontSays x (elim o [ None ↦ spoken env w [] | Some total ↦ cut_off env w ])
     go None e = spoken-says x w [] e tt h
@@ -235,17 +227,19 @@ module _ (env : FrontEnv) (u : Tale) where
 
   -- ---- rule by rule
 
-  silent-says : (x : Option FrontConn) → FrontStands env.stream x (front_tale u) → FrontSays x (x, silent)
+  silent-says : (x : Seat) → FrontStands env.stream x (front_tale u) → FrontSays x (x, silent)
   silent-says x h = record { told = tt; notes = tt; stands = h; to = tt; none = go x } where
-    go : (o : Option FrontConn) → SaysNothing o o []
-    go None = (refl, refl)
-    go (Some conn) = tt
+    go : (o : Seat) → SaysNothing o o []
+    go Nowhere = (refl, refl)
+    go (AtFront b count) = tt
+    go Away = tt
+    go (Over last) = tt
 
-  met-says : (s : Said) → IsUntaken (front_tale u) → FrontSays None (met env s)
+  met-says : (s : Said) → IsUntaken (front_tale u) → FrontSays Nowhere (met env s)
   met-says s h =
       let mine : nat_eq env.c env.c ≡ true = own env.c in
-      cond_both {A = Option FrontConn × Turn} (is_plain_syn s) (begun env s) (None, silent) (FrontSays None)
-      (λ t. spoken-says None (record { block = listening s env.iss; count = 0; notes = rec.Took place.Front env.c (record { 0 = 1 }) ∷ []; answered = 0; over = None }) [] refl tt
+      cond_both {A = Seat × Turn} (is_plain_syn s) (begun env s) (Nowhere, silent) (FrontSays Nowhere)
+      (λ t. spoken-says Nowhere (record { block = listening s env.iss; count = 0; notes = rec.Took place.Front env.c (record { 0 = 1 }) ∷ []; answered = 0; over = None }) [] refl tt
       (record {
         told = ((refl, (let first = h.epoch in omega arith), h.owner), tt);
         notes = (tt, tt);
@@ -258,31 +252,31 @@ module _ (env : FrontEnv) (u : Tale) where
           reset = h.reset;
         };
       }))
-      (λ t. silent-says None h)
+      (λ t. silent-says Nowhere h)
 
   -- an endpoint with as many bytes as that which is held
   held-answers : (b d : ControlBlock) (count : ℕ) → d.send.total ≡ b.send.total → IsServing env.stream count b.send.total (front_tale u)
       → IsAnswering (record { block = d; count = count; notes = []; answered = 0; over = None })
   held-answers b d count e s = record { told = tt; notes = tt; serves = many-serves None count b.send.total d.send.total (front_tale u) e s }
 
-  tombstone-says : (last : Final) (o : Option Said) → FrontStands env.stream (Some (Closed last)) (front_tale u) → FrontSays (Some (Closed last)) (Some (Closed last), tombstone env o)
-  tombstone-says last None h = silent-says (Some (Closed last)) h
+  tombstone-says : (last : Final) (o : Option Said) → FrontStands env.stream (Over last) (front_tale u) → FrontSays (Over last) (Over last, tombstone env o)
+  tombstone-says last None h = silent-says (Over last) h
   tombstone-says last (Some s) h = record { told = tt; notes = tt; stands = h; to = (refl, tt); none = tt }
 
-  hears-says : (x : Option FrontConn) (s : Said) → FrontStands env.stream x (front_tale u) → FrontSays x (front_hears env x s)
-  hears-says None s h = met-says s h
-  hears-says (Some (Held b count)) s h = settled-says (Some (Held b count)) _ (reads_on-answers _ _ (held-answers b (on_segment b s).1 count (segment-many b s) h))
-  hears-says (Some Lent) s h = absurd h
-  hears-says (Some (Closed last)) s h = tombstone-says last (last_words last.reason last s) h
+  hears-says : (x : Seat) (s : Said) → FrontStands env.stream x (front_tale u) → FrontSays x (front_hears env x s)
+  hears-says Nowhere s h = met-says s h
+  hears-says (AtFront b count) s h = settled-says (AtFront b count) _ (reads_on-answers _ _ (held-answers b (on_segment b s).1 count (segment-many b s) h))
+  hears-says Away s h = absurd h
+  hears-says (Over last) s h = tombstone-says last (last_words last.reason last s) h
 
-  pub gets-says : (x : Option FrontConn) (r : Result Said SegFault) → FrontStands env.stream x (front_tale u) → FrontSays x (front_gets env x r)
+  pub gets-says : (x : Seat) (r : Result Said SegFault) → FrontStands env.stream x (front_tale u) → FrontSays x (front_gets env x r)
   gets-says x (Err fault) h = silent-says x h
   gets-says x (Ok s) h = hears-says x s h
 
-  pub timer-says : (x : Option FrontConn) → FrontStands env.stream x (front_tale u) → FrontSays x (front_timer env x)
-  timer-says None h = silent-says None h
-  timer-says (Some (Held b count)) h =
-      spoken-says (Some (Held b count)) (record { block = after_timer b; count = count; notes = []; answered = 0; over = None }) (ready_of env (after_timer b) (timed b)) refl (ready-to env (after_timer b) (timed b))
+  pub timer-says : (x : Seat) → FrontStands env.stream x (front_tale u) → FrontSays x (front_timer env x)
+  timer-says Nowhere h = silent-says Nowhere h
+  timer-says (AtFront b count) h =
+      spoken-says (AtFront b count) (record { block = after_timer b; count = count; notes = []; answered = 0; over = None }) (ready_of env (after_timer b) (timed b)) refl (ready-to env (after_timer b) (timed b))
       (held-answers b (after_timer b) count (timer-many b) h)
-  timer-says (Some Lent) h = absurd h
-  timer-says (Some (Closed last)) h = silent-says (Some (Closed last)) h
+  timer-says Away h = absurd h
+  timer-says (Over last) h = silent-says (Over last) h

@@ -14,10 +14,11 @@ use Rattle.lard_journal.specs.declared.rec.Rec.TheVariants as rec
 use Rattle.lard_history.specs.Own.{net_of, net_step}
 use Rattle.lard_laws_places.specs.Places.{IsNetOf, goal_in, lost_in}
 use Rattle.lard_laws_places.proofs.Lookups.{goal_lost, goal_push, lost_lost, lost_push}
-use Rattle.lard_machine.specs.Machine.{Act, packet_of, packets_of, records, sent_records, timer_change}
+use Rattle.lard_machine.specs.Machine.{Act, packet_of, packets_of, records, sent_records}
 use Rattle.lard_machine.specs.declared.machine.Machine.{Machine}
 use Rattle.lard_net.specs.Net.{Packet, lose_at, packet_at}
 use Rattle.lard_net.proofs.Packets.{bytes_pushed, lost_bytes, lost_length}
+use Rattle.lard_rules.specs.Outs.{timer_change}
 
 -- a journal of these packets, and of so many bytes of responses
 pub record Linked (J : List Rec) (net : List Packet) (answered : ℕ) : Type 0 where

@@ -19,14 +19,15 @@ use Rattle.lard_journal.specs.declared.rec.Rec.TheVariants as rec
 use Rattle.lard_laws_places.specs.Places.{goal_in}
 use Rattle.lard_laws_places.proofs.Counting.{IsLinked}
 use Rattle.lard_machine.specs.declared.machine.Machine.{Machine}
-use Rattle.lard_machine.specs.Machine.{Act, acted, client_acted, client_put, env_of, front_acted, front_armed, front_put, passed, records, sent_records, timer_change}
+use Rattle.lard_machine.specs.Machine.{Act, acted, client_acted, client_put, env_of, front_acted, passed, records, seat, sent_records, with_seat}
 use Rattle.lard_machine.proofs.Forms.{Forms}
 use Rattle.lard_net.specs.Net.{Packet, lose_at, packet_at}
-use Rattle.lard_rules.specs.declared.places.FrontConn.{FrontConn}
 use Rattle.lard_rules.specs.declared.places.Station.{Station}
 use Rattle.lard_rules.specs.declared.places.Turn.{Turn}
 use Rattle.lard_rules.specs.Client.{client_aborts, client_gets, client_holds, client_injects, client_opens, client_shuts, client_takes, client_timer, client_writes}
 use Rattle.lard_rules.specs.Front.{front_gets, front_timer}
+use Rattle.lard_rules.specs.Outs.{timer_change}
+use Rattle.lard_rules.specs.Seat.{Seat, front_armed}
 use Rattle.lard_segment.specs.declared.segment.Dir.TheVariants.{ToClient, ToCluster}
 use Rattle.lard_segment.specs.Segment.{decoded}
 use Rattle.lard_view.proofs.Turns.{IsClientTurn, IsFrontTurn, NotedAt, aborts-turn, fires-turn, front_fires-turn, front_gets-turn, hears-turn, holds-turn, injects-turn, opens-turn, shuts-turn, takes-turn, writes-turn}
@@ -166,15 +167,11 @@ module _ (m : Machine) where
   client-lawful e own c iss was given k few acting at inside turn =
       acted-lawful (client_put m c (record { client = given.0; iss = iss })) e own (record { place = place.Client c; c = c; turn = given.1; was_armed = was; is_armed = is_armed given.0 }) k refl refl few acting at inside turn.notes
 
-  front-lawful : (e : Event) (own : List Rec) (c : ℕ) (given : Option FrontConn × Turn) (k : ℕ) → k ≤ length m.net → IsActing m.journal e place.Front k
-      → Each (IsAt place.Front) own → Each (IsInside k) own → IsFrontTurn c (table.get m.conns c) given → LawfulOn (front_acted m e own c given)
-  front-lawful e own c given k few acting at inside turn = go given.0 where
-    act : Bool → Act
-    act is = record { place = place.Front; c = c; turn = given.1; was_armed = front_armed (table.get m.conns c); is_armed = is }
-
-    go : (f : Option FrontConn) → LawfulOn (front_acted m e own c (f, given.1))
-    go None = acted-lawful m e own (act false) k refl refl few acting at inside turn.notes
-    go (Some y) = acted-lawful (front_put m c (Some y)) e own (act (front_armed (Some y))) k refl refl few acting at inside turn.notes
+  front-lawful : (e : Event) (own : List Rec) (c : ℕ) (given : Seat × Turn) (k : ℕ) → k ≤ length m.net → IsActing m.journal e place.Front k
+      → Each (IsAt place.Front) own → Each (IsInside k) own → IsFrontTurn c (seat m c) given → LawfulOn (front_acted m e own c given)
+  front-lawful e own c given k few acting at inside turn =
+      let a : Act = record { place = place.Front; c = c; turn = given.1; was_armed = front_armed (seat m c); is_armed = front_armed given.0 } in
+      acted-lawful (with_seat m c given.0) e own a k refl refl few acting at inside turn.notes
 
   module _ (l : IsLinked m) where
     -- a packet that comes to p
@@ -218,10 +215,10 @@ module _ (m : Machine) where
       injects = λ c bytes x rule is. client-lawful (event.Inject c bytes) (rec.Injected c ∷ []) c x.iss (is_armed x.client) (client_injects x.client bytes) 0 (omega arith)
           (named (event.Inject c bytes) (place.Client c) (λ J. refl)) (inl refl, tt) ((refl, tt), tt) (injects-turn c x.client (number c x is) bytes);
       client_timer = λ d c x same is. simply (event.Timer (place.Client d) c) c x (client_timer x.client) (λ J. ap (λ z. Some (place.Client z)) same) (fires-turn c x.client (number c x is));
-      front_timer = λ c x is. front-lawful (event.Timer place.Front c) [] c (front_timer (env_of m c x.iss) (table.get m.conns c)) 0 (omega arith) (named (event.Timer place.Front c) place.Front (λ J. refl)) tt tt
-          (front_fires-turn (env_of m c x.iss) (table.get m.conns c));
-      front_gets = λ k c p x at on from to is. front-lawful (event.Deliver k) (rec.Got k ∷ []) c (front_gets (env_of m c x.iss) (table.get m.conns c) (decoded p.bytes c ToCluster)) k (few k p at) (comes k p place.Front at to)
-          (got place.Front k).0 (got place.Front k).1 (front_gets-turn (env_of m c x.iss) (table.get m.conns c) (decoded p.bytes c ToCluster));
+      front_timer = λ c x is. front-lawful (event.Timer place.Front c) [] c (front_timer (env_of m c x.iss) (seat m c)) 0 (omega arith) (named (event.Timer place.Front c) place.Front (λ J. refl)) tt tt
+          (front_fires-turn (env_of m c x.iss) (seat m c));
+      front_gets = λ k c p x at on from to is. front-lawful (event.Deliver k) (rec.Got k ∷ []) c (front_gets (env_of m c x.iss) (seat m c) (decoded p.bytes c ToCluster)) k (few k p at) (comes k p place.Front at to)
+          (got place.Front k).0 (got place.Front k).1 (front_gets-turn (env_of m c x.iss) (seat m c) (decoded p.bytes c ToCluster));
       client_gets = λ k c p x at on to is. client-lawful (event.Deliver k) (rec.Got k ∷ []) c x.iss (is_armed x.client) (client_gets x.client (decoded p.bytes c ToClient)) k (few k p at) (comes k p (place.Client c) at to)
           (got (place.Client c) k).0 (got (place.Client c) k).1 (hears-turn c x.client (number c x is) (decoded p.bytes c ToClient));
       nobody = λ k p at on. passed-lawful m (event.Deliver k) (rec.Got k) refl refl;

@@ -17,9 +17,8 @@ use Rattle.lard_laws_places.proofs.Places.{LawfulOn, forms-lawful, lawful-on}
 use Rattle.lard_laws_places.proofs.Standing.{StandsLawful, standing}
 use Rattle.lard_laws_places.proofs.Telling.{IsLawful, MayStand, lawful-local}
 use Rattle.lard_machine.specs.declared.machine.Machine.{Machine}
-use Rattle.lard_rules.specs.declared.places.FrontConn.{FrontConn}
 use Rattle.lard_machine.specs.Bounds.{HasRule, IsBounded}
-use Rattle.lard_machine.specs.Machine.{IsReached, Passes, machine_step, start}
+use Rattle.lard_machine.specs.Machine.{IsReached, Passes, machine_step, seat, start}
 use Rattle.lard_machine.proofs.Forms.{step_has}
 use Rattle.lard_machine.proofs.Runs.{reached-set}
 use Rattle.lard_view.specs.Carry.{OfEach, setting}
@@ -27,6 +26,7 @@ use Rattle.lard_view.specs.View.{Conn, conn, part_of}
 use Rattle.lard_view.proofs.Carried.{IsViewed, carried, carried-keep, number, start-viewed, viewed-kept}
 use Rattle.lard_view.proofs.InSteps.{carried-records}
 use Rattle.lard_view.proofs.Rows.{MayBeSeen}
+use Rattle.lard_rules.specs.Seat.{Seat}
 
 -- ---- each connection
 
@@ -36,9 +36,9 @@ each-stands config files = carried config files (λ x. Unit {0}) (StandsLawful (
 pub connections-stand : AllConnectionsStand
 unfolding conn part_of
 connections-stand config files m r c =
-    let here : Stands config.stream c (table.get m.clients c) (table.get m.conns c) (tale m.journal c) =
-    subst (λ (t : Tale). Stands config.stream c (table.get m.clients c) (table.get m.conns c) t) (sym (tale-own m.journal c)) (each-stands config files m r c).stands in
-    subst (λ (k : Config). Stands k.stream c (table.get m.clients c) (table.get m.conns c) (tale m.journal c)) (sym (reached-set config files m r).0) here
+    let here : Stands config.stream c (table.get m.clients c) (seat m c) (tale m.journal c) =
+    subst (λ (t : Tale). Stands config.stream c (table.get m.clients c) (seat m c) t) (sym (tale-own m.journal c)) (each-stands config files m r c).stands in
+    subst (λ (k : Config). Stands k.stream c (table.get m.clients c) (seat m c) (tale m.journal c)) (sym (reached-set config files m r).0) here
 
 pub reached-may : (config : Config) (files : List (List ℕ × List ℕ)) (m : Machine) (r : IsReached config files m) (may : List Rec → Rec → Type 0)
     → ((past : List Rec) (x : Rec) → IsLawful m.config.stream past x → may past x) → EachMay may [] m.journal
@@ -74,7 +74,7 @@ reached-holds config files m r = carried-keep config files Holds (record { linke
 
 pub numbers-bounded : NumbersAreBounded
 numbers-bounded config files m r = record {
-  counts = λ c count b is. (subst (λ (o : Option FrontConn). FrontStands m.config.stream o (front_tale (tale m.journal c))) is (connections-stand config files m r c).front).some;
+  front = record { counts = λ c count b is. (subst (λ (x : Seat). FrontStands m.config.stream x (front_tale (tale m.journal c))) is (connections-stand config files m r c).front).some };
   events = (reached-holds config files m r).events;
 }
 

@@ -12,17 +12,16 @@ use Rattle.lard_history.proofs.Seeing.{same_number}
 use Rattle.lard_history.proofs.Tales.{other}
 use Rattle.lard_journal.specs.declared.rec.Rec.{Rec}
 use Rattle.lard_journal.specs.declared.rec.Rec.TheVariants as rec
-use Rattle.lard_laws_places.specs.Places.{ClientStands, FrontStands, FrontTale, IsOpened, IsUnopened, Stands, StandsAt, TakesOpened, client_tale, front_tale}
+use Rattle.lard_laws_places.specs.Places.{ClientStands, FrontStands, IsOpened, IsUnopened, Stands, StandsAt, TakesOpened, client_tale, front_tale}
 use Rattle.lard_laws_places.proofs.ClientRules.{ClientSays, aborts-says, clients-front, gets-says, holds-says, injects-says, opens-says, shuts-says, takes-says, timer-says, writes-says}
 use Rattle.lard_laws_places.proofs.FrontRules.{FrontSays, SaysNothing, fronts-client}
 use Rattle.lard_laws_places.proofs.FrontRules as front
 use Rattle.lard_laws_places.proofs.Telling.{MayStand, Tells, timer-stands}
-use Rattle.lard_rules.specs.declared.places.FrontConn.{FrontConn}
-use Rattle.lard_rules.specs.declared.places.FrontConn.TheVariants.{Held, Lent, Closed}
 use Rattle.lard_rules.specs.declared.places.Station.{Station}
 use Rattle.lard_rules.specs.declared.places.Turn.{Turn}
 use Rattle.lard_rules.specs.Client.{client_aborts, client_gets, client_holds, client_injects, client_opens, client_shuts, client_takes, client_timer, client_writes, silent}
 use Rattle.lard_rules.specs.Front.{front_gets, front_timer}
+use Rattle.lard_rules.specs.Seat.{Seat, Nowhere, AtFront, Away, Over}
 use Rattle.lard_segment.specs.declared.segment.Dir.TheVariants.{ToClient, ToCluster}
 use Rattle.lard_segment.specs.Segment.{decoded}
 use Rattle.lard_view.specs.Carry.{IsLaw, tale_at}
@@ -39,7 +38,7 @@ record IsSameTale (t u : Tale) : Type 0 where
   front : front_tale t ≡ front_tale u
 
 -- what stands goes by these two parts of a tale
-stands-same : (stream c : ℕ) (x : Option Station) (conn : Option FrontConn) (t u : Tale) → IsSameTale t u → Stands stream c x conn u → Stands stream c x conn t
+stands-same : (stream c : ℕ) (x : Option Station) (conn : Seat) (t u : Tale) → IsSameTale t u → Stands stream c x conn u → Stands stream c x conn t
 stands-same stream c x conn t u same h = record {
   client = subst (ClientStands c x) (sym same.client) h.client;
   front = subst (FrontStands stream conn) (sym same.front) h.front;
@@ -61,13 +60,13 @@ record Owes (k : Setting) (x : Conn) (v : Move) : Type 0 where
   notes : Tells k.stream x.c (tale_before x v) v.turn.notes
   segments : Tells k.stream x.c (told_on x.c (tale_before x v) v.turn.notes) (map (sending v.place) v.turn.segments)
   same : IsSameTale (told_on x.c (told_on x.c (tale_before x v) v.turn.notes) (map (sending v.place) v.turn.segments)) (told_on x.c (tale_before x v) v.turn.notes)
-  stands : Stands k.stream x.c v.part.station v.part.front (told_on x.c (tale_before x v) v.turn.notes)
+  stands : Stands k.stream x.c v.part.station v.part.seat (told_on x.c (tale_before x v) v.turn.notes)
   fresh : (v.part.station ≡ None → ⊥) ⊎ ((v.part.station ≡ x.part.station) × (v.turn.segments ≡ []))
 
 owes-stands : (k : Setting) (x : Conn) (v : Move) → Owes k x v → StandsLawful k x → StandsLawful k (grown x v)
 owes-stands k x v o h = record {
-  stands = subst (Stands k.stream x.c v.part.station v.part.front) (sym (grown-tale x v))
-      (stands-same k.stream x.c v.part.station v.part.front _ (told_on x.c (tale_before x v) v.turn.notes) o.same o.stands);
+  stands = subst (Stands k.stream x.c v.part.station v.part.seat) (sym (grown-tale x v))
+      (stands-same k.stream x.c v.part.station v.part.seat _ (told_on x.c (tale_before x v) v.turn.notes) o.same o.stands);
   lawful = grown-lawful (MayStand k.stream x.c) x v (λ t place d a b. timer-stands k.stream x.c t place d a b) h.lawful o.heads o.notes o.segments;
   fresh = λ none. ⊎_elim (λ (no : v.part.station ≡ None → ⊥). absurd (no none))
       (λ (same : (v.part.station ≡ x.part.station) × (v.turn.segments ≡ [])). λ i. h.fresh (sym same.0 ∙ none) i ++ map (λ s. record { from = v.place; to = s.0; bytes = s.1 }) (same.1 i)) o.fresh;
@@ -82,13 +81,11 @@ event-tale c t e n = other c t (rec.Event 0 e) n
 some-none : {A : Type 0} (a : A) → Some a ≡ None → ⊥
 some-none a e = absurd cc
 
-takes-opened : (conn : Option FrontConn) (x : Station) → TakesOpened conn (Some x)
-takes-opened None x = tt
-takes-opened (Some conn) x = refl
+takes-opened : (seat : Seat) (x : Station) → TakesOpened seat (Some x)
+takes-opened seat x begun = refl
 
-opened-conn : (conn : Option FrontConn) (x : Option Station) (s : Station) → x ≡ Some s → TakesOpened conn x
-opened-conn None x s e = tt
-opened-conn (Some conn) x s e = subst (λ (o : Option Station). IsSome o) (sym e) refl
+opened-conn : (seat : Seat) (x : Option Station) (s : Station) → x ≡ Some s → TakesOpened seat x
+opened-conn seat x s e begun = subst (λ (o : Option Station). IsSome o) (sym e) refl
 
 -- ---- clients
 
@@ -111,7 +108,7 @@ module _ (k : Setting) (x : Conn) (h : StandsLawful k x) where
         notes = says.told;
         segments = client-tells k.stream x.c x.c given.1.segments t;
         same = record { client = ap client_tale same; front = ap front_tale same };
-        stands = record { client = says.stands; front = subst (FrontStands k.stream x.part.front) (sym still) h.stands.front; opened = takes-opened x.part.front (record { client = given.0; iss = s.iss }) };
+        stands = record { client = says.stands; front = subst (FrontStands k.stream x.part.seat) (sym still) h.stands.front; opened = takes-opened x.part.seat (record { client = given.0; iss = s.iss }) };
         fresh = inl (some-none _);
       }
 
@@ -168,21 +165,18 @@ module _ (k : Setting) (x : Conn) (h : StandsLawful k x) where
         let one : MayStand k.stream x.c t (rec.Sent 0 Front (Client x.c) y.1) = (refl, mine) in
         (subst (λ (p : Place). MayStand k.stream x.c t (rec.Sent 0 Front p y.1)) (sym to.0) one, front-tells ss (tale_step x.c t (sending Front y)) to.1 mine)
 
-    owned : (conn : FrontConn) (t : FrontTale) → FrontStands k.stream (Some conn) t → t.owner ≡ Some Front
-    owned (Held endpoint count) t s = s.taken.owner
-    owned Lent t s = absurd s
-    owned (Closed last) t s = s.0.owner
-
-    front-segments : (conn : Option FrontConn) (ss : List (Place × List ℕ)) (t : Tale) → FrontStands k.stream conn (front_tale t) → SaysNothing x.part.front conn ss → AllTo (Client x.c) ss
+    front-segments : (conn : Seat) (ss : List (Place × List ℕ)) (t : Tale) → FrontStands k.stream conn (front_tale t) → SaysNothing x.part.seat conn ss → AllTo (Client x.c) ss
         → Tells k.stream x.c t (map (sending Front) ss)
-    front-segments None ss t stands none to = subst (λ (l : List (Place × List ℕ)). Tells k.stream x.c t (map (sending Front) l)) (sym none.1) tt
-    front-segments (Some conn) ss t stands none to = front-tells ss t to (owned conn (front_tale t) stands)
+    front-segments Nowhere ss t stands none to = subst (λ (l : List (Place × List ℕ)). Tells k.stream x.c t (map (sending Front) l)) (sym none.1) tt
+    front-segments (AtFront b count) ss t stands none to = front-tells ss t to stands.taken.owner
+    front-segments Away ss t stands none to = absurd stands
+    front-segments (Over last) ss t stands none to = front-tells ss t to stands.0.owner
 
-    front-owes : (heads : List Seen) (given : Option FrontConn × Turn) → EachRow (MayBeSeen (MayStand k.stream x.c) x.c) x.seen heads
-        → fold (seen_step (tale_step x.c)) (tale_at x) heads ≡ tale_at x → FrontSays (env_at k x s) (tale_at x) x.part.front given → Owes k x (front_does x heads given)
+    front-owes : (heads : List Seen) (given : Seat × Turn) → EachRow (MayBeSeen (MayStand k.stream x.c) x.c) x.seen heads
+        → fold (seen_step (tale_step x.c)) (tale_at x) heads ≡ tale_at x → FrontSays (env_at k x s) (tale_at x) x.part.seat given → Owes k x (front_does x heads given)
     front-owes heads given may quiet before =
         let u : Tale = fold (seen_step (tale_step x.c)) (tale_at x) heads in
-        let says : FrontSays (env_at k x s) u x.part.front given = subst (λ (t : Tale). FrontSays (env_at k x s) t x.part.front given) (sym quiet) before in
+        let says : FrontSays (env_at k x s) u x.part.seat given = subst (λ (t : Tale). FrontSays (env_at k x s) t x.part.seat given) (sym quiet) before in
         let t : Tale = told_on x.c u given.1.notes in
         let still : client_tale t ≡ client_tale (tale_at x) = fronts-client x.c u given.1.notes says.notes ∙ ap client_tale quiet in
         record {
@@ -194,13 +188,13 @@ module _ (k : Setting) (x : Conn) (h : StandsLawful k x) where
           fresh = inl (λ none. some-none s (sym there ∙ none));
         }
 
-    front_fires-owes : Owes k x (front_does x (event_seen (event.Timer Front x.c)) (front_timer (env_at k x s) x.part.front))
-    front_fires-owes = front-owes (event_seen (event.Timer Front x.c)) (front_timer (env_at k x s) x.part.front) (tt, tt) (event-tale x.c (tale_at x) (event.Timer Front x.c) refl)
-        (front.timer-says (env_at k x s) (tale_at x) x.part.front h.stands.front)
+    front_fires-owes : Owes k x (front_does x (event_seen (event.Timer Front x.c)) (front_timer (env_at k x s) x.part.seat))
+    front_fires-owes = front-owes (event_seen (event.Timer Front x.c)) (front_timer (env_at k x s) x.part.seat) (tt, tt) (event-tale x.c (tale_at x) (event.Timer Front x.c) refl)
+        (front.timer-says (env_at k x s) (tale_at x) x.part.seat h.stands.front)
 
-    front_hears-owes : (bytes : List ℕ) → Owes k x (front_does x (packet_seen (Client x.c) Front bytes) (front_gets (env_at k x s) x.part.front (decoded bytes x.c ToCluster)))
-    front_hears-owes bytes = front-owes (packet_seen (Client x.c) Front bytes) (front_gets (env_at k x s) x.part.front (decoded bytes x.c ToCluster)) tt refl
-        (front.gets-says (env_at k x s) (tale_at x) x.part.front (decoded bytes x.c ToCluster) h.stands.front)
+    front_hears-owes : (bytes : List ℕ) → Owes k x (front_does x (packet_seen (Client x.c) Front bytes) (front_gets (env_at k x s) x.part.seat (decoded bytes x.c ToCluster)))
+    front_hears-owes bytes = front-owes (packet_seen (Client x.c) Front bytes) (front_gets (env_at k x s) x.part.seat (decoded bytes x.c ToCluster)) tt refl
+        (front.gets-says (env_at k x s) (tale_at x) x.part.seat (decoded bytes x.c ToCluster) h.stands.front)
 
   ignores-owes : (from to : Place) (bytes : List ℕ) → Owes k x (ignoring x from to bytes)
   ignores-owes from to bytes = record { heads = tt; notes = tt; segments = tt; same = record { client = refl; front = refl }; stands = h.stands; fresh = inr (refl, refl) }
@@ -230,7 +224,7 @@ standing k = record {
     stands = record {
       client = record { numbers = refl; wrote = refl; accepted = refl; writes = refl };
       front = record { owner = refl; epoch = refl; served = refl; bytes = refl; reset = refl };
-      opened = tt;
+      opened = λ begun. absurd cc;
     };
     lawful = tt;
     fresh = λ none. refl;

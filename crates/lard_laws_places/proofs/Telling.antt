@@ -12,8 +12,8 @@ use Rattle.lard_history.proofs.Lifting.{IsLocal, tale-own}
 use Rattle.lard_history.proofs.Tales.{closed-tale, epoch-tale, owner-tale, reset-tale, served_bytes-tale, tale-append}
 use Rattle.lard_journal.specs.declared.rec.Rec.{Rec}
 use Rattle.lard_journal.specs.declared.rec.Rec.TheVariants as rec
-use Rattle.lard_machine.specs.Machine.{timer_change}
 use Rattle.lard_view.proofs.Rows.{MayBeSeen, TellsBy}
+use Rattle.lard_rules.specs.Outs.{timer_change}
 
 -- the laws of owners, senders, writers and resets
 abbrev pub IsLawful : ℕ → List Rec → Rec → Type 0

@@ -8,7 +8,7 @@ use Rattle.lard_history.specs.Laws.{ActsInPlace, Follows, IsNetwork, IsOwnership
 use Rattle.lard_laws_places.specs.Places.{IsBetween, IsNetOf, Stands, StandsAt}
 use Rattle.lard_machine.specs.declared.machine.Machine.{Machine}
 use Rattle.lard_machine.specs.Bounds.{IsBounded}
-use Rattle.lard_machine.specs.Machine.{IsReached, Passes, start}
+use Rattle.lard_machine.specs.Machine.{IsReached, Passes, seat, start}
 use Rattle.lard_net.specs.Net.{Packet, packet_at}
 use Rattle.lard_view.specs.Carry.{OfEach, setting}
 
@@ -27,7 +27,7 @@ NumbersAreBounded = Always IsBounded
 
 -- What is kept of each connection fits what is told of it.
 abbrev pub AllConnectionsStand : Type 0
-AllConnectionsStand = Always (λ m. (c : ℕ) → Stands m.config.stream c (table.get m.clients c) (table.get m.conns c) (tale m.journal c))
+AllConnectionsStand = Always (λ m. (c : ℕ) → Stands m.config.stream c (table.get m.clients c) (seat m c) (tale m.journal c))
 
 -- So it is of each connection as it is seen by itself.
 abbrev pub EachConnectionStands : Type 0

@@ -12,9 +12,8 @@ use Rattle.lard_history.specs.Journal.{Numbers, Tale, goal_of, is_lost, packet_b
 use Rattle.lard_history.specs.Own.{net_of}
 use Rattle.lard_journal.specs.declared.rec.Rec.{Rec}
 use Rattle.lard_journal.specs.declared.rec.Rec.TheVariants as rec
-use Rattle.lard_rules.specs.declared.places.FrontConn.{FrontConn}
-use Rattle.lard_rules.specs.declared.places.FrontConn.TheVariants.{Held, Lent, Closed}
 use Rattle.lard_rules.specs.declared.places.Station.{Station}
+use Rattle.lard_rules.specs.Seat.{Seat, Nowhere, AtFront, Away, Over, is_begun}
 use Rattle.lard_net.specs.Net.{Packet, bytes_in, packet_at}
 use Rattle.lard_view.specs.Carry.{tale_at}
 use Rattle.lard_view.specs.View.{Conn, Setting}
@@ -83,27 +82,26 @@ pub record IsServing (stream count total : ℕ) (t : FrontTale) : Type 0 where
   pub some : count ≤ total
   pub reset : t.was_reset ≡ false
 
-abbrev pub FrontStands : ℕ → Option FrontConn → FrontTale → Type 0
-FrontStands stream None t = IsUntaken t
-FrontStands stream (Some (Held b count)) t = IsServing stream count b.send.total t
-FrontStands stream (Some Lent) t = ⊥
-FrontStands stream (Some (Closed last)) t = IsFronts t × (last.reason ≡ Limit → t.was_reset ≡ true)
+abbrev pub FrontStands : ℕ → Seat → FrontTale → Type 0
+FrontStands stream Nowhere t = IsUntaken t
+FrontStands stream (AtFront b count) t = IsServing stream count b.send.total t
+FrontStands stream Away t = ⊥
+FrontStands stream (Over last) t = IsFronts t × (last.reason ≡ Limit → t.was_reset ≡ true)
 
 -- ---- both
 
 -- the front end takes only what a client opened
-abbrev pub TakesOpened : Option FrontConn → Option Station → Type 0
-TakesOpened None x = Unit {0}
-TakesOpened (Some conn) x = IsSome x
+abbrev pub TakesOpened : Seat → Option Station → Type 0
+TakesOpened seat x = is_begun seat ≡ true → IsSome x
 
-pub record Stands (stream c : ℕ) (x : Option Station) (conn : Option FrontConn) (t : Tale) : Type 0 where
+pub record Stands (stream c : ℕ) (x : Option Station) (conn : Seat) (t : Tale) : Type 0 where
   pub client : ClientStands c x (client_tale t)
   pub front : FrontStands stream conn (front_tale t)
   pub opened : TakesOpened conn x
 
 -- of all of one connection
 abbrev pub StandsAt : Setting → Conn → Type 0
-StandsAt k x = Stands k.stream x.c x.part.station x.part.front (tale_at x)
+StandsAt k x = Stands k.stream x.c x.part.station x.part.seat (tale_at x)
 
 -- ---- packets
 

@@ -11,11 +11,10 @@ use Rattle.lard_journal.specs.declared.rec.Rec.{Rec}
 use Rattle.lard_journal.specs.declared.rec.Rec.TheVariants as rec
 use Rattle.lard_laws_bytes.specs.Agreement.{ClientAgrees, FrontAgrees, SaysAnswers}
 use Rattle.lard_laws_bytes.specs.Keeping.{IsEnv}
-use Rattle.lard_rules.specs.declared.places.FrontConn.{FrontConn}
-use Rattle.lard_rules.specs.declared.places.FrontConn.TheVariants.{Held, Lent, Closed}
 use Rattle.lard_rules.specs.declared.places.Turn.{Turn}
 use Rattle.lard_rules.specs.Client.{client_aborts, client_gets, client_holds, client_opens, client_shuts, client_takes, client_timer, client_writes}
 use Rattle.lard_rules.specs.Front.{FrontEnv, front_gets, front_timer}
+use Rattle.lard_rules.specs.Seat.{Seat, Nowhere, AtFront, Away, Over}
 use Rattle.lard_recv.specs.Recv.{Received}
 use Rattle.lard_request.specs.declared.verdict.Verdict.{Verdict}
 use Rattle.lard_segment.specs.declared.segment.Dir.TheVariants.{ToClient, ToCluster}
@@ -34,11 +33,11 @@ abbrev pub heard_by : Received → ℕ
 heard_by r = 1 + r.got + one_if r.fin
 
 -- and how many the front end did, by the client's first number
-abbrev pub heard_of : ℕ → Option FrontConn → ℕ
-heard_of isn None = 0
-heard_of isn (Some (Held b count)) = heard_by b.recv
-heard_of isn (Some Lent) = 0
-heard_of isn (Some (Closed last)) = seq_offset last.rcv.0 isn
+abbrev pub heard_of : ℕ → Seat → ℕ
+heard_of isn Nowhere = 0
+heard_of isn (AtFront b count) = heard_by b.recv
+heard_of isn Away = 0
+heard_of isn (Over last) = seq_offset last.rcv.0 isn
 
 -- ---- segments
 
@@ -68,26 +67,26 @@ RepliesMay c isn heard (p ∷ ps) = ((p.0 ≡ place.Client c) × ((s : Said) × 
 
 -- Of a client that took so many symbols, and aborted or not: no more of them are acknowledged; only a client that aborted
 -- resets; and where both sides closed, all that was sent is acknowledged.
-abbrev pub FrontHolds : ℕ → ℕ → Bool → Option FrontConn → Type 0
-FrontHolds iss taken aborted None = Unit {0}
-FrontHolds iss taken aborted (Some (Held b count)) = (b.send.una ≤ taken) × (b.reset ≡ true → aborted ≡ true)
-FrontHolds iss taken aborted (Some Lent) = Unit {0}
-FrontHolds iss taken aborted (Some (Closed last)) = (last.reason ≡ reason.Closed → Acks iss taken last.snd.0) × (last.reason ≡ reason.Peer → aborted ≡ true)
+abbrev pub FrontHolds : ℕ → ℕ → Bool → Seat → Type 0
+FrontHolds iss taken aborted Nowhere = Unit {0}
+FrontHolds iss taken aborted (AtFront b count) = (b.send.una ≤ taken) × (b.reset ≡ true → aborted ≡ true)
+FrontHolds iss taken aborted Away = Unit {0}
+FrontHolds iss taken aborted (Over last) = (last.reason ≡ reason.Closed → Acks iss taken last.snd.0) × (last.reason ≡ reason.Peer → aborted ≡ true)
 
 -- a turn of the front end takes no less than was taken, and acknowledges no more
-pub record FrontActed (c isn iss taken : ℕ) (aborted : Bool) (f : Option FrontConn) (given : Option FrontConn × Turn) : Type 0 where
+pub record FrontActed (c isn iss taken : ℕ) (aborted : Bool) (f : Seat) (given : Seat × Turn) : Type 0 where
   pub grows : heard_of isn f ≤ heard_of isn given.0
   pub holds : FrontHolds iss taken aborted given.0
   pub sent : RepliesMay c isn (heard_of isn given.0) given.1.segments
 
 abbrev pub FrontGetsActs : Type 0
-FrontGetsActs = (files : FilesAt) (c : ℕ) (w out : Stream) (vs : List Verdict) (was_reset : Bool) (env : FrontEnv) (f : Option FrontConn) (s : Said) (taken : ℕ) (aborted : Bool)
+FrontGetsActs = (files : FilesAt) (c : ℕ) (w out : Stream) (vs : List Verdict) (was_reset : Bool) (env : FrontEnv) (f : Seat) (s : Said) (taken : ℕ) (aborted : Bool)
     → IsEnv files c out env → IsStream w → SaysAnswers files w out vs → FrontAgrees w out vs was_reset f → s.ack < 2 ^ 32 → IsTrueOf w s
     → FrontHolds out.first taken aborted f → WordMay out.first taken aborted s
     → FrontActed c w.first out.first taken aborted f (front_gets env f (Ok s))
 
 abbrev pub FrontTimerActs : Type 0
-FrontTimerActs = (files : FilesAt) (c : ℕ) (w out : Stream) (vs : List Verdict) (was_reset : Bool) (env : FrontEnv) (f : Option FrontConn) (taken : ℕ) (aborted : Bool)
+FrontTimerActs = (files : FilesAt) (c : ℕ) (w out : Stream) (vs : List Verdict) (was_reset : Bool) (env : FrontEnv) (f : Seat) (taken : ℕ) (aborted : Bool)
     → IsEnv files c out env → IsStream w → SaysAnswers files w out vs → FrontAgrees w out vs was_reset f
     → FrontHolds out.first taken aborted f
     → FrontActed c w.first out.first taken aborted f (front_timer env f)

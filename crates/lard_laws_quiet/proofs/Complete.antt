@@ -18,10 +18,8 @@ use Rattle.lard_laws_bytes.proofs.Answered.{all-answered}
 use Rattle.lard_laws_quiet.proofs.Acked.{Acks, FrontHolds, heard_by, heard_of, taken_by}
 use Rattle.lard_laws_quiet.proofs.Holding.{ConnHolds}
 use Rattle.lard_laws_quiet.proofs.Story.{Story}
-use Rattle.lard_rules.specs.declared.places.FrontConn.{FrontConn}
-use Rattle.lard_rules.specs.declared.places.FrontConn.TheVariants.{Held, Lent, Closed}
 use Rattle.lard_rules.specs.declared.places.Station.{Station}
-use Rattle.lard_machine.specs.Machine.{front_armed}
+use Rattle.lard_rules.specs.Seat.{Seat, Nowhere, AtFront, Away, Over, front_armed}
 use Rattle.lard_request.specs.declared.verdict.Verdict.{Verdict}
 use Rattle.lard_send.specs.Send.{Sending, is_clear, symbols}
 use Rattle.lard_seq.specs.Seq.{one_if, seq_add}
@@ -136,7 +134,7 @@ module _ (files : FilesAt) (w out : Stream) (vs : List Verdict) (x : ClientBlock
 
 -- ---- a connection of which no timer runs
 
-module _ (files : FilesAt) (c : ℕ) (w out : Stream) (vs : List Verdict) (x : Station) (f : Option FrontConn) (t : Tale) (y : Story)
+module _ (files : FilesAt) (c : ℕ) (w out : Stream) (vs : List Verdict) (x : Station) (f : Seat) (t : Tale) (y : Story)
     (a : Agrees files c w out vs x f t) (r : ConnHolds x f y) (told : t.was_reset ≡ y.reset) (not_aborted : y.aborted ≡ false) (not_reset : y.reset ≡ false)
     (client_quiet : y.client_armed ≡ false) (front_quiet : y.front_armed ≡ false) where
   open_ : is_open x.client ≡ true
@@ -168,28 +166,28 @@ module _ (files : FilesAt) (c : ℕ) (w out : Stream) (vs : List Verdict) (x : S
   abbrev Done : Type 0
   Done = IsDone w out vs x.client
 
-  front_done : (g : Option FrontConn) → f ≡ g → Done
-  front_done None e = absurd (let heard = subst (λ (o : Option FrontConn). 1 + length w.bytes + one_if w.ended ≤ heard_of x.client.send.iss o) e all_heard in omega (arith, heard))
-  front_done (Some (Held b count)) e =
+  front_done : (g : Seat) → f ≡ g → Done
+  front_done Nowhere e = absurd (let heard = subst (λ (o : Seat). 1 + length w.bytes + one_if w.ended ≤ heard_of x.client.send.iss o) e all_heard in omega (arith, heard))
+  front_done (AtFront b count) e =
       let h : HoldsIt w out vs b count = subst (FrontAgrees w out vs t.was_reset) e a.front in
-      let heard : 1 + length w.bytes + one_if w.ended ≤ heard_by b.recv = subst (λ (o : Option FrontConn). 1 + length w.bytes + one_if w.ended ≤ heard_of x.client.send.iss o) e all_heard in
+      let heard : 1 + length w.bytes + one_if w.ended ≤ heard_by b.recv = subst (λ (o : Seat). 1 + length w.bytes + one_if w.ended ≤ heard_of x.client.send.iss o) e all_heard in
       let clear : is_clear b.send ≡ true = not_not (is_clear b.send) (sym (ap front_armed e) ∙ sym r.front_armed ∙ front_quiet) in
       let una : b.send.una ≡ symbols b.send = clear-una b.send clear in
       let count : length out.bytes ≡ b.send.total = h.speaks.part.count in
       let end : one_if out.ended ≡ one_if b.send.finished = ap (λ (s : Stream). one_if s.ended) h.out_is in
-      let most : b.send.una ≤ taken_by x.client = (subst (λ (o : Option FrontConn). FrontHolds x.iss (taken_by x.client) y.aborted o) e r.front).0 in
+      let most : b.send.una ≤ taken_by x.client = (subst (λ (o : Seat). FrontHolds x.iss (taken_by x.client) y.aborted o) e r.front).0 in
       held-done files w out vs x.client a.says a.client.accepts b _ h heard (omega (arith, una, count, end, most))
     where
       not_not : (k : Bool) → not k ≡ false → k ≡ true
       not_not true n = refl
       not_not false n = absurd (both_ways true n refl)
-  front_done (Some Lent) e = absurd (subst (FrontAgrees w out vs t.was_reset) e a.front)
-  front_done (Some (Closed last)) e = by-reason last.reason refl where
-    h : FrontAgrees w out vs t.was_reset (Some (Closed last))
+  front_done Away e = absurd (subst (FrontAgrees w out vs t.was_reset) e a.front)
+  front_done (Over last) e = by-reason last.reason refl where
+    h : FrontAgrees w out vs t.was_reset (Over last)
     h = subst (FrontAgrees w out vs t.was_reset) e a.front
 
-    held : FrontHolds x.iss (taken_by x.client) y.aborted (Some (Closed last))
-    held = subst (λ (o : Option FrontConn). FrontHolds x.iss (taken_by x.client) y.aborted o) e r.front
+    held : FrontHolds x.iss (taken_by x.client) y.aborted (Over last)
+    held = subst (λ (o : Seat). FrontHolds x.iss (taken_by x.client) y.aborted o) e r.front
 
     by-reason : (why : Reason) → last.reason ≡ why → Done
     by-reason reason.Closed is = closed-done files w out vs x.client a.says a.client.accepts last (h.closed is) (subst (λ (n : ℕ). Acks n (taken_by x.client) last.snd.0) (sym a.begins) (held.0 is)) few

@@ -24,11 +24,11 @@ use Rattle.lard_laws_quiet.proofs.Holding.{AcksWhatWasTaken, Bounds, ConnHolds, 
 use Rattle.lard_laws_quiet.proofs.Rules.{all-act}
 use Rattle.lard_laws_quiet.proofs.Story.{Story, aborted-told, client-tells, reset-at, still-grown, story_at}
 use Rattle.lard_laws_quiet.proofs.Turning.{OnlyShuts, client-keeps, front-keeps, held_before, opening-keeps}
-use Rattle.lard_rules.specs.declared.places.FrontConn.{FrontConn}
 use Rattle.lard_rules.specs.declared.places.Station.{Station}
 use Rattle.lard_rules.specs.declared.places.Turn.{Turn}
 use Rattle.lard_rules.specs.Client.{client_aborts, client_gets, client_holds, client_opens, client_shuts, client_takes, client_timer, client_writes}
 use Rattle.lard_rules.specs.Front.{front_gets, front_timer}
+use Rattle.lard_rules.specs.Seat.{Seat}
 use Rattle.lard_segment.proofs.Again.{again}
 use Rattle.lard_segment.specs.declared.fault.SegFault.{SegFault}
 use Rattle.lard_segment.specs.declared.segment.Dir.TheVariants.{ToClient, ToCluster}
@@ -42,8 +42,8 @@ module _ (k : Setting) (small : k.stream ≤ 2 ^ 30) (x : Conn) (s : Station) (t
   abbrev y : Story
   y = story_at x
 
-  abbrev f : Option FrontConn
-  f = x.part.front
+  abbrev f : Seat
+  f = x.part.seat
 
   abbrev w : Stream
   w = O.talk.w

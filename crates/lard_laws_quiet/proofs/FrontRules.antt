@@ -21,12 +21,11 @@ use Rattle.lard_laws_quiet.proofs.Acked.{Acks, FrontActed, FrontGetsActs, FrontH
 use Rattle.lard_laws_quiet.proofs.FrontArriving.{Holds, arrival-grows, arrival-holds}
 use Rattle.lard_laws_quiet.proofs.FrontReading.{Reads, Spans, Stays, reads-reads}
 use Rattle.lard_laws_quiet.proofs.FrontSaying.{Left, Spoke, awaits-acks, emits-spoke, emits_symbols-spoke, replies_may-append, timed-may, timer-left}
-use Rattle.lard_rules.specs.declared.places.FrontConn.{FrontConn}
-use Rattle.lard_rules.specs.declared.places.FrontConn.TheVariants.{Held, Lent, Closed}
 use Rattle.lard_rules.specs.declared.places.Turn.{Turn}
 use Rattle.lard_rules.specs.Client.{silent}
 use Rattle.lard_rules.specs.Front.{FrontEnv, Service, begun, cut_off, front_gets, front_timer, heard, is_plain_syn, is_telling, last_ack, last_words, limit_said, met, ready_of, reads, refusal, rested, settled, spoken, told, tombstone}
 use Rattle.lard_rules.specs.Speaking.{speaks, speaks_symbols}
+use Rattle.lard_rules.specs.Seat.{Seat, Nowhere, AtFront, Away, Over}
 use Rattle.lard_request.specs.declared.verdict.Verdict.{Verdict}
 use Rattle.lard_segment.specs.declared.segment.Ready.{Ready}
 use Rattle.lard_segment.specs.Segment.{Said, IsSendable}
@@ -39,15 +38,15 @@ use Rattle.lard_truth.proofs.Speaking.{one_small}
 -- ---- the end of a turn
 
 -- the last RCV.NXT tells how much was taken
-ended-heard : (w out : Stream) (b : ControlBlock) (why : Reason) → IsStream w → IsBetween w out b → heard_of w.first (Some (Closed (final_of b why))) ≡ heard_by b.recv
+ended-heard : (w out : Stream) (b : ControlBlock) (why : Reason) → IsStream w → IsBetween w out b → heard_of w.first (Over (final_of b why)) ≡ heard_by b.recv
 ended-heard w out b why is h =
     let sound = h.hears.sound.received in
     let one = one_small b.recv.fin in
     ap (λ i. seq_offset (seq_add i (heard_by b.recv)) w.first) h.hears.first ∙ offset-add w.first (heard_by b.recv) is.number (omega arith)
 
 -- so it does whether the connection ended or not
-rested-heard : (w out : Stream) (b : ControlBlock) (count : ℕ) → IsStream w → IsBetween w out b → heard_of w.first (Some (rested b count)) ≡ heard_by b.recv
-rested-heard w out b count is h = cond_both (may_end b) (Closed (final_of b (end_reason b))) (Held b count) (λ (f : FrontConn). heard_of w.first (Some f) ≡ heard_by b.recv)
+rested-heard : (w out : Stream) (b : ControlBlock) (count : ℕ) → IsStream w → IsBetween w out b → heard_of w.first (rested b count) ≡ heard_by b.recv
+rested-heard w out b count is h = cond_both (may_end b) (Over (final_of b (end_reason b))) (AtFront b count) (λ (f : Seat). heard_of w.first f ≡ heard_by b.recv)
     (λ _. ended-heard w out b (end_reason b) is h)
     (λ _. refl)
 
@@ -63,16 +62,16 @@ closed-acks w out b first most h e le t =
 
 -- an endpoint that ended was reset by a client that aborted, or both sides closed
 ended-holds : (w out : Stream) (b : ControlBlock) (first most : ℕ) (aborted : Bool) → IsBetween w out b → out.first ≡ first → Holds most aborted b → may_end b ≡ true
-    → FrontHolds first most aborted (Some (Closed (final_of b (end_reason b))))
+    → FrontHolds first most aborted (Over (final_of b (end_reason b)))
 ended-holds w out b first most aborted h e k t = go b.reset refl t where
-  go : (r : Bool) → b.reset ≡ r → (r || is_closed b) ≡ true → FrontHolds first most aborted (Some (Closed (final_of b (cond r reason.Peer reason.Closed))))
+  go : (r : Bool) → b.reset ≡ r → (r || is_closed b) ≡ true → FrontHolds first most aborted (Over (final_of b (cond r reason.Peer reason.Closed)))
   go true s u = (λ f. absurd (cc), λ f. k.1 s)
   go false s u = (λ f. closed-acks w out b first most h e k.0 u, λ f. absurd (cc))
 
 -- and so does what comes of it at the end of a turn
 rested-holds : (w out : Stream) (b : ControlBlock) (count first most : ℕ) (aborted : Bool) → IsBetween w out b → out.first ≡ first → Holds most aborted b
-    → FrontHolds first most aborted (Some (rested b count))
-rested-holds w out b count first most aborted h e k = cond_both (may_end b) (Closed (final_of b (end_reason b))) (Held b count) (λ (f : FrontConn). FrontHolds first most aborted (Some f))
+    → FrontHolds first most aborted (rested b count)
+rested-holds w out b count first most aborted h e k = cond_both (may_end b) (Over (final_of b (end_reason b))) (AtFront b count) (λ (f : Seat). FrontHolds first most aborted f)
     (λ t. ended-holds w out b first most aborted h e k t)
     (λ _. k)
 
@@ -90,17 +89,17 @@ stays-heard b d l = ap (λ n. 1 + n + one_if d.recv.fin) l.0 ∙ ap (λ f. 1 + b
 
 -- of a client that took so much of what the cluster sends, and whose stream is w
 module _ (env : FrontEnv) (w : Stream) (first most : ℕ) (aborted : Bool) (is : IsStream w) where
-  abbrev Acts : Option FrontConn → Option FrontConn × Turn → Type 0
+  abbrev Acts : Seat → Seat × Turn → Type 0
   Acts f given = FrontActed env.c w.first first most aborted f given
 
   -- these segments go out, and then what the endpoint may send
-  spoken-acts : (f : Option FrontConn) (s : Service) (before : List (Place × List ℕ)) → heard_of w.first f ≤ heard_by s.block.recv → Spans w first s.block → Holds most aborted s.block
+  spoken-acts : (f : Seat) (s : Service) (before : List (Place × List ℕ)) → heard_of w.first f ≤ heard_by s.block.recv → Spans w first s.block → Holds most aborted s.block
       → RepliesMay env.c w.first (heard_by s.block.recv) before → Acts f (spoken env s before)
   spoken-acts f s before grows spans holds replies =
       let said = speaks env.c s.block in
       let out = spans.0 in
       let talk : Spoke env.c w out s.block said = emits-spoke env.c w out (emits_left s.block) s.block spans.2 in
-      let same : heard_of w.first (Some (rested said.1 s.count)) ≡ heard_by s.block.recv = rested-heard w out said.1 s.count is talk.between ∙ ap heard_by talk.left.0 in
+      let same : heard_of w.first (rested said.1 s.count) ≡ heard_by s.block.recv = rested-heard w out said.1 s.count is talk.between ∙ ap heard_by talk.left.0 in
       record {
         grows = omega arith;
         holds = rested-holds w out said.1 s.count first most aborted talk.between spans.1 (left-holds s.block said.1 most aborted talk.left holds);
@@ -115,14 +114,14 @@ module _ (env : FrontEnv) (w : Stream) (first most : ℕ) (aborted : Bool) (is :
   )
 
   -- at the stream limit what has a symbol goes out, and then the RST
-  cut_off-acts : (f : Option FrontConn) (s : Service) → heard_of w.first f ≤ heard_by s.block.recv → Spans w first s.block → Acts f (cut_off env s)
+  cut_off-acts : (f : Seat) (s : Service) → heard_of w.first f ≤ heard_by s.block.recv → Spans w first s.block → Acts f (cut_off env s)
   cut_off-acts f s grows spans =
       let said = speaks_symbols env.c s.block in
       let out = spans.0 in
       let talk : Spoke env.c w out s.block said = emits_symbols-spoke env.c w out (emits_left s.block) s.block spans.2 in
       let last = final_of said.1 reason.Limit in
       let recv : heard_by said.1.recv ≡ heard_by s.block.recv = ap heard_by talk.left.0 in
-      let same : heard_of w.first (Some (Closed last)) ≡ heard_by s.block.recv = ended-heard w out said.1 reason.Limit is talk.between ∙ recv in
+      let same : heard_of w.first (Over last) ≡ heard_by s.block.recv = ended-heard w out said.1 reason.Limit is talk.between ∙ recv in
       let may = limit-may out said.1 talk.between in
       let reply : RepliesMay env.c w.first (heard_by said.1.recv) (told env (limit_said last) ∷ []) = ((refl, (limit_said last, refl, may.0, may.1)), tt) in
       record {
@@ -134,7 +133,7 @@ module _ (env : FrontEnv) (w : Stream) (first most : ℕ) (aborted : Bool) (is :
       }
 
   -- either is the end of a turn
-  settled-acts : (f : Option FrontConn) (s : Service) → heard_of w.first f ≤ heard_by s.block.recv → Spans w first s.block → Holds most aborted s.block → Acts f (settled env s)
+  settled-acts : (f : Seat) (s : Service) → heard_of w.first f ≤ heard_by s.block.recv → Spans w first s.block → Holds most aborted s.block → Acts f (settled env s)
   settled-acts f s grows spans holds = go s.over where
     go : (o : Option ℕ) → Acts f (elim o [ None ↦ spoken env s [] | Some total ↦ cut_off env s ])
     go None = spoken-acts f s [] grows spans holds tt
@@ -147,11 +146,11 @@ module _ (env : FrontEnv) (w : Stream) (first most : ℕ) (aborted : Bool) (is :
   opening b count = record { block = b; count = count; notes = []; answered = 0; over = None }
 
   -- it speaks a stream and hears w
-  held-spans : (out : Stream) (vs : List Verdict) (was_reset : Bool) (b : ControlBlock) (count : ℕ) → out.first ≡ first → FrontAgrees w out vs was_reset (Some (Held b count)) → Spans w first b
+  held-spans : (out : Stream) (vs : List Verdict) (was_reset : Bool) (b : ControlBlock) (count : ℕ) → out.first ≡ first → FrontAgrees w out vs was_reset (AtFront b count) → Spans w first b
   held-spans out vs was_reset b count e h = (out, e, record { same_irs = h.sound.same_irs; speaks = h.speaks; out_is = h.out_is; hears = h.hears })
 
   -- an endpoint that took a segment is read on
-  heard-acts : (f : Option FrontConn) (b : ControlBlock) (count : ℕ) → env.stream ≤ 2 ^ 30 → heard_of w.first f ≤ heard_by b.recv → Spans w first b → Holds most aborted b → Acts f (heard env b count)
+  heard-acts : (f : Seat) (b : ControlBlock) (count : ℕ) → env.stream ≤ 2 ^ 30 → heard_of w.first f ≤ heard_by b.recv → Spans w first b → Holds most aborted b → Acts f (heard env b count)
   heard-acts f b count limit grows spans holds =
       let start = opening b count in
       let end = reads env start in
@@ -161,19 +160,19 @@ module _ (env : FrontEnv) (w : Stream) (first most : ℕ) (aborted : Bool) (is :
 
   -- a segment comes to it
   held-acts : (b : ControlBlock) (count : ℕ) (s : Said) → env.stream ≤ 2 ^ 30 → first < 2 ^ 32 → Spans w first b → Holds most aborted b → IsTrueOf w s → WordMay first most aborted s
-      → Acts (Some (Held b count)) (heard env (on_segment b s).1 count)
+      → Acts (AtFront b count) (heard env (on_segment b s).1 count)
   held-acts b count s limit fits spans holds t may =
       let iss : first ≡ b.send.iss = sym spans.1 ∙ ap (λ x. x.first) spans.2.out_is in
-      heard-acts (Some (Held b count)) (on_segment b s).1 count limit (arrival-grows b s)
+      heard-acts (AtFront b count) (on_segment b s).1 count limit (arrival-grows b s)
       (spans.0, spans.1, between-arrived w spans.0 b spans.2 s is t)
       (arrival-holds first most aborted b s fits iss holds may)
 
   -- its timer fires
-  timer-acts : (b : ControlBlock) (count : ℕ) → Spans w first b → Holds most aborted b → Acts (Some (Held b count)) (front_timer env (Some (Held b count)))
+  timer-acts : (b : ControlBlock) (count : ℕ) → Spans w first b → Holds most aborted b → Acts (AtFront b count) (front_timer env (AtFront b count))
   timer-acts b count spans holds =
       let left = timer-left b in
       let recv : heard_by (after_timer b).recv ≡ heard_by b.recv = ap heard_by left.0 in
-      spoken-acts (Some (Held b count)) (opening (after_timer b) count) (ready_of env (after_timer b) (timed b)) (omega arith)
+      spoken-acts (AtFront b count) (opening (after_timer b) count) (ready_of env (after_timer b) (timed b)) (omega arith)
       (spans.0, spans.1, between-timed w spans.0 b spans.2)
       (left-holds b (after_timer b) most aborted left holds)
       (subst (λ (n : ℕ). RepliesMay env.c w.first n (ready_of env (after_timer b) (timed b))) (sym recv) (replies (timed b) refl))
@@ -185,25 +184,25 @@ module _ (env : FrontEnv) (w : Stream) (first most : ℕ) (aborted : Bool) (is :
   -- ---- a connection that begins
 
   -- the front end listens
-  begun-acts : (out : Stream) (s : Said) → out.first ≡ first → env.iss ≡ out.first → out.first < 2 ^ 32 → out.bytes ≡ [] → out.ended ≡ false → s.seq ≡ w.first → Acts None (begun env s)
+  begun-acts : (out : Stream) (s : Said) → out.first ≡ first → env.iss ≡ out.first → out.first < 2 ^ 32 → out.bytes ≡ [] → out.ended ≡ false → s.seq ≡ w.first → Acts Nowhere (begun env s)
   begun-acts out s e begins number none open_ at =
       let between = subst (λ (n : ℕ). IsBetween w out (listening s n)) (sym begins) (between-begun w out s number none open_ at) in
-      spoken-acts None (record { block = listening s env.iss; count = 0; notes = rec.Took place_.Front env.c (record { 0 = 1 }) ∷ []; answered = 0; over = None }) []
+      spoken-acts Nowhere (record { block = listening s env.iss; count = 0; notes = rec.Took place_.Front env.c (record { 0 = 1 }) ∷ []; answered = 0; over = None }) []
       (omega arith) (out, e, between) (omega arith, λ t. absurd (cc)) tt
 
   -- to a plain SYN, and to nothing else
-  met-acts : (out : Stream) (s : Said) → out.first ≡ first → env.iss ≡ out.first → out.first < 2 ^ 32 → out.bytes ≡ [] → out.ended ≡ false → IsTrueOf w s → Acts None (met env s)
-  met-acts out s e begins number none open_ t = cond_both (is_plain_syn s) (begun env s) (None, silent) (Acts None)
+  met-acts : (out : Stream) (s : Said) → out.first ≡ first → env.iss ≡ out.first → out.first < 2 ^ 32 → out.bytes ≡ [] → out.ended ≡ false → IsTrueOf w s → Acts Nowhere (met env s)
+  met-acts out s e begins number none open_ t = cond_both (is_plain_syn s) (begun env s) (Nowhere, silent) (Acts Nowhere)
       (λ syn. begun-acts out s e begins number none open_ (t.greets (and_parts s.flags.syn _ syn).0))
       (λ _. record { grows = omega arith; holds = tt; sent = tt })
 
   -- ---- a connection that ended
 
   -- its last words can be sent, and acknowledge what was taken
-  words-may : (vs : List Verdict) (out : Stream) (was_reset : Bool) (why : Reason) (last : Final) (s : Said) → s.ack < 2 ^ 32 → FrontAgrees w out vs was_reset (Some (Closed last))
-      → IfSome (last_words why last s) (λ o. IsSendable o × ReplyMay w.first (heard_of w.first (Some (Closed last))) o)
+  words-may : (vs : List Verdict) (out : Stream) (was_reset : Bool) (why : Reason) (last : Final) (s : Said) → s.ack < 2 ^ 32 → FrontAgrees w out vs was_reset (Over last)
+      → IfSome (last_words why last s) (λ o. IsSendable o × ReplyMay w.first (heard_of w.first (Over last)) o)
   words-may vs out was_reset reason.Closed last s fits h =
-      let P : Option Said → Type 0 = λ o. IfSome o (λ r. IsSendable r × ReplyMay w.first (heard_of w.first (Some (Closed last))) r) in
+      let P : Option Said → Type 0 = λ o. IfSome o (λ r. IsSendable r × ReplyMay w.first (heard_of w.first (Over last)) r) in
       let ack = h.acks in
       let seq = h.snd_fits in
       let at = ack.1 in
@@ -218,7 +217,7 @@ module _ (env : FrontEnv) (w : Stream) (first most : ℕ) (aborted : Bool) (is :
       (λ _. tt)
   words-may vs out was_reset reason.Peer last s fits h = tt
   words-may vs out was_reset reason.Limit last s fits h =
-      let P : Option Said → Type 0 = λ o. IfSome o (λ r. IsSendable r × ReplyMay w.first (heard_of w.first (Some (Closed last))) r) in
+      let P : Option Said → Type 0 = λ o. IfSome o (λ r. IsSendable r × ReplyMay w.first (heard_of w.first (Over last)) r) in
       cond_both (s.flags.ack && not s.flags.rst) (Some (refusal s.ack)) None P
       (λ _. (
         record { seq_fits = fits; ack_fits = omega arith; wnd_fits = omega arith; some_mss = tt; small_mss = tt; small_payload = omega arith; no_ack = λ _. refl },
@@ -227,8 +226,8 @@ module _ (env : FrontEnv) (w : Stream) (first most : ℕ) (aborted : Bool) (is :
       (λ _. tt)
 
   -- it stays as it is
-  ended-acts : (last : Final) (o : Option Said) → FrontHolds first most aborted (Some (Closed last)) → IfSome o (λ r. IsSendable r × ReplyMay w.first (heard_of w.first (Some (Closed last))) r)
-      → Acts (Some (Closed last)) (Some (Closed last), tombstone env o)
+  ended-acts : (last : Final) (o : Option Said) → FrontHolds first most aborted (Over last) → IfSome o (λ r. IsSendable r × ReplyMay w.first (heard_of w.first (Over last)) r)
+      → Acts (Over last) (Over last, tombstone env o)
   ended-acts last None holds may = record { grows = omega arith; holds = holds; sent = tt }
   ended-acts last (Some s) holds may = record { grows = omega arith; holds = holds; sent = ((refl, (s, refl, may.0, may.1)), tt) }
 
@@ -240,21 +239,21 @@ module _ (files : FilesAt) (c : ℕ) (w out : Stream) (vs : List Verdict) (was_r
   nothing-said e = says.spoken ∙ ap (λ us. concat (map (answer files) us)) e
 
   -- a segment comes
-  gets-acts : (f : Option FrontConn) (s : Said) → FrontAgrees w out vs was_reset f → s.ack < 2 ^ 32 → IsTrueOf w s → FrontHolds out.first most aborted f → WordMay out.first most aborted s
+  gets-acts : (f : Seat) (s : Said) → FrontAgrees w out vs was_reset f → s.ack < 2 ^ 32 → IsTrueOf w s → FrontHolds out.first most aborted f → WordMay out.first most aborted s
       → FrontActed env.c w.first out.first most aborted f (front_gets env f (Ok s))
-  gets-acts None s h fits t holds may = met-acts env w out.first most aborted is out s refl i.begins says.number (nothing-said h.0) h.1 t
-  gets-acts (Some (Held b count)) s h fits t holds may =
+  gets-acts Nowhere s h fits t holds may = met-acts env w out.first most aborted is out s refl i.begins says.number (nothing-said h.0) h.1 t
+  gets-acts (AtFront b count) s h fits t holds may =
       held-acts env w out.first most aborted is b count s i.most says.number (held-spans env w out.first most aborted is out vs was_reset b count refl h) holds t may
-  gets-acts (Some Lent) s h fits t holds may = absurd h
-  gets-acts (Some (Closed last)) s h fits t holds may =
+  gets-acts Away s h fits t holds may = absurd h
+  gets-acts (Over last) s h fits t holds may =
       ended-acts env w out.first most aborted is last (last_words last.reason last s) holds (words-may env w out.first most aborted is vs out was_reset last.reason last s fits h)
 
   -- the timer fires
-  fires-acts : (f : Option FrontConn) → FrontAgrees w out vs was_reset f → FrontHolds out.first most aborted f → FrontActed env.c w.first out.first most aborted f (front_timer env f)
-  fires-acts None h holds = record { grows = omega arith; holds = tt; sent = tt }
-  fires-acts (Some (Held b count)) h holds = timer-acts env w out.first most aborted is b count (held-spans env w out.first most aborted is out vs was_reset b count refl h) holds
-  fires-acts (Some Lent) h holds = absurd h
-  fires-acts (Some (Closed last)) h holds = record { grows = omega arith; holds = holds; sent = tt }
+  fires-acts : (f : Seat) → FrontAgrees w out vs was_reset f → FrontHolds out.first most aborted f → FrontActed env.c w.first out.first most aborted f (front_timer env f)
+  fires-acts Nowhere h holds = record { grows = omega arith; holds = tt; sent = tt }
+  fires-acts (AtFront b count) h holds = timer-acts env w out.first most aborted is b count (held-spans env w out.first most aborted is out vs was_reset b count refl h) holds
+  fires-acts Away h holds = absurd h
+  fires-acts (Over last) h holds = record { grows = omega arith; holds = holds; sent = tt }
 
 -- A turn of the front end that takes a segment takes no less than was taken, and acknowledges no more.
 pub front-gets-acts : FrontGetsActs

@@ -7,9 +7,8 @@ use Rattle.lard_history.specs.Own.{Letter}
 use Rattle.lard_history.proofs.Each.{Each, Each-append, Each-weaker}
 use Rattle.lard_laws_quiet.proofs.Acked.{Acks, ClientHolds, FrontHolds, RepliesMay, ReplyMay, WordMay, WordsMay, heard_of, taken_by}
 use Rattle.lard_laws_quiet.proofs.Story.{Story, story_at, unheard}
-use Rattle.lard_rules.specs.declared.places.FrontConn.{FrontConn}
 use Rattle.lard_rules.specs.declared.places.Station.{Station}
-use Rattle.lard_machine.specs.Machine.{front_armed}
+use Rattle.lard_rules.specs.Seat.{Seat, front_armed}
 use Rattle.lard_segment.proofs.Again.{again}
 use Rattle.lard_segment.specs.declared.fault.SegFault.{SegFault}
 use Rattle.lard_segment.specs.declared.segment.Dir.TheVariants.{ToClient, ToCluster}
@@ -20,7 +19,7 @@ use Rattle.lard_view.specs.View.{Conn, Move, grown, letter, letters_of}
 -- ---- its two ends
 
 -- they acknowledge no more than was taken, its story tells what became of its client, and its timers run as told
-pub record ConnHolds (x : Station) (f : Option FrontConn) (y : Story) : Type 0 where
+pub record ConnHolds (x : Station) (f : Seat) (y : Story) : Type 0 where
   pub client : ClientHolds (heard_of x.client.send.iss f) y.aborted y.reset x.client
   pub front : FrontHolds x.iss (taken_by x.client) y.aborted f
   pub ended : x.client.eof ≡ true → y.ended ≡ true
@@ -29,7 +28,7 @@ pub record ConnHolds (x : Station) (f : Option FrontConn) (y : Story) : Type 0 w
   pub front_armed : y.front_armed ≡ front_armed f
 
 -- of one whose client has not opened nothing is told
-abbrev pub ConnTells : Option Station → Option FrontConn → Story → Type 0
+abbrev pub ConnTells : Option Station → Seat → Story → Type 0
 ConnTells None f y = y ≡ unheard
 ConnTells (Some x) f y = ConnHolds x f y
 
@@ -43,7 +42,7 @@ pub record Bounds : Type 0 where
   pub taken : ℕ
   pub aborted : Bool
 
-abbrev pub bounds_of : Option Station → Option FrontConn → Story → Bounds
+abbrev pub bounds_of : Option Station → Seat → Story → Bounds
 bounds_of None f y = record { isn = 0; iss = 0; heard = 0; taken = 0; aborted = false }
 bounds_of (Some x) f y = record { isn = x.client.send.iss; iss = x.iss; heard = heard_of x.client.send.iss f; taken = taken_by x.client; aborted = y.aborted }
 
@@ -123,21 +122,21 @@ module _ (c : ℕ) (b : Bounds) where
 -- ---- all of one connection
 
 abbrev pub bounds_at : Conn → Bounds
-bounds_at x = bounds_of x.part.station x.part.front (story_at x)
+bounds_at x = bounds_of x.part.station x.part.seat (story_at x)
 
 -- Nothing is acknowledged that was not taken, at either end and in every packet.
 pub record AcksWhatWasTaken (x : Conn) : Type 0 where
-  pub tells : ConnTells x.part.station x.part.front (story_at x)
+  pub tells : ConnTells x.part.station x.part.seat (story_at x)
   pub packets : Each (LetterMay x.c (bounds_at x)) x.letters
 
 -- it is so after a move that tells the story z
-pub grown-holds : (x : Conn) (v : Move) (z : Story) → story_at (grown x v) ≡ z → ConnTells v.part.station v.part.front z
-    → Each (LetterMay x.c (bounds_of v.part.station v.part.front z)) x.letters → Each (LetterMay x.c (bounds_of v.part.station v.part.front z)) (letters_of v)
+pub grown-holds : (x : Conn) (v : Move) (z : Story) → story_at (grown x v) ≡ z → ConnTells v.part.station v.part.seat z
+    → Each (LetterMay x.c (bounds_of v.part.station v.part.seat z)) x.letters → Each (LetterMay x.c (bounds_of v.part.station v.part.seat z)) (letters_of v)
     → AcksWhatWasTaken (grown x v)
 grown-holds x v z is tells past sent =
-    let b : Bounds = bounds_of v.part.station v.part.front z in
+    let b : Bounds = bounds_of v.part.station v.part.seat z in
     record {
-      tells = subst (λ (y : Story). ConnTells v.part.station v.part.front y) (sym is) tells;
-      packets = subst (λ (y : Story). Each (LetterMay x.c (bounds_of v.part.station v.part.front y)) (x.letters ++ letters_of v)) (sym is)
+      tells = subst (λ (y : Story). ConnTells v.part.station v.part.seat y) (sym is) tells;
+      packets = subst (λ (y : Story). Each (LetterMay x.c (bounds_of v.part.station v.part.seat y)) (x.letters ++ letters_of v)) (sym is)
           (Each-append (LetterMay x.c b) x.letters (letters_of v) past sent);
     }

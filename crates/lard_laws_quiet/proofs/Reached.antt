@@ -49,14 +49,14 @@ module _ (files : FilesAt) (m : Machine) (c : ℕ) where
     t : Tale
     t = tale_of c (own c J)
 
-    go : (o : Option Station) → ConnAgrees files c T.talk o (conn m c).part.front t → ConnTells o (conn m c).part.front (story_at (conn m c)) → IsComplete files J c
+    go : (o : Option Station) → ConnAgrees files c T.talk o (conn m c).part.seat t → ConnTells o (conn m c).part.seat (story_at (conn m c)) → IsComplete files J c
     go None agree tells = absurd (both_ways false refl (subst IsSome (numbers-tale J c ∙ ap (λ (u : Tale). u.numbers) (tale-own J c ∙ agree.1)) some))
     go (Some x) agree tells =
         let y = story_at (conn m c) in
         let w = T.talk.w in
         let out = T.talk.out in
         let vs = T.talk.vs in
-        let f = (conn m c).part.front in
+        let f = (conn m c).part.seat in
         let told : t.was_reset ≡ y.reset = sym (reset-at (conn m c)) in
         let a : y.aborted ≡ false = sym (aborted-story J c) ∙ not_aborted in
         let b : y.reset ≡ false = sym (reset-story J c) ∙ not_reset in

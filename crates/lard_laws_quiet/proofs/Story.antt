@@ -16,10 +16,11 @@ use Rattle.lard_journal.specs.declared.rec.Rec.TheVariants as rec
 use Rattle.lard_laws_bytes.specs.Keeping.{AreClientNotes, AreFrontNotes}
 use Rattle.lard_laws_quiet.specs.Quiet.{aborted_step, armed_step, ended_step, has_aborted, has_ended, is_kind, is_place, is_running, shut_step, was_shut}
 use Rattle.lard_laws_quiet.proofs.Acked.{ends_in}
-use Rattle.lard_machine.specs.Machine.{front_armed, timer_change}
 use Rattle.lard_view.specs.View.{Conn, Move, armed_at, grown, rows_of, sending, station_armed, timer_rows}
 use Rattle.lard_view.specs.Carry.{tale_at}
 use Rattle.lard_view.proofs.Rows.{grown-told}
+use Rattle.lard_rules.specs.Outs.{timer_change}
+use Rattle.lard_rules.specs.Seat.{front_armed}
 
 -- ---- one connection
 
@@ -290,12 +291,12 @@ module _ (x : Conn) (v : Move) (y : Story) (heads : story_seen x.c (story_at x) 
       grown-story ∙ ap (λ p. story_on x.c (story_on x.c y v.turn.notes) (timer_rows p x.c x.part v.part)) at
       ∙ client-timer x.c (story_on x.c y v.turn.notes) (station_armed x.part.station) (station_armed v.part.station) was
 
-  pub front-grown : v.place ≡ Front → (story_on x.c y v.turn.notes).front_armed ≡ front_armed x.part.front
-      → story_at (grown x v) ≡ record (story_on x.c y v.turn.notes) { front_armed = front_armed v.part.front }
+  pub front-grown : v.place ≡ Front → (story_on x.c y v.turn.notes).front_armed ≡ front_armed x.part.seat
+      → story_at (grown x v) ≡ record (story_on x.c y v.turn.notes) { front_armed = front_armed v.part.seat }
   unfolding timer_rows
   front-grown at was =
       grown-story ∙ ap (λ p. story_on x.c (story_on x.c y v.turn.notes) (timer_rows p x.c x.part v.part)) at
-      ∙ front-timer x.c (story_on x.c y v.turn.notes) (front_armed x.part.front) (front_armed v.part.front) was
+      ∙ front-timer x.c (story_on x.c y v.turn.notes) (front_armed x.part.seat) (front_armed v.part.seat) was
 
   -- one that notes nothing, and leaves its part as it was, tells its heads alone
   pub still-grown : v.turn.notes ≡ [] → v.part ≡ x.part → story_at (grown x v) ≡ y

@@ -14,22 +14,20 @@ use Rattle.lard_laws_bytes.proofs.Holding.{IsOpen}
 use Rattle.lard_laws_quiet.proofs.Acked.{ClientActed, ClientBegins, ClientHolds, FrontActed, FrontHolds, RepliesMay, WordsMay, ends_in, heard_of, taken_by}
 use Rattle.lard_laws_quiet.proofs.Holding.{AcksWhatWasTaken, Bounds, ConnHolds, ConnTells, Grows, LetterMay, acks-more, bounds_at, bounds_of, grown-holds, letters-more, replies-letters, words-letters}
 use Rattle.lard_laws_quiet.proofs.Story.{Story, Tells, client-grown, client-tells, ends-told, front-grown, front-tells, or-either, story_at, story_on, story_seen, unheard}
-use Rattle.lard_rules.specs.declared.places.FrontConn.{FrontConn}
-use Rattle.lard_rules.specs.declared.places.FrontConn.TheVariants.{Held, Lent, Closed}
 use Rattle.lard_rules.specs.declared.places.Station.{Station}
 use Rattle.lard_rules.specs.declared.places.Turn.{Turn}
-use Rattle.lard_machine.specs.Machine.{front_armed}
+use Rattle.lard_rules.specs.Seat.{Seat, Nowhere, AtFront, Away, Over, front_armed}
 use Rattle.lard_truth.specs.Truth.{Stream}
 use Rattle.lard_view.specs.Carry.{tale_at}
 use Rattle.lard_view.specs.View.{Conn, Move, client_does, front_does, grown, letter, station_armed, with_station}
 
 -- ---- what holds goes on holding as more is taken and told
 
-front-more : (iss n m : ℕ) (a b : Bool) (f : Option FrontConn) → n ≤ m → (a ≡ true → b ≡ true) → FrontHolds iss n a f → FrontHolds iss m b f
-front-more iss n m a b None le told h = tt
-front-more iss n m a b (Some (Held block count)) le told h = ((let una = h.0 in omega arith), λ e. told (h.1 e))
-front-more iss n m a b (Some Lent) le told h = tt
-front-more iss n m a b (Some (Closed last)) le told h = (λ e. acks-more iss iss n m last.snd.0 refl le (h.0 e), λ e. told (h.1 e))
+front-more : (iss n m : ℕ) (a b : Bool) (f : Seat) → n ≤ m → (a ≡ true → b ≡ true) → FrontHolds iss n a f → FrontHolds iss m b f
+front-more iss n m a b Nowhere le told h = tt
+front-more iss n m a b (AtFront block count) le told h = ((let una = h.0 in omega arith), λ e. told (h.1 e))
+front-more iss n m a b Away le told h = tt
+front-more iss n m a b (Over last) le told h = (λ e. acks-more iss iss n m last.snd.0 refl le (h.0 e), λ e. told (h.1 e))
 
 client-more : (n m : ℕ) (a b r s : Bool) (x : ClientBlock) → n ≤ m → (a ≡ true → b ≡ true) → (r ≡ true → s ≡ true) → ClientHolds n a r x → ClientHolds m b s x
 client-more n m a b r s x le told reset h =
@@ -51,8 +49,8 @@ module _ (files : FilesAt) (x : Conn) (s : Station) (there : x.part.station ≡ 
   abbrev y : Story
   y = story_at x
 
-  abbrev f : Option FrontConn
-  f = x.part.front
+  abbrev f : Seat
+  f = x.part.seat
 
   abbrev w : Stream
   w = O.talk.w
@@ -130,7 +128,7 @@ module _ (files : FilesAt) (x : Conn) (s : Station) (there : x.part.station ≡ 
       client-keeps = grown-holds x (client_does x s heads given) z story_after holds_after (past (bounds_of (Some after) f z) grows_after) (words-letters x.c (bounds_of (Some after) f z) given.1.segments words_after)
 
     -- ---- the front end's turn
-    module _ (given : Option FrontConn × Turn) (k : FrontTurned files x.c w out O.talk.vs (tale_at x).was_reset given)
+    module _ (given : Seat × Turn) (k : FrontTurned files x.c w out O.talk.vs (tale_at x).was_reset given)
         (act : FrontActed x.c w.first out.first (taken_by s.client) y.aborted f given) (no_shut : b ≡ false) where
       abbrev v2 : Story
       v2 = story_on x.c y1 given.1.notes
@@ -190,10 +188,10 @@ module _ (files : FilesAt) (x : Conn) (T : IsTruthfulAt files x) (R : AcksWhatWa
   first_z = record unheard { client_armed = is_armed given.0 }
 
   unheard_before : story_at x ≡ unheard
-  unheard_before = subst (λ (o : Option Station). ConnTells o x.part.front (story_at x)) none R.tells
+  unheard_before = subst (λ (o : Option Station). ConnTells o x.part.seat (story_at x)) none R.tells
 
-  not_held : x.part.front ≡ None
-  not_held = (subst (λ (o : Option Station). ConnAgrees files x.c T.talk o x.part.front (tale_at x)) none T.agrees).0
+  not_held : x.part.seat ≡ Nowhere
+  not_held = (subst (λ (o : Option Station). ConnAgrees files x.c T.talk o x.part.seat (tale_at x)) none T.agrees).0
 
   seen_none : story_seen x.c (story_at x) heads ≡ unheard
   seen_none = only ∙ ap (λ (y : Story). record y { shut = y.shut || false }) unheard_before
@@ -206,7 +204,7 @@ module _ (files : FilesAt) (x : Conn) (T : IsTruthfulAt files x) (R : AcksWhatWa
       client-grown x begun unheard seen_none refl (ap (λ (y : Story). y.client_armed) noted_none ∙ sym (ap station_armed none))
       ∙ ap (λ (y : Story). record y { client_armed = is_armed given.0 }) noted_none
 
-  first_holds : ConnHolds station None first_z
+  first_holds : ConnHolds station Nowhere first_z
   first_holds = record {
     client = begins.holds false false;
     front = tt;
@@ -218,9 +216,9 @@ module _ (files : FilesAt) (x : Conn) (T : IsTruthfulAt files x) (R : AcksWhatWa
 
   pub opening-keeps : AcksWhatWasTaken (grown x begun)
   opening-keeps =
-      let b : Bounds = bounds_of (Some station) None first_z in
+      let b : Bounds = bounds_of (Some station) Nowhere first_z in
       grown-holds x begun first_z first_story
-      (subst (λ (g : Option FrontConn). ConnTells (Some station) g first_z) (sym not_held) first_holds)
-      (subst (Each (LetterMay x.c (bounds_of (Some station) x.part.front first_z))) (sym (T.fresh none)) tt)
-      (subst (λ (g : Option FrontConn). Each (LetterMay x.c (bounds_of (Some station) g first_z)) (map (letter (place.Client x.c)) given.1.segments)) (sym not_held)
+      (subst (λ (g : Seat). ConnTells (Some station) g first_z) (sym not_held) first_holds)
+      (subst (Each (LetterMay x.c (bounds_of (Some station) x.part.seat first_z))) (sym (T.fresh none)) tt)
+      (subst (λ (g : Seat). Each (LetterMay x.c (bounds_of (Some station) g first_z)) (map (letter (place.Client x.c)) given.1.segments)) (sym not_held)
       (words-letters x.c b given.1.segments (begins.sent false)))

@@ -17,11 +17,10 @@ use Rattle.lard_journal.specs.declared.rec.Rec.TheVariants as rec
 use Rattle.lard_journal.specs.Range.{IsInRange, IsNumber}
 use Rattle.lard_rules.proofs.Loops.{KeptByReading, KeptBySpeaking, reads_keep, speaks_keep, symbols_keep}
 use Rattle.lard_rules.specs.Client.{silent}
-use Rattle.lard_rules.specs.declared.places.FrontConn.{FrontConn}
-use Rattle.lard_rules.specs.declared.places.FrontConn.TheVariants.{Closed, Held, Lent}
 use Rattle.lard_rules.specs.declared.places.Turn.{Turn}
 use Rattle.lard_rules.specs.Front.{FrontEnv, Service, answered, begun, closed_behind, consumed, cut_off, front_gets, front_hears, front_timer, is_plain_syn, is_telling, last_ack, last_words, limit_said, passed_over, queued, reads, ready_of, refusal, settled, spoken, told, tombstone}
 use Rattle.lard_rules.specs.Speaking.{emits, emits_symbols, has_symbol, speaks, speaks_symbols, to_client}
+use Rattle.lard_rules.specs.Seat.{Seat, Nowhere, AtFront, Away, Over}
 use Rattle.lard_request.specs.declared.verdict.Code.TheVariants as code
 use Rattle.lard_request.specs.declared.verdict.Verdict.{Verdict}
 use Rattle.lard_request.specs.declared.verdict.Verdict.TheVariants.{Fault}
@@ -37,14 +36,14 @@ use Rattle.lard_laws_records.proofs.Content.{AreFiles, answer-fits, code-small}
 use Rattle.lard_laws_records.proofs.Kept.{BlockKeeps, emit-keeps, left-few, segment-keeps, timer-keeps}
 
 -- what the front end keeps of a connection is bytes, and each response that it counts has one
-abbrev pub FrontKeeps : Option FrontConn → Type 0
-FrontKeeps None = Unit {0}
-FrontKeeps (Some (Held b count)) = BlockKeeps count b
-FrontKeeps (Some Lent) = Unit {0}
-FrontKeeps (Some (Closed last)) = Unit {0}
+abbrev pub FrontKeeps : Seat → Type 0
+FrontKeeps Nowhere = Unit {0}
+FrontKeeps (AtFront b count) = BlockKeeps count b
+FrontKeeps Away = Unit {0}
+FrontKeeps (Over last) = Unit {0}
 
 -- what a rule gives: what the front end keeps, and its turn
-pub record FrontFits (given : Option FrontConn × Turn) : Type 0 where
+pub record FrontFits (given : Seat × Turn) : Type 0 where
   pub keeps : FrontKeeps given.0
   pub turn : Fits given.1
 
@@ -177,8 +176,8 @@ module _ (env : FrontEnv) (number : IsNumber env.c) where
         let both = length-append before (speaks env.c w.block).0 in
         let says : BlockKeeps w.count (speaks env.c w.block).1 × Each IsSent (speaks env.c w.block).0 = speaks-says w.count w.block h.keeps in
         record {
-          keeps = cond_both (may_end (speaks env.c w.block).1) (Closed (final_of (speaks env.c w.block).1 (end_reason (speaks env.c w.block).1))) (Held (speaks env.c w.block).1 w.count)
-              (λ f. FrontKeeps (Some f)) (λ t. tt) (λ t. says.0);
+          keeps = cond_both (may_end (speaks env.c w.block).1) (Over (final_of (speaks env.c w.block).1 (end_reason (speaks env.c w.block).1))) (AtFront (speaks env.c w.block).1 w.count)
+              FrontKeeps (λ t. tt) (λ t. says.0);
           turn = record { notes = h.notes; sent = Each-append IsSent before (speaks env.c w.block).0 sent says.1; few = omega (arith, few, left, both, one) };
         }
 
@@ -195,7 +194,7 @@ module _ (env : FrontEnv) (number : IsNumber env.c) where
     -- either end of a turn
     settled-fits : (w : Service) → Serves w → FrontFits (settled env w)
     settled-fits w h = go w.over where
-      go : (o : Option ℕ) → FrontFits (elim o as (λ p. Option FrontConn × Turn) [ None ↦ spoken env w [] | Some total ↦ cut_off env w ])
+      go : (o : Option ℕ) → FrontFits (elim o as (λ p. Seat × Turn) [ None ↦ spoken env w [] | Some total ↦ cut_off env w ])
       go None = spoken-fits w [] tt (omega arith) h
       go (Some total) = cut_off-fits w h
 
@@ -206,7 +205,7 @@ module _ (env : FrontEnv) (number : IsNumber env.c) where
     serving b count = record { block = b; count = count; notes = []; answered = 0; over = None }
 
     -- a connection with which nothing is done
-    quiet-fits : (x : Option FrontConn) → FrontKeeps x → FrontFits (x, silent)
+    quiet-fits : (x : Seat) → FrontKeeps x → FrontFits (x, silent)
     quiet-fits x h = record { keeps = h; turn = silent-fits }
 
     -- the first owner of a connection
@@ -224,25 +223,25 @@ module _ (env : FrontEnv) (number : IsNumber env.c) where
     ended-fits reason.Limit last s = cond_both (s.flags.ack && not s.flags.rst) (Some (refusal s.ack)) None (λ o. Fits (tombstone env o)) (λ t. one-fits (refusal s.ack) refl) (λ t. silent-fits)
 
     -- a segment comes
-    hears-fits : (x : Option FrontConn) (s : Said) → AreBytes s.payload → FrontKeeps x → FrontFits (front_hears env x s)
-    hears-fits None s data_ h = cond_both {A = Option FrontConn × Turn} (is_plain_syn s) (begun env s) (None, silent) FrontFits (λ u. begun-fits s) (λ u. quiet-fits None tt)
-    hears-fits (Some (Held b count)) s data_ h =
+    hears-fits : (x : Seat) (s : Said) → AreBytes s.payload → FrontKeeps x → FrontFits (front_hears env x s)
+    hears-fits Nowhere s data_ h = cond_both {A = Seat × Turn} (is_plain_syn s) (begun env s) (Nowhere, silent) FrontFits (λ u. begun-fits s) (λ u. quiet-fits Nowhere tt)
+    hears-fits (AtFront b count) s data_ h =
         let w : Service = serving (on_segment b s).1 count in
         settled-fits (reads env w) (reads_keep env Serves reading-serves w (record { notes = tt; keeps = segment-keeps count b s data_ h }))
-    hears-fits (Some Lent) s data_ h = quiet-fits (Some Lent) tt
-    hears-fits (Some (Closed last)) s data_ h = record { keeps = tt; turn = ended-fits last.reason last s }
+    hears-fits Away s data_ h = quiet-fits Away tt
+    hears-fits (Over last) s data_ h = record { keeps = tt; turn = ended-fits last.reason last s }
 
     -- what does not decode is dropped
-    pub gets-fits : (x : Option FrontConn) (r : Result Said SegFault) → ((s : Said) → r ≡ Ok s → AreBytes s.payload) → FrontKeeps x → FrontFits (front_gets env x r)
+    pub gets-fits : (x : Seat) (r : Result Said SegFault) → ((s : Said) → r ≡ Ok s → AreBytes s.payload) → FrontKeeps x → FrontFits (front_gets env x r)
     gets-fits x (Err fault) data_ h = quiet-fits x h
     gets-fits x (Ok s) data_ h = hears-fits x s (data_ s refl) h
 
     -- the timer fires
-    pub fires-fits : (x : Option FrontConn) → FrontKeeps x → FrontFits (front_timer env x)
-    fires-fits None h = quiet-fits None tt
-    fires-fits (Some (Held b count)) h =
+    pub fires-fits : (x : Seat) → FrontKeeps x → FrontFits (front_timer env x)
+    fires-fits Nowhere h = quiet-fits Nowhere tt
+    fires-fits (AtFront b count) h =
         let after : BlockKeeps count (after_timer b) = timer-keeps count b h in
         spoken-fits (serving (after_timer b) count) (ready_of env (after_timer b) (timed b)) (ready-sent count (after_timer b) (timed b) after) (ready-few (after_timer b) (timed b))
         (record { notes = tt; keeps = after })
-    fires-fits (Some Lent) h = quiet-fits (Some Lent) tt
-    fires-fits (Some (Closed last)) h = quiet-fits (Some (Closed last)) tt
+    fires-fits Away h = quiet-fits Away tt
+    fires-fits (Over last) h = quiet-fits (Over last) tt

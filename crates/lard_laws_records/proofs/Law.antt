@@ -12,11 +12,11 @@ use Rattle.lard_history.proofs.Each.{Each, Each-append}
 use Rattle.lard_history.proofs.Seeing.{has-each}
 use Rattle.lard_journal.specs.Range.{IsInRange, IsNumber, IsPlaceInRange}
 use Rattle.lard_rules.specs.Client.{client_aborts, client_gets, client_holds, client_injects, client_opens, client_shuts, client_takes, client_timer, client_writes}
-use Rattle.lard_rules.specs.declared.places.FrontConn.{FrontConn}
 use Rattle.lard_rules.specs.declared.places.Station.{Station}
 use Rattle.lard_rules.specs.declared.places.Turn.{Turn}
 use Rattle.lard_rules.specs.Front.{front_gets, front_timer}
-use Rattle.lard_machine.specs.Machine.{timer_change}
+use Rattle.lard_rules.specs.Outs.{timer_change}
+use Rattle.lard_rules.specs.Seat.{Seat}
 use Rattle.lard_segment.specs.declared.segment.Dir.{Dir}
 use Rattle.lard_segment.specs.declared.segment.Dir.TheVariants.{ToClient, ToCluster}
 use Rattle.lard_segment.specs.Segment.{Said, decoded}
@@ -43,7 +43,7 @@ IsLetter l = IsPlaceInRange l.to × AreBytes l.bytes
 
 pub record IsRanged (x : Conn) : Type 0 where
   pub station : StationKeeps x.c x.part.station
-  pub front : FrontKeeps x.part.front
+  pub front : FrontKeeps x.part.seat
   pub letters : Each IsLetter x.letters
 
 -- It is so as long as its events are as a schedule gives them.
@@ -55,7 +55,7 @@ IsRangedWhere x = Each IsSeenWell x.seen → IsRanged x
 -- The places keep bytes after it, and what it notes and sends is in range.
 pub record MovesInRange (x : Conn) (v : Move) : Type 0 where
   pub station : StationKeeps x.c v.part.station
-  pub front : FrontKeeps v.part.front
+  pub front : FrontKeeps v.part.seat
   pub place : IsPlaceInRange v.place
   pub turn : Fits v.turn
   pub timers : Each IsInRange (timer_rows v.place x.c x.part v.part)
@@ -100,7 +100,7 @@ module _ (x : Conn) (s : Station) (there : x.part.station ≡ Some s) (sound : I
       let fits : ClientFits given = rule number kept.1 in
       record { station = (kept.0, fits.keeps); front = h.front; place = kept.0; turn = fits.turn; timers = rows-range (Client x.c) x.c x.part _ kept.0 kept.0 }
 
-  front-moves : (heads : List Seen) (given : Option FrontConn × Turn) → (IsNumber x.c → FrontFits given) → MovesInRange x (front_does x heads given)
+  front-moves : (heads : List Seen) (given : Seat × Turn) → (IsNumber x.c → FrontFits given) → MovesInRange x (front_does x heads given)
   front-moves heads given rule =
       let fits : FrontFits given = rule kept.0 in
       record { station = h.station; front = fits.keeps; place = tt; turn = fits.turn; timers = rows-range Front x.c x.part _ tt kept.0 }
@@ -129,10 +129,10 @@ module _ (k : Setting) (small : k.stream ≤ 2 ^ 30) (are : AreFiles k.files) wh
     client_fires = λ x s there sound h g. client-moves x s there sound h (event_seen (event.Timer (Client x.c) x.c)) (client_timer s.client) (fires-fits s.client);
     client_hears = λ x s bytes there was sound h g. client-moves x s there sound h (packet_seen Front (Client x.c) bytes) (client_gets s.client (decoded bytes x.c ToClient))
         (λ n keeps. gets-fits s.client n keeps (decoded bytes x.c ToClient) (heard x h Front (Client x.c) ToClient bytes was));
-    front_fires = λ x s there sound h g. front-moves x s there sound h (event_seen (event.Timer Front x.c)) (front_timer (env_at k x s) x.part.front)
-        (λ n. front.fires-fits (env_at k x s) n small are x.part.front h.front);
-    front_hears = λ x s bytes there was sound h g. front-moves x s there sound h (packet_seen (Client x.c) Front bytes) (front_gets (env_at k x s) x.part.front (decoded bytes x.c ToCluster))
-        (λ n. front.gets-fits (env_at k x s) n small are x.part.front (decoded bytes x.c ToCluster) (heard x h (Client x.c) Front ToCluster bytes was) h.front);
+    front_fires = λ x s there sound h g. front-moves x s there sound h (event_seen (event.Timer Front x.c)) (front_timer (env_at k x s) x.part.seat)
+        (λ n. front.fires-fits (env_at k x s) n small are x.part.seat h.front);
+    front_hears = λ x s bytes there was sound h g. front-moves x s there sound h (packet_seen (Client x.c) Front bytes) (front_gets (env_at k x s) x.part.seat (decoded bytes x.c ToCluster))
+        (λ n. front.gets-fits (env_at k x s) n small are x.part.seat (decoded bytes x.c ToCluster) (heard x h (Client x.c) Front ToCluster bytes was) h.front);
     ignores = λ x from to bytes was sound h g. record {
       station = h.station;
       front = h.front;

@@ -15,12 +15,12 @@ use Rattle.lard_history.proofs.Stepping.{AreInside}
 use Rattle.lard_journal.specs.declared.rec.Rec.{Rec}
 use Rattle.lard_journal.specs.declared.rec.Rec.TheVariants as rec
 use Rattle.lard_laws_steps.specs.Clients.{ClientsKeepTheirTables, IsClientStep, MustKeepTables, NoneOfClient, at_client, client_of, client_step, is_of_client, own_rows, turn_rows}
-use Rattle.lard_rules.specs.declared.places.FrontConn.{FrontConn}
 use Rattle.lard_rules.specs.declared.places.Station.{Station}
 use Rattle.lard_rules.specs.declared.places.Turn.{Turn}
 use Rattle.lard_rules.specs.Client.{client_aborts, client_gets, client_holds, client_injects, client_opens, client_shuts, client_takes, client_timer, client_writes, silent}
 use Rattle.lard_rules.specs.Front.{front_gets, front_timer}
-use Rattle.lard_machine.specs.Machine.{timer_change}
+use Rattle.lard_rules.specs.Outs.{timer_change}
+use Rattle.lard_rules.specs.Seat.{Seat}
 use Rattle.lard_segment.specs.declared.segment.Dir.TheVariants.{ToClient, ToCluster}
 use Rattle.lard_segment.specs.Segment.{decoded}
 use Rattle.lard_view.specs.Carry.{IsLaw, IsStepLaw, setting}
@@ -115,7 +115,7 @@ front-sends : (ss : List (Place × List ℕ)) → Each (λ r. is_of_client r ≡
 front-sends [] = tt
 front-sends (s ∷ ss) = (refl, front-sends ss)
 
-front-owes : (x : Conn) (s : Station) (h : Seen) (given : Option FrontConn × Turn) → x.part.station ≡ Some s → Each (NotedAt Front x.c) given.1.notes → client_step x.c (Some s.client) h ≡ Some s.client
+front-owes : (x : Conn) (s : Station) (h : Seen) (given : Seat × Turn) → x.part.station ≡ Some s → Each (NotedAt Front x.c) given.1.notes → client_step x.c (Some s.client) h ≡ Some s.client
     → ((later : List Seen) → NoneOfClient later → IsClientStep x.c (Some s.client) (h ∷ later)) → Owes x (front_does x (h ∷ []) given)
 unfolding timer_rows
 front-owes x s h given there notes state step =
@@ -157,8 +157,8 @@ owing k = record {
   injects = λ x s bytes there rule sound. client-owes x s (Row (rec.Event 0 (event.Inject x.c bytes))) (rec.Injected x.c ∷ []) (client_injects s.client bytes) there refl (λ later is. is);
   client_fires = λ x s there sound. client-owes x s (Row (rec.Event 0 (event.Timer (Client x.c) x.c))) [] (client_timer s.client) there refl (λ later is. is);
   client_hears = λ x s bytes there was sound. client-owes x s (Came (record { from = Front; to = Client x.c; bytes = bytes })) [] (client_gets s.client (decoded bytes x.c ToClient)) there refl (λ later is. is);
-  front_fires = λ x s there sound. front-owes x s (Row (rec.Event 0 (event.Timer Front x.c))) (front_timer (env_at k x s) x.part.front) there ((fine k).front_fires x s there sound).0.notes refl (λ later none. none);
-  front_hears = λ x s bytes there was sound. front-owes x s (Came (record { from = Client x.c; to = Front; bytes = bytes })) (front_gets (env_at k x s) x.part.front (decoded bytes x.c ToCluster)) there
+  front_fires = λ x s there sound. front-owes x s (Row (rec.Event 0 (event.Timer Front x.c))) (front_timer (env_at k x s) x.part.seat) there ((fine k).front_fires x s there sound).0.notes refl (λ later none. none);
+  front_hears = λ x s bytes there was sound. front-owes x s (Came (record { from = Client x.c; to = Front; bytes = bytes })) (front_gets (env_at k x s) x.part.seat (decoded bytes x.c ToCluster)) there
       ((fine k).front_hears x s bytes there was sound).0.notes refl (λ later none. none);
   ignores = λ x from to bytes was sound. ignores-owes x from to bytes was.1;
 }

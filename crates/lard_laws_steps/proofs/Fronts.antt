@@ -1,5 +1,5 @@
 -- When the front end takes a connection, rule by rule.
-use Rattle.std.proofs.Common.{◌≡◌, ℕ, ◌+◌, List, [], ◌∷◌, ◌++◌, map, length, take, drop, append_assoc, Bool, true, false, not, cond, ◌&&◌, ◌||◌, Option, Some, None, is_some, Result, Ok, Err, refl, sym, ap, ◌∙◌, subst, nat_lt}
+use Rattle.std.proofs.Common.{◌≡◌, ℕ, ◌+◌, List, [], ◌∷◌, ◌++◌, map, length, take, drop, append_assoc, Bool, true, false, not, cond, ◌&&◌, ◌||◌, Option, Some, None, Result, Ok, Err, refl, sym, ap, ◌∙◌, subst, nat_lt}
 use Rattle.std.proofs.lemmas.Bool.{cond_both}
 use Rattle.std.proofs.lemmas.List.{map-append}
 use Rattle.std.proofs.lemmas.List.Folds.{list_any-append}
@@ -15,6 +15,8 @@ use Rattle.lard_client.specs.Control.{ClientBlock}
 use Rattle.lard_endpoint.specs.declared.control.moving.Final.{Final}
 use Rattle.lard_endpoint.specs.Arriving.{on_segment}
 use Rattle.lard_endpoint.specs.Control.{ControlBlock, listening}
+use Rattle.lard_endpoint.specs.Leaving.{after_timer}
+use Rattle.lard_endpoint.specs.Moving.{end_reason, final_of, may_end}
 use Rattle.lard_history.specs.Journal.{request}
 use Rattle.lard_history.specs.Own.{Has, Letter, Seen, Row, Came}
 use Rattle.lard_history.proofs.Each.{Each, Each-append, Each-weaker}
@@ -22,18 +24,18 @@ use Rattle.lard_journal.specs.declared.rec.Rec.{Rec}
 use Rattle.lard_journal.specs.declared.rec.Rec.TheVariants as rec
 use Rattle.lard_laws_steps.specs.Fronts.{InTheFirstEpoch, IsTakenOnce, MustTakeOnce, TheFrontEndTakesOnce, begins_by, has_begun, is_syn, is_taken_in, takes_it}
 use Rattle.lard_laws_places.proofs.Reached.{each-stands}
-use Rattle.lard_machine.specs.Machine.{timer_change}
 use Rattle.lard_request.specs.declared.verdict.Code.TheVariants as code
 use Rattle.lard_request.specs.declared.verdict.Verdict.{Verdict}
 use Rattle.lard_request.specs.declared.verdict.Verdict.TheVariants.{Fault}
 use Rattle.lard_request.specs.Verdict.{verdict}
-use Rattle.lard_rules.specs.declared.places.FrontConn.{FrontConn}
-use Rattle.lard_rules.specs.declared.places.FrontConn.TheVariants.{Held, Lent, Closed}
 use Rattle.lard_rules.specs.declared.places.Station.{Station}
 use Rattle.lard_rules.specs.declared.places.Turn.{Turn}
 use Rattle.lard_rules.specs.Client.{client_aborts, client_gets, client_holds, client_injects, client_opens, client_shuts, client_takes, client_timer, client_writes, silent}
-use Rattle.lard_rules.specs.Front.{FrontEnv, Service, answered, begun, consumed, cut_off, ended_at_fin, front_gets, front_hears, front_timer, is_plain_syn, last_words, passed_over, queued, reads, settled, spoken, tombstone}
+use Rattle.lard_rules.specs.Front.{FrontEnv, Service, answered, begun, consumed, cut_off, ended_at_fin, front_gets, front_hears, front_timer, is_plain_syn, last_words, passed_over, queued, reads, rested, settled, spoken, tombstone}
+use Rattle.lard_rules.specs.Speaking.{speaks}
 use Rattle.lard_rules.proofs.Loops.{KeptByReading, reads_keep}
+use Rattle.lard_rules.specs.Outs.{timer_change}
+use Rattle.lard_rules.specs.Seat.{Seat, Nowhere, AtFront, Away, Over, is_begun}
 use Rattle.lard_segment.specs.declared.fault.SegFault.{SegFault}
 use Rattle.lard_segment.specs.declared.segment.Dir.TheVariants.{ToClient, ToCluster}
 use Rattle.lard_segment.specs.Segment.{Said, decoded}
@@ -119,64 +121,77 @@ module _ (env : FrontEnv) where
   }
 
   -- a connection that it took goes on
-  record GoesOn (given : Option FrontConn × Turn) : Type 0 where
-    there : is_some given.0 ≡ true
+  record GoesOn (given : Seat × Turn) : Type 0 where
+    there : is_begun given.0 ≡ true
     notes : NoneTakes given.1.notes
+
+  rested-begun : (b : ControlBlock) (count : ℕ) → is_begun (rested b count) ≡ true
+  rested-begun b count = cond_both (may_end b) (Over (final_of b (end_reason b))) (AtFront b count) (λ f. is_begun f ≡ true) (λ t. refl) (λ t. refl)
 
   settled-goes : (w : Service) → Untaken w → GoesOn (settled env w)
   settled-goes w h = go w.over where
     go : (o : Option ℕ) → GoesOn (elim o [ None ↦ spoken env w [] | Some total ↦ cut_off env w ])
-    go None = record { there = refl; notes = h }
+    go None = record { there = rested-begun (speaks env.c w.block).1 w.count; notes = h }
     go (Some total) = record { there = refl; notes = h }
 
-  tombstone-goes : (last : Final) (o : Option Said) → GoesOn (Some (Closed last), tombstone env o)
+  tombstone-goes : (last : Final) (o : Option Said) → GoesOn (Over last, tombstone env o)
   tombstone-goes last None = record { there = refl; notes = tt }
   tombstone-goes last (Some s) = record { there = refl; notes = tt }
 
-  hears-goes : (conn : FrontConn) (s : Said) → GoesOn (front_hears env (Some conn) s)
-  hears-goes (Held b count) s =
+  hears-goes : (f : Seat) (s : Said) → is_begun f ≡ true → GoesOn (front_hears env f s)
+  hears-goes Nowhere s is = absurd cc
+  hears-goes (AtFront b count) s is =
       let w : Service = record { block = (on_segment b s).1; count = count; notes = []; answered = 0; over = None } in
       settled-goes (reads env w) (reads_keep env Untaken reading-takes w tt)
-  hears-goes Lent s = record { there = refl; notes = tt }
-  hears-goes (Closed last) s = tombstone-goes last (last_words last.reason last s)
+  hears-goes Away s is = record { there = refl; notes = tt }
+  hears-goes (Over last) s is = tombstone-goes last (last_words last.reason last s)
 
   -- what it makes of a packet: whether it has the connection then, and whether it takes it
-  record IsTaking (f : Option FrontConn) (syn : Bool) (given : Option FrontConn × Turn) : Type 0 where
-    there : is_some given.0 ≡ (is_some f || syn)
-    takes : (rest : List Rec) → NoneTakes rest → is_taken_in (map Row (given.1.notes ++ rest)) ≡ (not (is_some f) && syn)
+  record IsTaking (f : Seat) (syn : Bool) (given : Seat × Turn) : Type 0 where
+    there : is_begun given.0 ≡ (is_begun f || syn)
+    takes : (rest : List Rec) → NoneTakes rest → is_taken_in (map Row (given.1.notes ++ rest)) ≡ (not (is_begun f) && syn)
     epoch : (rest : List Rec) → NoneTakes rest → InTheFirstEpoch (map Row (given.1.notes ++ rest))
 
-  goes-taking : (conn : FrontConn) (syn : Bool) (given : Option FrontConn × Turn) → GoesOn given → IsTaking (Some conn) syn given
-  goes-taking conn syn given h = record {
-    there = h.there;
-    takes = λ rest n. none-taken (given.1.notes ++ rest) (Each-append (λ r. takes_row r ≡ false) given.1.notes rest h.notes n);
+  goes-taking : (f : Seat) (syn : Bool) (given : Seat × Turn) → is_begun f ≡ true → GoesOn given → IsTaking f syn given
+  goes-taking f syn given is h = record {
+    there = h.there ∙ sym (ap (λ b. b || syn) is);
+    takes = λ rest n. none-taken (given.1.notes ++ rest) (Each-append (λ r. takes_row r ≡ false) given.1.notes rest h.notes n)
+        ∙ sym (ap (λ b. not b && syn) is);
     epoch = λ rest n. epochs-none (given.1.notes ++ rest) (Each-append (λ r. takes_row r ≡ false) given.1.notes rest h.notes n);
   }
 
-  gets-taking : (f : Option FrontConn) (r : Result Said SegFault) → IsTaking f (is_syn r) (front_gets env f r)
-  gets-taking (Some conn) (Ok s) = goes-taking conn (is_plain_syn s) (front_hears env (Some conn) s) (hears-goes conn s)
-  gets-taking (Some conn) (Err fault) = goes-taking conn false (Some conn, silent) (record { there = refl; notes = tt })
-  gets-taking None (Err fault) = record { there = refl; takes = λ rest n. none-taken rest n; epoch = λ rest n. epochs-none rest n }
-  gets-taking None (Ok s) = go (is_plain_syn s) where
-    go : (b : Bool) → IsTaking None b (cond {A = Option FrontConn × Turn} b (begun env s) (None, silent))
-    go false = record { there = refl; takes = λ rest n. none-taken rest n; epoch = λ rest n. epochs-none rest n }
-    go true = record { there = refl; takes = λ rest n. refl; epoch = λ rest n. (refl, epochs-none rest n) }
+  goes : (f : Seat) (r : Result Said SegFault) → is_begun f ≡ true → IsTaking f (is_syn r) (front_gets env f r)
+  goes f (Ok s) is = goes-taking f (is_plain_syn s) (front_hears env f s) is (hears-goes f s is)
+  goes f (Err fault) is = goes-taking f false (f, silent) is (record { there = is; notes = tt })
 
-  fires-goes : (f : Option FrontConn) → (is_some (front_timer env f).0 ≡ is_some f) × NoneTakes (front_timer env f).1.notes
-  fires-goes None = (refl, tt)
-  fires-goes (Some (Held b count)) = (refl, tt)
-  fires-goes (Some Lent) = (refl, tt)
-  fires-goes (Some (Closed last)) = (refl, tt)
+  gets-taking : (f : Seat) (r : Result Said SegFault) → IsTaking f (is_syn r) (front_gets env f r)
+  gets-taking Nowhere (Err fault) = record { there = refl; takes = λ rest n. none-taken rest n; epoch = λ rest n. epochs-none rest n }
+  gets-taking Nowhere (Ok s) = go (is_plain_syn s) where
+    begins : IsTaking Nowhere true (begun env s)
+    begins = record { there = rested-begun (speaks env.c (listening s env.iss)).1 0; takes = λ rest n. refl; epoch = λ rest n. (refl, epochs-none rest n) }
+
+    go : (b : Bool) → IsTaking Nowhere b (cond {A = Seat × Turn} b (begun env s) (Nowhere, silent))
+    go false = record { there = refl; takes = λ rest n. none-taken rest n; epoch = λ rest n. epochs-none rest n }
+    go true = begins
+  gets-taking (AtFront b count) r = goes (AtFront b count) r refl
+  gets-taking Away r = goes Away r refl
+  gets-taking (Over last) r = goes (Over last) r refl
+
+  fires-goes : (f : Seat) → (is_begun (front_timer env f).0 ≡ is_begun f) × NoneTakes (front_timer env f).1.notes
+  fires-goes Nowhere = (refl, tt)
+  fires-goes (AtFront b count) = (rested-begun (speaks env.c (after_timer b)).1 count, tt)
+  fires-goes Away = (refl, tt)
+  fires-goes (Over last) = (refl, tt)
 
 -- ---- every rule
 
 -- the front end has a connection once its SYN came
 abbrev HasIt : Conn → Type 0
-HasIt x = has_begun x.c x.seen ≡ is_some x.part.front
+HasIt x = has_begun x.c x.seen ≡ is_begun x.part.seat
 
 record Owes (x : Conn) (v : Move) : Type 0 where
-  heads : is_some v.part.front ≡ (is_some x.part.front || has_begun x.c v.heads)
-  taken : is_taken_in (seen_in x v) ≡ (not (is_some x.part.front) && has_begun x.c v.heads)
+  heads : is_begun v.part.seat ≡ (is_begun x.part.seat || has_begun x.c v.heads)
+  taken : is_taken_in (seen_in x v) ≡ (not (is_begun x.part.seat) && has_begun x.c v.heads)
   epoch : InTheFirstEpoch (seen_in x v)
 
 or-false : (b : Bool) → b ≡ (b || false)
@@ -188,15 +203,15 @@ and-false true = refl
 and-false false = refl
 
 -- a move whose heads and notes take nothing, and that leaves the front end's row
-stays : (x : Conn) (v : Move) (heads : List Rec) → v.heads ≡ map Row heads → NoneTakes heads → NoneTakes v.turn.notes → is_some v.part.front ≡ is_some x.part.front → Owes x v
+stays : (x : Conn) (v : Move) (heads : List Rec) → v.heads ≡ map Row heads → NoneTakes heads → NoneTakes v.turn.notes → is_begun v.part.seat ≡ is_begun x.part.seat → Owes x v
 stays x v heads are none notes same =
     let rows : NoneTakes (rows_of x v) = rows-take x v notes in
     let all : NoneTakes (heads ++ rows_of x v) = Each-append (λ r. takes_row r ≡ false) heads (rows_of x v) none rows in
     let seen : seen_in x v ≡ map Row (heads ++ rows_of x v) = ap (λ hs. hs ++ map Row (rows_of x v)) are ∙ sym (map-append Row heads (rows_of x v)) in
     let begun : has_begun x.c v.heads ≡ false = ap (has_begun x.c) are ∙ rows-begin-not x.c heads in
     record {
-      heads = same ∙ or-false (is_some x.part.front) ∙ ap (λ b. is_some x.part.front || b) (sym begun);
-      taken = ap is_taken_in seen ∙ none-taken (heads ++ rows_of x v) all ∙ and-false (not (is_some x.part.front)) ∙ ap (λ b. not (is_some x.part.front) && b) (sym begun);
+      heads = same ∙ or-false (is_begun x.part.seat) ∙ ap (λ b. is_begun x.part.seat || b) (sym begun);
+      taken = ap is_taken_in seen ∙ none-taken (heads ++ rows_of x v) all ∙ and-false (not (is_begun x.part.seat)) ∙ ap (λ b. not (is_begun x.part.seat) && b) (sym begun);
       epoch = subst InTheFirstEpoch (sym seen) (epochs-none (heads ++ rows_of x v) all);
     }
 
@@ -205,22 +220,22 @@ came-stays : (x : Conn) (s : Station) (bytes : List ℕ) (given : ClientBlock ×
 came-stays x s bytes given notes =
     let v : Move = client_does x s (packet_seen Front (Client x.c) bytes) given in
     let rows : NoneTakes (rows_of x v) = rows-take x v notes in
-    record { heads = or-false (is_some x.part.front); taken = none-taken (rows_of x v) rows ∙ and-false (not (is_some x.part.front)); epoch = epochs-none (rows_of x v) rows }
+    record { heads = or-false (is_begun x.part.seat); taken = none-taken (rows_of x v) rows ∙ and-false (not (is_begun x.part.seat)); epoch = epochs-none (rows_of x v) rows }
 
-hears-owes : (k : Setting) (x : Conn) (s : Station) (bytes : List ℕ) → Owes x (front_does x (packet_seen (Client x.c) Front bytes) (front_gets (env_at k x s) x.part.front (decoded bytes x.c ToCluster)))
+hears-owes : (k : Setting) (x : Conn) (s : Station) (bytes : List ℕ) → Owes x (front_does x (packet_seen (Client x.c) Front bytes) (front_gets (env_at k x s) x.part.seat (decoded bytes x.c ToCluster)))
 unfolding timer_rows
 hears-owes k x s bytes =
-    let given : Option FrontConn × Turn = front_gets (env_at k x s) x.part.front (decoded bytes x.c ToCluster) in
+    let given : Seat × Turn = front_gets (env_at k x s) x.part.seat (decoded bytes x.c ToCluster) in
     let v : Move = front_does x (packet_seen (Client x.c) Front bytes) given in
     let rest : List Rec = map (sending Front) given.1.segments ++ timer_change Front x.c (armed_at Front x.part) (armed_at Front v.part) in
     let none : NoneTakes rest = Each-append (λ r. takes_row r ≡ false) (map (sending Front) given.1.segments) (timer_change Front x.c (armed_at Front x.part) (armed_at Front v.part))
     (sends-take Front given.1.segments) (timer-takes Front x.c (armed_at Front x.part) (armed_at Front v.part)) in
     let rows : rows_of x v ≡ given.1.notes ++ rest = append_assoc given.1.notes (map (sending Front) given.1.segments) (timer_change Front x.c (armed_at Front x.part) (armed_at Front v.part)) in
-    let t : IsTaking (env_at k x s) x.part.front (is_syn (decoded bytes x.c ToCluster)) given = gets-taking (env_at k x s) x.part.front (decoded bytes x.c ToCluster) in
+    let t : IsTaking (env_at k x s) x.part.seat (is_syn (decoded bytes x.c ToCluster)) given = gets-taking (env_at k x s) x.part.seat (decoded bytes x.c ToCluster) in
     let one : (is_syn (decoded bytes x.c ToCluster) || false) ≡ is_syn (decoded bytes x.c ToCluster) = sym (or-false (is_syn (decoded bytes x.c ToCluster))) in
     record {
-      heads = t.there ∙ ap (λ b. is_some x.part.front || b) (sym one);
-      taken = ap (λ rs. is_taken_in (map Row rs)) rows ∙ t.takes rest none ∙ ap (λ b. not (is_some x.part.front) && b) (sym one);
+      heads = t.there ∙ ap (λ b. is_begun x.part.seat || b) (sym one);
+      taken = ap (λ rs. is_taken_in (map Row rs)) rows ∙ t.takes rest none ∙ ap (λ b. not (is_begun x.part.seat) && b) (sym one);
       epoch = subst (λ (rs : List Rec). InTheFirstEpoch (map Row rs)) (sym rows) (t.epoch rest none);
     }
 
@@ -249,8 +264,8 @@ owing k = record {
   client_fires = λ x s there sound fresh. client-stays x s (event.Timer (Client x.c) x.c) (client_timer s.client) ((fine k).client_fires x s there sound).0.notes;
   client_hears = λ x s bytes there was sound fresh. came-stays x s bytes (client_gets s.client (decoded bytes x.c ToClient))
       (clients-take-not x.c (client_gets s.client (decoded bytes x.c ToClient)).1.notes ((fine k).client_hears x s bytes there was sound).0.notes);
-  front_fires = λ x s there sound fresh. stays x (front_does x (event_seen (event.Timer Front x.c)) (front_timer (env_at k x s) x.part.front)) (rec.Event 0 (event.Timer Front x.c) ∷ []) refl (refl, tt)
-      (fires-goes (env_at k x s) x.part.front).1 (fires-goes (env_at k x s) x.part.front).0;
+  front_fires = λ x s there sound fresh. stays x (front_does x (event_seen (event.Timer Front x.c)) (front_timer (env_at k x s) x.part.seat)) (rec.Event 0 (event.Timer Front x.c) ∷ []) refl (refl, tt)
+      (fires-goes (env_at k x s) x.part.seat).1 (fires-goes (env_at k x s) x.part.seat).0;
   front_hears = λ x s bytes there was sound fresh. hears-owes k x s bytes;
   ignores = λ x from to bytes was sound fresh. absurd (subst (Has (record { from = from; to = to; bytes = bytes })) (fresh was.1) was.0);
 }

@@ -16,7 +16,8 @@ use Rattle.lard_journal.specs.declared.rec.Rec.TheVariants as rec
 use Rattle.lard_machine.specs.declared.machine.Machine.{Machine}
 use Rattle.lard_rules.specs.declared.places.Turn.{Turn}
 use Rattle.lard_rules.specs.Client.{client_aborts, client_gets, client_holds, client_injects, client_opens, client_shuts, client_takes, client_timer, client_writes}
-use Rattle.lard_machine.specs.Machine.{IsReached, timer_change}
+use Rattle.lard_rules.specs.Outs.{timer_change}
+use Rattle.lard_machine.specs.Machine.{IsReached}
 use Rattle.lard_segment.specs.declared.segment.Dir.TheVariants.{ToClient}
 use Rattle.lard_segment.specs.Segment.{decoded}
 use Rattle.lard_view.specs.View.{sending}

@@ -17,7 +17,7 @@ use Rattle.lard_rules.specs.declared.places.Station.{Station}
 use Rattle.lard_machine.specs.Bounds.{HasRule}
 use Rattle.lard_rules.specs.Client.{client_opens, client_writes, client_shuts, client_holds, client_takes, client_aborts, client_timer, client_gets, client_injects}
 use Rattle.lard_rules.specs.Front.{front_gets, front_timer}
-use Rattle.lard_machine.specs.Machine.{aborts, client_acted, client_goes_on, delivered, env_of, from_place, front_acted, happens, holds, injects, limit_reached, lost, machine_step, opened, passed, shut, takes, timer, to_client, to_front, to_place, unless_limit, wrote}
+use Rattle.lard_machine.specs.Machine.{aborts, client_acted, client_goes_on, delivered, env_of, from_place, front_acted, happens, holds, injects, limit_reached, lost, machine_step, opened, passed, seat, shut, takes, timer, to_client, to_front, to_place, unless_limit, wrote}
 use Rattle.lard_net.specs.Net.{Packet, lose_at, packet_at}
 use Rattle.lard_segment.specs.declared.segment.Dir.TheVariants.{ToClient, ToCluster}
 use Rattle.lard_segment.specs.Segment.{decoded}
@@ -45,9 +45,9 @@ pub record Forms (m : Machine) (P : Event → Machine → Type 0) : Type 0 where
   pub client_timer : (d c : ℕ) (x : Station) → d ≡ c → table.get m.clients c ≡ Some x
       → P (event.Timer (place.Client d) c) (client_goes_on m (event.Timer (place.Client d) c) [] c x (client_timer x.client))
   pub front_timer : (c : ℕ) (x : Station) → table.get m.clients c ≡ Some x
-      → P (event.Timer place.Front c) (front_acted m (event.Timer place.Front c) [] c (front_timer (env_of m c x.iss) (table.get m.conns c)))
+      → P (event.Timer place.Front c) (front_acted m (event.Timer place.Front c) [] c (front_timer (env_of m c x.iss) (seat m c)))
   pub front_gets : (k c : ℕ) (p : Packet) (x : Station) → packet_at m.net k ≡ Some p → p.lost ≡ false → p.from ≡ place.Client c → p.to ≡ place.Front → table.get m.clients c ≡ Some x
-      → P (event.Deliver k) (front_acted m (event.Deliver k) (rec.Got k ∷ []) c (front_gets (env_of m c x.iss) (table.get m.conns c) (decoded p.bytes c ToCluster)))
+      → P (event.Deliver k) (front_acted m (event.Deliver k) (rec.Got k ∷ []) c (front_gets (env_of m c x.iss) (seat m c) (decoded p.bytes c ToCluster)))
   pub client_gets : (k c : ℕ) (p : Packet) (x : Station) → packet_at m.net k ≡ Some p → p.lost ≡ false → p.to ≡ place.Client c → table.get m.clients c ≡ Some x
       → P (event.Deliver k) (client_goes_on m (event.Deliver k) (rec.Got k ∷ []) c x (client_gets x.client (decoded p.bytes c ToClient)))
   pub nobody : (k : ℕ) (p : Packet) → packet_at m.net k ≡ Some p → (p.lost ≡ false) × IsIgnored m p.from p.to → P (event.Deliver k) (passed m (event.Deliver k) (rec.Got k ∷ []))

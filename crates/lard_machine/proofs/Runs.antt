@@ -5,8 +5,8 @@ use Rattle.lard_base.specs.declared.event.Event.{Event}
 use Rattle.lard_client.specs.Control.{ClientBlock}
 use Rattle.lard_journal.specs.declared.rec.Rec.{Rec}
 use Rattle.lard_machine.specs.declared.machine.Machine.{Machine}
-use Rattle.lard_rules.specs.declared.places.FrontConn.{FrontConn}
 use Rattle.lard_rules.specs.declared.places.Turn.{Turn}
+use Rattle.lard_rules.specs.Seat.{Seat}
 use Rattle.lard_machine.specs.Bounds.{HasRule}
 use Rattle.lard_machine.specs.Machine.{IsReached, Passes, acted, client_acted, front_acted, machine_step, start}
 use Rattle.lard_machine.proofs.Forms.{Forms, step_has}
@@ -25,12 +25,9 @@ client-set : (m : Machine) (e : Event) (own : List Rec) (c iss : ℕ) (was : Boo
 unfolding acted
 client-set m e own c iss was given = (refl, refl)
 
-front-set : (m : Machine) (e : Event) (own : List Rec) (c : ℕ) (given : Option FrontConn × Turn) → HasSettings m (front_acted m e own c given)
+front-set : (m : Machine) (e : Event) (own : List Rec) (c : ℕ) (given : Seat × Turn) → HasSettings m (front_acted m e own c given)
 unfolding acted
-front-set m e own c given = go given.0 where
-  go : (conn : Option FrontConn) → HasSettings m (front_acted m e own c (conn, given.1))
-  go None = (refl, refl)
-  go (Some conn) = (refl, refl)
+front-set m e own c given = (refl, refl)
 
 forms-set : (m : Machine) → Forms m (λ e n. HasSettings m n)
 forms-set m = record {

@@ -1,18 +1,16 @@
 -- What bounds the numbers of every state that events lead to, and which events have a rule.
-use Rattle.std.specs.Prelude.{◌≡◌, ℕ, ◌≤◌, ◌<◌, ◌^◌, length, Some}
-use Rattle.std.specs.FinMap as table
+use Rattle.std.specs.Prelude.{◌≡◌, ℕ, ◌≤◌, ◌<◌, ◌^◌, length}
 use Rattle.lard_base.specs.declared.event.Event.{Event}
 use Rattle.lard_base.specs.declared.event.Event.TheVariants.{Open, Get, Write, Shut, Abort, Hold, Take, Deliver, Lose, Timer, Disk, Clock, Settle, Inject}
 use Rattle.lard_base.specs.declared.limits.TheConstants.{MAX_SEGMENT_BYTES, MAX_SEGMENT_DATA}
 use Rattle.lard_base.specs.declared.place.Place.{Place}
 use Rattle.lard_base.specs.declared.place.Place.TheVariants.{Front, Node, Client}
-use Rattle.lard_endpoint.specs.Control.{ControlBlock}
 use Rattle.lard_machine.specs.declared.machine.Machine.{Machine}
-use Rattle.lard_rules.specs.declared.places.FrontConn.TheVariants.{Held}
+use Rattle.lard_rules.specs.FrontPlace.{IsFrontSound}
 
--- each response has a byte, so there are no more responses than bytes; each event has a record
+-- the front end's code can rely on its state; each event has a record
 pub record IsBounded (m : Machine) : Type 0 where
-  pub counts : (c count : ℕ) (b : ControlBlock) → table.get m.conns c ≡ Some (Held b count) → count ≤ b.send.total
+  pub front : IsFrontSound m.front
   pub events : m.events ≤ length m.journal
 
 -- the front end has timers, and each client those of its own connection

@@ -8,7 +8,6 @@ use Rattle.lard_base.specs.declared.event.Event.TheVariants as event
 use Rattle.lard_base.specs.declared.limits.TheConstants.{MAX_PACKET_BYTES, MAX_PACKETS, MAX_RECORDS, MAX_RESPONSE_BYTES}
 use Rattle.lard_base.specs.declared.place.Place.{Place}
 use Rattle.lard_base.specs.declared.place.Place.TheVariants as place
-use Rattle.lard_base.specs.declared.place.TimerKind.TheVariants.{Tcp}
 use Rattle.lard_client.specs.Control.{ClientBlock, written_len, is_armed}
 use Rattle.lard_files.specs.Files.{file_at}
 use Rattle.lard_history.specs.Journal.{request}
@@ -19,17 +18,17 @@ use Rattle.lard_machine.specs.declared.fault.StepFault.TheVariants.{NotSent, Was
 use Rattle.lard_machine.specs.declared.fault.What.{What}
 use Rattle.lard_machine.specs.declared.fault.What.TheVariants.{Packets, PacketBytes, Records, Answers, Stream}
 use Rattle.lard_machine.specs.declared.machine.Machine.{Machine}
-use Rattle.lard_rules.specs.declared.places.FrontConn.{FrontConn}
-use Rattle.lard_rules.specs.declared.places.FrontConn.TheVariants.{Held, Lent, Closed}
 use Rattle.lard_rules.specs.declared.places.Station.{Station}
 use Rattle.lard_rules.specs.declared.places.Turn.{Turn}
 use Rattle.lard_machine.specs.Bounds.{HasRule}
 use Rattle.lard_rules.specs.Client.{client_opens, client_writes, client_shuts, client_holds, client_takes, client_aborts, client_timer, client_gets, client_injects}
 use Rattle.lard_rules.specs.Front.{FrontEnv, front_gets, front_timer}
+use Rattle.lard_rules.specs.FrontPlace.{front_seats, seat_at}
+use Rattle.lard_rules.specs.Outs.{timer_change}
+use Rattle.lard_rules.specs.Seat.{Seat, front_armed, no_connections}
 use Rattle.lard_net.specs.Net.{Packet, bytes_in, lose_at, packet_at}
 use Rattle.lard_segment.specs.declared.segment.Dir.TheVariants.{ToClient, ToCluster}
 use Rattle.lard_segment.specs.Segment.{decoded}
-use Rattle.lard_send.specs.Send.{is_clear}
 
 -- nobody has opened, and nothing was sent
 abbrev pub start : Config → List (List ℕ × List ℕ) → Machine
@@ -37,7 +36,7 @@ start config files = record {
   config = config;
   files = files;
   clients = table.empty;
-  conns = table.empty;
+  front = no_connections;
   net = [];
   answered = 0;
   events = 0;
@@ -45,13 +44,6 @@ start config files = record {
 }
 
 -- ---- a step's records
-
--- the records of the timer that changed, from its flags before and after the step
-abbrev pub timer_change : Place → ℕ → Bool → Bool → List Rec
-timer_change p c false false = []
-timer_change p c false true = rec.Armed p c Tcp ∷ []
-timer_change p c true false = rec.Cleared p c Tcp ∷ []
-timer_change p c true true = []
 
 -- the packets of what a place sends
 abbrev pub packet_of : Place → Place × List ℕ → Packet
@@ -142,30 +134,26 @@ injects m c bytes (Some x) = Ok (client_goes_on m (event.Inject c bytes) (rec.In
 
 -- ---- the front end
 
-abbrev pub front_put : Machine → ℕ → Option FrontConn → Machine
-front_put m c None = m
-front_put m c (Some x) = record m { conns = table.insert m.conns c x }
+-- where the endpoint of connection c is
+abbrev pub seat : Machine → ℕ → Seat
+seat m c = seat_at m.front c
 
--- some symbol of its endpoint is not acknowledged
-abbrev pub front_armed : Option FrontConn → Bool
-front_armed None = false
-front_armed (Some (Held b count)) = not (is_clear b.send)
-front_armed (Some Lent) = false
-front_armed (Some (Closed last)) = false
+abbrev pub with_seat : Machine → ℕ → Seat → Machine
+with_seat m c x = record m { front = front_seats m.front c x }
 
 abbrev pub env_of : Machine → ℕ → ℕ → FrontEnv
 env_of m c iss = record { c = c; iss = iss; files = file_at m.files; stream = m.config.stream }
 
 -- the front end acted: its rule gave this
-abbrev pub front_acted : Machine → Event → List Rec → ℕ → Option FrontConn × Turn → Machine
+abbrev pub front_acted : Machine → Event → List Rec → ℕ → Seat × Turn → Machine
 front_acted m e own c given =
-    acted (front_put m c given.0) e own
-    (record { place = place.Front; c = c; turn = given.1; was_armed = front_armed (table.get m.conns c); is_armed = front_armed given.0 })
+    acted (with_seat m c given.0) e own
+    (record { place = place.Front; c = c; turn = given.1; was_armed = front_armed (seat m c); is_armed = front_armed given.0 })
 
 -- ---- timers
 
 abbrev pub timer_at : Machine → Place → ℕ → Station → Machine
-timer_at m place.Front c x = front_acted m (event.Timer place.Front c) [] c (front_timer (env_of m c x.iss) (table.get m.conns c))
+timer_at m place.Front c x = front_acted m (event.Timer place.Front c) [] c (front_timer (env_of m c x.iss) (seat m c))
 timer_at m (place.Client d) c x = client_goes_on m (event.Timer (place.Client d) c) [] c x (client_timer x.client)
 timer_at m (place.Node n) c x = passed m (event.Timer (place.Node n) c) []
 
@@ -179,7 +167,7 @@ timer m p c (Some x) = Ok (timer_at m p c x)
 abbrev pub to_front : Machine → ℕ → List ℕ → ℕ → Option Station → Machine
 to_front m k bytes c None = passed m (event.Deliver k) (rec.Got k ∷ [])
 to_front m k bytes c (Some x) =
-    front_acted m (event.Deliver k) (rec.Got k ∷ []) c (front_gets (env_of m c x.iss) (table.get m.conns c) (decoded bytes c ToCluster))
+    front_acted m (event.Deliver k) (rec.Got k ∷ []) c (front_gets (env_of m c x.iss) (seat m c) (decoded bytes c ToCluster))
 
 -- a packet comes to client c
 abbrev pub to_client : Machine → ℕ → List ℕ → ℕ → Option Station → Machine

@@ -9,6 +9,6 @@ pub mod limits;
 pub mod machine;
 
 pub use fault::{StepFault, What};
-pub use lard_rules::{FrontConn, Station, Turn};
+pub use lard_rules::{FrontState, Station, Turn};
 pub use limits::first_limit;
 pub use machine::Machine;

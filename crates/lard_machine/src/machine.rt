@@ -4,7 +4,7 @@ use lard_base::Config;
 use lard_files::Files;
 use lard_journal::Journal;
 use lard_net::Net;
-use lard_rules::{FrontConn, Station};
+use lard_rules::{FrontState, Station};
 use lard_table::Table;
 
 /// The state of the whole. Connections are kept by their numbers.
@@ -15,8 +15,8 @@ pub struct Machine {
     pub files: Files,
     /// The clients that opened.
     pub clients: Table<Station>,
-    /// The connections that the front end took.
-    pub conns: Table<FrontConn>,
+    /// What the front end keeps.
+    pub front: FrontState,
     /// Every packet that was ever sent, lost or not.
     pub net: Net,
     /// The bytes of all responses that were queued.

@@ -4,5 +4,7 @@ pub mod Loops
 pub mod Packets
 pub mod Reading
 pub mod Saying
+pub mod Seats
 pub mod Sides
+pub mod Sound
 pub mod Totals

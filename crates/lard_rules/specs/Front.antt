@@ -1,4 +1,4 @@
--- The rules of the front end, each over one connection: the connection after it, and the front end's turn.
+-- The rules of the front end, each over the seat of one connection: the seat after it, and the front end's turn.
 use Rattle.std.specs.Prelude.{ℕ, zero, suc, ◌+◌, nat_lt, ◌&&◌, ◌||◌, not, Bool, true, false, if◌then◌else◌, List, [], ◌∷◌, ◌++◌, length, take, drop, Option, Some, None, Result, Ok, Err}
 use Rattle.lard_answers.specs.Answers.{FilesAt, answer, answer_code}
 use Rattle.lard_base.specs.declared.limits.TheConstants.{RECEIVE_WINDOW}
@@ -17,10 +17,9 @@ use Rattle.lard_endpoint.specs.Leaving.{timed, after_timer}
 use Rattle.lard_endpoint.specs.Moving.{may_end, end_reason, final_of}
 use Rattle.lard_journal.specs.declared.rec.Rec.{Rec}
 use Rattle.lard_journal.specs.declared.rec.Rec.TheVariants as rec
-use Rattle.lard_rules.specs.declared.places.FrontConn.{FrontConn}
-use Rattle.lard_rules.specs.declared.places.FrontConn.TheVariants.{Held, Lent, Closed}
 use Rattle.lard_rules.specs.declared.places.Turn.{Turn}
 use Rattle.lard_rules.specs.Client.{silent}
+use Rattle.lard_rules.specs.Seat.{Seat, Nowhere, AtFront, Away, Over}
 use Rattle.lard_rules.specs.Speaking.{to_client, speaks, speaks_symbols}
 use Rattle.lard_request.specs.declared.verdict.Code.TheVariants as code
 use Rattle.lard_request.specs.declared.verdict.Verdict.{Verdict}
@@ -109,16 +108,16 @@ reads env w = reads_on (length w.block.recv.unread + 1) env w
 -- ---- the end of a turn
 
 -- an endpoint that may end is ended, once it said all that it may
-abbrev pub rested : ControlBlock → ℕ → FrontConn
-rested b count = if may_end b then Closed (final_of b (end_reason b)) else Held b count
+abbrev pub rested : ControlBlock → ℕ → Seat
+rested b count = if may_end b then Over (final_of b (end_reason b)) else AtFront b count
 
 abbrev pub turn_of : Service → List (Place × List ℕ) → Turn
 turn_of w segments = record { notes = w.notes; segments = segments; answered = w.answered }
 
 -- these segments go out, and then what the endpoint may send
-abbrev pub spoken : FrontEnv → Service → List (Place × List ℕ) → Option FrontConn × Turn
+abbrev pub spoken : FrontEnv → Service → List (Place × List ℕ) → Seat × Turn
 spoken env w before =
-    (Some (rested (speaks env.c w.block).1 w.count), turn_of w (before ++ (speaks env.c w.block).0))
+    (rested (speaks env.c w.block).1 w.count, turn_of w (before ++ (speaks env.c w.block).0))
 
 -- The RST at the stream limit: <SEQ=SND.NXT><ACK=RCV.NXT><CTL=RST,ACK> (RFC 9293, 3.10.5).
 abbrev pub limit_said : Final → Said
@@ -135,13 +134,13 @@ abbrev pub told : FrontEnv → Said → Place × List ℕ
 told env s = (place.Client env.c, spelled env.c ToClient s)
 
 -- at the stream limit what has a symbol is still sent, then the RST ends the connection
-abbrev pub cut_off : FrontEnv → Service → Option FrontConn × Turn
+abbrev pub cut_off : FrontEnv → Service → Seat × Turn
 cut_off env w =
     let said = speaks_symbols env.c w.block in
     let last = final_of said.1 reason.Limit in
-    (Some (Closed last), turn_of w (said.0 ++ told env (limit_said last) ∷ []))
+    (Over last, turn_of w (said.0 ++ told env (limit_said last) ∷ []))
 
-abbrev pub settled : FrontEnv → Service → Option FrontConn × Turn
+abbrev pub settled : FrontEnv → Service → Seat × Turn
 settled env w = elim w.over [ None ↦ spoken env w [] | Some total ↦ cut_off env w ]
 
 -- ---- segments
@@ -151,15 +150,15 @@ abbrev pub is_plain_syn : Said → Bool
 is_plain_syn s = s.flags.syn && (not s.flags.ack && (not s.flags.rst && not s.flags.fin))
 
 -- The front end listens to every client (RFC 9293, 3.10.7.2), and is the first owner of the connection.
-abbrev pub begun : FrontEnv → Said → Option FrontConn × Turn
+abbrev pub begun : FrontEnv → Said → Seat × Turn
 begun env s =
     spoken env (record { block = listening s env.iss; count = 0; notes = rec.Took place.Front env.c (record { 0 = 1 }) ∷ []; answered = 0; over = None }) []
 
-abbrev pub met : FrontEnv → Said → Option FrontConn × Turn
-met env s = if is_plain_syn s then begun env s else (None, silent)
+abbrev pub met : FrontEnv → Said → Seat × Turn
+met env s = if is_plain_syn s then begun env s else (Nowhere, silent)
 
 -- The endpoint takes a segment, and the front end reads what it may.
-abbrev pub heard : FrontEnv → ControlBlock → ℕ → Option FrontConn × Turn
+abbrev pub heard : FrontEnv → ControlBlock → ℕ → Seat × Turn
 heard env b count = settled env (reads env (record { block = b; count = count; notes = []; answered = 0; over = None }))
 
 -- What an ended connection answers by: the ACK with the last numbers (RFC 9293, 3.10.7.4, TIME-WAIT), or the RST of one
@@ -198,14 +197,14 @@ tombstone env None = silent
 tombstone env (Some s) = record { notes = []; segments = told env s ∷ []; answered = 0 }
 
 -- A segment comes.
-abbrev pub front_hears : FrontEnv → Option FrontConn → Said → Option FrontConn × Turn
-front_hears env None s = met env s
-front_hears env (Some (Held b count)) s = heard env (on_segment b s).1 count
-front_hears env (Some Lent) s = (Some Lent, silent)
-front_hears env (Some (Closed last)) s = (Some (Closed last), tombstone env (last_words last.reason last s))
+abbrev pub front_hears : FrontEnv → Seat → Said → Seat × Turn
+front_hears env Nowhere s = met env s
+front_hears env (AtFront b count) s = heard env (on_segment b s).1 count
+front_hears env Away s = (Away, silent)
+front_hears env (Over last) s = (Over last, tombstone env (last_words last.reason last s))
 
 -- What does not decode is dropped.
-abbrev pub front_gets : FrontEnv → Option FrontConn → Result Said SegFault → Option FrontConn × Turn
+abbrev pub front_gets : FrontEnv → Seat → Result Said SegFault → Seat × Turn
 front_gets env x (Err fault) = (x, silent)
 front_gets env x (Ok s) = front_hears env x s
 
@@ -217,9 +216,9 @@ ready_of env b None = []
 ready_of env b (Some r) = to_client env.c b r ∷ []
 
 -- The timer fires (RFC 9293, 3.10.8).
-abbrev pub front_timer : FrontEnv → Option FrontConn → Option FrontConn × Turn
-front_timer env None = (None, silent)
-front_timer env (Some (Held b count)) =
+abbrev pub front_timer : FrontEnv → Seat → Seat × Turn
+front_timer env Nowhere = (Nowhere, silent)
+front_timer env (AtFront b count) =
     spoken env (record { block = after_timer b; count = count; notes = []; answered = 0; over = None }) (ready_of env (after_timer b) (timed b))
-front_timer env (Some Lent) = (Some Lent, silent)
-front_timer env (Some (Closed last)) = (Some (Closed last), silent)
+front_timer env Away = (Away, silent)
+front_timer env (Over last) = (Over last, silent)

@@ -1,3 +1,6 @@
 pub mod Client
 pub mod Front
+pub mod FrontPlace
+pub mod Outs
+pub mod Seat
 pub mod Speaking

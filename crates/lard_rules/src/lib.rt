@@ -5,6 +5,8 @@
 //! made of. `lard_machine` composes the rules, `lard_world` follows them, and the laws speak of them.
 #![tactic(auto)]
 
+pub mod front;
 pub mod places;
 
-pub use places::{FrontConn, Station, Turn};
+pub use front::{FrontIn, FrontRest, FrontState, Out};
+pub use places::{Station, Turn};

@@ -12,13 +12,14 @@ use Rattle.lard_history.proofs.Each.{Each}
 use Rattle.lard_journal.specs.declared.rec.Rec.{Rec}
 use Rattle.lard_journal.specs.declared.rec.Rec.TheVariants as rec
 use Rattle.lard_machine.specs.declared.machine.Machine.{Machine}
-use Rattle.lard_rules.specs.declared.places.FrontConn.{FrontConn}
 use Rattle.lard_rules.specs.declared.places.Station.{Station}
 use Rattle.lard_rules.specs.declared.places.Turn.{Turn}
 use Rattle.lard_machine.specs.Bounds.{HasRule}
 use Rattle.lard_rules.specs.Client.{client_aborts, client_gets, client_holds, client_injects, client_opens, client_shuts, client_takes, client_timer, client_writes}
 use Rattle.lard_rules.specs.Front.{front_gets, front_timer}
-use Rattle.lard_machine.specs.Machine.{acted, client_acted, env_of, front_acted, machine_step, sent_records, timer_change}
+use Rattle.lard_rules.specs.Outs.{timer_change}
+use Rattle.lard_rules.specs.Seat.{Seat}
+use Rattle.lard_machine.specs.Machine.{acted, client_acted, env_of, front_acted, machine_step, seat, sent_records}
 use Rattle.lard_machine.proofs.Forms.{Forms, step_has}
 use Rattle.lard_net.specs.Net.{Packet, packet_at}
 use Rattle.lard_segment.specs.declared.segment.Dir.TheVariants.{ToClient, ToCluster}
@@ -80,23 +81,15 @@ module _ (m : Machine) (P : Conn → Move → Type 0) (R : Rules (setting_of m) 
     });
   }
 
-  front-acts : (e : Event) (c : ℕ) (given : Option FrontConn × Turn) (heads : List Seen) → Each (IsHead e) heads → Each (IsDelivered m.net e) heads
+  front-acts : (e : Event) (c : ℕ) (given : Seat × Turn) (heads : List Seen) → Each (IsHead e) heads → Each (IsDelivered m.net e) heads
       → P (conn m c) (record { place = Front; heads = heads; turn = given.1; part = with_front (part_of m c) given.0 }) → IsStepOf P m (front_acted m e (behind e) c given) e
   unfolding acted part_of timer_rows
-  front-acts e c given heads are came does = go given.0 does where
-    go : (f : Option FrontConn) → P (conn m c) (record { place = Front; heads = heads; turn = given.1; part = with_front (part_of m c) f }) → IsStepOf P m (front_acted m e (behind e) c (f, given.1)) e
-    go None does = record {
-      events = refl;
-      adds = _;
-      journal = refl;
-      acts = inr (record { c = c; move = record { place = Front; heads = heads; turn = given.1; part = with_front (part_of m c) None }; does = does; heads = are; came = came; are = refl });
-    }
-    go (Some y) does = record {
-      events = refl;
-      adds = _;
-      journal = refl;
-      acts = inr (record { c = c; move = record { place = Front; heads = heads; turn = given.1; part = with_front (part_of m c) (Some y) }; does = does; heads = are; came = came; are = refl });
-    }
+  front-acts e c given heads are came does = record {
+    events = refl;
+    adds = _;
+    journal = refl;
+    acts = inr (record { c = c; move = record { place = Front; heads = heads; turn = given.1; part = with_front (part_of m c) given.0 }; does = does; heads = are; came = came; are = refl });
+  }
 
   -- a client that opened
   goes-on : (e : Event) (c : ℕ) (x : Station) (given : ClientBlock × Turn) (heads : List Seen) → table.get m.clients c ≡ Some x → Each (IsHead e) heads → Each (IsDelivered m.net e) heads
@@ -118,11 +111,11 @@ module _ (m : Machine) (P : Conn → Move → Type 0) (R : Rules (setting_of m) 
     injects = λ c bytes x rule is. goes-on (event.Inject c bytes) c x (client_injects x.client bytes) (inject_seen c bytes) is (refl, (tt, tt)) (tt, (tt, tt)) (R.injects (conn m c) x bytes is rule);
     client_timer = λ d c x same is. client-acts (event.Timer (Client d) c) c x.iss (is_armed x.client) (client_timer x.client) (event_seen (event.Timer (Client c) c)) (sym (ap station_armed is))
         (ap (λ z. event.Timer (Client z) c) (sym same), tt) (tt, tt) (R.client_fires (conn m c) x is);
-    front_timer = λ c x is. front-acts (event.Timer Front c) c (front_timer (env_of m c x.iss) (table.get m.conns c)) (event_seen (event.Timer Front c)) (refl, tt) (tt, tt) (R.front_fires (conn m c) x is);
+    front_timer = λ c x is. front-acts (event.Timer Front c) c (front_timer (env_of m c x.iss) (seat m c)) (event_seen (event.Timer Front c)) (refl, tt) (tt, tt) (R.front_fires (conn m c) x is);
     front_gets = λ k c p x at on from to is.
         let of : conn_of p.from p.to p.bytes ≡ Some c = ap (λ q. conn_of q p.to p.bytes) from in
         let w : Was (conn m c) (Client c) Front p.bytes = was m P R sound told k c p at of (Client c) Front from to in
-        front-acts (event.Deliver k) c (front_gets (env_of m c x.iss) (table.get m.conns c) (decoded p.bytes c ToCluster)) (packet_seen (Client c) Front p.bytes) (tt, tt)
+        front-acts (event.Deliver k) c (front_gets (env_of m c x.iss) (seat m c) (decoded p.bytes c ToCluster)) (packet_seen (Client c) Front p.bytes) (tt, tt)
         ((k, p, refl, at, (λ i. record { from = from i; to = to i; bytes = p.bytes })), tt) (R.front_hears (conn m c) x p.bytes is w);
     client_gets = λ k c p x at on to is.
         let from : p.from ≡ Front = from-front m P R sound told k c p at to in

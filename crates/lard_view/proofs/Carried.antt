@@ -12,6 +12,7 @@ use Rattle.lard_rules.specs.declared.places.Station.{Station}
 use Rattle.lard_machine.specs.Bounds.{HasRule}
 use Rattle.lard_machine.specs.Machine.{IsReached, machine_step, start}
 use Rattle.lard_machine.proofs.Runs.{passes-keep, passes-more, step-set}
+use Rattle.lard_rules.proofs.Seats.{blank-seat, no-part, no-seat}
 use Rattle.lard_view.specs.Carry.{IsLaw, OfEach, setting}
 use Rattle.lard_view.specs.View.{Conn, Goes, IsSound, Move, Rules, Setting, blank, conn, grown, part_of, setting_of}
 use Rattle.lard_view.proofs.Shapes.{IsAfter, step-after}
@@ -22,7 +23,7 @@ use Rattle.lard_view.proofs.Turns.{IsFine, fine}
 
 pub start-blank : (config : Config) (files : List (List ℕ × List ℕ)) (q : ℕ) → conn (start config files) q ≡ blank q
 unfolding conn part_of own letters
-start-blank config files q = λ i. record { c = q; part = record { station = get-empty nat_cmp q i; front = get-empty nat_cmp q i }; letters = []; seen = [] }
+start-blank config files q = λ i. record { c = q; part = record { station = get-empty nat_cmp q i; front = no-part q i; seat = no-seat q i }; letters = []; seen = [] }
 
 -- ---- what the view rests on
 
@@ -56,7 +57,7 @@ module _ (m n : Machine) (e : Event) (h : IsViewed m) (rule : HasRule e) (is : m
 
 pub start-viewed : (config : Config) (files : List (List ℕ × List ℕ)) → IsViewed (start config files)
 start-viewed config files = record {
-  sound = λ q. subst IsSound (sym (start-blank config files q)) (record { between = tt; number = λ s e. let no : None ≡ Some s = e in absurd cc });
+  sound = λ q. subst IsSound (sym (start-blank config files q)) (record { between = tt; number = λ s e. let no : None ≡ Some s = e in absurd cc; seat = blank-seat });
   told = refl;
 }
 

@@ -12,10 +12,11 @@ use Rattle.lard_history.proofs.Seeing.{AreOf, letters-all, letters-append, lette
 use Rattle.lard_journal.specs.declared.rec.Rec.{Rec}
 use Rattle.lard_journal.specs.declared.rec.Rec.TheVariants as rec
 use Rattle.lard_machine.specs.declared.machine.Machine.{Machine}
-use Rattle.lard_machine.specs.Machine.{Act, acted, packets_of, passed, records, sent_records, timer_change}
+use Rattle.lard_machine.specs.Machine.{Act, acted, packets_of, passed, records, sent_records}
 use Rattle.lard_net.specs.Net.{Packet}
 use Rattle.lard_view.specs.View.{Conn, Goes, GoesBetween, Move, Part, armed_at, conn, grown, ignoring, letter, packet_seen, part_of, seen_in, sending, timer_rows}
 use Rattle.lard_view.proofs.Turns.{AllBetween, NotedAt}
+use Rattle.lard_rules.specs.Outs.{timer_change}
 
 -- ---- notes, segments, timers
 

@@ -9,10 +9,10 @@ use Rattle.lard_history.specs.Own.{EachRow, Seen, Row, seen_step, tale_of}
 use Rattle.lard_history.proofs.Lifting.{each_row-append}
 use Rattle.lard_history.proofs.Tales.{told_on-append}
 use Rattle.lard_journal.specs.declared.rec.Rec.{Rec}
-use Rattle.lard_machine.specs.Machine.{timer_change}
 pub use Rattle.lard_view.specs.Carry.{TellsBy}
 use Rattle.lard_view.specs.Carry.{tale_at}
 use Rattle.lard_view.specs.View.{Conn, Move, Part, armed_at, grown, rows_of, seen_in, sending, timer_rows}
+use Rattle.lard_rules.specs.Outs.{timer_change}
 
 -- ---- folds
 

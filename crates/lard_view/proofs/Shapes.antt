@@ -17,13 +17,14 @@ use Rattle.lard_history.proofs.Stepping.{AreInside, IsOneStep}
 use Rattle.lard_journal.specs.declared.rec.Rec.{Rec}
 use Rattle.lard_journal.specs.declared.rec.Rec.TheVariants as rec
 use Rattle.lard_machine.specs.declared.machine.Machine.{Machine}
-use Rattle.lard_rules.specs.declared.places.FrontConn.{FrontConn}
 use Rattle.lard_rules.specs.declared.places.Station.{Station}
 use Rattle.lard_rules.specs.declared.places.Turn.{Turn}
 use Rattle.lard_machine.specs.Bounds.{HasRule}
 use Rattle.lard_rules.specs.Client.{client_aborts, client_gets, client_holds, client_injects, client_opens, client_shuts, client_takes, client_timer, client_writes}
 use Rattle.lard_rules.specs.Front.{front_gets, front_timer}
-use Rattle.lard_machine.specs.Machine.{Act, acted, client_acted, client_goes_on, client_put, env_of, front_acted, front_armed, front_put, machine_step, packets_of, passed, records, sent_records, timer_change}
+use Rattle.lard_rules.specs.Outs.{timer_change}
+use Rattle.lard_rules.specs.Seat.{Seat, front_armed}
+use Rattle.lard_machine.specs.Machine.{Act, acted, client_acted, client_goes_on, client_put, env_of, front_acted, machine_step, packets_of, passed, records, seat, sent_records, with_seat}
 use Rattle.lard_machine.proofs.Forms.{Forms, step_has}
 use Rattle.lard_net.specs.Net.{Packet, lose_at}
 use Rattle.lard_segment.specs.declared.segment.Dir.TheVariants.{ToClient, ToCluster}
@@ -125,11 +126,9 @@ module _ (m : Machine) (told : net_of m.journal ≡ m.net) where
   client-after e own_ c iss was given aside turn =
       acted-after (client_put m c (record { client = given.0; iss = iss })) e own_ (record { place = Client c; c = c; turn = given.1; was_armed = was; is_armed = is_armed given.0 }) refl refl aside turn.notes
 
-  front-after : (e : Event) (own_ : List Rec) (c : ℕ) (given : Option FrontConn × Turn) → AreAside own_ → IsFrontTurn c (table.get m.conns c) given → IsAfter m (front_acted m e own_ c given)
-  front-after e own_ c given aside turn = go given.0 where
-    go : (f : Option FrontConn) → IsAfter m (front_acted m e own_ c (f, given.1))
-    go None = acted-after m e own_ (record { place = Front; c = c; turn = given.1; was_armed = front_armed (table.get m.conns c); is_armed = false }) refl refl aside turn.notes
-    go (Some y) = acted-after (front_put m c (Some y)) e own_ (record { place = Front; c = c; turn = given.1; was_armed = front_armed (table.get m.conns c); is_armed = front_armed (Some y) }) refl refl aside turn.notes
+  front-after : (e : Event) (own_ : List Rec) (c : ℕ) (given : Seat × Turn) → AreAside own_ → IsFrontTurn c (seat m c) given → IsAfter m (front_acted m e own_ c given)
+  front-after e own_ c given aside turn =
+      acted-after (with_seat m c given.0) e own_ (record { place = Front; c = c; turn = given.1; was_armed = front_armed (seat m c); is_armed = front_armed given.0 }) refl refl aside turn.notes
 
   -- in each form of a step, where each client is its own
   forms-after : ((c : ℕ) (x : Station) → table.get m.clients c ≡ Some x → x.client.c ≡ c) → Forms m (λ e n. IsAfter m n)
@@ -143,9 +142,9 @@ module _ (m : Machine) (told : net_of m.journal ≡ m.net) where
     takes = λ c x is. client-after (event.Take c) [] c x.iss (is_armed x.client) (client_takes x.client) tt (takes-turn c x.client (number c x is));
     injects = λ c bytes x rule is. client-after (event.Inject c bytes) (rec.Injected c ∷ []) c x.iss (is_armed x.client) (client_injects x.client bytes) ((refl, λ net. refl), tt) (injects-turn c x.client (number c x is) bytes);
     client_timer = λ d c x same is. client-after (event.Timer (Client d) c) [] c x.iss (is_armed x.client) (client_timer x.client) tt (fires-turn c x.client (number c x is));
-    front_timer = λ c x is. front-after (event.Timer Front c) [] c (front_timer (env_of m c x.iss) (table.get m.conns c)) tt (front_fires-turn (env_of m c x.iss) (table.get m.conns c));
-    front_gets = λ k c p x at on from to is. front-after (event.Deliver k) (rec.Got k ∷ []) c (front_gets (env_of m c x.iss) (table.get m.conns c) (decoded p.bytes c ToCluster)) ((refl, λ net. refl), tt)
-        (front_gets-turn (env_of m c x.iss) (table.get m.conns c) (decoded p.bytes c ToCluster));
+    front_timer = λ c x is. front-after (event.Timer Front c) [] c (front_timer (env_of m c x.iss) (seat m c)) tt (front_fires-turn (env_of m c x.iss) (seat m c));
+    front_gets = λ k c p x at on from to is. front-after (event.Deliver k) (rec.Got k ∷ []) c (front_gets (env_of m c x.iss) (seat m c) (decoded p.bytes c ToCluster)) ((refl, λ net. refl), tt)
+        (front_gets-turn (env_of m c x.iss) (seat m c) (decoded p.bytes c ToCluster));
     client_gets = λ k c p x at on to is. client-after (event.Deliver k) (rec.Got k ∷ []) c x.iss (is_armed x.client) (client_gets x.client (decoded p.bytes c ToClient)) ((refl, λ net. refl), tt)
         (hears-turn c x.client (number c x is) (decoded p.bytes c ToClient));
     nobody = λ k p at on. passed-after m (event.Deliver k) (rec.Got k) refl refl refl;

@@ -12,13 +12,15 @@ use Rattle.lard_history.proofs.Seeing.{by_number, has-each, has-letter, letters-
 use Rattle.lard_journal.specs.declared.rec.Rec.{Rec}
 use Rattle.lard_journal.specs.declared.rec.Rec.TheVariants as rec
 use Rattle.lard_machine.specs.declared.machine.Machine.{Machine}
-use Rattle.lard_rules.specs.declared.places.FrontConn.{FrontConn}
 use Rattle.lard_rules.specs.declared.places.Station.{Station}
 use Rattle.lard_rules.specs.declared.places.Turn.{Turn}
 use Rattle.lard_machine.specs.Bounds.{HasRule}
 use Rattle.lard_rules.specs.Client.{client_aborts, client_gets, client_holds, client_injects, client_opens, client_shuts, client_takes, client_timer, client_writes}
 use Rattle.lard_rules.specs.Front.{front_gets, front_timer}
-use Rattle.lard_machine.specs.Machine.{Act, client_acted, client_goes_on, client_put, env_of, front_acted, front_armed, front_put, machine_step, passed}
+use Rattle.lard_rules.specs.Seat.{Seat, MayFollow, front_armed, front_part}
+use Rattle.lard_rules.proofs.Seats.{part-elsewhere, part-here, seat-elsewhere, seat-here}
+use Rattle.lard_rules.proofs.Sound.{fires-settles, gets-settles}
+use Rattle.lard_machine.specs.Machine.{Act, client_acted, client_goes_on, client_put, env_of, front_acted, machine_step, passed, seat, with_seat}
 use Rattle.lard_machine.proofs.Forms.{Forms, IsIgnored, step_has}
 use Rattle.lard_net.specs.Net.{Packet, lose_at, packet_at}
 use Rattle.lard_segment.specs.declared.segment.Dir.TheVariants.{ToClient, ToCluster}
@@ -26,7 +28,7 @@ use Rattle.lard_segment.specs.Segment.{decoded}
 use Rattle.lard_table.proofs.Map.{get_inserted, get_other}
 use Rattle.lard_view.specs.View.{AreBetween, Conn, Goes, GoesBetween, IsSound, Move, Part, Rules, Was, client_begins, client_does, conn, env_at, event_seen, front_does, ignoring, inject_seen, packet_seen, part_of, setting_of, station_armed, with_front, with_station}
 use Rattle.lard_view.proofs.Moving.{ignores, moved, passes, stays}
-use Rattle.lard_view.proofs.Turns.{IsTurn, KeepsRow, fine, front_fires-turn, front_gets-turn}
+use Rattle.lard_view.proofs.Turns.{IsTurn, fine}
 
 between-has : (c : ℕ) (l : Letter) (ls : List Letter) → Has l ls → AreBetween c ls → GoesBetween c l.from l.to
 between-has c l [] h e = absurd h
@@ -91,11 +93,11 @@ module _ (m : Machine) (P : Conn → Move → Type 0) (R : Rules (setting_of m) 
 
   client-part : (c : ℕ) (s : Station) → part_of (client_put m c s) c ≡ with_station (part_of m c) s
   unfolding part_of
-  client-part c s = λ i. record { station = get_inserted m.clients c s i; front = table.get m.conns c }
+  client-part c s = λ i. record { station = get_inserted m.clients c s i; front = front_part m.front c; seat = seat m c }
 
   client-parts : (c q : ℕ) (s : Station) → q ≢ c → part_of (client_put m c s) q ≡ part_of m q
   unfolding part_of
-  client-parts c q s n = λ i. record { station = get_other m.clients c q s n i; front = table.get m.conns q }
+  client-parts c q s n = λ i. record { station = get_other m.clients c q s n i; front = front_part m.front q; seat = seat m q }
 
   client-moves : (e : Event) (own_ : List Rec) (c iss : ℕ) (was : Bool) (given : ClientBlock × Turn) (heads : List Seen) → was ≡ station_armed (table.get m.clients c) → Heads c e own_ heads
       → IsTurn (Client c) c given.1
@@ -111,42 +113,24 @@ module _ (m : Machine) (P : Conn → Move → Type 0) (R : Rules (setting_of m) 
       (moved m w e own_ a told refl refl turn.notes turn.segments P heads (with_station (part_of m c) s) (client-part c s) timer refl h.seen does))
       (λ n. stays m w e own_ a told refl refl turn.notes turn.segments P q n (client-parts c q s n) (h.others q n))
 
-  front-part : (c : ℕ) (f : Option FrontConn) → KeepsRow (table.get m.conns c) f → part_of (front_put m c f) c ≡ with_front (part_of m c) f
+  front-part : (c : ℕ) (x : Seat) → MayFollow (seat m c) x → part_of (with_seat m c x) c ≡ with_front (part_of m c) x
   unfolding part_of
-  front-part c None row = λ i. record { station = table.get m.clients c; front = row i }
-  front-part c (Some y) row = λ i. record { station = table.get m.clients c; front = get_inserted m.conns c y i }
+  front-part c x may = λ i. record { station = table.get m.clients c; front = part-here m.front c x i; seat = seat-here m.front c x may i }
 
-  front-parts : (c q : ℕ) (f : Option FrontConn) → q ≢ c → part_of (front_put m c f) q ≡ part_of m q
+  front-parts : (c q : ℕ) (x : Seat) → q ≢ c → part_of (with_seat m c x) q ≡ part_of m q
   unfolding part_of
-  front-parts c q None n = refl
-  front-parts c q (Some y) n = λ i. record { station = table.get m.clients q; front = get_other m.conns c q y n i }
+  front-parts c q x n = λ i. record { station = table.get m.clients q; front = part-elsewhere m.front c x q n i; seat = seat-elsewhere m.front c x q n i }
 
-  front-net : (c : ℕ) (f : Option FrontConn) → (front_put m c f).net ≡ m.net
-  front-net c None = refl
-  front-net c (Some y) = refl
-
-  front-journal : (c : ℕ) (f : Option FrontConn) → (front_put m c f).journal ≡ m.journal
-  front-journal c None = refl
-  front-journal c (Some y) = refl
-
-  front-events : (c : ℕ) (f : Option FrontConn) → (front_put m c f).events ≡ m.events
-  front-events c None = refl
-  front-events c (Some y) = refl
-
-  front-moves : (e : Event) (own_ : List Rec) (c : ℕ) (given : Option FrontConn × Turn) (heads : List Seen) → Heads c e own_ heads → KeepsRow (table.get m.conns c) given.0 → IsTurn Front c given.1
+  front-moves : (e : Event) (own_ : List Rec) (c : ℕ) (given : Seat × Turn) (heads : List Seen) → Heads c e own_ heads → MayFollow (seat m c) given.0 → IsTurn Front c given.1
       → P (conn m c) (record { place = Front; heads = heads; turn = given.1; part = with_front (part_of m c) given.0 }) → To (front_acted m e own_ c given)
   unfolding part_of
-  front-moves e own_ c given heads h row turn does q =
-      let w : Machine = front_put m c given.0 in
-      let a : Act = record { place = Front; c = c; turn = given.1; was_armed = front_armed (table.get m.conns c); is_armed = front_armed given.0 } in
-      let net : w.net ≡ m.net = front-net c given.0 in
-      let journal : w.journal ≡ m.journal = front-journal c given.0 in
-      let begun : (d : ℕ) → seen_on d m.net (rec.Event (w.events + 1) e ∷ own_) ≡ seen_on d m.net (rec.Event (m.events + 1) e ∷ own_) =
-      λ d. ap (λ n. seen_on d m.net (rec.Event (n + 1) e ∷ own_)) (front-events c given.0) in
+  front-moves e own_ c given heads h may turn does q =
+      let w : Machine = with_seat m c given.0 in
+      let a : Act = record { place = Front; c = c; turn = given.1; was_armed = front_armed (seat m c); is_armed = front_armed given.0 } in
       by_number (Goes P (conn m q) (conn (front_acted m e own_ c given) q)) q c
       (λ same. subst (λ (d : ℕ). Goes P (conn m d) (conn (front_acted m e own_ c given) d)) (sym same)
-      (moved m w e own_ a told net journal turn.notes turn.segments P heads (with_front (part_of m c) given.0) (front-part c given.0 row) refl refl (begun c ∙ h.seen) does))
-      (λ n. stays m w e own_ a told net journal turn.notes turn.segments P q n (front-parts c q given.0 n) (begun q ∙ h.others q n))
+      (moved m w e own_ a told refl refl turn.notes turn.segments P heads (with_front (part_of m c) given.0) (front-part c given.0 may) refl refl h.seen does))
+      (λ n. stays m w e own_ a told refl refl turn.notes turn.segments P q n (front-parts c q given.0 n) (h.others q n))
 
   -- ---- each form of a step
 
@@ -218,13 +202,13 @@ module _ (m : Machine) (P : Conn → Move → Type 0) (R : Rules (setting_of m) 
         let e : ℕ → Event = λ z. event.Timer (Client z) c in
         subst (λ (z : ℕ). To (client_goes_on m (e z) [] c x (client_timer x.client))) (sym same)
         (goes-on (e c) [] c x (client_timer x.client) (event_seen (e c)) is (event-heads c (e c) refl) ((fine (setting_of m)).client_fires (conn m c) x is (sound c)).0 (R.client_fires (conn m c) x is));
-    front_timer = λ c x is. front-moves (event.Timer Front c) [] c (front_timer (env_of m c x.iss) (table.get m.conns c)) (event_seen (event.Timer Front c)) (event-heads c (event.Timer Front c) refl)
-        (front_fires-turn (env_of m c x.iss) (table.get m.conns c)).row ((fine (setting_of m)).front_fires (conn m c) x is (sound c)).0 (R.front_fires (conn m c) x is);
+    front_timer = λ c x is. front-moves (event.Timer Front c) [] c (front_timer (env_of m c x.iss) (seat m c)) (event_seen (event.Timer Front c)) (event-heads c (event.Timer Front c) refl)
+        (fires-settles (env_of m c x.iss) (seat m c)).follows ((fine (setting_of m)).front_fires (conn m c) x is (sound c)).0 (R.front_fires (conn m c) x is);
     front_gets = λ k c p x at on from to is.
         let of : conn_of p.from p.to p.bytes ≡ Some c = ap (λ q. conn_of q p.to p.bytes) from in
         let w : Was (conn m c) (Client c) Front p.bytes = was k c p at of (Client c) Front from to in
-        front-moves (event.Deliver k) (rec.Got k ∷ []) c (front_gets (env_of m c x.iss) (table.get m.conns c) (decoded p.bytes c ToCluster)) (packet_seen (Client c) Front p.bytes)
-        (got-heads k c p at of (Client c) Front from to) (front_gets-turn (env_of m c x.iss) (table.get m.conns c) (decoded p.bytes c ToCluster)).row
+        front-moves (event.Deliver k) (rec.Got k ∷ []) c (front_gets (env_of m c x.iss) (seat m c) (decoded p.bytes c ToCluster)) (packet_seen (Client c) Front p.bytes)
+        (got-heads k c p at of (Client c) Front from to) (gets-settles (env_of m c x.iss) (seat m c) (decoded p.bytes c ToCluster)).follows
         ((fine (setting_of m)).front_hears (conn m c) x p.bytes is w (sound c)).0 (R.front_hears (conn m c) x p.bytes is w);
     client_gets = λ k c p x at on to is.
         let from : p.from ≡ Front = from-front k c p at to in

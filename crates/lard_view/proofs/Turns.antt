@@ -22,8 +22,6 @@ use Rattle.lard_history.specs.Own.{Letter, Seen, conn_of, plain, whose}
 use Rattle.lard_history.proofs.Each.{Each, Each-append, Each-weaker}
 use Rattle.lard_journal.specs.declared.rec.Rec.{Rec}
 use Rattle.lard_journal.specs.declared.rec.Rec.TheVariants as rec
-use Rattle.lard_rules.specs.declared.places.FrontConn.{FrontConn}
-use Rattle.lard_rules.specs.declared.places.FrontConn.TheVariants.{Held, Lent, Closed}
 use Rattle.lard_rules.specs.declared.places.Station.{Station}
 use Rattle.lard_rules.specs.declared.places.Turn.{Turn}
 use Rattle.lard_rules.specs.Client.{client_aborts, client_gets, client_holds, client_injects, client_opens, client_shuts, client_takes, client_timer, client_writes, ready_of, silent, speaking}
@@ -31,6 +29,9 @@ use Rattle.lard_rules.specs.Front.{FrontEnv, Service, answered, begun, closed_be
 use Rattle.lard_rules.specs.Front as front
 use Rattle.lard_rules.specs.Speaking.{client_speaks, speaks, speaks_symbols}
 use Rattle.lard_rules.proofs.Loops.{KeptByReading, reads_keep}
+use Rattle.lard_rules.proofs.Seats.{seat-seated}
+use Rattle.lard_rules.proofs.Sound.{Settles, fires-settles, gets-settles}
+use Rattle.lard_rules.specs.Seat.{Seat, Nowhere, AtFront, Away, Over, MayFollow, seat_of}
 use Rattle.lard_request.specs.declared.verdict.Code.TheVariants as code
 use Rattle.lard_request.specs.declared.verdict.Verdict.{Verdict}
 use Rattle.lard_request.specs.declared.verdict.Verdict.TheVariants.{Fault}
@@ -137,15 +138,9 @@ module _ (c : ℕ) (x : ClientBlock) (n : x.c ≡ c) where
 
 -- ---- the front end
 
--- a connection that has no row after a rule had none before
-abbrev pub KeepsRow : Option FrontConn → Option FrontConn → Type 0
-KeepsRow x None = x ≡ None
-KeepsRow x (Some conn) = Unit {0}
-
-pub record IsFrontTurn (c : ℕ) (x : Option FrontConn) (given : Option FrontConn × Turn) : Type 0 where
+pub record IsFrontTurn (c : ℕ) (x : Seat) (given : Seat × Turn) : Type 0 where
   pub notes : Each (NotedAt Front c) given.1.notes
   pub to : AllTo (Client c) given.1.segments
-  pub row : KeepsRow x given.0
   pub answered : IsCounted given.1
 
 module _ (env : FrontEnv) where
@@ -175,53 +170,51 @@ module _ (env : FrontEnv) where
     long = λ w skip may is h. answered-noted (Fault code.FieldsTooLarge) (consumed (length w.block.recv.unread) w) h;
   }
 
-  spoken-turn : (x : Option FrontConn) (w : Service) (before : List (Place × List ℕ)) → AllTo (Client env.c) before → AreNoted w → IsFrontTurn env.c x (spoken env w before)
-  spoken-turn x w before to h = record { notes = h.0; answered = h.1; to = Each-append (λ s. s.0 ≡ Client env.c) before (speaks env.c w.block).0 to (speaks-to env.c w.block).to; row = tt }
+  spoken-turn : (x : Seat) (w : Service) (before : List (Place × List ℕ)) → AllTo (Client env.c) before → AreNoted w → IsFrontTurn env.c x (spoken env w before)
+  spoken-turn x w before to h = record { notes = h.0; answered = h.1; to = Each-append (λ s. s.0 ≡ Client env.c) before (speaks env.c w.block).0 to (speaks-to env.c w.block).to }
 
-  cut_off-turn : (x : Option FrontConn) (w : Service) → AreNoted w → IsFrontTurn env.c x (cut_off env w)
+  cut_off-turn : (x : Seat) (w : Service) → AreNoted w → IsFrontTurn env.c x (cut_off env w)
   cut_off-turn x w h = record {
     notes = h.0;
     answered = h.1;
     to = Each-append (λ s. s.0 ≡ Client env.c) (speaks_symbols env.c w.block).0 (told env (limit_said (final_of (speaks_symbols env.c w.block).1 reason.Limit)) ∷ [])
         (speaks_symbols-to env.c w.block).to (refl, tt);
-    row = tt;
   }
 
-  settled-turn : (x : Option FrontConn) (w : Service) → AreNoted w → IsFrontTurn env.c x (settled env w)
+  settled-turn : (x : Seat) (w : Service) → AreNoted w → IsFrontTurn env.c x (settled env w)
   settled-turn x w h = go w.over where
     go : (o : Option ℕ) → IsFrontTurn env.c x (elim o [ None ↦ spoken env w [] | Some total ↦ cut_off env w ])
     go None = spoken-turn x w [] tt h
     go (Some total) = cut_off-turn x w h
 
-  quiet-turn : (x : Option FrontConn) → IsFrontTurn env.c x (x, silent)
-  quiet-turn None = record { notes = tt; to = tt; row = refl; answered = λ n. omega arith }
-  quiet-turn (Some conn) = record { notes = tt; to = tt; row = tt; answered = λ n. omega arith }
+  quiet-turn : (x : Seat) → IsFrontTurn env.c x (x, silent)
+  quiet-turn x = record { notes = tt; to = tt; answered = λ n. omega arith }
 
-  tombstone-turn : (last : Final) (o : Option Said) → IsFrontTurn env.c (Some (Closed last)) (Some (Closed last), tombstone env o)
-  tombstone-turn last None = quiet-turn (Some (Closed last))
-  tombstone-turn last (Some s) = record { notes = tt; to = (refl, tt); row = tt; answered = λ n. omega arith }
+  tombstone-turn : (last : Final) (o : Option Said) → IsFrontTurn env.c (Over last) (Over last, tombstone env o)
+  tombstone-turn last None = quiet-turn (Over last)
+  tombstone-turn last (Some s) = record { notes = tt; to = (refl, tt); answered = λ n. omega arith }
 
-  pub segment-turn : (x : Option FrontConn) (s : Said) → IsFrontTurn env.c x (front_hears env x s)
-  segment-turn None s = cond_both {A = Option FrontConn × Turn} (is_plain_syn s) (begun env s) (None, silent) (IsFrontTurn env.c None)
-      (λ t. spoken-turn None (record { block = listening s env.iss; count = 0; notes = rec.Took Front env.c (record { 0 = 1 }) ∷ []; answered = 0; over = None }) [] tt ((refl, tt), λ n. omega arith))
-      (λ t. quiet-turn None)
-  segment-turn (Some (Held b count)) s =
+  pub segment-turn : (x : Seat) (s : Said) → IsFrontTurn env.c x (front_hears env x s)
+  segment-turn Nowhere s = cond_both {A = Seat × Turn} (is_plain_syn s) (begun env s) (Nowhere, silent) (IsFrontTurn env.c Nowhere)
+      (λ t. spoken-turn Nowhere (record { block = listening s env.iss; count = 0; notes = rec.Took Front env.c (record { 0 = 1 }) ∷ []; answered = 0; over = None }) [] tt ((refl, tt), λ n. omega arith))
+      (λ t. quiet-turn Nowhere)
+  segment-turn (AtFront b count) s =
       let w : Service = record { block = (on_segment b s).1; count = count; notes = []; answered = 0; over = None } in
-      settled-turn (Some (Held b count)) (reads env w) (reads_keep env AreNoted reading-notes w (tt, λ n. omega arith))
-  segment-turn (Some Lent) s = quiet-turn (Some Lent)
-  segment-turn (Some (Closed last)) s = tombstone-turn last (last_words last.reason last s)
+      settled-turn (AtFront b count) (reads env w) (reads_keep env AreNoted reading-notes w (tt, λ n. omega arith))
+  segment-turn Away s = quiet-turn Away
+  segment-turn (Over last) s = tombstone-turn last (last_words last.reason last s)
 
-  pub front_gets-turn : (x : Option FrontConn) (r : Result Said SegFault) → IsFrontTurn env.c x (front_gets env x r)
+  pub front_gets-turn : (x : Seat) (r : Result Said SegFault) → IsFrontTurn env.c x (front_gets env x r)
   front_gets-turn x (Err fault) = quiet-turn x
   front_gets-turn x (Ok s) = segment-turn x s
 
-  pub front_fires-turn : (x : Option FrontConn) → IsFrontTurn env.c x (front_timer env x)
-  front_fires-turn None = quiet-turn None
-  front_fires-turn (Some (Held b count)) =
-      spoken-turn (Some (Held b count)) (record { block = leaving.after_timer b; count = count; notes = []; answered = 0; over = None }) (front.ready_of env (leaving.after_timer b) (leaving.timed b))
+  pub front_fires-turn : (x : Seat) → IsFrontTurn env.c x (front_timer env x)
+  front_fires-turn Nowhere = quiet-turn Nowhere
+  front_fires-turn (AtFront b count) =
+      spoken-turn (AtFront b count) (record { block = leaving.after_timer b; count = count; notes = []; answered = 0; over = None }) (front.ready_of env (leaving.after_timer b) (leaving.timed b))
       (ends.ready-to env (leaving.after_timer b) (leaving.timed b)) (tt, λ n. omega arith)
-  front_fires-turn (Some Lent) = quiet-turn (Some Lent)
-  front_fires-turn (Some (Closed last)) = quiet-turn (Some (Closed last))
+  front_fires-turn Away = quiet-turn Away
+  front_fires-turn (Over last) = quiet-turn (Over last)
 
 -- ---- a move keeps what is sound
 
@@ -262,13 +255,15 @@ client-fine x s heads given turn h =
       record {
         between = between-grown x (client_does x s heads given) h fine;
         number = λ y e. sym (ap (λ (z : Station). z.client.c) (some-same (record { client = given.0; iss = s.iss }) y e)) ∙ t.number;
+        seat = h.seat;
       },
     )
 
-front-fine : (x : Conn) (heads : List Seen) (given : Option FrontConn × Turn) → IsFrontTurn x.c x.part.front given → IsFine x (front_does x heads given)
-front-fine x heads given t h =
+front-fine : (x : Conn) (heads : List Seen) (given : Seat × Turn) → Settles x.part.seat given → IsFrontTurn x.c x.part.seat given → IsFine x (front_does x heads given)
+front-fine x heads given settles t h =
     let fine : IsTurn Front x.c given.1 = record { notes = t.notes; segments = to-client x.c given.1.segments t.to; answered = t.answered } in
-    (fine, record { between = between-grown x (front_does x heads given) h fine; number = h.number })
+    let may : MayFollow (seat_of x.part.front) given.0 = subst (λ (y : Seat). MayFollow y given.0) (sym h.seat) settles.follows in
+    (fine, record { between = between-grown x (front_does x heads given) h fine; number = h.number; seat = seat-seated x.part.front given.0 may })
 
 begins-fine : (x : Conn) (isn iss wnd mss : ℕ) → IsFine x (client_begins x isn iss wnd mss)
 begins-fine x isn iss wnd mss h =
@@ -279,6 +274,7 @@ begins-fine x isn iss wnd mss h =
       record {
         between = between-grown x (client_begins x isn iss wnd mss) h fine;
         number = λ y e. sym (ap (λ (z : Station). z.client.c) (some-same (record { client = given.0; iss = iss }) y e)) ∙ t.number;
+        seat = h.seat;
       },
     )
 
@@ -296,10 +292,10 @@ fine k = record {
   client_fires = λ x s there. client-fine x s (event_seen (event.Timer (Client x.c) x.c)) (client_timer s.client) (λ h. fires-turn x.c s.client (h.number s there));
   client_hears = λ x s bytes there was. client-fine x s (packet_seen Front (Client x.c) bytes) (client_gets s.client (decoded bytes x.c ToClient))
       (λ h. hears-turn x.c s.client (h.number s there) (decoded bytes x.c ToClient));
-  front_fires = λ x s there. front-fine x (event_seen (event.Timer Front x.c)) (front_timer (env_at k x s) x.part.front) (front_fires-turn (env_at k x s) x.part.front);
-  front_hears = λ x s bytes there was. front-fine x (packet_seen (Client x.c) Front bytes) (front_gets (env_at k x s) x.part.front (decoded bytes x.c ToCluster))
-      (front_gets-turn (env_at k x s) x.part.front (decoded bytes x.c ToCluster));
+  front_fires = λ x s there. front-fine x (event_seen (event.Timer Front x.c)) (front_timer (env_at k x s) x.part.seat) (fires-settles (env_at k x s) x.part.seat) (front_fires-turn (env_at k x s) x.part.seat);
+  front_hears = λ x s bytes there was. front-fine x (packet_seen (Client x.c) Front bytes) (front_gets (env_at k x s) x.part.seat (decoded bytes x.c ToCluster))
+      (gets-settles (env_at k x s) x.part.seat (decoded bytes x.c ToCluster)) (front_gets-turn (env_at k x s) x.part.seat (decoded bytes x.c ToCluster));
   ignores = λ x from to bytes was h.
       let fine : IsTurn to x.c silent = record { notes = tt; segments = tt; answered = λ n. omega arith } in
-      (fine, record { between = between-grown x (ignoring x from to bytes) h fine; number = h.number });
+      (fine, record { between = between-grown x (ignoring x from to bytes) h fine; number = h.number; seat = h.seat });
 }

@@ -59,9 +59,9 @@ pub record UntouchedRules (k : Setting) (P : Conn → Move → Type 0) : Type 0 
   pub client_hears : (x : Conn) (s : Station) (bytes : List ℕ) → x.part.station ≡ Some s → Was x Front (Client x.c) bytes
       → P x (client_does x s (packet_seen Front (Client x.c) bytes) (client_gets s.client (decoded bytes x.c ToClient)))
   pub front_fires : (x : Conn) (s : Station) → x.part.station ≡ Some s
-      → P x (front_does x (event_seen (event.Timer Front x.c)) (front_timer (env_at k x s) x.part.front))
+      → P x (front_does x (event_seen (event.Timer Front x.c)) (front_timer (env_at k x s) x.part.seat))
   pub front_hears : (x : Conn) (s : Station) (bytes : List ℕ) → x.part.station ≡ Some s → Was x (Client x.c) Front bytes
-      → P x (front_does x (packet_seen (Client x.c) Front bytes) (front_gets (env_at k x s) x.part.front (decoded bytes x.c ToCluster)))
+      → P x (front_does x (packet_seen (Client x.c) Front bytes) (front_gets (env_at k x s) x.part.seat (decoded bytes x.c ToCluster)))
   pub ignores : (x : Conn) (from to : Place) (bytes : List ℕ) → Was x from to bytes × (x.part.station ≡ None) → P x (ignoring x from to bytes)
 
 -- Of a connection as long as the schedule did not touch it: it holds of what is blank, and each rule keeps it.

@@ -14,13 +14,14 @@ use Rattle.lard_history.specs.Own.{Has, Letter, Seen, Row, Came, letters, own}
 use Rattle.lard_journal.specs.declared.rec.Rec.{Rec}
 use Rattle.lard_journal.specs.declared.rec.Rec.TheVariants as rec
 use Rattle.lard_machine.specs.declared.machine.Machine.{Machine}
-use Rattle.lard_rules.specs.declared.places.FrontConn.{FrontConn}
+use Rattle.lard_machine.specs.Machine.{seat}
 use Rattle.lard_rules.specs.declared.places.Station.{Station}
 use Rattle.lard_rules.specs.declared.places.Turn.{Turn}
 use Rattle.lard_machine.specs.Bounds.{HasRule}
 use Rattle.lard_rules.specs.Client.{client_opens, client_writes, client_shuts, client_holds, client_takes, client_aborts, client_timer, client_gets, client_injects, silent}
 use Rattle.lard_rules.specs.Front.{FrontEnv, front_gets, front_timer}
-use Rattle.lard_machine.specs.Machine.{front_armed, timer_change}
+use Rattle.lard_rules.specs.Outs.{timer_change}
+use Rattle.lard_rules.specs.Seat.{FrontPart, Seat, Nowhere, front_armed, front_part, seat_of, seated}
 use Rattle.lard_segment.specs.declared.segment.Dir.TheVariants.{ToClient, ToCluster}
 use Rattle.lard_segment.specs.Segment.{decoded}
 
@@ -34,13 +35,15 @@ pub record Setting : Type 0 where
 abbrev pub setting_of : Machine → Setting
 setting_of m = record { files = file_at m.files; stream = m.config.stream }
 
--- what all places keep of a connection: its client's place, and the front end
+-- What all places keep of a connection: its client's place, and the front end. The seat is what the front end's records say
+-- of the endpoint (`IsSound`): it stands beside them, so that a law of what is said and heard need not look at records.
 pub record Part : Type 0 where
   pub station : Option Station
-  pub front : Option FrontConn
+  pub front : FrontPart
+  pub seat : Seat
 
 unfoldable pub part_of : Machine → ℕ → Part
-part_of m q = record { station = table.get m.clients q; front = table.get m.conns q }
+part_of m q = record { station = table.get m.clients q; front = front_part m.front q; seat = seat m q }
 
 -- All of one connection.
 pub record Conn : Type 0 where
@@ -54,7 +57,7 @@ conn m q = record { c = q; part = part_of m q; letters = letters q m.net; seen =
 
 -- before anything
 abbrev pub blank : ℕ → Conn
-blank c = record { c = c; part = record { station = None; front = None }; letters = []; seen = [] }
+blank c = record { c = c; part = record { station = None; front = record { row = None; rest = None }; seat = Nowhere }; letters = []; seen = [] }
 
 -- ---- a move
 
@@ -72,7 +75,7 @@ station_armed (Some s) = is_armed s.client
 -- a place's timer for the connection
 abbrev pub armed_at : Place → Part → Bool
 armed_at (Client c) p = station_armed p.station
-armed_at Front p = front_armed p.front
+armed_at Front p = front_armed p.seat
 armed_at (Node n) p = false
 
 -- the records of a timer that changed, from the part before and after the step
@@ -111,10 +114,10 @@ abbrev pub Was : Conn → Place → Place → List ℕ → Type 0
 Was x from to bytes = Has (record { from = from; to = to; bytes = bytes }) x.letters
 
 abbrev pub with_station : Part → Station → Part
-with_station p s = record { station = Some s; front = p.front }
+with_station p s = record { station = Some s; front = p.front; seat = p.seat }
 
-abbrev pub with_front : Part → Option FrontConn → Part
-with_front p f = record { station = p.station; front = f }
+abbrev pub with_front : Part → Seat → Part
+with_front p x = record { station = p.station; front = seated p.front x; seat = x }
 
 -- an event is seen, and nothing else before the notes
 abbrev pub event_seen : Event → List Seen
@@ -140,7 +143,7 @@ client_begins x isn iss wnd mss = record {
   part = with_station x.part (record { client = (client_opens x.c isn wnd mss).0; iss = iss });
 }
 
-abbrev pub front_does : Conn → List Seen → Option FrontConn × Turn → Move
+abbrev pub front_does : Conn → List Seen → Seat × Turn → Move
 front_does x heads given = record { place = Front; heads = heads; turn = given.1; part = with_front x.part given.0 }
 
 -- a packet comes to a connection whose client has not opened, and nothing is done
@@ -167,9 +170,9 @@ pub record Rules (k : Setting) (P : Conn → Move → Type 0) : Type 0 where
   pub client_hears : (x : Conn) (s : Station) (bytes : List ℕ) → x.part.station ≡ Some s → Was x Front (Client x.c) bytes
       → P x (client_does x s (packet_seen Front (Client x.c) bytes) (client_gets s.client (decoded bytes x.c ToClient)))
   pub front_fires : (x : Conn) (s : Station) → x.part.station ≡ Some s
-      → P x (front_does x (event_seen (event.Timer Front x.c)) (front_timer (env_at k x s) x.part.front))
+      → P x (front_does x (event_seen (event.Timer Front x.c)) (front_timer (env_at k x s) x.part.seat))
   pub front_hears : (x : Conn) (s : Station) (bytes : List ℕ) → x.part.station ≡ Some s → Was x (Client x.c) Front bytes
-      → P x (front_does x (packet_seen (Client x.c) Front bytes) (front_gets (env_at k x s) x.part.front (decoded bytes x.c ToCluster)))
+      → P x (front_does x (packet_seen (Client x.c) Front bytes) (front_gets (env_at k x s) x.part.seat (decoded bytes x.c ToCluster)))
   pub ignores : (x : Conn) (from to : Place) (bytes : List ℕ) → Was x from to bytes × (x.part.station ≡ None) → P x (ignoring x from to bytes)
 
 -- ---- what the view itself rests on
@@ -188,3 +191,4 @@ AreBetween c (l ∷ ls) = GoesBetween c l.from l.to × AreBetween c ls
 pub record IsSound (x : Conn) : Type 0 where
   pub between : AreBetween x.c x.letters
   pub number : (s : Station) → x.part.station ≡ Some s → s.client.c ≡ x.c
+  pub seat : seat_of x.part.front ≡ x.part.seat

@@ -9,22 +9,17 @@ use Rattle.lard_client.specs.Control.{ClientBlock, is_armed}
 use Rattle.lard_journal.specs.declared.rec.Rec.{Rec}
 use Rattle.lard_machine.specs.Machine.{Act, acted, client_acted, client_goes_on}
 use Rattle.lard_machine.specs.declared.machine.Machine.{Machine}
-use Rattle.lard_rules.specs.declared.places.FrontConn.{FrontConn}
-use Rattle.lard_rules.specs.declared.places.FrontConn.TheVariants.{Lent}
 use Rattle.lard_rules.specs.declared.places.Station.{Station}
 use Rattle.lard_rules.specs.declared.places.Turn.{Turn}
 use Rattle.lard_net.specs.Net.{Packet, lose_at}
 use Rattle.lard_table.proofs.Map.{get_inserted, insert_twice}
-use Rattle.lard_world.specs.Lent.{stand_in, without_client, without_conn}
+use Rattle.lard_world.specs.Lent.{stand_in, without_client}
 
 pub client_back : (m : Machine) (e : Event) (own : List Rec) (c iss : ℕ) (was : Bool) (given : ClientBlock × Turn)
     → client_acted (without_client m c) e own c iss was given ≡ client_acted m e own c iss was given
 client_back m e own c iss was given =
     let act : Act = record { place = place.Client c; c = c; turn = given.1; was_armed = was; is_armed = is_armed given.0 } in
     ap (λ (t : FinMap nat_cmp Station). acted (record m { clients = t }) e own act) (insert_twice m.clients c (stand_in c) (record { client = given.0; iss = iss }))
-
-pub conn_back : (m : Machine) (c : ℕ) (x : FrontConn) → record (without_conn m c) { conns = table.insert (without_conn m c).conns c x } ≡ record m { conns = table.insert m.conns c x }
-conn_back m c x = ap (λ (t : FinMap nat_cmp FrontConn). record m { conns = t }) (insert_twice m.conns c Lent x)
 
 -- what is put in is found
 pub there_after : {X : Type 0} (t n : FinMap nat_cmp X) (c k : ℕ) (x : X) → k ≡ c → n ≡ table.insert t k x → IsSome (table.get n c)

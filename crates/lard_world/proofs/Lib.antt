@@ -1,5 +1,3 @@
 pub mod Lent
-pub mod Loops
-pub mod Responses
-pub mod Turns
 pub mod Runs
+pub mod Telling

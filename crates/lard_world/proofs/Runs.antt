@@ -13,8 +13,9 @@ use Rattle.lard_journal.specs.declared.rec.Rec.{Rec}
 use Rattle.lard_machine.specs.declared.fault.StepFault.{StepFault}
 use Rattle.lard_machine.specs.declared.fault.StepFault.TheVariants.{NotSent, WasLost, NoClient, Used, Limit, NoMemory}
 use Rattle.lard_machine.specs.declared.machine.Machine.{Machine}
-use Rattle.lard_rules.specs.declared.places.FrontConn.{FrontConn}
+use Rattle.lard_rules.specs.declared.front.FrontState.{FrontState}
 use Rattle.lard_rules.specs.declared.places.Station.{Station}
+use Rattle.lard_rules.specs.Seat.{no_connections}
 use Rattle.lard_machine.specs.Bounds.{HasRule}
 use Rattle.lard_machine.specs.Machine.{Steps, machine_step, start}
 use Rattle.lard_net.specs.Net.{Packet}
@@ -55,10 +56,10 @@ module _ (old new : Machine) (e : Event) (run : IsRun old) (rule : HasRule e) wh
 stream-small : (n : ℕ) → IsTrue (is_in_range Stream n) → n ≤ 2 ^ 30
 stream-small n h = grind (arith, nat_tests, h)
 
-pub begins : (config : Config) (files : List (List ℕ × List ℕ)) (clients : FinMap nat_cmp Station) (conns : FinMap nat_cmp FrontConn) (net : List Packet) (journal : List Rec)
-    → clients ≡ table.empty → conns ≡ table.empty → net ≡ [] → journal ≡ [] → IsInRange config
-    → IsRun (record { config = config; files = files; clients = clients; conns = conns; net = net; answered = 0; events = 0; journal = journal })
-begins config files clients conns net journal a b c d range =
-    let same : record { config = config; files = files; clients = clients; conns = conns; net = net; answered = 0; events = 0; journal = journal } ≡ start config files =
-    λ i. record { config = config; files = files; clients = a i; conns = b i; net = c i; answered = 0; events = 0; journal = d i } in
+pub begins : (config : Config) (files : List (List ℕ × List ℕ)) (clients : FinMap nat_cmp Station) (front : FrontState) (net : List Packet) (journal : List Rec)
+    → clients ≡ table.empty → front ≡ no_connections → net ≡ [] → journal ≡ [] → IsInRange config
+    → IsRun (record { config = config; files = files; clients = clients; front = front; net = net; answered = 0; events = 0; journal = journal })
+begins config files clients front net journal a b c d range =
+    let same : record { config = config; files = files; clients = clients; front = front; net = net; answered = 0; events = 0; journal = journal } ≡ start config files =
+    λ i. record { config = config; files = files; clients = a i; front = b i; net = c i; answered = 0; events = 0; journal = d i } in
     subst IsRun (sym same) (record { reached = ([], refl); stream = stream-small config.stream (range Stream) })

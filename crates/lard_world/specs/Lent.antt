@@ -1,9 +1,8 @@
--- A state of which one connection is in hand, for the time of a rule.
+-- A state of which one client is in hand, for the time of a rule.
 use Rattle.std.specs.Prelude.{ℕ}
 use Rattle.std.specs.FinMap as table
 use Rattle.lard_client.specs.Control.{opened}
 use Rattle.lard_machine.specs.declared.machine.Machine.{Machine}
-use Rattle.lard_rules.specs.declared.places.FrontConn.TheVariants.{Lent}
 use Rattle.lard_rules.specs.declared.places.Station.{Station}
 
 -- the station that stands in for one that is in hand
@@ -13,7 +12,3 @@ stand_in c = record { client = opened c 0 1 1; iss = 0 }
 -- a client's station is in hand
 abbrev pub without_client : Machine → ℕ → Machine
 without_client m c = record m { clients = table.insert m.clients c (stand_in c) }
-
--- the front end's connection is in hand
-abbrev pub without_conn : Machine → ℕ → Machine
-without_conn m c = record m { conns = table.insert m.conns c Lent }

@@ -1,5 +1,4 @@
 pub mod Acting
-pub mod Front
 pub mod Lent
 pub mod Turns
 pub mod World

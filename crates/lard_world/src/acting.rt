@@ -1,19 +1,25 @@
 //! The end of a step: its packets are sent, and all of its records are appended at once.
 
 ghost use Rattle.std.specs.Prelude.{◌≡◌, ◌+◌, ◌^◌, ◌≤◌, ◌<◌, ◌-◌, [], ◌∷◌, ◌++◌, length, IfOk, OnOk, OnErr};
-ghost use Rattle.lard_base.specs.declared.limits.TheConstants.{MAX_SEGMENT_BYTES};
-ghost use Rattle.lard_machine.specs.Machine.{acted, packets_of, passed, sent_records, timer_change};
+ghost use Rattle.lard_base.specs.declared.limits.TheConstants.{MAX_SEGMENT_BYTES, MAX_STREAM_BYTES};
+ghost use Rattle.lard_front.specs.Place.{IsShort};
+ghost use Rattle.lard_machine.specs.Machine.{acted, packets_of, passed, sent_records};
+ghost use Rattle.lard_rules.specs.FrontPlace.{IsFrontSound, front_step};
 ghost use Rattle.lard_rules.specs.Speaking.{AreShort, listed};
-ghost use Rattle.lard_world.specs.Acting.{act_of};
-ghost use Rattle.lard_world.specs.Turns.{HasRoom, IsTurn};
+ghost use Rattle.lard_serving.specs.Turns.{IsOut, IsTurn};
+ghost use Rattle.lard_world.specs.Acting.{act_of, front_told, setting_in, told_all};
+ghost use Rattle.lard_world.specs.Turns.{HasRoom};
 
-use lard_base::{Bytes, ConnId, Event, NoMemory, Place, Sends, TimerKind};
+use lard_base::{Bytes, ConnId, Event, NoMemory, Place, Sends};
+use lard_front::{Setting, step};
 use lard_journal::{Rec, Recs};
 use lard_machine::{Machine, Turn};
 use lard_net::Net;
+use lard_rules::{FrontIn, Out};
+use lard_serving::out_of;
 use std::alloc::Global;
 
-/// What a place does in a step: its turn, and its timer for a connection before and after.
+/// What a client does in a step: its turn, and its timer before and after.
 #[derive(Debug, Drop)]
 pub struct Act {
     pub place: Place,
@@ -23,8 +29,8 @@ pub struct Act {
     pub is_armed: bool,
 }
 
-/// Ends a step in which a place acted. Without memory the journal is as it was.
-#[tactic(auto, unfolding(lard_machine::specs::Machine::acted))]
+/// Ends a step in which a client acted. Without memory the journal is as it was.
+#[tactic(auto, using(crate::proofs::Telling::told_turn))]
 pub fn conclude(
     machine: &mut Machine,
     alloc: Global,
@@ -44,18 +50,65 @@ pub fn conclude(
         was_armed,
         is_armed,
     } = act;
-    let Turn {
+    let out = out_of(alloc, place, c, was_armed, is_armed, turn)?;
+    tell(machine, alloc, event, own, place, out)
+}
+
+/// Ends a step in which the front end does the rule of what comes to it. Without memory the journal is as it was.
+pub fn follow(
+    machine: &mut Machine,
+    alloc: Global,
+    event: Event,
+    own: Option<Rec>,
+    input: FrontIn,
+) -> Result<(), NoMemory>
+    requires room { HasRoom machine.old }
+    requires sound { IsFrontSound machine.old.front }
+    requires stream { machine.old.config.stream ≤ MAX_STREAM_BYTES }
+    requires short { IsShort input }
+    ensures ok { OnOk result (machine.new ≡ front_told machine.old event (listed own) (front_step (setting_in machine.old) machine.old.front input)) }
+    ensures err { OnErr result (machine.new.journal ≡ machine.old.journal) }
+{
+    let setting = Setting {
+        files: &machine.files,
+        stream: machine.config.stream,
+    };
+    let out = step(&mut machine.front, alloc, &setting, input)?;
+    tell(machine, alloc, event, own, Place::Front, out)
+}
+
+/// Tells all that a place does in a step, kind by kind. Without memory the journal is as it was.
+#[tactic(auto, unfolding(lard_world::specs::Acting::told_all))]
+fn tell(
+    machine: &mut Machine,
+    alloc: Global,
+    event: Event,
+    own: Option<Rec>,
+    place: Place,
+    out: Out,
+) -> Result<(), NoMemory>
+    requires room { HasRoom machine.old }
+    requires out { IsOut out }
+    ensures ok { OnOk result (machine.new ≡ told_all machine.old event (listed own) place out) }
+    ensures err { OnErr result (machine.new.journal ≡ machine.old.journal) }
+{
+    let Out {
         mut notes,
         segments,
+        mut gave,
+        messages,
+        mut timers,
         answered,
-    } = turn;
+    } = out;
     let i = machine.events + 1;
     let mut recs = Recs::new(alloc);
     recs.push(Rec::Event { i, event })?;
     push(&mut recs, own)?;
     recs.append(&mut notes)?;
     send(&mut machine.net, alloc, &place, segments, &mut recs)?;
-    push(&mut recs, timer_change(&place, c, was_armed, is_armed))?;
+    recs.append(&mut gave)?;
+    send(&mut machine.net, alloc, &place, messages, &mut recs)?;
+    recs.append(&mut timers)?;
     machine.journal.append(recs)?;
     machine.answered += u64::from(answered);
     machine.events = i;
@@ -123,18 +176,5 @@ fn push(recs: &mut Recs, rec: Option<Rec>) -> Result<(), NoMemory>
     match rec {
         None => return Ok(()),
         Some(rec) => return recs.push(rec),
-    }
-}
-
-/// The record of the timer that changed, from its flags before and after the step.
-fn timer_change(place: &Place, c: ConnId, was: bool, is: bool) -> Option<Rec>
-    ensures { listed result ≡ timer_change place.now c was is }
-{
-    let kind = TimerKind::Tcp;
-    let place = *place;
-    match (was, is) {
-        (false, true) => Some(Rec::Armed { place, c, kind }),
-        (true, false) => Some(Rec::Cleared { place, c, kind }),
-        (false, false) | (true, true) => None,
     }
 }

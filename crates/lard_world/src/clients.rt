@@ -4,10 +4,10 @@ ghost use Rattle.std.specs.Prelude.{◌≡◌, ◌+◌, ◌^◌, ◌≤◌, ◌+
 ghost use Rattle.lard_base.specs.declared.limits.TheConstants.{MAX_SEGMENT_BYTES, MAX_STREAM_BYTES};
 ghost use Rattle.lard_client.specs.Control.{written_len};
 ghost use Rattle.lard_client.specs.Leaving.{IsHeld, IsWritable};
-ghost use Rattle.lard_rules.specs.Client.{accepted_note, client_aborts, client_gets, client_heard, client_holds, client_injects, client_shuts, client_takes, client_timer, client_writes, eof_note, ready_of, silent, speaking};
+ghost use Rattle.lard_rules.specs.Client.{accepted_note, client_aborts, client_gets, client_heard, client_holds, client_injects, client_shuts, client_takes, client_timer, client_writes, eof_note, ready_of, speaking};
 ghost use Rattle.lard_rules.specs.Speaking.{AreShort};
 ghost use Rattle.lard_segment.specs.Segment.{decoded};
-ghost use Rattle.lard_world.specs.Turns.{IsTurn};
+ghost use Rattle.lard_serving.specs.Turns.{IsTurn};
 
 use crate::speaking::{client_speak, to_front};
 use lard_base::{Bytes, ConnId, NoMemory, Place, Sends};
@@ -15,19 +15,8 @@ use lard_client::{Client, Heard};
 use lard_journal::{Rec, Recs};
 use lard_machine::Turn;
 use lard_segment::{Dir, Ready, decode};
+use lard_serving::silent;
 use std::alloc::Global;
-
-/// A turn in which nothing is noted or sent.
-pub fn silent(alloc: Global) -> Turn
-    ensures turn { result ≡ silent }
-    ensures fits { IsTurn result }
-{
-    Turn {
-        notes: Recs::new(alloc),
-        segments: Sends::new(alloc),
-        answered: 0,
-    }
-}
 
 /// The client notes this, and sends these packets and then what it may.
 pub fn speaking(

@@ -6,10 +6,7 @@
 
 mod acting;
 mod clients;
-mod conns;
-mod front;
 mod packets;
-mod reading;
 mod speaking;
 mod stations;
 mod steps;

@@ -6,21 +6,24 @@ ghost use Rattle.lard_base.specs.declared.limits.TheConstants.{MAX_SEGMENT_BYTES
 ghost use Rattle.lard_net.specs.Net.{IsSized, packet_at};
 ghost use Rattle.lard_machine.specs.Bounds.{HasTimer};
 ghost use Rattle.lard_machine.specs.Machine.{Steps, delivered, from_place, lost, timer, to_client, to_front, to_place};
-ghost use Rattle.lard_world.specs.Turns.{HasCounts, HasRoom};
+ghost use Rattle.lard_rules.specs.FrontPlace.{IsFrontSound};
+ghost use Rattle.lard_world.specs.Turns.{HasRoom};
 
-use crate::acting::pass;
+use crate::acting::{follow, pass};
 use crate::stations::{put_back, take_out};
-use crate::{clients, conns};
+use crate::clients;
 use lard_base::{Bytes, ConnId, Event, NoMemory, Place};
 use lard_journal::Rec;
 use lard_machine::{Machine, StepFault};
+use lard_rules::FrontIn;
+use lard_seq::Seq;
 use std::alloc::Global;
 
 /// A packet comes to its place.
 #[tactic(auto, unfolding(lard_machine::specs::Machine::delivered))]
 pub fn deliver(machine: &mut Machine, alloc: Global, k: u32) -> Result<(), StepFault>
     requires room { HasRoom machine.old }
-    requires counts { HasCounts machine.old }
+    requires front { IsFrontSound machine.old.front }
     requires stream { machine.old.config.stream ≤ MAX_STREAM_BYTES }
     ensures { Steps (delivered machine.old k (packet_at machine.old.net k)) machine.old machine.new result }
 {
@@ -34,7 +37,7 @@ pub fn deliver(machine: &mut Machine, alloc: Global, k: u32) -> Result<(), StepF
     let from = packet.from;
     let to = packet.to;
     let bytes = Bytes::from_slice(alloc, packet.bytes)?;
-    bring(machine, alloc, k, from, to, bytes.as_slice())?;
+    bring(machine, alloc, k, from, to, bytes)?;
     Ok(())
 }
 
@@ -45,42 +48,44 @@ fn bring(
     k: u32,
     from: Place,
     to: Place,
-    bytes: &[u8],
+    bytes: Bytes,
 ) -> Result<(), NoMemory>
-    requires sized { IsSized from to (length bytes.now) }
+    requires sized { IsSized from to (length bytes) }
     requires room { HasRoom machine.old }
-    requires counts { HasCounts machine.old }
+    requires front { IsFrontSound machine.old.front }
     requires stream { machine.old.config.stream ≤ MAX_STREAM_BYTES }
-    ensures ok { OnOk result (machine.new ≡ to_place machine.old k (record { from = from; to = to; bytes = bytes.now; lost = false }) to) }
+    ensures ok { OnOk result (machine.new ≡ to_place machine.old k (record { from = from; to = to; bytes = bytes; lost = false }) to) }
     ensures err { OnErr result (machine.new.journal ≡ machine.old.journal) }
 {
     match (to, from) {
         (Place::Front, Place::Client(c)) => return to_front(machine, alloc, k, c, bytes),
-        (Place::Client(c), _) => return to_client(machine, alloc, k, c, bytes),
+        (Place::Client(c), _) => return to_client(machine, alloc, k, c, bytes.as_slice()),
         _ => return pass(machine, alloc, Event::Deliver(k), Rec::Got(k)),
     }
 }
 
 /// A packet of client `c` comes to the front end.
+#[tactic(auto, using(crate::proofs::Telling::told_seat))]
 fn to_front(
     machine: &mut Machine,
     alloc: Global,
     k: u32,
     c: ConnId,
-    bytes: &[u8],
+    bytes: Bytes,
 ) -> Result<(), NoMemory>
-    requires short { length bytes.now ≤ MAX_SEGMENT_BYTES }
+    requires short { length bytes ≤ MAX_SEGMENT_BYTES }
     requires room { HasRoom machine.old }
-    requires counts { HasCounts machine.old }
+    requires front { IsFrontSound machine.old.front }
     requires stream { machine.old.config.stream ≤ MAX_STREAM_BYTES }
-    ensures ok { OnOk result (machine.new ≡ to_front machine.old k bytes.now c (table.get machine.old.clients c)) }
+    ensures ok { OnOk result (machine.new ≡ to_front machine.old k bytes c (table.get machine.old.clients c)) }
     ensures err { OnErr result (machine.new.journal ≡ machine.old.journal) }
 {
     let Some(station) = machine.clients.get(c.number()) else {
         return pass(machine, alloc, Event::Deliver(k), Rec::Got(k));
     };
-    let iss = station.iss;
-    conns::receive(machine, alloc, k, c, iss, bytes)
+    let iss = Seq(station.iss);
+    let input = FrontIn::Segment { c, iss, bytes };
+    follow(machine, alloc, Event::Deliver(k), Some(Rec::Got(k)), input)
 }
 
 /// A packet comes to client `c`.
@@ -132,7 +137,8 @@ pub fn lose(machine: &mut Machine, alloc: Global, k: u32) -> Result<(), StepFaul
 /// The timers of a connection at a place fire.
 pub fn fire(machine: &mut Machine, alloc: Global, place: Place, c: ConnId) -> Result<(), StepFault>
     requires room { HasRoom machine.old }
-    requires counts { HasCounts machine.old }
+    requires front { IsFrontSound machine.old.front }
+    requires stream { machine.old.config.stream ≤ MAX_STREAM_BYTES }
     requires timers { HasTimer place c }
     ensures { Steps (timer machine.old place c (table.get machine.old.clients c)) machine.old machine.new result }
 {
@@ -144,17 +150,19 @@ pub fn fire(machine: &mut Machine, alloc: Global, place: Place, c: ConnId) -> Re
 }
 
 /// The front end's timer for a connection fires.
-#[tactic(auto, unfolding(lard_machine::specs::Machine::timer))]
+#[tactic(auto, using(crate::proofs::Telling::told_timer), unfolding(lard_machine::specs::Machine::timer))]
 fn fire_front(machine: &mut Machine, alloc: Global, c: ConnId) -> Result<(), StepFault>
     requires room { HasRoom machine.old }
-    requires counts { HasCounts machine.old }
+    requires stream { machine.old.config.stream ≤ MAX_STREAM_BYTES }
+    requires front { IsFrontSound machine.old.front }
     ensures { Steps (timer machine.old Place.Front c (table.get machine.old.clients c)) machine.old machine.new result }
 {
-    let Some(station) = machine.clients.get(c.number()) else {
+    if machine.clients.get(c.number()).is_none() {
         return Err(StepFault::NoClient(c.number()));
-    };
-    let iss = station.iss;
-    conns::fire(machine, alloc, c, iss)?;
+    }
+    let place = Place::Front;
+    let event = Event::Timer { place, c };
+    follow(machine, alloc, event, None, FrontIn::Timer(c))?;
     Ok(())
 }
 

@@ -4,7 +4,8 @@ ghost use Rattle.std.specs.Prelude.{◌≡◌, ◌^◌, ◌≤◌, None, IfNone,
 ghost use Rattle.lard_base.specs.declared.limits.TheConstants.{MAX_STREAM_BYTES};
 ghost use Rattle.lard_machine.specs.Bounds.{HasRule, IsBounded};
 ghost use Rattle.lard_machine.specs.Machine.{Steps, happens, limit_reached, machine_step};
-ghost use Rattle.lard_world.specs.Turns.{HasCounts, HasRoom};
+ghost use Rattle.lard_rules.specs.FrontPlace.{IsFrontSound};
+ghost use Rattle.lard_world.specs.Turns.{HasRoom};
 
 use crate::{packets, stations};
 use lard_base::Event;
@@ -41,7 +42,7 @@ fn limit_reached(machine: &Machine) -> Option<What>
 fn happen(machine: &mut Machine, alloc: Global, event: Event) -> Result<(), StepFault>
     requires ruled { HasRule event }
     requires room { HasRoom machine.old }
-    requires counts { HasCounts machine.old }
+    requires front { IsFrontSound machine.old.front }
     requires stream { machine.old.config.stream ≤ MAX_STREAM_BYTES }
     ensures { Steps (happens machine.old event) machine.old machine.new result }
 {

@@ -12,17 +12,17 @@ ghost use Rattle.lard_machine.specs.Bounds.{HasRule};
 ghost use Rattle.lard_machine.specs.Machine.{Steps, machine_step, start};
 ghost use Rattle.lard_world.specs.World.{is_short};
 
-use crate::front::spend;
 use crate::steps;
 use lard_base::{Config, Event};
 use lard_files::Files;
+use lard_front::{begin, finish};
 use lard_journal::Journal;
 use lard_laws_bytes::every_run_is_true;
 use lard_laws_clients::clients_take_what_comes_next;
 use lard_laws_places::{journals_are_lawful, states_are_told};
 use lard_laws_quiet::quiet_connections_are_complete;
 use lard_laws_steps::{clients_keep_their_tables, the_front_end_takes_once};
-use lard_machine::{FrontConn, Machine, Station, StepFault};
+use lard_machine::{Machine, Station, StepFault};
 use lard_net::Net;
 use lard_table::Table;
 use std::alloc::Global;
@@ -62,7 +62,7 @@ impl World {
                 config,
                 files,
                 clients: Table::new(alloc),
-                conns: Table::new(alloc),
+                front: begin(alloc),
                 net: Net::new(alloc),
                 answered: 0,
                 events: 0,
@@ -147,14 +147,14 @@ impl World {
             config: _,
             files: _,
             clients,
-            conns,
+            front,
             net: _,
             answered: _,
             events: _,
             journal,
         } = machine;
         spend_clients(clients);
-        spend_conns(conns);
+        finish(front);
         journal
     }
 }
@@ -169,11 +169,4 @@ fn is_short(done: Result<(), StepFault>) -> bool
 fn spend_clients(mut clients: Table<Station>) {
     while let Some(_station) = clients.pop() {}
     clients.destroy_empty();
-}
-
-fn spend_conns(mut conns: Table<FrontConn>) {
-    while let Some(conn) = conns.pop() {
-        spend(conn);
-    }
-    conns.destroy_empty();
 }

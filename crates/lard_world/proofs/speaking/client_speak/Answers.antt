@@ -5,7 +5,7 @@ use Rattle.lard_client.specs.Leaving.{emitted, after_emit}
 use Rattle.lard_rules.specs.Speaking.{AreShort, client_speaks, to_front}
 use Rattle.lard_rules.proofs.Packets.{short_push}
 use Rattle.lard_rules.proofs.Saying.{client-more, client-done}
-use Rattle.lard_world.proofs.Loops.{sent_more, sent_all}
+use Rattle.lard_serving.proofs.Loops.{sent_more, sent_all}
 use Rattle.lard_world.proofs.speaking.client_speak.Goals as goal
 
 pub loop-ready-preserved : goal.loop-ready-preserved

@@ -1,0 +1,137 @@
+-- A connection that is taken out for its rule, and what is put back.
+use Rattle.std.proofs.Common.{◌≡◌, ℕ, true, false, is_some, IsSome, Option, Some, None, refl, sym, ap, ◌∙◌, subst}
+use Rattle.std.proofs.lemmas.Bool.{both_ways}
+use Rattle.std.specs.FinMap as table
+use Rattle.std.specs.FinMap.{FinMap}
+use Rattle.std.specs.Ordering.{nat_cmp}
+use Rattle.lard_endpoint.specs.Control.{ControlBlock}
+use Rattle.lard_endpoint.specs.declared.control.moving.Final.{Final}
+use Rattle.lard_front.specs.declared.seats.Spot.TheVariants.{Here}
+use Rattle.lard_front.specs.Place.{IsCountOf, lent_at, spot_of}
+use Rattle.lard_handoff_front.specs.declared.row.FrontConn.{FrontConn}
+use Rattle.lard_handoff_front.specs.declared.row.FrontConn.TheVariants.{Held, Waiting, Lent, Offering, Moved, Closed}
+use Rattle.lard_handoff_front.specs.declared.row.FrontRow.{FrontRow}
+use Rattle.lard_handoff_front.specs.Front.{Fronts, endpoint_of, may_put, with_stage}
+use Rattle.lard_rules.specs.declared.front.FrontRest.{FrontRest}
+use Rattle.lard_rules.specs.declared.front.FrontState.{FrontState}
+use Rattle.lard_rules.specs.FrontPlace.{front_seats, seat_at}
+use Rattle.lard_rules.specs.Seat.{FrontPart, Seat, Nowhere, AtFront, Over, counted, front_part, front_put, seat_by, seat_in, seat_of, seated, staged}
+use Rattle.lard_rules.proofs.Seats.{seats-put}
+use Rattle.lard_serving.specs.declared.ending.Ending.{Ending}
+use Rattle.lard_serving.specs.declared.ending.Ending.TheVariants as ending
+use Rattle.lard_serving.specs.Serving.{seat_seen}
+use Rattle.lard_table.specs.Table.{put_or}
+use Rattle.lard_table.proofs.Map.{put_got}
+
+-- ---- a connection that is here
+
+-- what is kept of it: its endpoint in its row, and the number of responses beside it
+pub record IsHere (count : ℕ) (row : Option FrontRow) (rest : Option FrontRest) : Type 0 where
+  pub there : IsSome (endpoint_of row)
+  pub seat : (b : ControlBlock) → endpoint_of row ≡ Some b → seat_by row rest ≡ AtFront b count
+  pub count : IsCountOf count rest
+
+pub is_here : (count : ℕ) (row : Option FrontRow) (rest : Option FrontRest) → spot_of (seat_by row rest) ≡ Here count → IsHere count row rest
+is_here count None None is = absurd cc
+is_here count None (Some rest) is = absurd cc
+is_here count (Some row) rest is = go row.stage rest refl is where
+  held : (b : ControlBlock) (r : FrontRest) → row.stage ≡ Held b → Here r.count ≡ Here count → IsHere count (Some row) (Some r)
+  held b r stage same = record {
+    there = ap (λ (x : FrontConn). is_some (endpoint_of (Some (record row { stage = x })))) stage;
+    seat = λ d e. ap (λ (x : FrontConn). seat_in x (Some r)) stage ∙ (let same_block : b ≡ d = here-block b d (sym (ap (λ (x : FrontConn). endpoint_of (Some (record row { stage = x }))) stage) ∙ e) in
+        λ i. AtFront (same_block i) (here-count r.count count same i));
+    count = ap Some (here-count r.count count same);
+  } where
+    here-block : (x y : ControlBlock) → Some x ≡ Some y → x ≡ y
+    here-block x y e = cc
+
+    here-count : (x y : ℕ) → Here x ≡ Here y → x ≡ y
+    here-count x y e = cc
+
+  go : (stage : FrontConn) (rest : Option FrontRest) → row.stage ≡ stage → spot_of (seat_in row.stage rest) ≡ Here count → IsHere count (Some row) rest
+  go (Held b) (Some r) stage is = held b r stage (sym (ap (λ (x : FrontConn). spot_of (seat_in x (Some r))) stage) ∙ is)
+  go (Held b) None stage is = absurd (let no = sym (ap (λ (x : FrontConn). spot_of (seat_in x None)) stage) ∙ is in cc)
+  go (Waiting b) rest stage is = absurd (let no = sym (ap (λ (x : FrontConn). spot_of (seat_in x rest)) stage) ∙ is in cc)
+  go Lent rest stage is = absurd (let no = sym (ap (λ (x : FrontConn). spot_of (seat_in x rest)) stage) ∙ is in cc)
+  go (Offering node epoch) rest stage is = absurd (let no = sym (ap (λ (x : FrontConn). spot_of (seat_in x rest)) stage) ∙ is in cc)
+  go (Moved node epoch) rest stage is = absurd (let no = sym (ap (λ (x : FrontConn). spot_of (seat_in x rest)) stage) ∙ is in cc)
+  go (Closed last) None stage is = absurd (let no = sym (ap (λ (x : FrontConn). spot_of (seat_in x None)) stage) ∙ is in cc)
+  go (Closed last) (Some r) stage is = absurd (let no = sym (ap (λ (x : FrontConn). spot_of (seat_in x (Some r))) stage) ∙ is in cc)
+
+pub here_at : (s : FrontState) (c count : ℕ) → spot_of (seat_at s c) ≡ Here count → IsHere count (table.get s.conns c) (table.get s.rests c)
+unfolding seat_of
+here_at s c count is = is_here count (table.get s.conns c) (table.get s.rests c) is
+
+pub seat_here : (s : FrontState) (c count : ℕ) (b : ControlBlock) → spot_of (seat_at s c) ≡ Here count → Some b ≡ endpoint_of (table.get s.conns c) → seat_at s c ≡ AtFront b count
+unfolding seat_of
+seat_here s c count b is e = (here_at s c count is).seat b (sym e)
+
+-- ---- it is put back
+
+-- a row that is lent gets another stage
+restaged : (m : Fronts) (c : ℕ) (stage : FrontConn) (o : Option FrontRow) → may_put o ≡ true → with_stage m c stage o ≡ table.insert m c (staged o stage)
+restaged m c stage None may = absurd cc
+restaged m c stage (Some row) may = refl
+
+-- the number of responses is as it was
+count_same : (n : ℕ) (o : Option FrontRest) → IsCountOf n o → o ≡ Some (counted o n)
+count_same n None is = absurd cc
+count_same n (Some rest) is = let same : rest.count ≡ n = cc in λ i. Some (record rest { count = same i })
+
+module _ (s : FrontState) (c : ℕ) (may : may_put (table.get s.conns c) ≡ true) where
+  pub put_here : (b : ControlBlock) (count : ℕ) (n : FrontState) → n ≡ record s { conns = with_stage s.conns c (Held b) (table.get s.conns c); rests = table.insert s.rests c (counted (table.get s.rests c) count) }
+      → n ≡ front_seats s c (AtFront b count)
+  unfolding front_seats seated
+  put_here b count n is = is ∙ (λ i. record s { conns = restaged s.conns c (Held b) (table.get s.conns c) may i; rests = table.insert s.rests c (counted (table.get s.rests c) count) })
+
+  pub put_same : (b : ControlBlock) (count : ℕ) (n : FrontState) → IsCountOf count (table.get s.rests c) → n ≡ record s { conns = with_stage s.conns c (Held b) (table.get s.conns c) } → n ≡ front_seats s c (AtFront b count)
+  put_same b count n before is =
+      let rests : s.rests ≡ table.insert s.rests c (counted (table.get s.rests c) count) =
+      sym (put_got s.rests c) ∙ ap (put_or s.rests c) (count_same count (table.get s.rests c) before) in
+      put_here b count n (is ∙ (λ i. record s { conns = with_stage s.conns c (Held b) (table.get s.conns c); rests = rests i }))
+
+  pub put_over : (last : Final) (n : FrontState) → n ≡ record s { conns = with_stage s.conns c (Closed last) (table.get s.conns c); rests = table.remove s.rests c } → n ≡ front_seats s c (Over last)
+  unfolding front_seats seated
+  put_over last n is = is ∙ (λ i. record s { conns = restaged s.conns c (Closed last) (table.get s.conns c) may i; rests = table.remove s.rests c })
+
+-- ---- it sits where it would without having been taken out
+
+-- the same part with its endpoint in hand
+abbrev lent : FrontPart → FrontRow → FrontPart
+lent p row = record p { row = Some (record row { stage = Lent }) }
+
+lent-seats : (p : FrontPart) (row : FrontRow) (e : Ending) → p.row ≡ Some row → seated (lent p row) (seat_seen e) ≡ seated p (seat_seen e)
+unfolding seated
+lent-seats p row (ending.Here b count) is = λ i. record { row = Some (staged (sym is i) (Held b)); rest = Some (counted p.rest count) }
+lent-seats p row (ending.Over last) is = λ i. record { row = Some (staged (sym is i) (Closed last)); rest = None }
+
+pub back_from : (s : FrontState) (c : ℕ) (e : Ending) → IsSome (endpoint_of (table.get s.conns c)) → front_seats (lent_at s c) c (seat_seen e) ≡ front_seats s c (seat_seen e)
+unfolding front_seats
+back_from s c e there = go (table.get s.conns c) refl there where
+  go : (o : Option FrontRow) → table.get s.conns c ≡ o → IsSome (endpoint_of o) → front_seats (lent_at s c) c (seat_seen e) ≡ front_put s c (seated (front_part s c) (seat_seen e))
+  go None is some = absurd cc
+  go (Some row) is some =
+      let p : FrontPart = front_part s c in
+      let taken : lent_at s c ≡ front_put s c (lent p row) = λ i. record s { conns = with_stage s.conns c Lent (is i); rests = sym (put_got s.rests c) i } in
+      ap (λ (n : FrontState). front_seats n c (seat_seen e)) taken ∙ seats-put s c (lent p row) (seat_seen e) ∙ ap (front_put s c) (lent-seats p row e is)
+
+-- the second seat counts
+seated-twice : (p : FrontPart) (b : ControlBlock) (count : ℕ) (e : Ending) → seated (seated p (AtFront b count)) (seat_seen e) ≡ seated p (seat_seen e)
+unfolding seated
+seated-twice p b count (ending.Here d n) = go p.row p.rest where
+  go : (row : Option FrontRow) (rest : Option FrontRest)
+      → ◌≡◌ {A = FrontPart} (record { row = Some (staged (Some (staged row (Held b))) (Held d)); rest = Some (counted (Some (counted rest count)) n) }) (record { row = Some (staged row (Held d)); rest = Some (counted rest n) })
+  go None None = refl
+  go None (Some rest) = refl
+  go (Some row) None = refl
+  go (Some row) (Some rest) = refl
+seated-twice p b count (ending.Over last) = go p.row where
+  go : (row : Option FrontRow) → ◌≡◌ {A = FrontPart} (record { row = Some (staged (Some (staged row (Held b))) (Closed last)); rest = None }) (record { row = Some (staged row (Closed last)); rest = None })
+  go None = refl
+  go (Some row) = refl
+
+pub begun_from : (s : FrontState) (c : ℕ) (b : ControlBlock) (count : ℕ) (e : Ending) → front_seats (front_seats s c (AtFront b count)) c (seat_seen e) ≡ front_seats s c (seat_seen e)
+unfolding front_seats
+begun_from s c b count e =
+    let p : FrontPart = front_part s c in
+    seats-put s c (seated p (AtFront b count)) (seat_seen e) ∙ ap (front_put s c) (seated-twice p b count e)

@@ -1,0 +1,3 @@
+pub mod Loops
+mod Responses
+mod Turns

@@ -1,0 +1,248 @@
+//! How a place reads the requests of a connection, and answers them.
+
+ghost use Rattle.std.specs.Prelude.{◌≡◌, ◌+◌, ◌^◌, ◌≤◌, ◌<◌, false, [], ◌∷◌, ◌++◌, length, IfOk, IfSome, IsTrue, OnOk, Some, true, if◌then◌else◌};
+ghost use Rattle.std.specs.Option.{option_copied};
+ghost use Rattle.lard_answers.specs.Answers.{answer, answer_code, found};
+ghost use Rattle.lard_base.specs.declared.limits.TheConstants.{MAX_STREAM_BYTES};
+ghost use Rattle.lard_files.specs.Files.{IsContent, file_at};
+ghost use Rattle.lard_endpoint.specs.Control.{finishing};
+ghost use Rattle.lard_rules.specs.Front.{answered, closed_behind, may_read, reads};
+ghost use Rattle.lard_response.specs.Response.{number, response};
+ghost use Rattle.lard_serving.specs.Serving.{IsCounted, env_seen, service_of};
+
+use lard_base::{Bytes, ConnId, NoMemory, Place, Via};
+use lard_block::{Found, cut};
+use lard_endpoint::Endpoint;
+use lard_files::Files;
+use lard_journal::{Rec, Recs};
+use lard_request::{Code, Verdict, judge};
+use lard_response::write;
+use std::alloc::Global;
+
+/// What the rules rest on beside a connection's state.
+#[derive(Clone, Copy)]
+pub struct Env<'a> {
+    /// The connection's number.
+    pub c: ConnId,
+    /// The sequence number with which the cluster begins.
+    pub iss: u32,
+    pub files: &'a Files,
+    /// The most bytes of responses on one connection.
+    pub stream: u32,
+}
+
+/// What was served of a connection.
+#[derive(Debug, Drop)]
+pub struct Service {
+    /// How many responses were queued since the connection began.
+    pub count: u32,
+    /// The records of this turn.
+    pub notes: Recs,
+    /// How many bytes of responses this turn queued.
+    pub answered: u32,
+    /// The count of bytes that would have passed the stream limit, where a response would have.
+    pub over: Option<u32>,
+}
+
+impl Service {
+    /// Nothing was served in this turn yet; `count` responses were queued before it.
+    pub fn new(alloc: Global, count: u32) -> Service
+        ensures { (result.count ≡ count) × (result.notes ≡ []) × (result.answered ≡ 0) × (result.over ≡ None) }
+    {
+        Service {
+            count,
+            notes: Recs::new(alloc),
+            answered: 0,
+            over: None,
+        }
+    }
+}
+
+/// Reads block by block, and answers, until no whole block is left.
+pub fn read(
+    alloc: Global,
+    env: &Env<'_>,
+    endpoint: &mut Endpoint,
+    service: &mut Service,
+) -> Result<(), NoMemory>
+    requires stream { env.now.stream ≤ MAX_STREAM_BYTES }
+    requires counted { IsCounted endpoint.old service.old }
+    ensures read { OnOk result (service_of endpoint.new service.new ≡ reads (env_seen env.now) (service_of endpoint.old service.old)) }
+    ensures counted { OnOk result (IsCounted endpoint.new service.new) }
+{
+    'reading: while may_read(endpoint, service) {
+        match cut(endpoint.unread()) {
+            Found::More { skip } => {
+                endpoint.consume(skip);
+                end_at_fin(endpoint);
+                return Ok(());
+            }
+            Found::Block { skip, len } => {
+                let verdict = judge(alloc, &endpoint.unread()[skip..skip + len])?;
+                endpoint.consume(skip + len);
+                answer(alloc, env, endpoint, service, &verdict)?;
+            }
+            Found::TooLong { skip: _ } => {
+                let all = endpoint.unread().len();
+                endpoint.consume(all);
+                let verdict = Verdict::Fault(Code::FieldsTooLarge);
+                answer(alloc, env, endpoint, service, &verdict)?;
+            }
+        }
+    }
+    Ok(())
+}
+
+/// Whether it is read on: the client did not reset the connection, and the cluster neither closed it nor is to reset it.
+fn may_read(endpoint: &Endpoint, service: &Service) -> bool
+    ensures test { result ≡ may_read (service_of endpoint.now service.now) }
+    ensures open { IsTrue result → endpoint.now.send.finished ≡ false }
+    ensures within { IsTrue result → service.now.over ≡ None }
+{
+    !endpoint.was_reset() && !endpoint.finished() && service.over.is_none()
+}
+
+/// Behind the client's FIN the cluster's follows.
+fn end_at_fin(endpoint: &mut Endpoint)
+    ensures { endpoint.new ≡ (if endpoint.old.recv.fin then finishing endpoint.old else endpoint.old) }
+{
+    if endpoint.peer_done() {
+        endpoint.finish();
+    }
+}
+
+/// Answers a verdict.
+fn answer(
+    alloc: Global,
+    env: &Env<'_>,
+    endpoint: &mut Endpoint,
+    service: &mut Service,
+    verdict: &Verdict,
+) -> Result<(), NoMemory>
+    requires stream { env.now.stream ≤ MAX_STREAM_BYTES }
+    requires counted { IsCounted endpoint.old service.old }
+    requires open { endpoint.old.send.finished ≡ false }
+    requires within { service.old.over ≡ None }
+    ensures answered { OnOk result (service_of endpoint.new service.new ≡ answered (env_seen env.now) verdict.now (service_of endpoint.old service.old)) }
+    ensures counted { OnOk result (IsCounted endpoint.new service.new) }
+{
+    let code = code_of(env.files, verdict);
+    let bytes = response(alloc, env.files, verdict)?;
+    let length = bytes.len() as u32;
+    let total = endpoint.total() + length;
+    if env.stream < total {
+        return pass_over(env, service, total);
+    }
+    endpoint.queue(bytes.as_slice())?;
+    close_behind(endpoint, verdict);
+    note(env, service, code, length)
+}
+
+/// The response would pass the stream limit: the connection is to be reset in its place.
+fn pass_over(env: &Env<'_>, service: &mut Service, total: u32) -> Result<(), NoMemory>
+    ensures { OnOk result (service.new ≡ record service.old {
+      notes = service.old.notes ++ Rec.Reset Place.Front env.now.c total ∷ [];
+      over = Some total;
+    }) }
+{
+    service.notes.push(Rec::Reset {
+        place: Place::Front,
+        c: env.c,
+        count: total,
+    })?;
+    service.over = Some(total);
+    Ok(())
+}
+
+/// Notes a response that was queued.
+fn note(env: &Env<'_>, service: &mut Service, code: u16, length: u32) -> Result<(), NoMemory>
+    requires count { service.old.count < 2 ^ 31 }
+    requires answered { service.old.answered + length < 2 ^ 32 }
+    ensures { OnOk result (service.new ≡ record service.old {
+      count = service.old.count + 1;
+      notes = service.old.notes ++ Rec.Served Place.Front env.now.c (service.old.count + 1) code length Via.Own ∷ [];
+      answered = service.old.answered + length;
+    }) }
+{
+    service.count += 1;
+    service.answered += length;
+    service.notes.push(Rec::Served {
+        place: Place::Front,
+        c: env.c,
+        r: service.count,
+        code,
+        length,
+        via: Via::Own,
+    })
+}
+
+/// Behind an answer that closes, what comes is discarded, and the FIN follows (RFC 9112, 9.6).
+fn close_behind(endpoint: &mut Endpoint, verdict: &Verdict)
+    ensures { endpoint.new ≡ closed_behind verdict.now endpoint.old }
+{
+    if verdict.closes() {
+        endpoint.discard_on();
+        endpoint.finish();
+    }
+}
+
+/// The code of the answer to a verdict.
+fn code_of(files: &Files, verdict: &Verdict) -> u16
+    ensures { result ≡ answer_code (file_at files.now) verdict.now }
+{
+    match verdict {
+        Verdict::Serve { path, .. } => match files.get(path.as_slice()) {
+            None => number(Code::NotFound),
+            Some(_) => number(Code::Ok),
+        },
+        Verdict::Fault(code) => number(*code),
+    }
+}
+
+fn number(code: Code) -> u16
+    ensures { result ≡ number code }
+{
+    match code {
+        Code::Ok => 200,
+        Code::BadRequest => 400,
+        Code::NotFound => 404,
+        Code::TooLarge => 413,
+        Code::FieldsTooLarge => 431,
+        Code::NotImplemented => 501,
+    }
+}
+
+/// The response to a verdict: at least one byte, and at most the longest file and a head.
+fn response(alloc: Global, files: &Files, verdict: &Verdict) -> Result<Bytes, NoMemory>
+    ensures response { IfOk result (λ bytes. bytes ≡ answer (file_at files.now) verdict.now) }
+    ensures size { IfOk result (λ bytes. (1 ≤ length bytes) × (length bytes ≤ 2 ^ 27)) }
+{
+    match verdict {
+        Verdict::Serve { path, head, close } => {
+            return found(alloc, files.get(path.as_slice()), *head, *close);
+        }
+        Verdict::Fault(code) => return fault(alloc, *code),
+    }
+}
+
+/// The response to a request for a path that names this file, or none.
+#[tactic(auto, using(crate::proofs::Responses::response_fits))]
+fn found(alloc: Global, body: Option<&[u8]>, head: bool, close: bool) -> Result<Bytes, NoMemory>
+    requires { IfSome body (λ bytes. IsContent bytes.now) }
+    ensures response { IfOk result (λ bytes. bytes ≡ found (option_copied body.entry) head close) }
+    ensures size { IfOk result (λ bytes. (1 ≤ length bytes) × (length bytes ≤ 2 ^ 27)) }
+{
+    match body {
+        None => return write(alloc, Code::NotFound, b"", head, close),
+        Some(body) => return write(alloc, Code::Ok, body, head, close),
+    }
+}
+
+/// The response to a fault, behind which the connection closes.
+#[tactic(auto, using(crate::proofs::Responses::response_fits))]
+fn fault(alloc: Global, code: Code) -> Result<Bytes, NoMemory>
+    ensures response { IfOk result (λ bytes. bytes ≡ response code [] false true) }
+    ensures size { IfOk result (λ bytes. (1 ≤ length bytes) × (length bytes ≤ 2 ^ 27)) }
+{
+    write(alloc, code, b"", false, true)
+}
