@@ -7,21 +7,22 @@ use Rattle.std.specs.Ordering.{nat_cmp}
 use Rattle.lard_endpoint.specs.Control.{ControlBlock}
 use Rattle.lard_endpoint.specs.declared.control.moving.Final.{Final}
 use Rattle.lard_front.specs.declared.seats.Spot.TheVariants.{Here}
+use Rattle.lard_front.specs.declared.seats.Spot.TheVariants as spot
 use Rattle.lard_front.specs.Place.{IsCountOf, lent_at, spot_of}
 use Rattle.lard_handoff_front.specs.declared.row.FrontConn.{FrontConn}
 use Rattle.lard_handoff_front.specs.declared.row.FrontConn.TheVariants.{Held, Waiting, Lent, Offering, Moved, Closed}
 use Rattle.lard_handoff_front.specs.declared.row.FrontRow.{FrontRow}
-use Rattle.lard_handoff_front.specs.Front.{Fronts, endpoint_of, may_put, with_stage}
+use Rattle.lard_handoff_front.specs.Front.{Fronts, begun, endpoint_of, may_put, with_stage}
 use Rattle.lard_rules.specs.declared.front.FrontRest.{FrontRest}
 use Rattle.lard_rules.specs.declared.front.FrontState.{FrontState}
 use Rattle.lard_rules.specs.FrontPlace.{front_seats, seat_at}
-use Rattle.lard_rules.specs.Seat.{FrontPart, Seat, Nowhere, AtFront, Over, counted, front_part, front_put, seat_by, seat_in, seat_of, seated, staged}
+use Rattle.lard_rules.specs.Seat.{FrontPart, Seat, Nowhere, AtFront, Away, Over, counted, front_part, front_put, seat_by, seat_in, seat_of, seated, staged}
 use Rattle.lard_rules.proofs.Seats.{seats-put}
 use Rattle.lard_serving.specs.declared.ending.Ending.{Ending}
 use Rattle.lard_serving.specs.declared.ending.Ending.TheVariants as ending
 use Rattle.lard_serving.specs.Serving.{seat_seen}
 use Rattle.lard_table.specs.Table.{put_or}
-use Rattle.lard_table.proofs.Map.{put_got}
+use Rattle.lard_table.proofs.Map.{get_inserted, insert_twice, put_got}
 
 -- ---- a connection that is here
 
@@ -29,7 +30,7 @@ use Rattle.lard_table.proofs.Map.{put_got}
 pub record IsHere (count : ℕ) (row : Option FrontRow) (rest : Option FrontRest) : Type 0 where
   pub there : IsSome (endpoint_of row)
   pub seat : (b : ControlBlock) → endpoint_of row ≡ Some b → seat_by row rest ≡ AtFront b count
-  pub count : IsCountOf count rest
+  pub counted : IsCountOf count rest
 
 pub is_here : (count : ℕ) (row : Option FrontRow) (rest : Option FrontRest) → spot_of (seat_by row rest) ≡ Here count → IsHere count row rest
 is_here count None None is = absurd cc
@@ -40,7 +41,7 @@ is_here count (Some row) rest is = go row.stage rest refl is where
     there = ap (λ (x : FrontConn). is_some (endpoint_of (Some (record row { stage = x })))) stage;
     seat = λ d e. ap (λ (x : FrontConn). seat_in x (Some r)) stage ∙ (let same_block : b ≡ d = here-block b d (sym (ap (λ (x : FrontConn). endpoint_of (Some (record row { stage = x }))) stage) ∙ e) in
         λ i. AtFront (same_block i) (here-count r.count count same i));
-    count = ap Some (here-count r.count count same);
+    counted = ap Some (here-count r.count count same);
   } where
     here-block : (x y : ControlBlock) → Some x ≡ Some y → x ≡ y
     here-block x y e = cc
@@ -65,6 +66,77 @@ here_at s c count is = is_here count (table.get s.conns c) (table.get s.rests c)
 pub seat_here : (s : FrontState) (c count : ℕ) (b : ControlBlock) → spot_of (seat_at s c) ≡ Here count → Some b ≡ endpoint_of (table.get s.conns c) → seat_at s c ≡ AtFront b count
 unfolding seat_of
 seat_here s c count b is e = (here_at s c count is).seat b (sym e)
+
+pub not_gone : (s : FrontState) (c count : ℕ) → spot_of (seat_at s c) ≡ Here count → endpoint_of (table.get s.conns c) ≡ None → ⊥
+not_gone s c count is none = go (endpoint_of (table.get s.conns c)) none (here_at s c count is).there where
+  go : (o : Option ControlBlock) → o ≡ None → IsSome o → ⊥
+  go None e some = absurd cc
+  go (Some b) e some = absurd cc
+
+pub counted_at : (s : FrontState) (c count : ℕ) → spot_of (seat_at s c) ≡ Here count → IsCountOf count (table.get s.rests c)
+counted_at s c count is = (here_at s c count is).counted
+
+pub there_at : (s : FrontState) (c count : ℕ) → spot_of (seat_at s c) ≡ Here count → IsSome (endpoint_of (table.get s.conns c))
+there_at s c count is = (here_at s c count is).there
+
+-- the others are where they are
+pub nowhere_at : (x : Seat) → spot_of x ≡ spot.Nowhere → x ≡ Nowhere
+nowhere_at Nowhere is = refl
+nowhere_at (AtFront b count) is = absurd cc
+nowhere_at Away is = absurd cc
+nowhere_at (Over last) is = absurd cc
+
+pub away_at : (x : Seat) → spot_of x ≡ spot.Away → x ≡ Away
+away_at Nowhere is = absurd cc
+away_at (AtFront b count) is = absurd cc
+away_at Away is = refl
+away_at (Over last) is = absurd cc
+
+pub over_at : (x : Seat) (last : Final) → spot_of x ≡ spot.Over last → x ≡ Over last
+over_at Nowhere last is = absurd cc
+over_at (AtFront b count) last is = absurd cc
+over_at Away last is = absurd cc
+over_at (Over other) last is = let same : other ≡ last = cc in ap Over same
+
+-- nothing is kept of one that is nowhere
+pub no_row : (s : FrontState) (c : ℕ) → seat_at s c ≡ Nowhere → (table.get s.conns c ≡ None) × (table.get s.rests c ≡ None)
+unfolding seat_of
+no_row s c is = go (table.get s.conns c) (table.get s.rests c) refl refl is where
+  staged-not : (stage : FrontConn) (rest : Option FrontRest) → seat_in stage rest ≡ Nowhere → ⊥
+  staged-not (Held b) (Some rest) e = absurd cc
+  staged-not (Held b) None e = absurd cc
+  staged-not (Waiting b) rest e = absurd cc
+  staged-not Lent rest e = absurd cc
+  staged-not (Offering node epoch) rest e = absurd cc
+  staged-not (Moved node epoch) rest e = absurd cc
+  staged-not (Closed last) None e = absurd cc
+  staged-not (Closed last) (Some rest) e = absurd cc
+
+  go : (row : Option FrontRow) (rest : Option FrontRest) → table.get s.conns c ≡ row → table.get s.rests c ≡ rest → seat_by (table.get s.conns c) (table.get s.rests c) ≡ Nowhere
+      → (table.get s.conns c ≡ None) × (table.get s.rests c ≡ None)
+  go None None a b e = (a, b)
+  go None (Some rest) a b e = absurd (let no = (λ i. seat_by (sym a i) (sym b i)) ∙ e in cc)
+  go (Some row) rest a b e = absurd (staged-not row.stage rest ((λ i. seat_by (sym a i) (sym b i)) ∙ e))
+
+-- ---- it begins
+
+pub begins_at : (s n : FrontState) (c k : ℕ) (b : ControlBlock) → seat_at s c ≡ Nowhere → k ≡ c → n ≡ record { conns = table.insert s.conns c (begun b); rests = table.insert s.rests k (counted None 0) } → n ≡ front_seats s c (AtFront b 0)
+unfolding front_seats seated
+begins_at s n c k b is same e =
+    let none = no_row s c is in
+    e ∙ (λ i. record s { conns = table.insert s.conns c (staged (sym none.0 i) (Held b)); rests = table.insert s.rests (same i) (counted (sym none.1 i) 0) })
+
+-- ---- a number is set anew
+
+pub there_behind : (m n : FinMap nat_cmp FrontRest) (c k q : ℕ) (x : FrontRest) → k ≡ c → q ≡ c → n ≡ table.insert m k x → IsSome (table.get n q)
+there_behind m n c k q x e f is =
+    subst (λ (o : Option FrontRest). IsSome o) (sym (ap (table.get n) (f ∙ sym e) ∙ ap (λ (t : FinMap nat_cmp FrontRest). table.get t k) is ∙ get_inserted m k x)) refl
+
+pub recounted : (m n k : FinMap nat_cmp FrontRest) (c p q count : ℕ) (r x y : FrontRest) → p ≡ c → q ≡ c → table.get m p ≡ Some r → n ≡ table.insert m p x → y ≡ record r { count = count } → k ≡ table.insert n q y
+    → k ≡ table.insert m c (counted (table.get m c) count)
+recounted m n k c p q count r x y ep eq was first new second =
+    second ∙ (λ i. table.insert (first i) (eq i) (new i)) ∙ (λ i. table.insert (table.insert m (ep i) x) c (record r { count = count })) ∙ insert_twice m c x (record r { count = count })
+    ∙ ap (λ o. table.insert m c (counted o count)) (sym was ∙ ap (table.get m) ep)
 
 -- ---- it is put back
 

@@ -5,7 +5,7 @@ ghost use Rattle.lard_base.specs.declared.limits.TheConstants.{MAX_SEGMENT_DATA}
 ghost use Rattle.lard_rules.specs.Front.{is_telling, last_ack, last_words, refusal, tombstone};
 ghost use Rattle.lard_segment.specs.Segment.{said};
 ghost use Rattle.lard_serving.specs.Serving.{env_seen};
-ghost use Rattle.lard_serving.specs.Turns.{IsTurn};
+ghost use Rattle.lard_serving.specs.Bounds.{IsTurn};
 
 use lard_base::limits::RECEIVE_WINDOW;
 use lard_base::{NoMemory, Reason};

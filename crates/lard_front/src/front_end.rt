@@ -1,8 +1,7 @@
 //! The front end by itself.
 
-ghost use Rattle.std.specs.Prelude.{◌≡◌, ◌≤◌, Ok, false, IfOk, is_err};
-ghost use Rattle.lard_base.specs.Config.{config_check};
-ghost use Rattle.lard_base.specs.declared.limits.TheConstants.{MAX_STREAM_BYTES};
+ghost use Rattle.std.specs.Prelude.{◌≡◌, false, IfOk, is_err};
+ghost use Rattle.lard_base.specs.Config.{IsInRange};
 ghost use Rattle.lard_files.specs.Files.{file_at};
 ghost use Rattle.lard_front.specs.Place.{IsShort};
 ghost use Rattle.lard_rules.specs.FrontPlace.{front_step};
@@ -39,9 +38,9 @@ impl Model for FrontEnd {
 }
 
 impl FrontEnd {
-    /// No connection was taken. The configuration passes its check.
+    /// No connection was taken. The numbers are in their ranges, as those are that `Config::check` passes.
     pub fn new(alloc: Global, config: Config) -> Result<FrontEnd, NoMemory>
-        requires { config_check config ≡ Ok tt }
+        requires { IsInRange config }
         ensures { IfOk result (λ front. front ≡ record { config = config; state = no_connections; spoiled = false }) }
     {
         Ok(FrontEnd {

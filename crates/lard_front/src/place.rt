@@ -8,7 +8,7 @@ ghost use Rattle.lard_rules.specs.FrontPlace.{IsFrontSound, env_in, front_did, f
 ghost use Rattle.lard_rules.specs.Seat.{Nowhere, no_connections};
 ghost use Rattle.lard_segment.specs.Segment.{decoded, said};
 ghost use Rattle.lard_serving.specs.Serving.{env_seen};
-ghost use Rattle.lard_serving.specs.Turns.{IsOut};
+ghost use Rattle.lard_serving.specs.Bounds.{IsOut};
 
 use crate::ended::tombstone;
 use crate::seats::{Spot, listen, look, put_back, take_out};
@@ -182,7 +182,9 @@ fn time_out(state: &mut FrontState, alloc: Global, env: &Env<'_>) -> Result<Out,
             put_back(state, alloc, c, count, ending);
             return out_of(alloc, Place::Front, c, was, is, turn?);
         }
-        Spot::Nowhere | Spot::Away | Spot::Over(_) => return Ok(nothing(alloc)),
+        Spot::Nowhere => return Ok(nothing(alloc)),
+        Spot::Away => return Ok(nothing(alloc)),
+        Spot::Over(_) => return Ok(nothing(alloc)),
     }
 }
 

@@ -53,6 +53,7 @@ pub fn take_out(state: &mut FrontState, c: ConnId, count: u32) -> Endpoint
     ensures seat { seat_at state.old c ≡ AtFront result count }
     ensures after { state.new ≡ lent_at state.old c }
     ensures lent { may_put (table.get state.new.conns c) ≡ true }
+    ensures rest { IsCountOf count (table.get state.new.rests c) }
 {
     match state.conns.take(c) {
         Some(endpoint) => endpoint,

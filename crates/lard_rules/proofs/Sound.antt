@@ -1,8 +1,10 @@
 -- What each rule of the front end keeps of a seat, and the front end's step of all of them.
-use Rattle.std.proofs.Common.{◌≡◌, ◌≢◌, ℕ, ◌+◌, ◌≤◌, Bool, true, false, cond, nat_lt, List, [], ◌∷◌, length, take, drop, Option, Some, None, Result, Ok, Err, refl, sym, ap, ◌∙◌, subst, arith, nat_eq, ⊎_elim}
+use Rattle.std.proofs.Common.{◌≡◌, ◌≢◌, ℕ, ◌+◌, ◌≤◌, Bool, true, false, cond, nat_lt, List, [], ◌∷◌, length, take, drop, Option, Some, None, Result, Ok, Err, refl, sym, ap, ◌∙◌, subst, arith, nat_eq, ⊎_elim, ◌^◌, IsTrue}
 use Rattle.std.proofs.lemmas.Bool.{cond_both}
-use Rattle.std.proofs.lemmas.Bool.Decides.{eqb_tells}
+use Rattle.std.proofs.lemmas.Bool.Decides.{eqb_tells, nat_tests}
 use Rattle.lard_answers.specs.Answers.{FilesAt, answer, found}
+use Rattle.lard_base.specs.Config.{is_in_range}
+use Rattle.lard_base.specs.declared.config.Key.TheVariants.{Stream}
 use Rattle.lard_base.specs.declared.place.Place.{Place}
 use Rattle.lard_base.specs.declared.place.Place.TheVariants as place
 use Rattle.lard_endpoint.specs.Arriving.{on_segment}
@@ -158,3 +160,7 @@ step-sound k s (Timer c) h = did-sound s c (front_timer (env_in k c 0) (seat_at 
 -- before anything
 pub start-sound : IsFrontSound no_connections
 start-sound = record { counts = λ c count b is. absurd (let no : Nowhere ≡ AtFront b count = sym (no-seat c) ∙ is in cc) }
+
+-- a configuration in its ranges has a stream limit within what one direction of a connection carries
+pub stream-small : (n : ℕ) → IsTrue (is_in_range Stream n) → n ≤ 2 ^ 30
+stream-small n h = grind (arith, nat_tests, h)

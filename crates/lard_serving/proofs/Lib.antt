@@ -1,3 +1,3 @@
 pub mod Loops
 mod Responses
-mod Turns
+mod Found

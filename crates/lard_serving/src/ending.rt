@@ -8,7 +8,7 @@ ghost use Rattle.lard_rules.specs.Seat.{front_armed};
 ghost use Rattle.lard_rules.specs.Speaking.{AreShort};
 ghost use Rattle.lard_segment.specs.Segment.{said};
 ghost use Rattle.lard_serving.specs.Serving.{IsCounted, env_seen, seat_seen, service_of};
-ghost use Rattle.lard_serving.specs.Turns.{IsTurn};
+ghost use Rattle.lard_serving.specs.Bounds.{IsTurn};
 
 use crate::reading::{Env, Service};
 use crate::speaking::{packet, speak, speak_symbols};

@@ -8,7 +8,7 @@ ghost use Rattle.lard_rules.specs.Seat.{AtFront};
 ghost use Rattle.lard_rules.specs.Speaking.{AreShort};
 ghost use Rattle.lard_segment.specs.Segment.{said};
 ghost use Rattle.lard_serving.specs.Serving.{env_seen, seat_seen};
-ghost use Rattle.lard_serving.specs.Turns.{IsTurn};
+ghost use Rattle.lard_serving.specs.Bounds.{IsTurn};
 
 use crate::ending::{Ending, Ends, settled, spoken};
 use crate::reading::{Env, Service, read};

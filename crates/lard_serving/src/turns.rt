@@ -4,7 +4,7 @@ ghost use Rattle.std.specs.Prelude.{◌≡◌, IfOk};
 ghost use Rattle.lard_rules.specs.Client.{silent};
 ghost use Rattle.lard_rules.specs.Outs.{nothing_done, out_of, timer_change};
 ghost use Rattle.lard_rules.specs.Speaking.{listed};
-ghost use Rattle.lard_serving.specs.Turns.{IsOut, IsTurn};
+ghost use Rattle.lard_serving.specs.Bounds.{IsOut, IsTurn};
 
 use lard_base::{ConnId, NoMemory, Place, Sends, TimerKind};
 use lard_journal::{Rec, Recs};

@@ -16,6 +16,7 @@ use Rattle.lard_machine.specs.declared.machine.Machine.{Machine}
 use Rattle.lard_rules.specs.declared.front.FrontState.{FrontState}
 use Rattle.lard_rules.specs.declared.places.Station.{Station}
 use Rattle.lard_rules.specs.Seat.{no_connections}
+use Rattle.lard_rules.proofs.Sound.{stream-small}
 use Rattle.lard_machine.specs.Bounds.{HasRule}
 use Rattle.lard_machine.specs.Machine.{Steps, machine_step, start}
 use Rattle.lard_net.specs.Net.{Packet}
@@ -52,9 +53,6 @@ module _ (old new : Machine) (e : Event) (run : IsRun old) (rule : HasRule e) wh
   runs-on (Err (Limit what)) steps some = subst IsRun (sym steps.0) run
 
 -- ---- the beginning
-
-stream-small : (n : ℕ) → IsTrue (is_in_range Stream n) → n ≤ 2 ^ 30
-stream-small n h = grind (arith, nat_tests, h)
 
 pub begins : (config : Config) (files : List (List ℕ × List ℕ)) (clients : FinMap nat_cmp Station) (front : FrontState) (net : List Packet) (journal : List Rec)
     → clients ≡ table.empty → front ≡ no_connections → net ≡ [] → journal ≡ [] → IsInRange config

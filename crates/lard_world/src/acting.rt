@@ -6,7 +6,7 @@ ghost use Rattle.lard_front.specs.Place.{IsShort};
 ghost use Rattle.lard_machine.specs.Machine.{acted, packets_of, passed, sent_records};
 ghost use Rattle.lard_rules.specs.FrontPlace.{IsFrontSound, front_step};
 ghost use Rattle.lard_rules.specs.Speaking.{AreShort, listed};
-ghost use Rattle.lard_serving.specs.Turns.{IsOut, IsTurn};
+ghost use Rattle.lard_serving.specs.Bounds.{IsOut, IsTurn};
 ghost use Rattle.lard_world.specs.Acting.{act_of, front_told, setting_in, told_all};
 ghost use Rattle.lard_world.specs.Turns.{HasRoom};
 

@@ -7,7 +7,7 @@ ghost use Rattle.lard_client.specs.Leaving.{IsHeld, IsWritable};
 ghost use Rattle.lard_rules.specs.Client.{accepted_note, client_aborts, client_gets, client_heard, client_holds, client_injects, client_shuts, client_takes, client_timer, client_writes, eof_note, ready_of, speaking};
 ghost use Rattle.lard_rules.specs.Speaking.{AreShort};
 ghost use Rattle.lard_segment.specs.Segment.{decoded};
-ghost use Rattle.lard_serving.specs.Turns.{IsTurn};
+ghost use Rattle.lard_serving.specs.Bounds.{IsTurn};
 
 use crate::speaking::{client_speak, to_front};
 use lard_base::{Bytes, ConnId, NoMemory, Place, Sends};

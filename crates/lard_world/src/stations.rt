@@ -9,7 +9,7 @@ ghost use Rattle.lard_rules.specs.Client.{speaking};
 ghost use Rattle.lard_machine.specs.Machine.{Steps, aborts, client_acted, holds, injects, opened, shut, takes, wrote};
 ghost use Rattle.lard_rules.specs.Speaking.{listed};
 ghost use Rattle.lard_world.specs.Lent.{without_client};
-ghost use Rattle.lard_serving.specs.Turns.{IsTurn};
+ghost use Rattle.lard_serving.specs.Bounds.{IsTurn};
 ghost use Rattle.lard_world.specs.Turns.{HasRoom};
 
 use crate::acting::{Act, conclude};
