@@ -2,7 +2,7 @@
 use Rattle.std.specs.Prelude.{ℕ, ◌+◌, List, ◌∷◌, ◌++◌, length}
 use Rattle.lard_base.specs.declared.event.Event.{Event}
 use Rattle.lard_base.specs.declared.place.Place.{Place}
-use Rattle.lard_base.specs.declared.place.Place.TheVariants.{Front}
+use Rattle.lard_base.specs.declared.place.Place.TheVariants.{Client, Front}
 use Rattle.lard_files.specs.Files.{file_at}
 use Rattle.lard_journal.specs.declared.rec.Rec.{Rec}
 use Rattle.lard_journal.specs.declared.rec.Rec.TheVariants as rec
@@ -14,9 +14,9 @@ use Rattle.lard_rules.specs.declared.front.Out.{Out}
 use Rattle.lard_rules.specs.FrontPlace.{FrontSetting}
 use Rattle.lard_world.specs.declared.acting.Act.{Act as Done}
 
--- what a place did
+-- what a client did
 abbrev pub act_of : Done → Act
-act_of a = record { place = a.place; c = a.c; turn = a.turn; was_armed = a.was_armed; is_armed = a.is_armed }
+act_of a = record { place = Client a.c; c = a.c; turn = a.turn; was_armed = a.was_armed; is_armed = a.is_armed }
 
 -- ---- all that a place does in a step is told, kind by kind
 

@@ -22,7 +22,6 @@ use std::alloc::Global;
 /// What a client does in a step: its turn, and its timer before and after.
 #[derive(Debug, Drop)]
 pub struct Act {
-    pub place: Place,
     pub c: ConnId,
     pub turn: Turn,
     pub was_armed: bool,
@@ -44,14 +43,13 @@ pub fn conclude(
     ensures err { OnErr result (machine.new.journal ≡ machine.old.journal) }
 {
     let Act {
-        place,
         c,
         turn,
         was_armed,
         is_armed,
     } = act;
-    let out = out_of(alloc, place, c, was_armed, is_armed, turn)?;
-    tell(machine, alloc, event, own, place, out)
+    let out = out_of(alloc, Place::Client(c), c, was_armed, is_armed, turn)?;
+    tell(machine, alloc, event, own, Place::Client(c), out)
 }
 
 /// Ends a step in which the front end does the rule of what comes to it. Without memory the journal is as it was.
@@ -78,7 +76,7 @@ pub fn follow(
 }
 
 /// Tells all that a place does in a step, kind by kind. Without memory the journal is as it was.
-#[tactic(auto, unfolding(lard_world::specs::Acting::told_all))]
+#[tactic(auto, unfolding(crate::specs::Acting::told_all))]
 fn tell(
     machine: &mut Machine,
     alloc: Global,

@@ -78,7 +78,6 @@ pub fn put_back(
     let is_armed = station.client.armed();
     let _stand_in = machine.clients.replace(c.number(), station);
     let done = Act {
-        place: Place::Client(c),
         c,
         turn,
         was_armed,
@@ -143,7 +142,6 @@ fn begin(
     let is_armed = station.client.armed();
     machine.clients.insert(c.number(), station)?;
     let done = Act {
-        place: Place::Client(c),
         c,
         turn,
         was_armed: false,
