@@ -121,10 +121,23 @@ impl FrontTable {
         ensures lent { OnSome result (may_put (map.get self.new c) ≡ true) }
     {
         let number = c.number();
-        if !has_endpoint(&self.conns, number) {
+        let Some(row) = self.conns.get(number) else {
+            return None;
+        };
+        if !row.stage.has_endpoint() {
             return None;
         }
-        set_stage(&mut self.conns, number, FrontConn::Lent).into_endpoint()
+        let lent = FrontRow {
+            stage: FrontConn::Lent,
+            epoch: row.epoch,
+            ended_by: row.ended_by,
+        };
+        let FrontRow {
+            stage,
+            epoch: _,
+            ended_by: _,
+        } = self.conns.replace(number, lent);
+        stage.into_endpoint()
     }
 
     /// Brings back the endpoint of a connection that is lent. It is held here, or waits for room.
@@ -365,16 +378,6 @@ fn spend_row(row: Option<FrontRow>) {
             ended_by: _,
         } = row;
         stage.spend();
-    }
-}
-
-/// Whether the endpoint of a connection is here.
-fn has_endpoint(conns: &Table<FrontRow>, c: u32) -> bool
-    ensures { result ≡ is_some (endpoint_of (map.get conns.now c)) }
-{
-    match conns.get(c) {
-        Some(row) => row.stage.has_endpoint(),
-        None => false,
     }
 }
 
