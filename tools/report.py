@@ -62,14 +62,15 @@ EVENTS = {
 KEYS = "nodes low high age idle over miss cache stream".split()
 
 NUMBER = r"(?:0|[1-9][0-9]*)"
-PLACE = rf"(?:front|[nc]{NUMBER})"
+NODE = r"(?:[1-9]|[1-5][0-9]|6[0-4])"
+PLACE = rf"(?:front|n{NODE}|c{NUMBER})"
 SHAPES = {
     "bytes": r"(?:[0-9a-f]{2})+",
     "path": r"/[!-~]*",
     "place": PLACE, "source": PLACE, "target": PLACE, "reader": PLACE,
-    "via": rf"(?:own|cache|disk|node{NUMBER})",
+    "via": rf"(?:own|cache|disk|node{NODE})",
     "timer": r"(?:tcp|offer|ask|fetch|ended)",
-    "add": rf"(?:-|{NUMBER})", "remove": rf"(?:-|{NUMBER})",
+    "add": rf"(?:-|{NODE})", "remove": rf"(?:-|{NODE})",
 }  # every other field is a number
 
 
@@ -86,6 +87,8 @@ def fields_of(names, words):
             word = bytes.fromhex(word)
         elif name not in SHAPES:
             word = int(word)
+        if name == "connection" and not 1 <= word <= 16384:
+            return None
         fields[name] = word
     return fields
 
@@ -114,6 +117,7 @@ class Report:
 
     def __init__(self):
         self.config, self.files, self.steps, self.packets, self.opened = {}, {}, [], [], {}
+        self.events = self.inner = 0  # how many events, and how many steps inside the last of them
 
     def steps_of(self, connection):
         """The steps of this connection, each with its records that are of it, or of none."""
@@ -173,48 +177,45 @@ def add(report, line, words):
     record = record_of(words)
     if record is None:
         raise ValueError("not a line of a report")
+    if not report.steps and record.kind != "event":
+        raise ValueError("a record before the first event")
     record.line = line
     record.connection = getattr(record, "connection", None)
-    of_packet = getattr(record, "packet", None)
+    if record.kind == "sent":
+        open_packet(report, record)
+        report.packets.append(record)
+    elif hasattr(record, "packet"):
+        if not 1 <= record.packet <= len(report.packets):
+            raise ValueError(f"packet {record.packet} of {len(report.packets)} sent")
+        record.connection = report.packets[record.packet - 1].connection
     if record.kind in ("event", "inner"):
         begin(report, record)
-        if of_packet and of_packet <= len(report.packets):
-            record.connection = report.packets[of_packet - 1].connection
         return
-    if not report.steps:
-        raise ValueError("a record before the first event")
     step = report.steps[-1]
-    if record.kind == "sent":
-        if of_packet != len(report.packets) + 1:
-            raise ValueError(f"packet {of_packet} behind packet {len(report.packets)}")
-        open_packet(record)
-        report.packets.append(record)
-    elif of_packet is not None:
-        if not 1 <= of_packet <= len(report.packets):
-            raise ValueError(f"packet {of_packet} of {len(report.packets)} sent")
-        record.connection = report.packets[of_packet - 1].connection
+    if record.kind == "opened":
+        report.opened[record.connection] = record
     elif record.kind == "hit":  # it names no connection, and is of the one before it
         record.connection = step.records[-1].connection if step.records else step.event.connection
-    elif record.kind == "opened":
-        report.opened[record.connection] = record
-    if record.connection is not None and record.connection not in report.opened:
-        raise ValueError(f"client {record.connection} not opened")
-    if step.event.form == "disk":
+    if record.connection is not None:
+        must_be_open(report, record.connection)
+    if step.event.form == "disk":  # it names none either, and is of the one that it reads for
         step.event.connection = step.event.connection or record.connection
     step.records.append(record)
+
+
+def must_be_open(report, connection):
+    if connection not in report.opened:
+        raise ValueError(f"client {connection} not opened")
 
 
 def begin(report, event):
     """A step begins. Its name is the event's number; inside a settling also the step's, as 5.3."""
     if event.kind == "event":
-        report.events = getattr(report, "events", 0) + 1
-        report.inner = 0
+        report.events, report.inner = report.events + 1, 0
         if event.number != report.events:
             raise ValueError(f"event {event.number} behind event {report.events - 1}")
         name = str(event.number)
     else:
-        if not report.steps:
-            raise ValueError("a record before the first event")
         report.inner += 1
         name = f"{report.events}.{report.inner}"
     report.steps.append(SimpleNamespace(name=name, event=event, records=[]))
@@ -239,13 +240,18 @@ def checksum(data):
     return total ^ 0xffff
 
 
-def open_packet(sent):
-    """Reads the packet: sent.segment or sent.message is what it is, the other None. Injected bytes may be neither."""
+def open_packet(report, sent):
+    """Reads the next packet: sent.segment or sent.message is what it is, the other None. Injected bytes may be neither."""
+    if sent.packet != len(report.packets) + 1:
+        raise ValueError(f"packet {sent.packet} behind packet {len(report.packets)}")
     sent.segment = sent.message = None
     ends = [place for place in (sent.source, sent.target) if place[0] == "c"]
     if ends:
         sent.connection = int(ends[0][1:])
+        must_be_open(report, sent.connection)
         sent.segment = segment(sent.bytes, sent.connection, sent.source[0] == "c")
+        if sent.segment is None and report.steps[-1].event.form != "inject":
+            raise ValueError("bytes that are no segment")
     else:
         sent.message = message(sent.bytes)
         if sent.message is None:
