@@ -342,7 +342,12 @@ def message(data):
     return found if at == len(data) else None
 
 
-# ---- words for what a packet is
+# ---- words for places and packets
+
+def number_of(place):
+    """7 of n7 and of c7, and 0 of the front end."""
+    return 0 if place == "front" else int(place[1:])
+
 
 def first_line(data):
     """GET /a, or HTTP/1.1 200 OK: what the bytes begin with, where that is a whole line of HTTP."""
