@@ -209,19 +209,21 @@ module _ (k : Setting) (x : Conn) (h : StandsLawful k x) where
 
 owing : (k : Setting) → Rules k (λ x v. StandsLawful k x → Owes k x v)
 owing k = record {
-  opens = λ x isn iss wnd mss rule none h. begins-owes k x h isn iss wnd mss none;
-  gets = λ x s path there le h. event-owes k x h s there (event.Get x.c path) (client_writes s.client (request path)) tt refl (writes-says k.stream x.c s.iss (tale_at x) s.client (opened k x h s there) (request path));
-  writes = λ x s bytes there le h. event-owes k x h s there (event.Write x.c bytes) (client_writes s.client bytes) tt refl (writes-says k.stream x.c s.iss (tale_at x) s.client (opened k x h s there) bytes);
-  shuts = λ x s there h. shuts-owes k x h s there;
-  aborts = λ x s there h. event-owes k x h s there (event.Abort x.c) (client_aborts s.client) tt refl (aborts-says k.stream x.c s.iss (tale_at x) s.client (opened k x h s there));
-  holds = λ x s there h. event-owes k x h s there (event.Hold x.c) (client_holds s.client) tt refl (holds-says k.stream x.c s.iss (tale_at x) s.client (opened k x h s there));
-  takes = λ x s there h. event-owes k x h s there (event.Take x.c) (client_takes s.client) tt refl (takes-says k.stream x.c s.iss (tale_at x) s.client (opened k x h s there));
+  untouched = record {
+    opens = λ x isn iss wnd mss rule none h. begins-owes k x h isn iss wnd mss none;
+    gets = λ x s path there le h. event-owes k x h s there (event.Get x.c path) (client_writes s.client (request path)) tt refl (writes-says k.stream x.c s.iss (tale_at x) s.client (opened k x h s there) (request path));
+    writes = λ x s bytes there le h. event-owes k x h s there (event.Write x.c bytes) (client_writes s.client bytes) tt refl (writes-says k.stream x.c s.iss (tale_at x) s.client (opened k x h s there) bytes);
+    shuts = λ x s there h. shuts-owes k x h s there;
+    aborts = λ x s there h. event-owes k x h s there (event.Abort x.c) (client_aborts s.client) tt refl (aborts-says k.stream x.c s.iss (tale_at x) s.client (opened k x h s there));
+    holds = λ x s there h. event-owes k x h s there (event.Hold x.c) (client_holds s.client) tt refl (holds-says k.stream x.c s.iss (tale_at x) s.client (opened k x h s there));
+    takes = λ x s there h. event-owes k x h s there (event.Take x.c) (client_takes s.client) tt refl (takes-says k.stream x.c s.iss (tale_at x) s.client (opened k x h s there));
+    client_fires = λ x s there h. event-owes k x h s there (event.Timer (Client x.c) x.c) (client_timer s.client) tt refl (timer-says k.stream x.c s.iss (tale_at x) s.client (opened k x h s there));
+    client_hears = λ x s bytes there was h. hears-owes k x h s there bytes;
+    front_fires = λ x s there h. front_fires-owes k x h s there;
+    front_hears = λ x s bytes there was h. front_hears-owes k x h s there bytes;
+    ignores = λ x from to bytes was h. ignores-owes k x h from to bytes;
+  };
   injects = λ x s bytes there rule h. injects-owes k x h s there bytes;
-  client_fires = λ x s there h. event-owes k x h s there (event.Timer (Client x.c) x.c) (client_timer s.client) tt refl (timer-says k.stream x.c s.iss (tale_at x) s.client (opened k x h s there));
-  client_hears = λ x s bytes there was h. hears-owes k x h s there bytes;
-  front_fires = λ x s there h. front_fires-owes k x h s there;
-  front_hears = λ x s bytes there was h. front_hears-owes k x h s there bytes;
-  ignores = λ x from to bytes was h. ignores-owes k x h from to bytes;
 }
 
 pub standing : (k : Setting) → IsLaw k (λ x. Unit {0}) (StandsLawful k)

@@ -147,20 +147,22 @@ ignores-owes x from to bytes none =
 
 owing : (k : Setting) → Rules k (λ x v. IsSound x → Owes x v)
 owing k = record {
-  opens = λ x isn iss wnd mss rule none sound. begins-owes x isn iss wnd mss none;
-  gets = λ x s path there le sound. client-owes x s (Row (rec.Event 0 (event.Get x.c path))) [] (client_writes s.client (request path)) there refl (λ later is. is);
-  writes = λ x s bytes there le sound. client-owes x s (Row (rec.Event 0 (event.Write x.c bytes))) [] (client_writes s.client bytes) there refl (λ later is. is);
-  shuts = λ x s there sound. client-owes x s (Row (rec.Event 0 (event.Shut x.c))) [] (client_shuts s.client) there refl (λ later is. is);
-  aborts = λ x s there sound. client-owes x s (Row (rec.Event 0 (event.Abort x.c))) [] (client_aborts s.client) there refl (λ later is. is);
-  holds = λ x s there sound. client-owes x s (Row (rec.Event 0 (event.Hold x.c))) [] (client_holds s.client) there refl (λ later is. is);
-  takes = λ x s there sound. client-owes x s (Row (rec.Event 0 (event.Take x.c))) [] (client_takes s.client) there refl (λ later is. is);
+  untouched = record {
+    opens = λ x isn iss wnd mss rule none sound. begins-owes x isn iss wnd mss none;
+    gets = λ x s path there le sound. client-owes x s (Row (rec.Event 0 (event.Get x.c path))) [] (client_writes s.client (request path)) there refl (λ later is. is);
+    writes = λ x s bytes there le sound. client-owes x s (Row (rec.Event 0 (event.Write x.c bytes))) [] (client_writes s.client bytes) there refl (λ later is. is);
+    shuts = λ x s there sound. client-owes x s (Row (rec.Event 0 (event.Shut x.c))) [] (client_shuts s.client) there refl (λ later is. is);
+    aborts = λ x s there sound. client-owes x s (Row (rec.Event 0 (event.Abort x.c))) [] (client_aborts s.client) there refl (λ later is. is);
+    holds = λ x s there sound. client-owes x s (Row (rec.Event 0 (event.Hold x.c))) [] (client_holds s.client) there refl (λ later is. is);
+    takes = λ x s there sound. client-owes x s (Row (rec.Event 0 (event.Take x.c))) [] (client_takes s.client) there refl (λ later is. is);
+    client_fires = λ x s there sound. client-owes x s (Row (rec.Event 0 (event.Timer (Client x.c) x.c))) [] (client_timer s.client) there refl (λ later is. is);
+    client_hears = λ x s bytes there was sound. client-owes x s (Came (record { from = Front; to = Client x.c; bytes = bytes })) [] (client_gets s.client (decoded bytes x.c ToClient)) there refl (λ later is. is);
+    front_fires = λ x s there sound. front-owes x s (Row (rec.Event 0 (event.Timer Front x.c))) (front_timer (env_at k x s) x.part.front) there ((fine k).untouched.front_fires x s there sound).0.notes refl (λ later none. none);
+    front_hears = λ x s bytes there was sound. front-owes x s (Came (record { from = Client x.c; to = Front; bytes = bytes })) (front_gets (env_at k x s) x.part.front (decoded bytes x.c ToCluster)) there
+        ((fine k).untouched.front_hears x s bytes there was sound).0.notes refl (λ later none. none);
+    ignores = λ x from to bytes was sound. ignores-owes x from to bytes was.1;
+  };
   injects = λ x s bytes there rule sound. client-owes x s (Row (rec.Event 0 (event.Inject x.c bytes))) (rec.Injected x.c ∷ []) (client_injects s.client bytes) there refl (λ later is. is);
-  client_fires = λ x s there sound. client-owes x s (Row (rec.Event 0 (event.Timer (Client x.c) x.c))) [] (client_timer s.client) there refl (λ later is. is);
-  client_hears = λ x s bytes there was sound. client-owes x s (Came (record { from = Front; to = Client x.c; bytes = bytes })) [] (client_gets s.client (decoded bytes x.c ToClient)) there refl (λ later is. is);
-  front_fires = λ x s there sound. front-owes x s (Row (rec.Event 0 (event.Timer Front x.c))) (front_timer (env_at k x s) x.part.front) there ((fine k).front_fires x s there sound).0.notes refl (λ later none. none);
-  front_hears = λ x s bytes there was sound. front-owes x s (Came (record { from = Client x.c; to = Front; bytes = bytes })) (front_gets (env_at k x s) x.part.front (decoded bytes x.c ToCluster)) there
-      ((fine k).front_hears x s bytes there was sound).0.notes refl (λ later none. none);
-  ignores = λ x from to bytes was sound. ignores-owes x from to bytes was.1;
 }
 
 folding : (k : Setting) → IsLaw k (λ x. Unit {0}) IsFolded

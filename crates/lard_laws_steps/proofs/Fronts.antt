@@ -237,22 +237,24 @@ IsFresh x = x.part.station ≡ None → x.letters ≡ []
 
 owing : (k : Setting) → Rules k (λ x v. IsSound x → IsFresh x → Owes x v)
 owing k = record {
-  opens = λ x isn iss wnd mss rule none sound fresh. stays x (client_begins x isn iss wnd mss) (rec.Event 0 (event.Open x.c isn iss wnd mss) ∷ rec.Opened x.c isn iss wnd mss ∷ []) refl (refl, (refl, tt))
-      (clients-take-not x.c (client_opens x.c isn wnd mss).1.notes ((fine k).opens x isn iss wnd mss rule none sound).0.notes) refl;
-  gets = λ x s path there le sound fresh. client-stays x s (event.Get x.c path) (client_writes s.client (request path)) ((fine k).gets x s path there le sound).0.notes;
-  writes = λ x s bytes there le sound fresh. client-stays x s (event.Write x.c bytes) (client_writes s.client bytes) ((fine k).writes x s bytes there le sound).0.notes;
-  shuts = λ x s there sound fresh. client-stays x s (event.Shut x.c) (client_shuts s.client) ((fine k).shuts x s there sound).0.notes;
-  aborts = λ x s there sound fresh. client-stays x s (event.Abort x.c) (client_aborts s.client) ((fine k).aborts x s there sound).0.notes;
-  holds = λ x s there sound fresh. client-stays x s (event.Hold x.c) (client_holds s.client) ((fine k).holds x s there sound).0.notes;
-  takes = λ x s there sound fresh. client-stays x s (event.Take x.c) (client_takes s.client) ((fine k).takes x s there sound).0.notes;
+  untouched = record {
+    opens = λ x isn iss wnd mss rule none sound fresh. stays x (client_begins x isn iss wnd mss) (rec.Event 0 (event.Open x.c isn iss wnd mss) ∷ rec.Opened x.c isn iss wnd mss ∷ []) refl (refl, (refl, tt))
+        (clients-take-not x.c (client_opens x.c isn wnd mss).1.notes ((fine k).untouched.opens x isn iss wnd mss rule none sound).0.notes) refl;
+    gets = λ x s path there le sound fresh. client-stays x s (event.Get x.c path) (client_writes s.client (request path)) ((fine k).untouched.gets x s path there le sound).0.notes;
+    writes = λ x s bytes there le sound fresh. client-stays x s (event.Write x.c bytes) (client_writes s.client bytes) ((fine k).untouched.writes x s bytes there le sound).0.notes;
+    shuts = λ x s there sound fresh. client-stays x s (event.Shut x.c) (client_shuts s.client) ((fine k).untouched.shuts x s there sound).0.notes;
+    aborts = λ x s there sound fresh. client-stays x s (event.Abort x.c) (client_aborts s.client) ((fine k).untouched.aborts x s there sound).0.notes;
+    holds = λ x s there sound fresh. client-stays x s (event.Hold x.c) (client_holds s.client) ((fine k).untouched.holds x s there sound).0.notes;
+    takes = λ x s there sound fresh. client-stays x s (event.Take x.c) (client_takes s.client) ((fine k).untouched.takes x s there sound).0.notes;
+    client_fires = λ x s there sound fresh. client-stays x s (event.Timer (Client x.c) x.c) (client_timer s.client) ((fine k).untouched.client_fires x s there sound).0.notes;
+    client_hears = λ x s bytes there was sound fresh. came-stays x s bytes (client_gets s.client (decoded bytes x.c ToClient))
+        (clients-take-not x.c (client_gets s.client (decoded bytes x.c ToClient)).1.notes ((fine k).untouched.client_hears x s bytes there was sound).0.notes);
+    front_fires = λ x s there sound fresh. stays x (front_does x (event_seen (event.Timer Front x.c)) (front_timer (env_at k x s) x.part.front)) (rec.Event 0 (event.Timer Front x.c) ∷ []) refl (refl, tt)
+        (fires-goes (env_at k x s) x.part.front).1 (fires-goes (env_at k x s) x.part.front).0;
+    front_hears = λ x s bytes there was sound fresh. hears-owes k x s bytes;
+    ignores = λ x from to bytes was sound fresh. absurd (subst (Has (record { from = from; to = to; bytes = bytes })) (fresh was.1) was.0);
+  };
   injects = λ x s bytes there rule sound fresh. stays x (client_does x s (inject_seen x.c bytes) (client_injects s.client bytes)) (rec.Event 0 (event.Inject x.c bytes) ∷ rec.Injected x.c ∷ []) refl (refl, (refl, tt)) tt refl;
-  client_fires = λ x s there sound fresh. client-stays x s (event.Timer (Client x.c) x.c) (client_timer s.client) ((fine k).client_fires x s there sound).0.notes;
-  client_hears = λ x s bytes there was sound fresh. came-stays x s bytes (client_gets s.client (decoded bytes x.c ToClient))
-      (clients-take-not x.c (client_gets s.client (decoded bytes x.c ToClient)).1.notes ((fine k).client_hears x s bytes there was sound).0.notes);
-  front_fires = λ x s there sound fresh. stays x (front_does x (event_seen (event.Timer Front x.c)) (front_timer (env_at k x s) x.part.front)) (rec.Event 0 (event.Timer Front x.c) ∷ []) refl (refl, tt)
-      (fires-goes (env_at k x s) x.part.front).1 (fires-goes (env_at k x s) x.part.front).0;
-  front_hears = λ x s bytes there was sound fresh. hears-owes k x s bytes;
-  ignores = λ x from to bytes was sound fresh. absurd (subst (Has (record { from = from; to = to; bytes = bytes })) (fresh was.1) was.0);
 }
 
 having : (k : Setting) → IsLaw k IsFresh HasIt

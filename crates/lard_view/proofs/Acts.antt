@@ -108,28 +108,28 @@ module _ (m : Machine) (P : Conn → Move → Type 0) (R : Rules (setting_of m) 
   unfolding conn part_of
   forms-act = record {
     opens = λ c isn iss wnd mss rule none. client-acts (event.Open c isn iss wnd mss) c iss false (client_opens c isn wnd mss) _ (sym (ap station_armed none)) (refl, (tt, tt)) (tt, (tt, tt))
-        (R.opens (conn m c) isn iss wnd mss rule none);
-    gets = λ c path x is le. goes-on (event.Get c path) c x (client_writes x.client (request path)) (event_seen (event.Get c path)) is (refl, tt) (tt, tt) (R.gets (conn m c) x path is le);
-    writes = λ c bytes x is le. goes-on (event.Write c bytes) c x (client_writes x.client bytes) (event_seen (event.Write c bytes)) is (refl, tt) (tt, tt) (R.writes (conn m c) x bytes is le);
-    shuts = λ c x is. goes-on (event.Shut c) c x (client_shuts x.client) (event_seen (event.Shut c)) is (refl, tt) (tt, tt) (R.shuts (conn m c) x is);
-    aborts = λ c x is. goes-on (event.Abort c) c x (client_aborts x.client) (event_seen (event.Abort c)) is (refl, tt) (tt, tt) (R.aborts (conn m c) x is);
-    holds = λ c x is. goes-on (event.Hold c) c x (client_holds x.client) (event_seen (event.Hold c)) is (refl, tt) (tt, tt) (R.holds (conn m c) x is);
-    takes = λ c x is. goes-on (event.Take c) c x (client_takes x.client) (event_seen (event.Take c)) is (refl, tt) (tt, tt) (R.takes (conn m c) x is);
+        (R.untouched.opens (conn m c) isn iss wnd mss rule none);
+    gets = λ c path x is le. goes-on (event.Get c path) c x (client_writes x.client (request path)) (event_seen (event.Get c path)) is (refl, tt) (tt, tt) (R.untouched.gets (conn m c) x path is le);
+    writes = λ c bytes x is le. goes-on (event.Write c bytes) c x (client_writes x.client bytes) (event_seen (event.Write c bytes)) is (refl, tt) (tt, tt) (R.untouched.writes (conn m c) x bytes is le);
+    shuts = λ c x is. goes-on (event.Shut c) c x (client_shuts x.client) (event_seen (event.Shut c)) is (refl, tt) (tt, tt) (R.untouched.shuts (conn m c) x is);
+    aborts = λ c x is. goes-on (event.Abort c) c x (client_aborts x.client) (event_seen (event.Abort c)) is (refl, tt) (tt, tt) (R.untouched.aborts (conn m c) x is);
+    holds = λ c x is. goes-on (event.Hold c) c x (client_holds x.client) (event_seen (event.Hold c)) is (refl, tt) (tt, tt) (R.untouched.holds (conn m c) x is);
+    takes = λ c x is. goes-on (event.Take c) c x (client_takes x.client) (event_seen (event.Take c)) is (refl, tt) (tt, tt) (R.untouched.takes (conn m c) x is);
     injects = λ c bytes x rule is. goes-on (event.Inject c bytes) c x (client_injects x.client bytes) (inject_seen c bytes) is (refl, (tt, tt)) (tt, (tt, tt)) (R.injects (conn m c) x bytes is rule);
     client_timer = λ d c x same is. client-acts (event.Timer (Client d) c) c x.iss (is_armed x.client) (client_timer x.client) (event_seen (event.Timer (Client c) c)) (sym (ap station_armed is))
-        (ap (λ z. event.Timer (Client z) c) (sym same), tt) (tt, tt) (R.client_fires (conn m c) x is);
-    front_timer = λ c x is. front-acts (event.Timer Front c) c (front_timer (env_of m c x.iss) (table.get m.conns c)) (event_seen (event.Timer Front c)) (refl, tt) (tt, tt) (R.front_fires (conn m c) x is);
+        (ap (λ z. event.Timer (Client z) c) (sym same), tt) (tt, tt) (R.untouched.client_fires (conn m c) x is);
+    front_timer = λ c x is. front-acts (event.Timer Front c) c (front_timer (env_of m c x.iss) (table.get m.conns c)) (event_seen (event.Timer Front c)) (refl, tt) (tt, tt) (R.untouched.front_fires (conn m c) x is);
     front_gets = λ k c p x at on from to is.
         let of : conn_of p.from p.to p.bytes ≡ Some c = ap (λ q. conn_of q p.to p.bytes) from in
         let w : Was (conn m c) (Client c) Front p.bytes = was m P R sound told k c p at of (Client c) Front from to in
         front-acts (event.Deliver k) c (front_gets (env_of m c x.iss) (table.get m.conns c) (decoded p.bytes c ToCluster)) (packet_seen (Client c) Front p.bytes) (tt, tt)
-        ((k, p, refl, at, (λ i. record { from = from i; to = to i; bytes = p.bytes })), tt) (R.front_hears (conn m c) x p.bytes is w);
+        ((k, p, refl, at, (λ i. record { from = from i; to = to i; bytes = p.bytes })), tt) (R.untouched.front_hears (conn m c) x p.bytes is w);
     client_gets = λ k c p x at on to is.
         let from : p.from ≡ Front = from-front m P R sound told k c p at to in
         let of : conn_of p.from p.to p.bytes ≡ Some c = λ i. conn_of (from i) (to i) p.bytes in
         let w : Was (conn m c) Front (Client c) p.bytes = was m P R sound told k c p at of Front (Client c) from to in
         goes-on (event.Deliver k) c x (client_gets x.client (decoded p.bytes c ToClient)) (packet_seen Front (Client c) p.bytes) is (tt, tt)
-        ((k, p, refl, at, (λ i. record { from = from i; to = to i; bytes = p.bytes })), tt) (R.client_hears (conn m c) x p.bytes is w);
+        ((k, p, refl, at, (λ i. record { from = from i; to = to i; bytes = p.bytes })), tt) (R.untouched.client_hears (conn m c) x p.bytes is w);
     nobody = λ k p at on. record { events = refl; adds = behind (event.Deliver k); journal = refl; acts = inl refl };
     loses = λ k p at on. record { events = refl; adds = behind (event.Lose k); journal = refl; acts = inl refl };
   }

@@ -191,7 +191,7 @@ module _ (m : Machine) (P : Conn → Move → Type 0) (R : Rules (setting_of m) 
     go None e = passes P m m (event.Deliver k) (rec.Got k ∷ []) q told refl refl refl (nobody e)
     go (Some d) e = by_number (Goes P (conn m q) (conn (passed m (event.Deliver k) (rec.Got k ∷ [])) q)) q d
         (λ same. subst (λ (z : ℕ). Goes P (conn m z) (conn (passed m (event.Deliver k) (rec.Got k ∷ [])) z)) (sym same)
-        (ignores P m m (event.Deliver k) (rec.Got k ∷ []) d told refl refl refl p.from p.to p.bytes (got-seen k d p at e) (R.ignores (conn m d) p.from p.to p.bytes (was k d p at e p.from p.to refl refl, unopened d e))))
+        (ignores P m m (event.Deliver k) (rec.Got k ∷ []) d told refl refl refl p.from p.to p.bytes (got-seen k d p at e) (R.untouched.ignores (conn m d) p.from p.to p.bytes (was k d p at e p.from p.to refl refl, unopened d e))))
         (λ n. passes P m m (event.Deliver k) (rec.Got k ∷ []) q told refl refl refl (got-others k d p at e q n))
 
   pub forms-go : Forms m (λ e n. To n)
@@ -199,39 +199,39 @@ module _ (m : Machine) (P : Conn → Move → Type 0) (R : Rules (setting_of m) 
   forms-go = record {
     opens = λ c isn iss wnd mss rule none. client-moves (event.Open c isn iss wnd mss) (rec.Opened c isn iss wnd mss ∷ []) c iss false (client_opens c isn wnd mss)
         (Row (rec.Event 0 (event.Open c isn iss wnd mss)) ∷ Row (rec.Opened c isn iss wnd mss) ∷ []) (sym (ap station_armed none)) (open-heads c isn iss wnd mss)
-        ((fine (setting_of m)).opens (conn m c) isn iss wnd mss rule none (sound c)).0 (R.opens (conn m c) isn iss wnd mss rule none);
+        ((fine (setting_of m)).untouched.opens (conn m c) isn iss wnd mss rule none (sound c)).0 (R.untouched.opens (conn m c) isn iss wnd mss rule none);
     gets = λ c path x is le. goes-on (event.Get c path) [] c x (client_writes x.client (request path)) (event_seen (event.Get c path)) is (event-heads c (event.Get c path) refl)
-        ((fine (setting_of m)).gets (conn m c) x path is le (sound c)).0 (R.gets (conn m c) x path is le);
+        ((fine (setting_of m)).untouched.gets (conn m c) x path is le (sound c)).0 (R.untouched.gets (conn m c) x path is le);
     writes = λ c bytes x is le. goes-on (event.Write c bytes) [] c x (client_writes x.client bytes) (event_seen (event.Write c bytes)) is (event-heads c (event.Write c bytes) refl)
-        ((fine (setting_of m)).writes (conn m c) x bytes is le (sound c)).0 (R.writes (conn m c) x bytes is le);
+        ((fine (setting_of m)).untouched.writes (conn m c) x bytes is le (sound c)).0 (R.untouched.writes (conn m c) x bytes is le);
     shuts = λ c x is. goes-on (event.Shut c) [] c x (client_shuts x.client) (event_seen (event.Shut c)) is (event-heads c (event.Shut c) refl)
-        ((fine (setting_of m)).shuts (conn m c) x is (sound c)).0 (R.shuts (conn m c) x is);
+        ((fine (setting_of m)).untouched.shuts (conn m c) x is (sound c)).0 (R.untouched.shuts (conn m c) x is);
     aborts = λ c x is. goes-on (event.Abort c) [] c x (client_aborts x.client) (event_seen (event.Abort c)) is (event-heads c (event.Abort c) refl)
-        ((fine (setting_of m)).aborts (conn m c) x is (sound c)).0 (R.aborts (conn m c) x is);
+        ((fine (setting_of m)).untouched.aborts (conn m c) x is (sound c)).0 (R.untouched.aborts (conn m c) x is);
     holds = λ c x is. goes-on (event.Hold c) [] c x (client_holds x.client) (event_seen (event.Hold c)) is (event-heads c (event.Hold c) refl)
-        ((fine (setting_of m)).holds (conn m c) x is (sound c)).0 (R.holds (conn m c) x is);
+        ((fine (setting_of m)).untouched.holds (conn m c) x is (sound c)).0 (R.untouched.holds (conn m c) x is);
     takes = λ c x is. goes-on (event.Take c) [] c x (client_takes x.client) (event_seen (event.Take c)) is (event-heads c (event.Take c) refl)
-        ((fine (setting_of m)).takes (conn m c) x is (sound c)).0 (R.takes (conn m c) x is);
+        ((fine (setting_of m)).untouched.takes (conn m c) x is (sound c)).0 (R.untouched.takes (conn m c) x is);
     injects = λ c bytes x rule is. goes-on (event.Inject c bytes) (rec.Injected c ∷ []) c x (client_injects x.client bytes) (inject_seen c bytes) is (inject-heads c bytes)
         ((fine (setting_of m)).injects (conn m c) x bytes is rule (sound c)).0 (R.injects (conn m c) x bytes is rule);
     client_timer = λ d c x same is.
         let e : ℕ → Event = λ z. event.Timer (Client z) c in
         subst (λ (z : ℕ). To (client_goes_on m (e z) [] c x (client_timer x.client))) (sym same)
-        (goes-on (e c) [] c x (client_timer x.client) (event_seen (e c)) is (event-heads c (e c) refl) ((fine (setting_of m)).client_fires (conn m c) x is (sound c)).0 (R.client_fires (conn m c) x is));
+        (goes-on (e c) [] c x (client_timer x.client) (event_seen (e c)) is (event-heads c (e c) refl) ((fine (setting_of m)).untouched.client_fires (conn m c) x is (sound c)).0 (R.untouched.client_fires (conn m c) x is));
     front_timer = λ c x is. front-moves (event.Timer Front c) [] c (front_timer (env_of m c x.iss) (table.get m.conns c)) (event_seen (event.Timer Front c)) (event-heads c (event.Timer Front c) refl)
-        (front_fires-turn (env_of m c x.iss) (table.get m.conns c)).row ((fine (setting_of m)).front_fires (conn m c) x is (sound c)).0 (R.front_fires (conn m c) x is);
+        (front_fires-turn (env_of m c x.iss) (table.get m.conns c)).row ((fine (setting_of m)).untouched.front_fires (conn m c) x is (sound c)).0 (R.untouched.front_fires (conn m c) x is);
     front_gets = λ k c p x at on from to is.
         let of : conn_of p.from p.to p.bytes ≡ Some c = ap (λ q. conn_of q p.to p.bytes) from in
         let w : Was (conn m c) (Client c) Front p.bytes = was k c p at of (Client c) Front from to in
         front-moves (event.Deliver k) (rec.Got k ∷ []) c (front_gets (env_of m c x.iss) (table.get m.conns c) (decoded p.bytes c ToCluster)) (packet_seen (Client c) Front p.bytes)
         (got-heads k c p at of (Client c) Front from to) (front_gets-turn (env_of m c x.iss) (table.get m.conns c) (decoded p.bytes c ToCluster)).row
-        ((fine (setting_of m)).front_hears (conn m c) x p.bytes is w (sound c)).0 (R.front_hears (conn m c) x p.bytes is w);
+        ((fine (setting_of m)).untouched.front_hears (conn m c) x p.bytes is w (sound c)).0 (R.untouched.front_hears (conn m c) x p.bytes is w);
     client_gets = λ k c p x at on to is.
         let from : p.from ≡ Front = from-front k c p at to in
         let of : conn_of p.from p.to p.bytes ≡ Some c = λ i. conn_of (from i) (to i) p.bytes in
         let w : Was (conn m c) Front (Client c) p.bytes = was k c p at of Front (Client c) from to in
         goes-on (event.Deliver k) (rec.Got k ∷ []) c x (client_gets x.client (decoded p.bytes c ToClient)) (packet_seen Front (Client c) p.bytes) is
-        (got-heads k c p at of Front (Client c) from to) ((fine (setting_of m)).client_hears (conn m c) x p.bytes is w (sound c)).0 (R.client_hears (conn m c) x p.bytes is w);
+        (got-heads k c p at of Front (Client c) from to) ((fine (setting_of m)).untouched.client_hears (conn m c) x p.bytes is w (sound c)).0 (R.untouched.client_hears (conn m c) x p.bytes is w);
     nobody = λ k p at on. ignored k p at on.1;
     loses = λ k p at on q. passes P m (record m { net = lose_at (k - 1) m.net }) (event.Lose k) (rec.Lost k ∷ []) q told (letters-lost q (k - 1) m.net) refl refl refl;
   }

@@ -285,21 +285,23 @@ begins-fine x isn iss wnd mss h =
 -- each rule is fine
 pub fine : (k : Setting) → Rules k IsFine
 fine k = record {
-  opens = λ x isn iss wnd mss rule none. begins-fine x isn iss wnd mss;
-  gets = λ x s path there le. client-fine x s (event_seen (event.Get x.c path)) (client_writes s.client (request path)) (λ h. writes-turn x.c s.client (h.number s there) (request path));
-  writes = λ x s bytes there le. client-fine x s (event_seen (event.Write x.c bytes)) (client_writes s.client bytes) (λ h. writes-turn x.c s.client (h.number s there) bytes);
-  shuts = λ x s there. client-fine x s (event_seen (event.Shut x.c)) (client_shuts s.client) (λ h. shuts-turn x.c s.client (h.number s there));
-  aborts = λ x s there. client-fine x s (event_seen (event.Abort x.c)) (client_aborts s.client) (λ h. aborts-turn x.c s.client (h.number s there));
-  holds = λ x s there. client-fine x s (event_seen (event.Hold x.c)) (client_holds s.client) (λ h. holds-turn x.c s.client (h.number s there));
-  takes = λ x s there. client-fine x s (event_seen (event.Take x.c)) (client_takes s.client) (λ h. takes-turn x.c s.client (h.number s there));
+  untouched = record {
+    opens = λ x isn iss wnd mss rule none. begins-fine x isn iss wnd mss;
+    gets = λ x s path there le. client-fine x s (event_seen (event.Get x.c path)) (client_writes s.client (request path)) (λ h. writes-turn x.c s.client (h.number s there) (request path));
+    writes = λ x s bytes there le. client-fine x s (event_seen (event.Write x.c bytes)) (client_writes s.client bytes) (λ h. writes-turn x.c s.client (h.number s there) bytes);
+    shuts = λ x s there. client-fine x s (event_seen (event.Shut x.c)) (client_shuts s.client) (λ h. shuts-turn x.c s.client (h.number s there));
+    aborts = λ x s there. client-fine x s (event_seen (event.Abort x.c)) (client_aborts s.client) (λ h. aborts-turn x.c s.client (h.number s there));
+    holds = λ x s there. client-fine x s (event_seen (event.Hold x.c)) (client_holds s.client) (λ h. holds-turn x.c s.client (h.number s there));
+    takes = λ x s there. client-fine x s (event_seen (event.Take x.c)) (client_takes s.client) (λ h. takes-turn x.c s.client (h.number s there));
+    client_fires = λ x s there. client-fine x s (event_seen (event.Timer (Client x.c) x.c)) (client_timer s.client) (λ h. fires-turn x.c s.client (h.number s there));
+    client_hears = λ x s bytes there was. client-fine x s (packet_seen Front (Client x.c) bytes) (client_gets s.client (decoded bytes x.c ToClient))
+        (λ h. hears-turn x.c s.client (h.number s there) (decoded bytes x.c ToClient));
+    front_fires = λ x s there. front-fine x (event_seen (event.Timer Front x.c)) (front_timer (env_at k x s) x.part.front) (front_fires-turn (env_at k x s) x.part.front);
+    front_hears = λ x s bytes there was. front-fine x (packet_seen (Client x.c) Front bytes) (front_gets (env_at k x s) x.part.front (decoded bytes x.c ToCluster))
+        (front_gets-turn (env_at k x s) x.part.front (decoded bytes x.c ToCluster));
+    ignores = λ x from to bytes was h.
+        let fine : IsTurn to x.c silent = record { notes = tt; segments = tt; answered = λ n. omega arith } in
+        (fine, record { between = between-grown x (ignoring x from to bytes) h fine; number = h.number });
+  };
   injects = λ x s bytes there rule. client-fine x s (inject_seen x.c bytes) (client_injects s.client bytes) (λ h. injects-turn x.c s.client (h.number s there) bytes);
-  client_fires = λ x s there. client-fine x s (event_seen (event.Timer (Client x.c) x.c)) (client_timer s.client) (λ h. fires-turn x.c s.client (h.number s there));
-  client_hears = λ x s bytes there was. client-fine x s (packet_seen Front (Client x.c) bytes) (client_gets s.client (decoded bytes x.c ToClient))
-      (λ h. hears-turn x.c s.client (h.number s there) (decoded bytes x.c ToClient));
-  front_fires = λ x s there. front-fine x (event_seen (event.Timer Front x.c)) (front_timer (env_at k x s) x.part.front) (front_fires-turn (env_at k x s) x.part.front);
-  front_hears = λ x s bytes there was. front-fine x (packet_seen (Client x.c) Front bytes) (front_gets (env_at k x s) x.part.front (decoded bytes x.c ToCluster))
-      (front_gets-turn (env_at k x s) x.part.front (decoded bytes x.c ToCluster));
-  ignores = λ x from to bytes was h.
-      let fine : IsTurn to x.c silent = record { notes = tt; segments = tt; answered = λ n. omega arith } in
-      (fine, record { between = between-grown x (ignoring x from to bytes) h fine; number = h.number });
 }
