@@ -29,7 +29,7 @@ use Rattle.lard_view.proofs.Carried.{carried}
 use Rattle.lard_view.proofs.Guarded.{both, weaker}
 use Rattle.lard_view.proofs.InSteps.{carried-steps}
 use Rattle.lard_view.proofs.Moving.{unchanged}
-use Rattle.lard_view.proofs.Shapes.{rows-inside}
+use Rattle.lard_view.proofs.After.{rows-inside}
 use Rattle.lard_view.proofs.Turns.{IsFine, IsTurn, NotedAt, fine}
 
 -- ---- the state

@@ -2,7 +2,7 @@
 use Rattle.std.proofs.Common.{◌≡◌, ℕ, List, [], ◌∷◌, ◌++◌, map, Bool, true, false, cond, refl, sym, ap, ◌∙◌, nat_eq}
 use Rattle.std.proofs.lemmas.List.Sums.{fold-append}
 use Rattle.std.specs.List.{fold}
-use Rattle.lard_history.specs.Journal.{Tale, tale_step, touched_step, untold}
+use Rattle.lard_history.specs.Journal.{Tale, tale_step, untold}
 use Rattle.lard_base.specs.declared.event.Event.TheVariants as event
 use Rattle.lard_history.specs.Own.{EachRow, Seen, Row, Came, seen_step, tale_of}
 use Rattle.lard_history.proofs.Lifting.{each_row-append}
