@@ -9,7 +9,7 @@ use Rattle.lard_base.specs.declared.place.Place.TheVariants.{Front, Node, Client
 use Rattle.lard_history.specs.Journal.{Tale, about, event_shuts, goes_to, is_cluster, tale, tale_step, untold}
 use Rattle.lard_history.specs.Laws.{EachMay}
 use Rattle.lard_history.specs.Own.{EachRow, Seen, Row, Came, came, conn_of, event_conn, net_of, net_step, one_of, own, plain, seen_of, seen_on, seen_step, tale_of, whose}
-use Rattle.lard_history.proofs.Seeing.{by_number, other_number, own-append, own-nil, seen-mine, seen-other}
+use Rattle.lard_history.proofs.Seeing.{by_number, other_number, own-append, seen-mine, seen-other}
 use Rattle.lard_history.proofs.Tales.{other}
 use Rattle.lard_journal.specs.declared.rec.Rec.{Rec}
 use Rattle.lard_journal.specs.declared.rec.Rec.TheVariants as rec

@@ -1,13 +1,13 @@
 -- Each connection stands as its tale tells, and each of its records may stand where it does: rule by rule.
-use Rattle.std.proofs.Common.{◌≡◌, ◌⊎◌, ℕ, List, [], ◌∷◌, ◌++◌, map, Bool, true, false, cond, ◌||◌, Option, Some, None, IsSome, refl, sym, ap, ◌∙◌, subst, ⊎_elim, inl, inr, nat_eq}
+use Rattle.std.proofs.Common.{◌≡◌, ◌⊎◌, ℕ, List, [], ◌∷◌, ◌++◌, map, false, cond, Option, Some, None, IsSome, refl, sym, ap, ◌∙◌, subst, ⊎_elim, inl, inr}
 use Rattle.std.specs.List.{fold}
 use Rattle.lard_base.specs.declared.event.Event.{Event}
 use Rattle.lard_base.specs.declared.event.Event.TheVariants as event
 use Rattle.lard_base.specs.declared.place.Place.{Place}
 use Rattle.lard_base.specs.declared.place.Place.TheVariants.{Client, Front}
 use Rattle.lard_client.specs.Control.{ClientBlock}
-use Rattle.lard_history.specs.Journal.{Tale, about, event_shuts, request, tale_step, told_on, untold}
-use Rattle.lard_history.specs.Own.{EachRow, Letter, Seen, Row, Came, seen_step, tale_of}
+use Rattle.lard_history.specs.Journal.{Tale, event_shuts, request, tale_step, told_on}
+use Rattle.lard_history.specs.Own.{EachRow, Seen, Row, seen_step}
 use Rattle.lard_history.proofs.Seeing.{same_number}
 use Rattle.lard_history.proofs.Tales.{other}
 use Rattle.lard_journal.specs.declared.rec.Rec.{Rec}
@@ -21,15 +21,15 @@ use Rattle.lard_rules.specs.declared.places.FrontConn.{FrontConn}
 use Rattle.lard_rules.specs.declared.places.FrontConn.TheVariants.{Held, Lent, Closed}
 use Rattle.lard_rules.specs.declared.places.Station.{Station}
 use Rattle.lard_rules.specs.declared.places.Turn.{Turn}
-use Rattle.lard_rules.specs.Client.{client_aborts, client_gets, client_holds, client_injects, client_opens, client_shuts, client_takes, client_timer, client_writes, silent}
+use Rattle.lard_rules.specs.Client.{client_aborts, client_gets, client_holds, client_injects, client_opens, client_shuts, client_takes, client_timer, client_writes}
 use Rattle.lard_rules.specs.Front.{front_gets, front_timer}
 use Rattle.lard_segment.specs.declared.segment.Dir.TheVariants.{ToClient, ToCluster}
 use Rattle.lard_segment.specs.Segment.{decoded}
 use Rattle.lard_view.specs.Carry.{IsLaw, tale_at}
-use Rattle.lard_view.specs.View.{Conn, IsSound, Move, Rules, Setting, blank, client_begins, client_does, env_at, event_seen, front_does, grown, ignoring, inject_seen, packet_seen, sending}
+use Rattle.lard_view.specs.View.{Conn, IsSound, Move, Rules, Setting, client_begins, client_does, env_at, event_seen, front_does, grown, ignoring, inject_seen, packet_seen, sending}
 use Rattle.lard_view.proofs.Endpoints.{AllTo}
 use Rattle.lard_view.proofs.Guarded.{weaker}
-use Rattle.lard_view.proofs.Rows.{MayBeSeen, TellsBy, client-sends-tale, grown-lawful, grown-tale, tale_before}
+use Rattle.lard_view.proofs.Rows.{MayBeSeen, client-sends-tale, grown-lawful, grown-tale, tale_before}
 
 -- ---- what a move owes
 

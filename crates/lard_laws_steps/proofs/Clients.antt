@@ -5,32 +5,32 @@ use Rattle.std.proofs.lemmas.List.Sums.{fold-append}
 use Rattle.std.specs.List.{fold}
 use Rattle.lard_base.specs.declared.event.Event.TheVariants as event
 use Rattle.lard_base.specs.declared.place.Place.{Place}
-use Rattle.lard_base.specs.declared.place.Place.TheVariants.{Front, Node, Client}
+use Rattle.lard_base.specs.declared.place.Place.TheVariants.{Front, Client}
 use Rattle.lard_client.specs.Control.{ClientBlock, is_armed}
 use Rattle.lard_history.specs.Journal.{request}
-use Rattle.lard_history.specs.Own.{Letter, Seen, Row, Came}
+use Rattle.lard_history.specs.Own.{Seen, Row, Came}
 use Rattle.lard_history.specs.Steps.{is_opening}
 use Rattle.lard_history.proofs.Each.{Each, Each-append, Each-weaker}
 use Rattle.lard_history.proofs.Stepping.{AreInside}
 use Rattle.lard_journal.specs.declared.rec.Rec.{Rec}
 use Rattle.lard_journal.specs.declared.rec.Rec.TheVariants as rec
-use Rattle.lard_laws_steps.specs.Clients.{ClientsKeepTheirTables, IsClientStep, MustKeepTables, NoneOfClient, at_client, client_of, client_step, is_of_client, own_rows, turn_rows}
+use Rattle.lard_laws_steps.specs.Clients.{ClientsKeepTheirTables, IsClientStep, MustKeepTables, NoneOfClient, client_of, client_step, is_of_client, turn_rows}
 use Rattle.lard_rules.specs.declared.places.FrontConn.{FrontConn}
 use Rattle.lard_rules.specs.declared.places.Station.{Station}
 use Rattle.lard_rules.specs.declared.places.Turn.{Turn}
-use Rattle.lard_rules.specs.Client.{client_aborts, client_gets, client_holds, client_injects, client_opens, client_shuts, client_takes, client_timer, client_writes, silent}
+use Rattle.lard_rules.specs.Client.{client_aborts, client_gets, client_holds, client_injects, client_opens, client_shuts, client_takes, client_timer, client_writes}
 use Rattle.lard_rules.specs.Front.{front_gets, front_timer}
 use Rattle.lard_machine.specs.Machine.{timer_change}
 use Rattle.lard_segment.specs.declared.segment.Dir.TheVariants.{ToClient, ToCluster}
 use Rattle.lard_segment.specs.Segment.{decoded}
 use Rattle.lard_view.specs.Carry.{IsLaw, IsStepLaw, setting}
-use Rattle.lard_view.specs.View.{Conn, IsSound, Move, Rules, Setting, armed_at, client_begins, client_does, env_at, event_seen, front_does, grown, ignoring, inject_seen, packet_seen, rows_of, seen_in, sending, station_armed, timer_rows}
+use Rattle.lard_view.specs.View.{Conn, IsSound, Move, Rules, Setting, armed_at, client_begins, client_does, env_at, front_does, grown, ignoring, rows_of, seen_in, sending, station_armed, timer_rows}
 use Rattle.lard_view.proofs.Carried.{carried}
 use Rattle.lard_view.proofs.Guarded.{both, weaker}
 use Rattle.lard_view.proofs.InSteps.{carried-steps}
 use Rattle.lard_view.proofs.Moving.{unchanged}
 use Rattle.lard_view.proofs.After.{rows-inside}
-use Rattle.lard_view.proofs.Turns.{IsFine, IsTurn, NotedAt, fine}
+use Rattle.lard_view.proofs.Turns.{IsFine, NotedAt, fine}
 
 -- ---- the state
 

@@ -3,7 +3,6 @@ use Rattle.std.proofs.Common.{◌≡◌, ℕ, ◌+◌, List, [], ◌∷◌, ◌+
 use Rattle.std.proofs.lemmas.Bool.{cond_both}
 use Rattle.std.proofs.lemmas.List.{map-append}
 use Rattle.std.proofs.lemmas.List.Folds.{list_any-append}
-use Rattle.std.specs.List.{list_any}
 use Rattle.lard_answers.specs.Answers.{answer, answer_code}
 use Rattle.lard_base.specs.declared.config.Config.{Config}
 use Rattle.lard_base.specs.declared.event.Event.{Event}
@@ -14,9 +13,8 @@ use Rattle.lard_base.specs.declared.place.Via.TheVariants.{Own}
 use Rattle.lard_client.specs.Control.{ClientBlock}
 use Rattle.lard_endpoint.specs.declared.control.moving.Final.{Final}
 use Rattle.lard_endpoint.specs.Arriving.{on_segment}
-use Rattle.lard_endpoint.specs.Control.{ControlBlock, listening}
 use Rattle.lard_history.specs.Journal.{request}
-use Rattle.lard_history.specs.Own.{Has, Letter, Seen, Row, Came}
+use Rattle.lard_history.specs.Own.{Has, Seen, Row}
 use Rattle.lard_history.proofs.Each.{Each, Each-append, Each-weaker}
 use Rattle.lard_journal.specs.declared.rec.Rec.{Rec}
 use Rattle.lard_journal.specs.declared.rec.Rec.TheVariants as rec
@@ -32,17 +30,17 @@ use Rattle.lard_rules.specs.declared.places.FrontConn.TheVariants.{Held, Lent, C
 use Rattle.lard_rules.specs.declared.places.Station.{Station}
 use Rattle.lard_rules.specs.declared.places.Turn.{Turn}
 use Rattle.lard_rules.specs.Client.{client_aborts, client_gets, client_holds, client_injects, client_opens, client_shuts, client_takes, client_timer, client_writes, silent}
-use Rattle.lard_rules.specs.Front.{FrontEnv, Service, answered, begun, consumed, cut_off, ended_at_fin, front_gets, front_hears, front_timer, is_plain_syn, last_words, passed_over, queued, reads, settled, spoken, tombstone}
+use Rattle.lard_rules.specs.Front.{FrontEnv, Service, answered, begun, consumed, cut_off, front_gets, front_hears, front_timer, is_plain_syn, last_words, passed_over, queued, reads, settled, spoken, tombstone}
 use Rattle.lard_rules.proofs.Loops.{KeptByReading, reads_keep}
 use Rattle.lard_segment.specs.declared.fault.SegFault.{SegFault}
 use Rattle.lard_segment.specs.declared.segment.Dir.TheVariants.{ToClient, ToCluster}
 use Rattle.lard_segment.specs.Segment.{Said, decoded}
 use Rattle.lard_view.specs.Carry.{IsLaw, IsStepLaw, OfEach, setting}
-use Rattle.lard_view.specs.View.{Conn, IsSound, Move, Rules, Setting, armed_at, client_begins, client_does, env_at, event_seen, front_does, grown, ignoring, inject_seen, packet_seen, rows_of, seen_in, sending, timer_rows}
+use Rattle.lard_view.specs.View.{Conn, IsSound, Move, Rules, Setting, armed_at, client_begins, client_does, env_at, event_seen, front_does, grown, inject_seen, packet_seen, rows_of, seen_in, sending, timer_rows}
 use Rattle.lard_view.proofs.Carried.{carried}
 use Rattle.lard_view.proofs.Guarded.{weaker}
 use Rattle.lard_view.proofs.InSteps.{carried-steps}
-use Rattle.lard_view.proofs.Turns.{IsTurn, NotedAt, fine}
+use Rattle.lard_view.proofs.Turns.{NotedAt, fine}
 
 -- ---- what a turn says of it
 

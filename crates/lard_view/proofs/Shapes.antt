@@ -1,6 +1,6 @@
 -- The shapes of a step: an event names a place, which acts; a packet comes to a place, which acts, or to nobody; a packet is
 -- lost. The forms of a step are told by their shapes here and nowhere else, so what speaks of whole steps has four cases.
-use Rattle.std.proofs.Common.{◌≡◌, ◌≢◌, ℕ, ◌+◌, ◌-◌, List, [], ◌∷◌, ◌++◌, map, Bool, false, Option, Some, None, IsSome, Ok, refl, sym, ap, subst, ⊎_elim}
+use Rattle.std.proofs.Common.{◌≡◌, ◌≢◌, ℕ, ◌-◌, List, [], ◌∷◌, ◌++◌, map, Bool, false, Option, Some, None, IsSome, Ok, refl, sym, ap, subst, ⊎_elim}
 use Rattle.std.specs.FinMap as table
 use Rattle.lard_base.specs.declared.event.Event.{Event}
 use Rattle.lard_base.specs.declared.event.Event.TheVariants as event

@@ -6,7 +6,7 @@ use Rattle.std.specs.List.{fold}
 use Rattle.lard_answers.specs.Answers.{answer, answer_code}
 use Rattle.lard_base.specs.declared.event.Event.TheVariants as event
 use Rattle.lard_base.specs.declared.place.Place.{Place}
-use Rattle.lard_base.specs.declared.place.Place.TheVariants.{Front, Node, Client}
+use Rattle.lard_base.specs.declared.place.Place.TheVariants.{Front, Client}
 use Rattle.lard_base.specs.declared.place.Reason.TheVariants as reason
 use Rattle.lard_base.specs.declared.place.Via.TheVariants.{Own}
 use Rattle.lard_client.specs.Arriving.{arrived}
@@ -14,11 +14,11 @@ use Rattle.lard_client.specs.Control.{ClientBlock, aborted, held_on, is_writing,
 use Rattle.lard_client.specs.Leaving.{abort_ready, after_timer, timed}
 use Rattle.lard_endpoint.specs.declared.control.moving.Final.{Final}
 use Rattle.lard_endpoint.specs.Arriving.{on_segment}
-use Rattle.lard_endpoint.specs.Control.{ControlBlock, listening}
+use Rattle.lard_endpoint.specs.Control.{listening}
 use Rattle.lard_endpoint.specs.Leaving as leaving
-use Rattle.lard_endpoint.specs.Moving.{end_reason, final_of, may_end}
+use Rattle.lard_endpoint.specs.Moving.{final_of}
 use Rattle.lard_history.specs.Journal.{answered_step, request}
-use Rattle.lard_history.specs.Own.{Letter, Seen, conn_of, plain, whose}
+use Rattle.lard_history.specs.Own.{Letter, Seen}
 use Rattle.lard_history.proofs.Each.{Each, Each-append, Each-weaker}
 use Rattle.lard_journal.specs.declared.rec.Rec.{Rec}
 use Rattle.lard_journal.specs.declared.rec.Rec.TheVariants as rec
