@@ -9,7 +9,7 @@ use Rattle.lard_base.specs.declared.place.Place.TheVariants.{Front, Node, Client
 use Rattle.lard_history.specs.Journal.{Tale, about, event_shuts, goes_to, is_cluster, tale, tale_step, untold}
 use Rattle.lard_history.specs.Laws.{EachMay}
 use Rattle.lard_history.specs.Own.{EachRow, Seen, Row, Came, came, conn_of, event_conn, net_of, net_step, one_of, own, plain, seen_of, seen_on, seen_step, tale_of, whose}
-use Rattle.lard_history.proofs.Seeing.{by_number, other_number, own-append, own-nil, seen-mine, seen-other}
+use Rattle.lard_history.proofs.Seeing.{by_number, other_number, own-append, seen-mine, seen-other}
 use Rattle.lard_history.proofs.Tales.{other}
 use Rattle.lard_journal.specs.declared.rec.Rec.{Rec}
 use Rattle.lard_journal.specs.declared.rec.Rec.TheVariants as rec
@@ -97,6 +97,11 @@ about-other c d (rec.Eof q) n h = let same : q ≡ d = cc in ap (λ k. nat_eq k 
 about-other c d (rec.Aborted q) n h = let same : q ≡ d = cc in ap (λ k. nat_eq k c) same ∙ other_number d c n
 about-other c d (rec.Took place q epoch) n h = let same : q ≡ d = cc in ap (λ k. nat_eq k c) same ∙ other_number d c n
 about-other c d (rec.Gave place q epoch) n h = let same : q ≡ d = cc in ap (λ k. nat_eq k c) same ∙ other_number d c n
+about-other c d (rec.Waits q) n h = let same : q ≡ d = cc in ap (λ k. nat_eq k c) same ∙ other_number d c n
+about-other c d (rec.Admitted q) n h = let same : q ≡ d = cc in ap (λ k. nat_eq k c) same ∙ other_number d c n
+about-other c d (rec.Released q) n h = let same : q ≡ d = cc in ap (λ k. nat_eq k c) same ∙ other_number d c n
+about-other c d (rec.AssignedFirst q r path m add remove) n h = let same : q ≡ d = cc in ap (λ k. nat_eq k c) same ∙ other_number d c n
+about-other c d (rec.AssignedLater q r path m add size queue) n h = let same : q ≡ d = cc in ap (λ k. nat_eq k c) same ∙ other_number d c n
 about-other c d (rec.Served place q r code size via) n h = let same : q ≡ d = cc in ap (λ k. nat_eq k c) same ∙ other_number d c n
 about-other c d (rec.Reset place q total) n h = let same : q ≡ d = cc in ap (λ k. nat_eq k c) same ∙ other_number d c n
 about-other c d (rec.Injected q) n h = let same : q ≡ d = cc in ap (λ k. nat_eq k c) same ∙ other_number d c n
@@ -113,6 +118,11 @@ about-nobody c (rec.Eof q) h = let no : Some q ≡ None = h in absurd cc
 about-nobody c (rec.Aborted q) h = let no : Some q ≡ None = h in absurd cc
 about-nobody c (rec.Took place q epoch) h = let no : Some q ≡ None = h in absurd cc
 about-nobody c (rec.Gave place q epoch) h = let no : Some q ≡ None = h in absurd cc
+about-nobody c (rec.Waits q) h = let no : Some q ≡ None = h in absurd cc
+about-nobody c (rec.Admitted q) h = let no : Some q ≡ None = h in absurd cc
+about-nobody c (rec.Released q) h = let no : Some q ≡ None = h in absurd cc
+about-nobody c (rec.AssignedFirst q r path m add remove) h = let no : Some q ≡ None = h in absurd cc
+about-nobody c (rec.AssignedLater q r path m add size queue) h = let no : Some q ≡ None = h in absurd cc
 about-nobody c (rec.Served place q r code size via) h = let no : Some q ≡ None = h in absurd cc
 about-nobody c (rec.Reset place q total) h = let no : Some q ≡ None = h in absurd cc
 about-nobody c (rec.Injected q) h = let no : Some q ≡ None = h in absurd cc

@@ -5,7 +5,7 @@ use Rattle.std.proofs.lemmas.List.Sums.{fold-append}
 use Rattle.std.specs.List.{fold}
 use Rattle.lard_base.specs.declared.place.Place.{Place}
 use Rattle.lard_base.specs.declared.place.Place.TheVariants.{Front, Node, Client}
-use Rattle.lard_history.specs.Journal.{Tale, about, accepted, accepted_step, closed_step, epoch_step, event_shuts, fin_sent, fin_step, fin_to, goes_to, has_closed, is_cluster, is_touched, last_epoch, numbers_of, numbers_step, owner, owner_step, reset_step, said_fin, served, served_bytes, served_bytes_step, served_step, tale, tale_step, told_on, touched_step, untold, was_reset, wrote, wrote_step}
+use Rattle.lard_history.specs.Journal.{Tale, about, accepted, accepted_step, assigned, assigned_step, closed_step, epoch_step, event_shuts, fin_sent, fin_step, fin_to, goes_to, has_closed, home, home_step, in_step, is_cluster, is_in, is_touched, last_epoch, numbers_of, numbers_step, owner, owner_step, reset_step, said_fin, served, served_bytes, served_bytes_step, served_step, tale, tale_step, told_on, touched_step, untold, waits, waits_step, was_reset, wrote, wrote_step}
 use Rattle.lard_history.proofs.Each.{Each}
 use Rattle.lard_journal.specs.declared.rec.Rec.{Rec}
 use Rattle.lard_journal.specs.declared.rec.Rec.TheVariants as rec
@@ -74,6 +74,22 @@ module _ (J : List Rec) (c : ℕ) where
   unfolding tale
   closed-tale = field_of (λ t. t.has_closed) (closed_step c) c (λ t r. refl) untold J
 
+  pub home-tale : home J c ≡ (tale J c).home
+  unfolding tale
+  home-tale = field_of (λ t. t.home) (home_step c) c (λ t r. refl) untold J
+
+  pub assigned-tale : assigned J c ≡ (tale J c).assigned
+  unfolding tale
+  assigned-tale = field_of (λ t. t.assigned) (assigned_step c) c (λ t r. refl) untold J
+
+  pub in-tale : is_in J c ≡ (tale J c).is_in
+  unfolding tale
+  in-tale = field_of (λ t. t.is_in) (in_step c) c (λ t r. refl) untold J
+
+  pub waits-tale : waits J c ≡ (tale J c).waits
+  unfolding tale
+  waits-tale = field_of (λ t. t.waits) (waits_step c) c (λ t r. refl) untold J
+
   pub touched-tale : is_touched J c ≡ (tale J c).touched
   unfolding tale
   touched-tale = field_of (λ t. t.touched) (touched_step c) c (λ t r. refl) untold J
@@ -107,6 +123,12 @@ other c t (rec.Wrote d bytes) n = ap (λ v. record t { wrote = v }) (cond-not (n
 other c t (rec.Accepted d bytes) n = ap (λ v. record t { accepted = v }) (cond-not (nat_eq d c) (t.accepted ++ bytes) t.accepted n)
 other c t (rec.Took place d epoch) n = λ i. record t { owner = cond-not (nat_eq d c) (Some place) t.owner n i; epoch = cond-not (nat_eq d c) epoch.0 t.epoch n i }
 other c t (rec.Gave place d epoch) n = ap (λ v. record t { owner = v }) (cond-not (nat_eq d c) None t.owner n)
+other c t (rec.Waits d) n = ap (λ b. record t { waits = b }) (cond-not (nat_eq d c) true t.waits n)
+other c t (rec.Admitted d) n = λ i. record t { is_in = cond-not (nat_eq d c) true t.is_in n i; waits = cond-not (nat_eq d c) false t.waits n i }
+other c t (rec.Released d) n = λ i. record t { home = cond-not (nat_eq d c) None t.home n i; is_in = cond-not (nat_eq d c) false t.is_in n i }
+other c t (rec.AssignedFirst d r path m add remove) n =
+    λ i. record t { home = cond-not (nat_eq d c) (Some m) t.home n i; assigned = cond-not (nat_eq d c) (t.assigned ++ (path, m) ∷ []) t.assigned n i }
+other c t (rec.AssignedLater d r path m add size queue) n = ap (λ v. record t { assigned = v }) (cond-not (nat_eq d c) (t.assigned ++ (path, m) ∷ []) t.assigned n)
 other c t (rec.Served place d r code size via) n =
     λ i. record t { served = cond-not (nat_eq d c) (t.served + 1) t.served n i; served_bytes = cond-not (nat_eq d c) (t.served_bytes + size) t.served_bytes n i }
 other c t (rec.Reset place d total) n = ap (λ b. record t { was_reset = b }) (cond-not (nat_eq d c) true t.was_reset n)

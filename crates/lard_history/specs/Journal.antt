@@ -1,5 +1,5 @@
 -- What a journal says: folds over its records, the oldest first.
-use Rattle.std.specs.Prelude.{ℕ, ◌+◌, Bool, true, false, ◌||◌, ◌&&◌, List, [], ◌++◌, length, take, codes, Option, Some, None, Result, Ok, Err, nat_eq, if◌then◌else◌}
+use Rattle.std.specs.Prelude.{ℕ, ◌+◌, Bool, true, false, ◌||◌, ◌&&◌, List, [], ◌∷◌, ◌++◌, length, take, codes, Option, Some, None, Result, Ok, Err, nat_eq, if◌then◌else◌}
 use Rattle.std.specs.List.{concat, fold, slice_get}
 use Rattle.lard_answers.specs.Answers.{FilesAt, answers, verdicts}
 use Rattle.lard_base.specs.declared.event.Event.{Event}
@@ -227,6 +227,44 @@ closed_step c was _ = was
 abbrev pub has_closed : List Rec → ℕ → Bool
 has_closed J c = fold (closed_step c) false J
 
+-- ---- nodes, and admission
+
+abbrev pub home_step : ℕ → Option ℕ → Rec → Option ℕ
+home_step c home (rec.AssignedFirst d r path n add remove) = if nat_eq d c then Some n else home
+home_step c home (rec.Released d) = if nat_eq d c then None else home
+home_step c home _ = home
+
+-- the node to which the first request of connection c was assigned, until its admission ended
+abbrev pub home : List Rec → ℕ → Option ℕ
+home J c = fold (home_step c) None J
+
+abbrev pub assigned_step : ℕ → List (List ℕ × ℕ) → Rec → List (List ℕ × ℕ)
+assigned_step c chosen (rec.AssignedFirst d r path n add remove) = if nat_eq d c then chosen ++ (path, n) ∷ [] else chosen
+assigned_step c chosen (rec.AssignedLater d r path n add size queue) = if nat_eq d c then chosen ++ (path, n) ∷ [] else chosen
+assigned_step c chosen _ = chosen
+
+-- the requests of connection c that were assigned, the first and all later ones in order, each by its path and node
+abbrev pub assigned : List Rec → ℕ → List (List ℕ × ℕ)
+assigned J c = fold (assigned_step c) [] J
+
+abbrev pub in_step : ℕ → Bool → Rec → Bool
+in_step c was (rec.Admitted d) = if nat_eq d c then true else was
+in_step c was (rec.Released d) = if nat_eq d c then false else was
+in_step c was _ = was
+
+-- connection c was admitted, and its admission has not ended
+abbrev pub is_in : List Rec → ℕ → Bool
+is_in J c = fold (in_step c) false J
+
+abbrev pub waits_step : ℕ → Bool → Rec → Bool
+waits_step c was (rec.Waits d) = if nat_eq d c then true else was
+waits_step c was (rec.Admitted d) = if nat_eq d c then false else was
+waits_step c was _ = was
+
+-- connection c was to wait, and was not admitted since
+abbrev pub waits : List Rec → ℕ → Bool
+waits J c = fold (waits_step c) false J
+
 -- ---- packets that a schedule puts on the way
 
 abbrev pub touched_step : ℕ → Bool → Rec → Bool
@@ -251,6 +289,10 @@ pub record Tale : Type 0 where
   pub was_reset : Bool
   pub fin_sent : Bool
   pub has_closed : Bool
+  pub home : Option ℕ
+  pub assigned : List (List ℕ × ℕ)
+  pub is_in : Bool
+  pub waits : Bool
   pub touched : Bool
 
 abbrev pub untold : Tale
@@ -265,6 +307,10 @@ untold = record {
   was_reset = false;
   fin_sent = false;
   has_closed = false;
+  home = None;
+  assigned = [];
+  is_in = false;
+  waits = false;
   touched = false;
 }
 
@@ -280,6 +326,10 @@ tale_step c t r = record {
   was_reset = reset_step c t.was_reset r;
   fin_sent = fin_step c t.fin_sent r;
   has_closed = closed_step c t.has_closed r;
+  home = home_step c t.home r;
+  assigned = assigned_step c t.assigned r;
+  is_in = in_step c t.is_in r;
+  waits = waits_step c t.waits r;
   touched = touched_step c t.touched r;
 }
 
@@ -308,6 +358,11 @@ about c (rec.Eof d) = nat_eq d c
 about c (rec.Aborted d) = nat_eq d c
 about c (rec.Took place d epoch) = nat_eq d c
 about c (rec.Gave place d epoch) = nat_eq d c
+about c (rec.Waits d) = nat_eq d c
+about c (rec.Admitted d) = nat_eq d c
+about c (rec.Released d) = nat_eq d c
+about c (rec.AssignedFirst d r path n add remove) = nat_eq d c
+about c (rec.AssignedLater d r path n add size queue) = nat_eq d c
 about c (rec.Served place d r code size via) = nat_eq d c
 about c (rec.Reset place d total) = nat_eq d c
 about c (rec.Injected d) = nat_eq d c

@@ -28,8 +28,8 @@ use Rattle.lard_segment.specs.Segment.{Said, decoded}
 use Rattle.lard_truth.specs.Truth.{IsStream, Stream}
 use Rattle.lard_truth.proofs.Growth.{goes_on-same}
 use Rattle.lard_truth.proofs.Speaking.{speaks-stream}
-use Rattle.lard_view.specs.Carry.{IsGuardedLaw, TellsBy, UntouchedRules, tale_at}
-use Rattle.lard_view.specs.View.{Conn, IsSound, Move, Setting, Was, client_begins, client_does, env_at, event_seen, front_does, grown, ignoring, letters_of, packet_seen, seen_in, sending}
+use Rattle.lard_view.specs.Carry.{IsGuardedLaw, TellsBy, tale_at}
+use Rattle.lard_view.specs.View.{Conn, IsSound, Move, Setting, UntouchedRules, Was, client_begins, client_does, env_at, event_seen, front_does, grown, ignoring, letters_of, packet_seen, seen_in, sending}
 use Rattle.lard_view.proofs.Rows.{client-sends-tale, grown-tale, move-lawful, tale_before}
 use Rattle.lard_laws_bytes.specs.Agreement.{Agrees}
 use Rattle.lard_laws_bytes.specs.Keeping.{ClientKeeps, ClientOpened, ClientTurned, FrontTurned, IsEnv, TellsOf, accepted_in, resets, served_in, size_in, unwritten, written_in}

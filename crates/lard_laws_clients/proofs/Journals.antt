@@ -22,7 +22,8 @@ use Rattle.lard_net.specs.Net.{Packet, packet_at}
 use Rattle.lard_seq.specs.Seq.{seq_add}
 use Rattle.lard_view.specs.Carry.{TellsBy, Untouched}
 use Rattle.lard_view.specs.View.{IsSound, Part, armed_at, conn, part_of, timer_rows}
-use Rattle.lard_view.proofs.Acts.{Acts, IsDelivered, behind}
+use Rattle.lard_view.proofs.Acts.{Acts, IsDelivered}
+use Rattle.lard_view.proofs.Shapes.{behind}
 use Rattle.lard_rules.specs.Outs.{timer_change}
 
 -- ---- records that take nothing

@@ -21,7 +21,7 @@ clients-take truthful config files m small r = carried-keep config files (λ k. 
   step : (k n : Machine) (e : Event) → IsOn config files k → IsViewed k → TakesInOrder k.journal → HasRule e → machine_step k e ≡ Ok n → TakesInOrder n.journal
   step k n e on view h rule is =
       let rules = subst (λ (s : Setting). Rules s (Owes (file_at files))) (on-setting config files k on) (owing (setting config files)) in
-      let s : IsStepOf (Owes (file_at files)) k n e = step_acts k (Owes (file_at files)) rules view.sound view.told e n rule is in
+      let s : IsStepOf (Owes (file_at files)) k n e = step_acts k (Owes (file_at files)) rules view.sound e n rule is in
       subst TakesInOrder (sym s.journal)
       (each_append MayTake [] k.journal (rec.Event (k.events + 1) e ∷ s.adds) h
       (step-may (file_at files) k view.told view.sound (λ q. truthful config files small k on.reached q) (k.events + 1) e s.adds s.acts))

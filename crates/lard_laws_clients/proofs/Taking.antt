@@ -183,18 +183,20 @@ Owes files x v = IsSound x → Untouched (IsTruthfulAt files) x → MoveTakes x 
 
 pub owing : (k : Setting) → Rules k (Owes k.files)
 owing k = record {
-  opens = λ x isn iss wnd mss rule none sound given. inl tt;
-  gets = λ x s path there fits sound given. inl (writes-pass s.client (request path));
-  writes = λ x s bytes there fits sound given. inl (writes-pass s.client bytes);
-  shuts = λ x s there sound given. inl tt;
-  aborts = λ x s there sound given. inl (tt, tt);
-  holds = λ x s there sound given. inl tt;
-  takes = λ x s there sound given. inl tt;
+  untouched = record {
+    opens = λ x isn iss wnd mss rule none sound given. inl tt;
+    gets = λ x s path there fits sound given. inl (writes-pass s.client (request path));
+    writes = λ x s bytes there fits sound given. inl (writes-pass s.client bytes);
+    shuts = λ x s there sound given. inl tt;
+    aborts = λ x s there sound given. inl (tt, tt);
+    holds = λ x s there sound given. inl tt;
+    takes = λ x s there sound given. inl tt;
+    client_fires = λ x s there sound given. inl tt;
+    client_hears = λ x s bytes there was sound given.
+        inr (record { from = Front; to = Client x.c; bytes = bytes }, refl, hears k.files x s there given bytes was (sound.number s there) (decoded bytes x.c ToClient) refl);
+    front_fires = λ x s there sound given. inl (fronts-pass x.c _ (front_fires-turn (env_at k x s) x.part.seat).notes);
+    front_hears = λ x s bytes there was sound given. inl (fronts-pass x.c _ (front_gets-turn (env_at k x s) x.part.seat (decoded bytes x.c ToCluster)).notes);
+    ignores = λ x from to bytes was sound given. inl tt;
+  };
   injects = λ x s bytes there rule sound given. inl tt;
-  client_fires = λ x s there sound given. inl tt;
-  client_hears = λ x s bytes there was sound given.
-      inr (record { from = Front; to = Client x.c; bytes = bytes }, refl, hears k.files x s there given bytes was (sound.number s there) (decoded bytes x.c ToClient) refl);
-  front_fires = λ x s there sound given. inl (fronts-pass x.c _ (front_fires-turn (env_at k x s) x.part.seat).notes);
-  front_hears = λ x s bytes there was sound given. inl (fronts-pass x.c _ (front_gets-turn (env_at k x s) x.part.seat (decoded bytes x.c ToCluster)).notes);
-  ignores = λ x from to bytes was sound given. inl tt;
 }

@@ -1,6 +1,5 @@
--- The steps of the machine, one by one: what the journal tells of packets and of responses goes on as the state does.
-use Rattle.std.proofs.Common.{◌≡◌, ℕ, ◌+◌, ◌-◌, ◌≤◌, List, [], ◌∷◌, ◌++◌, length, Bool, true, false, cond, Option, Some, None, refl, sym, ap, ◌∙◌, subst, arith, length-append, nat_eq}
-use Rattle.std.specs.FinMap as table
+-- The steps of the machine by their shapes: what the journal tells of packets and of responses goes on as the state does.
+use Rattle.std.proofs.Common.{◌≡◌, ℕ, ◌+◌, ◌-◌, ◌≤◌, List, [], ◌∷◌, ◌++◌, length, Bool, true, false, cond, None, refl, sym, ap, ◌∙◌, subst, arith, length-append, nat_eq}
 use Rattle.std.specs.List.{fold}
 use Rattle.std.specs.Prelude.{slice_get}
 use Rattle.lard_base.specs.declared.config.Config.{Config}
@@ -8,8 +7,7 @@ use Rattle.lard_base.specs.declared.event.Event.{Event}
 use Rattle.lard_base.specs.declared.event.Event.TheVariants as event
 use Rattle.lard_base.specs.declared.place.Place.{Place}
 use Rattle.lard_base.specs.declared.place.Place.TheVariants as place
-use Rattle.lard_client.specs.Control.{ClientBlock, is_armed}
-use Rattle.lard_history.specs.Journal.{answered_step, request}
+use Rattle.lard_history.specs.Journal.{answered_step}
 use Rattle.lard_history.proofs.Each.{Each, Each-weaker}
 use Rattle.lard_journal.specs.declared.rec.Rec.{Rec}
 use Rattle.lard_journal.specs.declared.rec.Rec.TheVariants as rec
@@ -17,17 +15,11 @@ use Rattle.lard_laws_places.specs.Places.{goal_in, lost_in}
 use Rattle.lard_laws_places.proofs.Following.{Adds}
 use Rattle.lard_laws_places.proofs.Linked.{IsUncounted, Linked, acted-linked, delivers, loses, uncounted-all}
 use Rattle.lard_machine.specs.declared.machine.Machine.{Machine}
-use Rattle.lard_rules.specs.declared.places.Station.{Station}
-use Rattle.lard_rules.specs.declared.places.Turn.{Turn}
-use Rattle.lard_rules.specs.Client.{client_aborts, client_gets, client_holds, client_injects, client_opens, client_shuts, client_takes, client_timer, client_writes}
-use Rattle.lard_rules.specs.Front.{front_gets, front_timer}
-use Rattle.lard_rules.specs.Seat.{Seat, front_armed}
-use Rattle.lard_machine.specs.Machine.{Act, acted, client_acted, client_put, env_of, front_acted, seat, start, with_seat}
-use Rattle.lard_machine.proofs.Forms.{Forms}
+use Rattle.lard_machine.specs.Machine.{Act, acted, start}
 use Rattle.lard_net.specs.Net.{Packet, packet_at}
-use Rattle.lard_segment.specs.declared.segment.Dir.TheVariants.{ToClient, ToCluster}
-use Rattle.lard_segment.specs.Segment.{decoded}
-use Rattle.lard_view.proofs.Turns.{IsClientTurn, IsCounted, IsFrontTurn, NotedAt, aborts-turn, fires-turn, front_fires-turn, front_gets-turn, hears-turn, holds-turn, injects-turn, opens-turn, shuts-turn, takes-turn, writes-turn}
+use Rattle.lard_view.proofs.Shapes.{ActsFrom, IsAside, Shapes, behind}
+use Rattle.lard_view.proofs.Turns.{IsFine, NotedAt}
+use Rattle.lard_view.specs.View.{Part}
 
 note-uncounted : (p : Place) (c : ℕ) (r : Rec) → NotedAt p c r → IsUncounted r
 note-uncounted (place.Client e) c (rec.Wrote d bytes) h = tt
@@ -42,47 +34,40 @@ note-uncounted _ c _ h = absurd h
 abbrev pub IsLinked : Machine → Type 0
 IsLinked m = Linked m.journal m.net m.answered
 
+aside-uncounted : (c : ℕ) (r : Rec) → IsAside c r → IsUncounted r
+aside-uncounted c (rec.Opened d isn iss wnd mss) h = tt
+aside-uncounted c (rec.Injected d) h = tt
+aside-uncounted c _ h = absurd h
+
+-- nor does it answer
+asides-answer : (c n : ℕ) (rs : List Rec) → Each (IsAside c) rs → fold answered_step n rs ≡ n
+asides-answer c n [] h = refl
+asides-answer c n (r ∷ rs) h = ap (λ k. fold answered_step k rs) (one r h.0) ∙ asides-answer c n rs h.1 where
+  one : (r : Rec) → IsAside c r → answered_step n r ≡ n
+  one (rec.Opened d isn iss wnd mss) g = refl
+  one (rec.Injected d) g = refl
+  one _ g = absurd g
+
 module _ (m : Machine) (l : IsLinked m) where
-  abbrev Begun : Event → List Rec → Type 0
-  Begun e own = Linked (m.journal ++ rec.Event (m.events + 1) e ∷ own) m.net m.answered
+  -- what a place keeps is put back, and nothing is told of packets
+  put-linked : (w : Machine) (e : Event) (a : Act) (p : Part) → ActsFrom m w e a p → IsLinked w
+  put-linked w e a p from =
+      subst (λ (J : List Rec). Linked J w.net w.answered) (sym from.journal)
+      (subst (λ (ps : List Packet). Linked m.journal ps w.answered) (sym from.net) (subst (λ n. Linked m.journal m.net n) (sym from.answered) l))
 
-  -- an event whose own records say nothing of packets
-  begun : (e : Event) (own : List Rec) → Each IsUncounted own → fold answered_step m.answered own ≡ m.answered → Begun e own
-  begun e own q none = subst (Linked (m.journal ++ rec.Event (m.events + 1) e ∷ own) m.net) none (uncounted-all m.journal (rec.Event (m.events + 1) e ∷ own) m.net m.answered (tt, q) l)
-
-  client-linked : (e : Event) (own : List Rec) (c iss : ℕ) (was : Bool) (given : ClientBlock × Turn) → Begun e own → IsClientTurn c given → IsLinked (client_acted m e own c iss was given)
+  -- behind the event and its own records a place acts
+  acts-linked : (w : Machine) (e : Event) (a : Act) (p : Part) → ActsFrom m w e a p → Linked (w.journal ++ rec.Event (w.events + 1) e ∷ behind e) w.net w.answered → IsLinked (acted w e (behind e) a)
   unfolding acted
-  client-linked e own c iss was given b turn =
-      let a : Act = record { place = place.Client c; c = c; turn = given.1; was_armed = was; is_armed = is_armed given.0 } in
-      acted-linked (client_put m c (record { client = given.0; iss = iss })) e own a (Each-weaker (NotedAt (place.Client c) c) IsUncounted (note-uncounted (place.Client c) c) given.1.notes turn.notes) turn.answered b
+  acts-linked w e a p from begun = acted-linked w e (behind e) a (Each-weaker (NotedAt a.place a.c) IsUncounted (note-uncounted a.place a.c) a.turn.notes from.turn.notes) from.turn.answered begun
 
-  front-linked : (e : Event) (own : List Rec) (c : ℕ) (given : Seat × Turn) → Begun e own → IsFrontTurn c (seat m c) given → IsLinked (front_acted m e own c given)
-  unfolding acted
-  front-linked e own c given b turn =
-      let a : Act = record { place = place.Front; c = c; turn = given.1; was_armed = front_armed (seat m c); is_armed = front_armed given.0 } in
-      acted-linked (with_seat m c given.0) e own a (Each-weaker (NotedAt place.Front c) IsUncounted (note-uncounted place.Front c) given.1.notes turn.notes) turn.answered b
-
-  pub forms-link : ((c : ℕ) (x : Station) → table.get m.clients c ≡ Some x → x.client.c ≡ c) → Forms m (λ e n. IsLinked n)
-  forms-link number = record {
-    opens = λ c isn iss wnd mss rule none. client-linked (event.Open c isn iss wnd mss) (rec.Opened c isn iss wnd mss ∷ []) c iss false (client_opens c isn wnd mss)
-        (begun (event.Open c isn iss wnd mss) (rec.Opened c isn iss wnd mss ∷ []) (tt, tt) refl) (opens-turn c isn wnd mss);
-    gets = λ c path x is le. client-linked (event.Get c path) [] c x.iss (is_armed x.client) (client_writes x.client (request path)) (begun (event.Get c path) [] tt refl) (writes-turn c x.client (number c x is) (request path));
-    writes = λ c bytes x is le. client-linked (event.Write c bytes) [] c x.iss (is_armed x.client) (client_writes x.client bytes) (begun (event.Write c bytes) [] tt refl) (writes-turn c x.client (number c x is) bytes);
-    shuts = λ c x is. client-linked (event.Shut c) [] c x.iss (is_armed x.client) (client_shuts x.client) (begun (event.Shut c) [] tt refl) (shuts-turn c x.client (number c x is));
-    aborts = λ c x is. client-linked (event.Abort c) [] c x.iss (is_armed x.client) (client_aborts x.client) (begun (event.Abort c) [] tt refl) (aborts-turn c x.client (number c x is));
-    holds = λ c x is. client-linked (event.Hold c) [] c x.iss (is_armed x.client) (client_holds x.client) (begun (event.Hold c) [] tt refl) (holds-turn c x.client (number c x is));
-    takes = λ c x is. client-linked (event.Take c) [] c x.iss (is_armed x.client) (client_takes x.client) (begun (event.Take c) [] tt refl) (takes-turn c x.client (number c x is));
-    injects = λ c bytes x rule is. client-linked (event.Inject c bytes) (rec.Injected c ∷ []) c x.iss (is_armed x.client) (client_injects x.client bytes)
-        (begun (event.Inject c bytes) (rec.Injected c ∷ []) (tt, tt) refl) (injects-turn c x.client (number c x is) bytes);
-    client_timer = λ d c x same is. client-linked (event.Timer (place.Client d) c) [] c x.iss (is_armed x.client) (client_timer x.client) (begun (event.Timer (place.Client d) c) [] tt refl) (fires-turn c x.client (number c x is));
-    front_timer = λ c x is. front-linked (event.Timer place.Front c) [] c (front_timer (env_of m c x.iss) (seat m c)) (begun (event.Timer place.Front c) [] tt refl)
-        (front_fires-turn (env_of m c x.iss) (seat m c));
-    front_gets = λ k c p x at on from to is. front-linked (event.Deliver k) (rec.Got k ∷ []) c (front_gets (env_of m c x.iss) (seat m c) (decoded p.bytes c ToCluster))
-        (delivers m.journal m.net m.answered (m.events + 1) k p at on l) (front_gets-turn (env_of m c x.iss) (seat m c) (decoded p.bytes c ToCluster));
-    client_gets = λ k c p x at on to is. client-linked (event.Deliver k) (rec.Got k ∷ []) c x.iss (is_armed x.client) (client_gets x.client (decoded p.bytes c ToClient))
-        (delivers m.journal m.net m.answered (m.events + 1) k p at on l) (hears-turn c x.client (number c x is) (decoded p.bytes c ToClient));
-    nobody = λ k p at on. delivers m.journal m.net m.answered (m.events + 1) k p at on.0 l;
-    loses = λ k p at on. loses m.journal m.net m.answered (m.events + 1) k p at on l;
+  pub shapes-link : Shapes m IsFine (λ e n. IsLinked n)
+  shapes-link = record {
+    named = λ w e a p from n does. acts-linked w e a p from (subst (Linked (w.journal ++ rec.Event (w.events + 1) e ∷ behind e) w.net) (asides-answer a.c w.answered (behind e) n.aside)
+        (uncounted-all w.journal (rec.Event (w.events + 1) e ∷ behind e) w.net w.answered (tt, Each-weaker (IsAside a.c) IsUncounted (aside-uncounted a.c) (behind e) n.aside) (put-linked w e a p from)));
+    comes = λ w k q a p from c does. acts-linked w (event.Deliver k) a p from
+        (delivers w.journal w.net w.answered (w.events + 1) k q (ap (λ (ps : List Packet). packet_at ps k) from.net ∙ c.at) c.there (put-linked w (event.Deliver k) a p from));
+    nobody = λ k q at on. delivers m.journal m.net m.answered (m.events + 1) k q at on.0 l;
+    loses = λ k q at on. loses m.journal m.net m.answered (m.events + 1) k q at on l;
   }
 
 -- ---- the beginning

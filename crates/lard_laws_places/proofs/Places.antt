@@ -1,15 +1,13 @@
--- The steps of the machine, one by one: what a record says of a place, the place that acts says.
-use Rattle.std.proofs.Common.{◌≡◌, ◌≢◌, ◌⊎◌, ℕ, ◌+◌, ◌-◌, ◌≤◌, ◌<◌, List, [], ◌∷◌, ◌++◌, length, Bool, true, false, cond, Option, Some, None, inl, inr, ⊎_elim, refl, sym, ap, ◌∙◌, subst, arith, append_assoc, append-nil, nat_eq}
+-- The steps of the machine by their shapes: what a record says of a place, the place that acts says.
+use Rattle.std.proofs.Common.{◌≡◌, ◌⊎◌, ℕ, ◌+◌, ◌-◌, ◌≤◌, ◌<◌, List, [], ◌∷◌, ◌++◌, length, Bool, true, false, cond, Option, Some, None, inl, inr, ⊎_elim, refl, sym, ap, ◌∙◌, subst, arith, nat_eq}
 use Rattle.std.proofs.lemmas.Bool.Decides.{nat_tests}
 use Rattle.std.proofs.lemmas.Option.{slice_get_within}
-use Rattle.std.specs.FinMap as table
 use Rattle.std.specs.Prelude.{slice_get}
 use Rattle.lard_base.specs.declared.event.Event.{Event}
 use Rattle.lard_base.specs.declared.event.Event.TheVariants as event
 use Rattle.lard_base.specs.declared.place.Place.{Place}
 use Rattle.lard_base.specs.declared.place.Place.TheVariants as place
-use Rattle.lard_client.specs.Control.{ClientBlock, is_armed}
-use Rattle.lard_history.specs.Journal.{acting, acting_at, acting_in, event_step, goal_of, goal_step, last_event, request}
+use Rattle.lard_history.specs.Journal.{acting, acting_at, acting_in, event_step, goal_of, goal_step, last_event}
 use Rattle.lard_history.specs.Laws.{EachMay, MayAct, first_place}
 use Rattle.lard_history.specs.Steps.{is_opening}
 use Rattle.lard_history.proofs.Counts.{goal_of-append, last_event-append}
@@ -19,18 +17,11 @@ use Rattle.lard_journal.specs.declared.rec.Rec.TheVariants as rec
 use Rattle.lard_laws_places.specs.Places.{goal_in}
 use Rattle.lard_laws_places.proofs.Counting.{IsLinked}
 use Rattle.lard_machine.specs.declared.machine.Machine.{Machine}
-use Rattle.lard_machine.specs.Machine.{Act, acted, client_acted, client_put, env_of, front_acted, passed, records, seat, sent_records, with_seat}
-use Rattle.lard_machine.proofs.Forms.{Forms}
+use Rattle.lard_machine.specs.Machine.{Act, acted, passed, sent_records}
 use Rattle.lard_net.specs.Net.{Packet, lose_at, packet_at}
-use Rattle.lard_rules.specs.declared.places.Station.{Station}
-use Rattle.lard_rules.specs.declared.places.Turn.{Turn}
-use Rattle.lard_rules.specs.Client.{client_aborts, client_gets, client_holds, client_injects, client_opens, client_shuts, client_takes, client_timer, client_writes}
-use Rattle.lard_rules.specs.Front.{front_gets, front_timer}
+use Rattle.lard_view.proofs.Shapes.{IsAside, Shapes, behind}
+use Rattle.lard_view.proofs.Turns.{IsFine, NotedAt}
 use Rattle.lard_rules.specs.Outs.{timer_change}
-use Rattle.lard_rules.specs.Seat.{Seat, front_armed}
-use Rattle.lard_segment.specs.declared.segment.Dir.TheVariants.{ToClient, ToCluster}
-use Rattle.lard_segment.specs.Segment.{decoded}
-use Rattle.lard_view.proofs.Turns.{IsClientTurn, IsFrontTurn, NotedAt, aborts-turn, fires-turn, front_fires-turn, front_gets-turn, hears-turn, holds-turn, injects-turn, opens-turn, shuts-turn, takes-turn, writes-turn}
 
 -- ---- records of the acting place
 
@@ -106,6 +97,12 @@ note-inside place.Front c k (rec.Served place.Front d r code size via) h = (refl
 note-inside place.Front c k (rec.Reset place.Front d total) h = (refl, tt)
 note-inside _ c k _ h = absurd h
 
+-- what stands aside names no place, and is inside
+aside-inside : (c k : ℕ) (r : Rec) → IsAside c r → (first_place r ≡ None) × IsInside k r
+aside-inside c k (rec.Opened d isn iss wnd mss) h = (refl, (refl, tt))
+aside-inside c k (rec.Injected d) h = (refl, (refl, tt))
+aside-inside c k _ h = absurd h
+
 above : (j k : ℕ) → k < j → nat_eq j k ≡ false
 above j k h = grind (arith, nat_tests, h)
 
@@ -162,17 +159,6 @@ module _ (m : Machine) where
     ((λ p is. let no : None ≡ Some p = is in absurd cc), ((λ p is. let no : None ≡ Some p = sym none ∙ is in absurd cc), tt)),
   )
 
-  client-lawful : (e : Event) (own : List Rec) (c iss : ℕ) (was : Bool) (given : ClientBlock × Turn) (k : ℕ) → k ≤ length m.net → IsActing m.journal e (place.Client c) k
-      → Each (IsAt (place.Client c)) own → Each (IsInside k) own → IsClientTurn c given → LawfulOn (client_acted m e own c iss was given)
-  client-lawful e own c iss was given k few acting at inside turn =
-      acted-lawful (client_put m c (record { client = given.0; iss = iss })) e own (record { place = place.Client c; c = c; turn = given.1; was_armed = was; is_armed = is_armed given.0 }) k refl refl few acting at inside turn.notes
-
-  front-lawful : (e : Event) (own : List Rec) (c : ℕ) (given : Seat × Turn) (k : ℕ) → k ≤ length m.net → IsActing m.journal e place.Front k
-      → Each (IsAt place.Front) own → Each (IsInside k) own → IsFrontTurn c (seat m c) given → LawfulOn (front_acted m e own c given)
-  front-lawful e own c given k few acting at inside turn =
-      let a : Act = record { place = place.Front; c = c; turn = given.1; was_armed = front_armed (seat m c); is_armed = front_armed given.0 } in
-      acted-lawful (with_seat m c given.0) e own a k refl refl few acting at inside turn.notes
-
   module _ (l : IsLinked m) where
     -- a packet that comes to p
     comes : (k : ℕ) (q : Packet) (p : Place) → packet_at m.net k ≡ Some q → q.to ≡ p → IsActing m.journal (event.Deliver k) p k
@@ -191,38 +177,17 @@ module _ (m : Machine) where
       go true e = let no : None ≡ Some q = e in absurd cc
       go false e = let h : k - 1 < length m.net = slice_get_within m.net (k - 1) q e in omega (arith, h)
 
-    got : (p : Place) (k : ℕ) → Each (IsAt p) (rec.Got k ∷ []) × Each (IsInside k) (rec.Got k ∷ [])
-    got p k = ((inl refl, tt), ((refl, tt), tt))
-
     -- an event that names who acts
     named : (e : Event) (p : Place) → ((J : List Rec) → acting_in J e ≡ Some p) → IsActing m.journal e p 0
     named e p acts = record { acts = acts (m.journal ++ rec.Event 0 e ∷ []); begins = λ i. acts (m.journal ++ rec.Event i e ∷ []) ∙ sym (acts (m.journal ++ rec.Event 0 e ∷ [])); steady = λ r n past. acts (past ++ r ∷ []) ∙ sym (acts past) }
 
-    simply : (e : Event) (c : ℕ) (x : Station) (given : ClientBlock × Turn) → ((J : List Rec) → acting_in J e ≡ Some (place.Client c)) → IsClientTurn c given
-        → LawfulOn (client_acted m e [] c x.iss (is_armed x.client) given)
-    simply e c x given acts turn = client-lawful e [] c x.iss (is_armed x.client) given 0 (omega arith) (named e (place.Client c) acts) tt tt turn
-
-    pub forms-lawful : ((c : ℕ) (x : Station) → table.get m.clients c ≡ Some x → x.client.c ≡ c) → Forms m (λ e n. LawfulOn n)
-    forms-lawful number = record {
-      opens = λ c isn iss wnd mss rule none. client-lawful (event.Open c isn iss wnd mss) (rec.Opened c isn iss wnd mss ∷ []) c iss false (client_opens c isn wnd mss) 0 (omega arith)
-          (named (event.Open c isn iss wnd mss) (place.Client c) (λ J. refl)) (inl refl, tt) ((refl, tt), tt) (opens-turn c isn wnd mss);
-      gets = λ c path x is le. simply (event.Get c path) c x (client_writes x.client (request path)) (λ J. refl) (writes-turn c x.client (number c x is) (request path));
-      writes = λ c bytes x is le. simply (event.Write c bytes) c x (client_writes x.client bytes) (λ J. refl) (writes-turn c x.client (number c x is) bytes);
-      shuts = λ c x is. simply (event.Shut c) c x (client_shuts x.client) (λ J. refl) (shuts-turn c x.client (number c x is));
-      aborts = λ c x is. simply (event.Abort c) c x (client_aborts x.client) (λ J. refl) (aborts-turn c x.client (number c x is));
-      holds = λ c x is. simply (event.Hold c) c x (client_holds x.client) (λ J. refl) (holds-turn c x.client (number c x is));
-      takes = λ c x is. simply (event.Take c) c x (client_takes x.client) (λ J. refl) (takes-turn c x.client (number c x is));
-      injects = λ c bytes x rule is. client-lawful (event.Inject c bytes) (rec.Injected c ∷ []) c x.iss (is_armed x.client) (client_injects x.client bytes) 0 (omega arith)
-          (named (event.Inject c bytes) (place.Client c) (λ J. refl)) (inl refl, tt) ((refl, tt), tt) (injects-turn c x.client (number c x is) bytes);
-      client_timer = λ d c x same is. simply (event.Timer (place.Client d) c) c x (client_timer x.client) (λ J. ap (λ z. Some (place.Client z)) same) (fires-turn c x.client (number c x is));
-      front_timer = λ c x is. front-lawful (event.Timer place.Front c) [] c (front_timer (env_of m c x.iss) (seat m c)) 0 (omega arith) (named (event.Timer place.Front c) place.Front (λ J. refl)) tt tt
-          (front_fires-turn (env_of m c x.iss) (seat m c));
-      front_gets = λ k c p x at on from to is. front-lawful (event.Deliver k) (rec.Got k ∷ []) c (front_gets (env_of m c x.iss) (seat m c) (decoded p.bytes c ToCluster)) k (few k p at) (comes k p place.Front at to)
-          (got place.Front k).0 (got place.Front k).1 (front_gets-turn (env_of m c x.iss) (seat m c) (decoded p.bytes c ToCluster));
-      client_gets = λ k c p x at on to is. client-lawful (event.Deliver k) (rec.Got k ∷ []) c x.iss (is_armed x.client) (client_gets x.client (decoded p.bytes c ToClient)) k (few k p at) (comes k p (place.Client c) at to)
-          (got (place.Client c) k).0 (got (place.Client c) k).1 (hears-turn c x.client (number c x is) (decoded p.bytes c ToClient));
-      nobody = λ k p at on. passed-lawful m (event.Deliver k) (rec.Got k) refl refl;
-      loses = λ k p at on. passed-lawful (record m { net = lose_at (k - 1) m.net }) (event.Lose k) (rec.Lost k) refl refl;
+    pub shapes-lawful : Shapes m IsFine (λ e n. LawfulOn n)
+    shapes-lawful = record {
+      named = λ w e a p from n does. acted-lawful w e (behind e) a 0 from.net from.journal (omega arith) (named e a.place n.acts)
+          (Each-weaker (IsAside a.c) (IsAt a.place) (λ r h. inl (aside-inside a.c 0 r h).0) (behind e) n.aside) (Each-weaker (IsAside a.c) (IsInside 0) (λ r h. (aside-inside a.c 0 r h).1) (behind e) n.aside) from.turn.notes;
+      comes = λ w k q a p from c does. acted-lawful w (event.Deliver k) (rec.Got k ∷ []) a k from.net from.journal (few k q c.at) (comes k q a.place c.at c.to) (inl refl, tt) ((refl, tt), tt) from.turn.notes;
+      nobody = λ k q at on. passed-lawful m (event.Deliver k) (rec.Got k) refl refl;
+      loses = λ k q at on. passed-lawful (record m { net = lose_at (k - 1) m.net }) (event.Lose k) (rec.Lost k) refl refl;
     }
 
 -- a lawful journal goes on

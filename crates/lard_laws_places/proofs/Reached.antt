@@ -1,5 +1,5 @@
 -- From one step to every state that events lead to.
-use Rattle.std.proofs.Common.{◌≡◌, ℕ, ◌+◌, ◌≤◌, List, [], ◌∷◌, ◌++◌, length, Option, Some, None, Ok, refl, sym, ap, ◌∙◌, subst, append_assoc, append-nil, arith}
+use Rattle.std.proofs.Common.{◌≡◌, ℕ, ◌+◌, ◌≤◌, List, [], ◌∷◌, ◌++◌, length, Option, Ok, refl, sym, ap, ◌∙◌, subst, append_assoc, append-nil, arith}
 use Rattle.std.specs.FinMap as table
 use Rattle.lard_base.specs.declared.config.Config.{Config}
 use Rattle.lard_base.specs.declared.event.Event.{Event}
@@ -10,22 +10,22 @@ use Rattle.lard_history.proofs.Lifting.{tale-own}
 use Rattle.lard_journal.specs.declared.rec.Rec.{Rec}
 use Rattle.lard_laws_places.specs.Laws.{AllConnectionsStand, Always, NumbersAreBounded}
 use Rattle.lard_laws_places.specs.Places.{FrontStands, Stands, front_tale}
-use Rattle.lard_laws_places.proofs.Between.{AreBetween, forms-between}
-use Rattle.lard_laws_places.proofs.Counting.{IsLinked, forms-link, more-events, start-linked}
-use Rattle.lard_laws_places.proofs.Following.{Adds, forms-add}
-use Rattle.lard_laws_places.proofs.Places.{LawfulOn, forms-lawful, lawful-on}
+use Rattle.lard_laws_places.proofs.Between.{AreBetween, shapes-between}
+use Rattle.lard_laws_places.proofs.Counting.{IsLinked, more-events, shapes-link, start-linked}
+use Rattle.lard_laws_places.proofs.Following.{Adds, shapes-add}
+use Rattle.lard_laws_places.proofs.Places.{LawfulOn, lawful-on, shapes-lawful}
 use Rattle.lard_laws_places.proofs.Standing.{StandsLawful, standing}
 use Rattle.lard_laws_places.proofs.Telling.{IsLawful, MayStand, lawful-local}
 use Rattle.lard_machine.specs.declared.machine.Machine.{Machine}
-use Rattle.lard_machine.specs.Bounds.{HasRule, IsBounded}
+use Rattle.lard_machine.specs.Bounds.{HasRule}
 use Rattle.lard_machine.specs.Machine.{IsReached, Passes, machine_step, seat, start}
-use Rattle.lard_machine.proofs.Forms.{step_has}
 use Rattle.lard_machine.proofs.Runs.{reached-set}
 use Rattle.lard_view.specs.Carry.{OfEach, setting}
-use Rattle.lard_view.specs.View.{Conn, conn, part_of}
-use Rattle.lard_view.proofs.Carried.{IsViewed, carried, carried-keep, number, start-viewed, viewed-kept}
+use Rattle.lard_view.specs.View.{conn, part_of}
+use Rattle.lard_view.proofs.Carried.{IsViewed, carried, carried-keep, start-viewed, viewed-kept}
 use Rattle.lard_view.proofs.InSteps.{carried-records}
 use Rattle.lard_view.proofs.Rows.{MayBeSeen}
+use Rattle.lard_view.proofs.Shapes.{step-shaped}
 use Rattle.lard_rules.specs.Seat.{Seat}
 
 -- ---- each connection
@@ -58,13 +58,13 @@ pub record Holds (m : Machine) : Type 0 where
 
 -- a step adds its records, and keeps what holds
 pub step-adds : (m n : Machine) (e : Event) → IsViewed m → HasRule e → machine_step m e ≡ Ok n → Adds m n e
-step-adds m n e view rule is = step_has m n e (λ d k. Adds m k d) (forms-add m (number m n e view rule is)) rule is
+step-adds m n e view rule is = step-shaped m n e (λ d k. Adds m k d) view.sound (shapes-add m) rule is
 
 step-holds : (m n : Machine) (e : Event) → IsViewed m → Holds m → HasRule e → machine_step m e ≡ Ok n → Holds n
 step-holds m n e view h rule is = record {
-  linked = step_has m n e (λ d k. IsLinked k) (forms-link m h.linked (number m n e view rule is)) rule is;
-  between = step_has m n e (λ d k. AreBetween k) (forms-between m h.between (number m n e view rule is)) rule is;
-  places = lawful-on m n h.places (step_has m n e (λ d k. LawfulOn m k) (forms-lawful m h.linked (number m n e view rule is)) rule is);
+  linked = step-shaped m n e (λ d k. IsLinked k) view.sound (shapes-link m h.linked) rule is;
+  between = step-shaped m n e (λ d k. AreBetween k) view.sound (shapes-between m h.between) rule is;
+  places = lawful-on m n h.places (step-shaped m n e (λ d k. LawfulOn m k) view.sound (shapes-lawful m h.linked) rule is);
   events = more-events m n e (step-adds m n e view rule is) h.events;
 }
 

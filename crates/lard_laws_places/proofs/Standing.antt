@@ -1,13 +1,13 @@
 -- Each connection stands as its tale tells, and each of its records may stand where it does: rule by rule.
-use Rattle.std.proofs.Common.{◌≡◌, ◌⊎◌, ℕ, List, [], ◌∷◌, ◌++◌, map, Bool, true, false, cond, ◌||◌, Option, Some, None, IsSome, refl, sym, ap, ◌∙◌, subst, ⊎_elim, inl, inr, nat_eq}
+use Rattle.std.proofs.Common.{◌≡◌, ◌⊎◌, ℕ, List, [], ◌∷◌, ◌++◌, map, false, cond, Option, Some, None, IsSome, refl, sym, ap, ◌∙◌, subst, ⊎_elim, inl, inr}
 use Rattle.std.specs.List.{fold}
 use Rattle.lard_base.specs.declared.event.Event.{Event}
 use Rattle.lard_base.specs.declared.event.Event.TheVariants as event
 use Rattle.lard_base.specs.declared.place.Place.{Place}
 use Rattle.lard_base.specs.declared.place.Place.TheVariants.{Client, Front}
 use Rattle.lard_client.specs.Control.{ClientBlock}
-use Rattle.lard_history.specs.Journal.{Tale, about, event_shuts, request, tale_step, told_on, untold}
-use Rattle.lard_history.specs.Own.{EachRow, Letter, Seen, Row, Came, seen_step, tale_of}
+use Rattle.lard_history.specs.Journal.{Tale, event_shuts, request, tale_step, told_on}
+use Rattle.lard_history.specs.Own.{EachRow, Seen, Row, seen_step}
 use Rattle.lard_history.proofs.Seeing.{same_number}
 use Rattle.lard_history.proofs.Tales.{other}
 use Rattle.lard_journal.specs.declared.rec.Rec.{Rec}
@@ -19,16 +19,16 @@ use Rattle.lard_laws_places.proofs.FrontRules as front
 use Rattle.lard_laws_places.proofs.Telling.{MayStand, Tells, timer-stands}
 use Rattle.lard_rules.specs.declared.places.Station.{Station}
 use Rattle.lard_rules.specs.declared.places.Turn.{Turn}
-use Rattle.lard_rules.specs.Client.{client_aborts, client_gets, client_holds, client_injects, client_opens, client_shuts, client_takes, client_timer, client_writes, silent}
+use Rattle.lard_rules.specs.Client.{client_aborts, client_gets, client_holds, client_injects, client_opens, client_shuts, client_takes, client_timer, client_writes}
 use Rattle.lard_rules.specs.Front.{front_gets, front_timer}
 use Rattle.lard_rules.specs.Seat.{Seat, Nowhere, AtFront, Away, Over}
 use Rattle.lard_segment.specs.declared.segment.Dir.TheVariants.{ToClient, ToCluster}
 use Rattle.lard_segment.specs.Segment.{decoded}
 use Rattle.lard_view.specs.Carry.{IsLaw, tale_at}
-use Rattle.lard_view.specs.View.{Conn, IsSound, Move, Rules, Setting, blank, client_begins, client_does, env_at, event_seen, front_does, grown, ignoring, inject_seen, packet_seen, sending}
+use Rattle.lard_view.specs.View.{Conn, IsSound, Move, Rules, Setting, client_begins, client_does, env_at, event_seen, front_does, grown, ignoring, inject_seen, packet_seen, sending}
 use Rattle.lard_view.proofs.Endpoints.{AllTo}
 use Rattle.lard_view.proofs.Guarded.{weaker}
-use Rattle.lard_view.proofs.Rows.{MayBeSeen, TellsBy, client-sends-tale, grown-lawful, grown-tale, tale_before}
+use Rattle.lard_view.proofs.Rows.{MayBeSeen, client-sends-tale, grown-lawful, grown-tale, tale_before}
 
 -- ---- what a move owes
 
@@ -203,19 +203,21 @@ module _ (k : Setting) (x : Conn) (h : StandsLawful k x) where
 
 owing : (k : Setting) → Rules k (λ x v. StandsLawful k x → Owes k x v)
 owing k = record {
-  opens = λ x isn iss wnd mss rule none h. begins-owes k x h isn iss wnd mss none;
-  gets = λ x s path there le h. event-owes k x h s there (event.Get x.c path) (client_writes s.client (request path)) tt refl (writes-says k.stream x.c s.iss (tale_at x) s.client (opened k x h s there) (request path));
-  writes = λ x s bytes there le h. event-owes k x h s there (event.Write x.c bytes) (client_writes s.client bytes) tt refl (writes-says k.stream x.c s.iss (tale_at x) s.client (opened k x h s there) bytes);
-  shuts = λ x s there h. shuts-owes k x h s there;
-  aborts = λ x s there h. event-owes k x h s there (event.Abort x.c) (client_aborts s.client) tt refl (aborts-says k.stream x.c s.iss (tale_at x) s.client (opened k x h s there));
-  holds = λ x s there h. event-owes k x h s there (event.Hold x.c) (client_holds s.client) tt refl (holds-says k.stream x.c s.iss (tale_at x) s.client (opened k x h s there));
-  takes = λ x s there h. event-owes k x h s there (event.Take x.c) (client_takes s.client) tt refl (takes-says k.stream x.c s.iss (tale_at x) s.client (opened k x h s there));
+  untouched = record {
+    opens = λ x isn iss wnd mss rule none h. begins-owes k x h isn iss wnd mss none;
+    gets = λ x s path there le h. event-owes k x h s there (event.Get x.c path) (client_writes s.client (request path)) tt refl (writes-says k.stream x.c s.iss (tale_at x) s.client (opened k x h s there) (request path));
+    writes = λ x s bytes there le h. event-owes k x h s there (event.Write x.c bytes) (client_writes s.client bytes) tt refl (writes-says k.stream x.c s.iss (tale_at x) s.client (opened k x h s there) bytes);
+    shuts = λ x s there h. shuts-owes k x h s there;
+    aborts = λ x s there h. event-owes k x h s there (event.Abort x.c) (client_aborts s.client) tt refl (aborts-says k.stream x.c s.iss (tale_at x) s.client (opened k x h s there));
+    holds = λ x s there h. event-owes k x h s there (event.Hold x.c) (client_holds s.client) tt refl (holds-says k.stream x.c s.iss (tale_at x) s.client (opened k x h s there));
+    takes = λ x s there h. event-owes k x h s there (event.Take x.c) (client_takes s.client) tt refl (takes-says k.stream x.c s.iss (tale_at x) s.client (opened k x h s there));
+    client_fires = λ x s there h. event-owes k x h s there (event.Timer (Client x.c) x.c) (client_timer s.client) tt refl (timer-says k.stream x.c s.iss (tale_at x) s.client (opened k x h s there));
+    client_hears = λ x s bytes there was h. hears-owes k x h s there bytes;
+    front_fires = λ x s there h. front_fires-owes k x h s there;
+    front_hears = λ x s bytes there was h. front_hears-owes k x h s there bytes;
+    ignores = λ x from to bytes was h. ignores-owes k x h from to bytes;
+  };
   injects = λ x s bytes there rule h. injects-owes k x h s there bytes;
-  client_fires = λ x s there h. event-owes k x h s there (event.Timer (Client x.c) x.c) (client_timer s.client) tt refl (timer-says k.stream x.c s.iss (tale_at x) s.client (opened k x h s there));
-  client_hears = λ x s bytes there was h. hears-owes k x h s there bytes;
-  front_fires = λ x s there h. front_fires-owes k x h s there;
-  front_hears = λ x s bytes there was h. front_hears-owes k x h s there bytes;
-  ignores = λ x from to bytes was h. ignores-owes k x h from to bytes;
 }
 
 pub standing : (k : Setting) → IsLaw k (λ x. Unit {0}) (StandsLawful k)

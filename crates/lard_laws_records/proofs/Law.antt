@@ -112,34 +112,36 @@ module _ (k : Setting) (small : k.stream ≤ 2 ^ 30) (are : AreFiles k.files) wh
 
   pub owes : Rules k Owes
   owes = record {
-    opens = λ x isn iss wnd mss rule none sound h g.
-        let c : IsNumber x.c = g.0.0.0 in
-        let fits : ClientFits (client_opens x.c isn wnd mss) = opens-fits x.c isn wnd mss in
-        record { station = (c, fits.keeps); front = h.front; place = c; turn = fits.turn; timers = rows-range (Client x.c) x.c x.part _ c c };
-    gets = λ x s path there le sound h g. client-moves x s there sound h (event_seen (event.Get x.c path)) (client_writes s.client (request path))
-        (λ n keeps. writes-fits s.client n keeps (request path) (request-bytes path (index-bytes path g.0.1)) (within s.client (request path) le));
-    writes = λ x s bytes there le sound h g. client-moves x s there sound h (event_seen (event.Write x.c bytes)) (client_writes s.client bytes)
-        (λ n keeps. writes-fits s.client n keeps bytes (index-bytes bytes g.0.0.1) (within s.client bytes le));
-    shuts = λ x s there sound h g. client-moves x s there sound h (event_seen (event.Shut x.c)) (client_shuts s.client) (shuts-fits s.client);
-    aborts = λ x s there sound h g. client-moves x s there sound h (event_seen (event.Abort x.c)) (client_aborts s.client) (aborts-fits s.client);
-    holds = λ x s there sound h g. client-moves x s there sound h (event_seen (event.Hold x.c)) (client_holds s.client) (holds-fits s.client);
-    takes = λ x s there sound h g. client-moves x s there sound h (event_seen (event.Take x.c)) (client_takes s.client) (takes-fits s.client);
+    untouched = record {
+      opens = λ x isn iss wnd mss rule none sound h g.
+          let c : IsNumber x.c = g.0.0.0 in
+          let fits : ClientFits (client_opens x.c isn wnd mss) = opens-fits x.c isn wnd mss in
+          record { station = (c, fits.keeps); front = h.front; place = c; turn = fits.turn; timers = rows-range (Client x.c) x.c x.part _ c c };
+      gets = λ x s path there le sound h g. client-moves x s there sound h (event_seen (event.Get x.c path)) (client_writes s.client (request path))
+          (λ n keeps. writes-fits s.client n keeps (request path) (request-bytes path (index-bytes path g.0.1)) (within s.client (request path) le));
+      writes = λ x s bytes there le sound h g. client-moves x s there sound h (event_seen (event.Write x.c bytes)) (client_writes s.client bytes)
+          (λ n keeps. writes-fits s.client n keeps bytes (index-bytes bytes g.0.0.1) (within s.client bytes le));
+      shuts = λ x s there sound h g. client-moves x s there sound h (event_seen (event.Shut x.c)) (client_shuts s.client) (shuts-fits s.client);
+      aborts = λ x s there sound h g. client-moves x s there sound h (event_seen (event.Abort x.c)) (client_aborts s.client) (aborts-fits s.client);
+      holds = λ x s there sound h g. client-moves x s there sound h (event_seen (event.Hold x.c)) (client_holds s.client) (holds-fits s.client);
+      takes = λ x s there sound h g. client-moves x s there sound h (event_seen (event.Take x.c)) (client_takes s.client) (takes-fits s.client);
+      client_fires = λ x s there sound h g. client-moves x s there sound h (event_seen (event.Timer (Client x.c) x.c)) (client_timer s.client) (fires-fits s.client);
+      client_hears = λ x s bytes there was sound h g. client-moves x s there sound h (packet_seen Front (Client x.c) bytes) (client_gets s.client (decoded bytes x.c ToClient))
+          (λ n keeps. gets-fits s.client n keeps (decoded bytes x.c ToClient) (heard x h Front (Client x.c) ToClient bytes was));
+      front_fires = λ x s there sound h g. front-moves x s there sound h (event_seen (event.Timer Front x.c)) (front_timer (env_at k x s) x.part.seat)
+          (λ n. front.fires-fits (env_at k x s) n small are x.part.seat h.front);
+      front_hears = λ x s bytes there was sound h g. front-moves x s there sound h (packet_seen (Client x.c) Front bytes) (front_gets (env_at k x s) x.part.seat (decoded bytes x.c ToCluster))
+          (λ n. front.gets-fits (env_at k x s) n small are x.part.seat (decoded bytes x.c ToCluster) (heard x h (Client x.c) Front ToCluster bytes was) h.front);
+      ignores = λ x from to bytes was sound h g. record {
+        station = h.station;
+        front = h.front;
+        place = (has-each (record { from = from; to = to; bytes = bytes }) IsLetter x.letters was.0 h.letters).0;
+        turn = silent-fits;
+        timers = no-rows to x.c x.part;
+      };
+    };
     injects = λ x s bytes there rule sound h g. client-moves x s there sound h (inject_seen x.c bytes) (client_injects s.client bytes)
         (λ n keeps. injects-fits s.client n keeps bytes (index-bytes bytes g.0.0.1));
-    client_fires = λ x s there sound h g. client-moves x s there sound h (event_seen (event.Timer (Client x.c) x.c)) (client_timer s.client) (fires-fits s.client);
-    client_hears = λ x s bytes there was sound h g. client-moves x s there sound h (packet_seen Front (Client x.c) bytes) (client_gets s.client (decoded bytes x.c ToClient))
-        (λ n keeps. gets-fits s.client n keeps (decoded bytes x.c ToClient) (heard x h Front (Client x.c) ToClient bytes was));
-    front_fires = λ x s there sound h g. front-moves x s there sound h (event_seen (event.Timer Front x.c)) (front_timer (env_at k x s) x.part.seat)
-        (λ n. front.fires-fits (env_at k x s) n small are x.part.seat h.front);
-    front_hears = λ x s bytes there was sound h g. front-moves x s there sound h (packet_seen (Client x.c) Front bytes) (front_gets (env_at k x s) x.part.seat (decoded bytes x.c ToCluster))
-        (λ n. front.gets-fits (env_at k x s) n small are x.part.seat (decoded bytes x.c ToCluster) (heard x h (Client x.c) Front ToCluster bytes was) h.front);
-    ignores = λ x from to bytes was sound h g. record {
-      station = h.station;
-      front = h.front;
-      place = (has-each (record { from = from; to = to; bytes = bytes }) IsLetter x.letters was.0 h.letters).0;
-      turn = silent-fits;
-      timers = no-rows to x.c x.part;
-    };
   }
 
   -- ---- the law

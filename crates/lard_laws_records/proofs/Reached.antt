@@ -18,9 +18,10 @@ use Rattle.lard_machine.specs.declared.fault.What.TheVariants.{Answers, PacketBy
 use Rattle.lard_machine.specs.declared.machine.Machine.{Machine}
 use Rattle.lard_machine.specs.Machine.{Passes, limit_of, machine_step, sent_records, start}
 use Rattle.lard_net.specs.Net.{bytes_in}
-use Rattle.lard_view.proofs.Acts.{Acts, IsStepOf, behind, step_acts}
+use Rattle.lard_view.proofs.Acts.{Acts, IsStepOf, step_acts}
 use Rattle.lard_view.proofs.Carried.{IsOn, IsViewed, after, carried, on-more, on-setting, on-start, reached-viewed}
-use Rattle.lard_view.proofs.Shapes.{IsAfter}
+use Rattle.lard_view.proofs.After.{IsAfter}
+use Rattle.lard_view.proofs.Shapes.{behind}
 use Rattle.lard_view.specs.Carry.{setting}
 use Rattle.lard_view.specs.View.{Rules, Setting, conn, part_of, timer_rows}
 use Rattle.lard_laws_records.specs.Records.{IsGiven, RecordsAreInRange}
@@ -96,7 +97,7 @@ module _ (config : Config) (files : List (List ℕ × List ℕ)) (small : config
   step-ranges m n e h given rule is =
       let viewed : IsViewed m = reached-viewed config files m h.on.reached in
       let R : Rules (setting config files) Owes = owes (setting config files) small are in
-      let step : IsStepOf Owes m n e = step_acts m Owes (subst (λ (s : Setting). Rules s Owes) (on-setting config files m h.on) R) viewed.sound viewed.told e n rule is in
+      let step : IsStepOf Owes m n e = step_acts m Owes (subst (λ (s : Setting). Rules s Owes) (on-setting config files m h.on) R) viewed.sound e n rule is in
       let few : (length m.net < 1000000) × (length m.journal < 4000000) = few-before (length m.net) (bytes_in m.net) (length m.journal) m.answered (below_limits m n e is).0 in
       let net = few.0 in
       let records = few.1 in

@@ -5,32 +5,32 @@ use Rattle.std.proofs.lemmas.List.Sums.{fold-append}
 use Rattle.std.specs.List.{fold}
 use Rattle.lard_base.specs.declared.event.Event.TheVariants as event
 use Rattle.lard_base.specs.declared.place.Place.{Place}
-use Rattle.lard_base.specs.declared.place.Place.TheVariants.{Front, Node, Client}
+use Rattle.lard_base.specs.declared.place.Place.TheVariants.{Front, Client}
 use Rattle.lard_client.specs.Control.{ClientBlock, is_armed}
 use Rattle.lard_history.specs.Journal.{request}
-use Rattle.lard_history.specs.Own.{Letter, Seen, Row, Came}
+use Rattle.lard_history.specs.Own.{Seen, Row, Came}
 use Rattle.lard_history.specs.Steps.{is_opening}
 use Rattle.lard_history.proofs.Each.{Each, Each-append, Each-weaker}
 use Rattle.lard_history.proofs.Stepping.{AreInside}
 use Rattle.lard_journal.specs.declared.rec.Rec.{Rec}
 use Rattle.lard_journal.specs.declared.rec.Rec.TheVariants as rec
-use Rattle.lard_laws_steps.specs.Clients.{ClientsKeepTheirTables, IsClientStep, MustKeepTables, NoneOfClient, at_client, client_of, client_step, is_of_client, own_rows, turn_rows}
+use Rattle.lard_laws_steps.specs.Clients.{ClientsKeepTheirTables, IsClientStep, MustKeepTables, NoneOfClient, client_of, client_step, is_of_client, turn_rows}
 use Rattle.lard_rules.specs.declared.places.Station.{Station}
 use Rattle.lard_rules.specs.declared.places.Turn.{Turn}
-use Rattle.lard_rules.specs.Client.{client_aborts, client_gets, client_holds, client_injects, client_opens, client_shuts, client_takes, client_timer, client_writes, silent}
+use Rattle.lard_rules.specs.Client.{client_aborts, client_gets, client_holds, client_injects, client_opens, client_shuts, client_takes, client_timer, client_writes}
 use Rattle.lard_rules.specs.Front.{front_gets, front_timer}
 use Rattle.lard_rules.specs.Outs.{timer_change}
 use Rattle.lard_rules.specs.Seat.{Seat}
 use Rattle.lard_segment.specs.declared.segment.Dir.TheVariants.{ToClient, ToCluster}
 use Rattle.lard_segment.specs.Segment.{decoded}
 use Rattle.lard_view.specs.Carry.{IsLaw, IsStepLaw, setting}
-use Rattle.lard_view.specs.View.{Conn, IsSound, Move, Rules, Setting, armed_at, client_begins, client_does, env_at, event_seen, front_does, grown, ignoring, inject_seen, packet_seen, rows_of, seen_in, sending, station_armed, timer_rows}
+use Rattle.lard_view.specs.View.{Conn, IsSound, Move, Rules, Setting, armed_at, client_begins, client_does, env_at, front_does, grown, ignoring, rows_of, seen_in, sending, station_armed, timer_rows}
 use Rattle.lard_view.proofs.Carried.{carried}
 use Rattle.lard_view.proofs.Guarded.{both, weaker}
 use Rattle.lard_view.proofs.InSteps.{carried-steps}
 use Rattle.lard_view.proofs.Moving.{unchanged}
-use Rattle.lard_view.proofs.Shapes.{rows-inside}
-use Rattle.lard_view.proofs.Turns.{IsFine, IsTurn, NotedAt, fine}
+use Rattle.lard_view.proofs.After.{rows-inside}
+use Rattle.lard_view.proofs.Turns.{IsFine, NotedAt, fine}
 
 -- ---- the state
 
@@ -147,20 +147,22 @@ ignores-owes x from to bytes none =
 
 owing : (k : Setting) → Rules k (λ x v. IsSound x → Owes x v)
 owing k = record {
-  opens = λ x isn iss wnd mss rule none sound. begins-owes x isn iss wnd mss none;
-  gets = λ x s path there le sound. client-owes x s (Row (rec.Event 0 (event.Get x.c path))) [] (client_writes s.client (request path)) there refl (λ later is. is);
-  writes = λ x s bytes there le sound. client-owes x s (Row (rec.Event 0 (event.Write x.c bytes))) [] (client_writes s.client bytes) there refl (λ later is. is);
-  shuts = λ x s there sound. client-owes x s (Row (rec.Event 0 (event.Shut x.c))) [] (client_shuts s.client) there refl (λ later is. is);
-  aborts = λ x s there sound. client-owes x s (Row (rec.Event 0 (event.Abort x.c))) [] (client_aborts s.client) there refl (λ later is. is);
-  holds = λ x s there sound. client-owes x s (Row (rec.Event 0 (event.Hold x.c))) [] (client_holds s.client) there refl (λ later is. is);
-  takes = λ x s there sound. client-owes x s (Row (rec.Event 0 (event.Take x.c))) [] (client_takes s.client) there refl (λ later is. is);
+  untouched = record {
+    opens = λ x isn iss wnd mss rule none sound. begins-owes x isn iss wnd mss none;
+    gets = λ x s path there le sound. client-owes x s (Row (rec.Event 0 (event.Get x.c path))) [] (client_writes s.client (request path)) there refl (λ later is. is);
+    writes = λ x s bytes there le sound. client-owes x s (Row (rec.Event 0 (event.Write x.c bytes))) [] (client_writes s.client bytes) there refl (λ later is. is);
+    shuts = λ x s there sound. client-owes x s (Row (rec.Event 0 (event.Shut x.c))) [] (client_shuts s.client) there refl (λ later is. is);
+    aborts = λ x s there sound. client-owes x s (Row (rec.Event 0 (event.Abort x.c))) [] (client_aborts s.client) there refl (λ later is. is);
+    holds = λ x s there sound. client-owes x s (Row (rec.Event 0 (event.Hold x.c))) [] (client_holds s.client) there refl (λ later is. is);
+    takes = λ x s there sound. client-owes x s (Row (rec.Event 0 (event.Take x.c))) [] (client_takes s.client) there refl (λ later is. is);
+    client_fires = λ x s there sound. client-owes x s (Row (rec.Event 0 (event.Timer (Client x.c) x.c))) [] (client_timer s.client) there refl (λ later is. is);
+    client_hears = λ x s bytes there was sound. client-owes x s (Came (record { from = Front; to = Client x.c; bytes = bytes })) [] (client_gets s.client (decoded bytes x.c ToClient)) there refl (λ later is. is);
+    front_fires = λ x s there sound. front-owes x s (Row (rec.Event 0 (event.Timer Front x.c))) (front_timer (env_at k x s) x.part.seat) there ((fine k).untouched.front_fires x s there sound).0.notes refl (λ later none. none);
+    front_hears = λ x s bytes there was sound. front-owes x s (Came (record { from = Client x.c; to = Front; bytes = bytes })) (front_gets (env_at k x s) x.part.seat (decoded bytes x.c ToCluster)) there
+        ((fine k).untouched.front_hears x s bytes there was sound).0.notes refl (λ later none. none);
+    ignores = λ x from to bytes was sound. ignores-owes x from to bytes was.1;
+  };
   injects = λ x s bytes there rule sound. client-owes x s (Row (rec.Event 0 (event.Inject x.c bytes))) (rec.Injected x.c ∷ []) (client_injects s.client bytes) there refl (λ later is. is);
-  client_fires = λ x s there sound. client-owes x s (Row (rec.Event 0 (event.Timer (Client x.c) x.c))) [] (client_timer s.client) there refl (λ later is. is);
-  client_hears = λ x s bytes there was sound. client-owes x s (Came (record { from = Front; to = Client x.c; bytes = bytes })) [] (client_gets s.client (decoded bytes x.c ToClient)) there refl (λ later is. is);
-  front_fires = λ x s there sound. front-owes x s (Row (rec.Event 0 (event.Timer Front x.c))) (front_timer (env_at k x s) x.part.seat) there ((fine k).front_fires x s there sound).0.notes refl (λ later none. none);
-  front_hears = λ x s bytes there was sound. front-owes x s (Came (record { from = Client x.c; to = Front; bytes = bytes })) (front_gets (env_at k x s) x.part.seat (decoded bytes x.c ToCluster)) there
-      ((fine k).front_hears x s bytes there was sound).0.notes refl (λ later none. none);
-  ignores = λ x from to bytes was sound. ignores-owes x from to bytes was.1;
 }
 
 folding : (k : Setting) → IsLaw k (λ x. Unit {0}) IsFolded

@@ -3,7 +3,6 @@ use Rattle.std.proofs.Common.{◌≡◌, ℕ, ◌+◌, List, [], ◌∷◌, ◌+
 use Rattle.std.proofs.lemmas.Bool.{cond_both}
 use Rattle.std.proofs.lemmas.List.{map-append}
 use Rattle.std.proofs.lemmas.List.Folds.{list_any-append}
-use Rattle.std.specs.List.{list_any}
 use Rattle.lard_answers.specs.Answers.{answer, answer_code}
 use Rattle.lard_base.specs.declared.config.Config.{Config}
 use Rattle.lard_base.specs.declared.event.Event.{Event}
@@ -14,11 +13,8 @@ use Rattle.lard_base.specs.declared.place.Via.TheVariants.{Own}
 use Rattle.lard_client.specs.Control.{ClientBlock}
 use Rattle.lard_endpoint.specs.declared.control.moving.Final.{Final}
 use Rattle.lard_endpoint.specs.Arriving.{on_segment}
-use Rattle.lard_endpoint.specs.Control.{ControlBlock, listening}
-use Rattle.lard_endpoint.specs.Leaving.{after_timer}
-use Rattle.lard_endpoint.specs.Moving.{end_reason, final_of, may_end}
 use Rattle.lard_history.specs.Journal.{request}
-use Rattle.lard_history.specs.Own.{Has, Letter, Seen, Row, Came}
+use Rattle.lard_history.specs.Own.{Has, Seen, Row}
 use Rattle.lard_history.proofs.Each.{Each, Each-append, Each-weaker}
 use Rattle.lard_journal.specs.declared.rec.Rec.{Rec}
 use Rattle.lard_journal.specs.declared.rec.Rec.TheVariants as rec
@@ -31,7 +27,7 @@ use Rattle.lard_request.specs.Verdict.{verdict}
 use Rattle.lard_rules.specs.declared.places.Station.{Station}
 use Rattle.lard_rules.specs.declared.places.Turn.{Turn}
 use Rattle.lard_rules.specs.Client.{client_aborts, client_gets, client_holds, client_injects, client_opens, client_shuts, client_takes, client_timer, client_writes, silent}
-use Rattle.lard_rules.specs.Front.{FrontEnv, Service, answered, begun, consumed, cut_off, ended_at_fin, front_gets, front_hears, front_timer, is_plain_syn, last_words, passed_over, queued, reads, rested, settled, spoken, tombstone}
+use Rattle.lard_rules.specs.Front.{FrontEnv, Service, answered, begun, consumed, cut_off, front_gets, front_hears, front_timer, is_plain_syn, last_words, passed_over, queued, reads, rested, settled, spoken, tombstone}
 use Rattle.lard_rules.specs.Speaking.{speaks}
 use Rattle.lard_rules.proofs.Loops.{KeptByReading, reads_keep}
 use Rattle.lard_rules.specs.Outs.{timer_change}
@@ -40,11 +36,11 @@ use Rattle.lard_segment.specs.declared.fault.SegFault.{SegFault}
 use Rattle.lard_segment.specs.declared.segment.Dir.TheVariants.{ToClient, ToCluster}
 use Rattle.lard_segment.specs.Segment.{Said, decoded}
 use Rattle.lard_view.specs.Carry.{IsLaw, IsStepLaw, OfEach, setting}
-use Rattle.lard_view.specs.View.{Conn, IsSound, Move, Rules, Setting, armed_at, client_begins, client_does, env_at, event_seen, front_does, grown, ignoring, inject_seen, packet_seen, rows_of, seen_in, sending, timer_rows}
+use Rattle.lard_view.specs.View.{Conn, IsSound, Move, Rules, Setting, armed_at, client_begins, client_does, env_at, event_seen, front_does, grown, inject_seen, packet_seen, rows_of, seen_in, sending, timer_rows}
 use Rattle.lard_view.proofs.Carried.{carried}
 use Rattle.lard_view.proofs.Guarded.{weaker}
 use Rattle.lard_view.proofs.InSteps.{carried-steps}
-use Rattle.lard_view.proofs.Turns.{IsTurn, NotedAt, fine}
+use Rattle.lard_view.proofs.Turns.{NotedAt, fine}
 
 -- ---- what a turn says of it
 
@@ -252,22 +248,24 @@ IsFresh x = x.part.station ≡ None → x.letters ≡ []
 
 owing : (k : Setting) → Rules k (λ x v. IsSound x → IsFresh x → Owes x v)
 owing k = record {
-  opens = λ x isn iss wnd mss rule none sound fresh. stays x (client_begins x isn iss wnd mss) (rec.Event 0 (event.Open x.c isn iss wnd mss) ∷ rec.Opened x.c isn iss wnd mss ∷ []) refl (refl, (refl, tt))
-      (clients-take-not x.c (client_opens x.c isn wnd mss).1.notes ((fine k).opens x isn iss wnd mss rule none sound).0.notes) refl;
-  gets = λ x s path there le sound fresh. client-stays x s (event.Get x.c path) (client_writes s.client (request path)) ((fine k).gets x s path there le sound).0.notes;
-  writes = λ x s bytes there le sound fresh. client-stays x s (event.Write x.c bytes) (client_writes s.client bytes) ((fine k).writes x s bytes there le sound).0.notes;
-  shuts = λ x s there sound fresh. client-stays x s (event.Shut x.c) (client_shuts s.client) ((fine k).shuts x s there sound).0.notes;
-  aborts = λ x s there sound fresh. client-stays x s (event.Abort x.c) (client_aborts s.client) ((fine k).aborts x s there sound).0.notes;
-  holds = λ x s there sound fresh. client-stays x s (event.Hold x.c) (client_holds s.client) ((fine k).holds x s there sound).0.notes;
-  takes = λ x s there sound fresh. client-stays x s (event.Take x.c) (client_takes s.client) ((fine k).takes x s there sound).0.notes;
+  untouched = record {
+    opens = λ x isn iss wnd mss rule none sound fresh. stays x (client_begins x isn iss wnd mss) (rec.Event 0 (event.Open x.c isn iss wnd mss) ∷ rec.Opened x.c isn iss wnd mss ∷ []) refl (refl, (refl, tt))
+        (clients-take-not x.c (client_opens x.c isn wnd mss).1.notes ((fine k).untouched.opens x isn iss wnd mss rule none sound).0.notes) refl;
+    gets = λ x s path there le sound fresh. client-stays x s (event.Get x.c path) (client_writes s.client (request path)) ((fine k).untouched.gets x s path there le sound).0.notes;
+    writes = λ x s bytes there le sound fresh. client-stays x s (event.Write x.c bytes) (client_writes s.client bytes) ((fine k).untouched.writes x s bytes there le sound).0.notes;
+    shuts = λ x s there sound fresh. client-stays x s (event.Shut x.c) (client_shuts s.client) ((fine k).untouched.shuts x s there sound).0.notes;
+    aborts = λ x s there sound fresh. client-stays x s (event.Abort x.c) (client_aborts s.client) ((fine k).untouched.aborts x s there sound).0.notes;
+    holds = λ x s there sound fresh. client-stays x s (event.Hold x.c) (client_holds s.client) ((fine k).untouched.holds x s there sound).0.notes;
+    takes = λ x s there sound fresh. client-stays x s (event.Take x.c) (client_takes s.client) ((fine k).untouched.takes x s there sound).0.notes;
+    client_fires = λ x s there sound fresh. client-stays x s (event.Timer (Client x.c) x.c) (client_timer s.client) ((fine k).untouched.client_fires x s there sound).0.notes;
+    client_hears = λ x s bytes there was sound fresh. came-stays x s bytes (client_gets s.client (decoded bytes x.c ToClient))
+        (clients-take-not x.c (client_gets s.client (decoded bytes x.c ToClient)).1.notes ((fine k).untouched.client_hears x s bytes there was sound).0.notes);
+    front_fires = λ x s there sound fresh. stays x (front_does x (event_seen (event.Timer Front x.c)) (front_timer (env_at k x s) x.part.seat)) (rec.Event 0 (event.Timer Front x.c) ∷ []) refl (refl, tt)
+        (fires-goes (env_at k x s) x.part.seat).1 (fires-goes (env_at k x s) x.part.seat).0;
+    front_hears = λ x s bytes there was sound fresh. hears-owes k x s bytes;
+    ignores = λ x from to bytes was sound fresh. absurd (subst (Has (record { from = from; to = to; bytes = bytes })) (fresh was.1) was.0);
+  };
   injects = λ x s bytes there rule sound fresh. stays x (client_does x s (inject_seen x.c bytes) (client_injects s.client bytes)) (rec.Event 0 (event.Inject x.c bytes) ∷ rec.Injected x.c ∷ []) refl (refl, (refl, tt)) tt refl;
-  client_fires = λ x s there sound fresh. client-stays x s (event.Timer (Client x.c) x.c) (client_timer s.client) ((fine k).client_fires x s there sound).0.notes;
-  client_hears = λ x s bytes there was sound fresh. came-stays x s bytes (client_gets s.client (decoded bytes x.c ToClient))
-      (clients-take-not x.c (client_gets s.client (decoded bytes x.c ToClient)).1.notes ((fine k).client_hears x s bytes there was sound).0.notes);
-  front_fires = λ x s there sound fresh. stays x (front_does x (event_seen (event.Timer Front x.c)) (front_timer (env_at k x s) x.part.seat)) (rec.Event 0 (event.Timer Front x.c) ∷ []) refl (refl, tt)
-      (fires-goes (env_at k x s) x.part.seat).1 (fires-goes (env_at k x s) x.part.seat).0;
-  front_hears = λ x s bytes there was sound fresh. hears-owes k x s bytes;
-  ignores = λ x from to bytes was sound fresh. absurd (subst (Has (record { from = from; to = to; bytes = bytes })) (fresh was.1) was.0);
 }
 
 having : (k : Setting) → IsLaw k IsFresh HasIt

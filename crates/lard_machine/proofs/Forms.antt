@@ -5,8 +5,9 @@ use Rattle.lard_base.specs.declared.event.Event.{Event}
 use Rattle.lard_base.specs.declared.event.Event.TheVariants as event
 use Rattle.lard_base.specs.declared.place.Place.{Place}
 use Rattle.lard_base.specs.declared.place.Place.TheVariants as place
-use Rattle.lard_client.specs.Control.{written_len}
+use Rattle.lard_client.specs.Control.{ClientBlock, written_len}
 use Rattle.lard_history.specs.Journal.{request}
+use Rattle.lard_journal.specs.declared.rec.Rec.{Rec}
 use Rattle.lard_journal.specs.declared.rec.Rec.TheVariants as rec
 use Rattle.lard_machine.specs.declared.fault.StepFault.{StepFault}
 use Rattle.lard_machine.specs.declared.fault.StepFault.TheVariants.{Limit, WasLost}
@@ -14,10 +15,12 @@ use Rattle.lard_machine.specs.declared.fault.What.{What}
 use Rattle.lard_machine.specs.declared.fault.What.TheVariants.{Stream}
 use Rattle.lard_machine.specs.declared.machine.Machine.{Machine}
 use Rattle.lard_rules.specs.declared.places.Station.{Station}
+use Rattle.lard_rules.specs.declared.places.Turn.{Turn}
 use Rattle.lard_machine.specs.Bounds.{HasRule}
 use Rattle.lard_rules.specs.Client.{client_opens, client_writes, client_shuts, client_holds, client_takes, client_aborts, client_timer, client_gets, client_injects}
 use Rattle.lard_rules.specs.Front.{front_gets, front_timer}
-use Rattle.lard_machine.specs.Machine.{aborts, client_acted, client_goes_on, delivered, env_of, from_place, front_acted, happens, holds, injects, limit_reached, lost, machine_step, opened, passed, seat, shut, takes, timer, to_client, to_front, to_place, unless_limit, wrote}
+use Rattle.lard_rules.specs.Seat.{Seat}
+use Rattle.lard_machine.specs.Machine.{Act, aborts, acted, client_acted, client_goes_on, client_put, delivered, env_of, from_place, front_acted, happens, holds, injects, limit_reached, lost, machine_step, opened, passed, seat, shut, takes, timer, to_client, to_front, to_place, unless_limit, with_seat, wrote}
 use Rattle.lard_net.specs.Net.{Packet, lose_at, packet_at}
 use Rattle.lard_segment.specs.declared.segment.Dir.TheVariants.{ToClient, ToCluster}
 use Rattle.lard_segment.specs.Segment.{decoded}
@@ -185,3 +188,45 @@ below_limits m n e is = go (limit_reached m) is where
 -- what is so of each form is so of a step that is done
 pub step_has : (m n : Machine) (e : Event) (P : Event → Machine → Type 0) → Forms m P → HasRule e → machine_step m e ≡ Ok n → P e n
 step_has m n e P f h is = happens-is m n P f e h (below_limits m n e is).1
+
+-- ---- what every form of a step has
+
+-- w is m with what a place keeps put back: its settings and its journal are as they were.
+pub record IsPut (m w : Machine) : Type 0 where
+  pub config : w.config ≡ m.config
+  pub files : w.files ≡ m.files
+  pub journal : w.journal ≡ m.journal
+
+-- Q is so of a step from m in which a place acts, and of one in which none does.
+pub record Parts (m : Machine) (Q : Machine → Type 0) : Type 0 where
+  pub acts : (w : Machine) (e : Event) (own : List Rec) (a : Act) → IsPut m w → Q (acted w e own a)
+  pub passes : (w : Machine) (e : Event) (own : List Rec) → IsPut m w → Q (passed w e own)
+
+module _ (m : Machine) (Q : Machine → Type 0) (s : Parts m Q) where
+  client-part : (e : Event) (own : List Rec) (c iss : ℕ) (was : Bool) (given : ClientBlock × Turn) → Q (client_acted m e own c iss was given)
+  client-part e own c iss was given = s.acts (client_put m c (record { client = given.0; iss = iss })) e own _ (record { config = refl; files = refl; journal = refl })
+
+  front-part : (e : Event) (own : List Rec) (c : ℕ) (given : Seat × Turn) → Q (front_acted m e own c given)
+  front-part e own c given = s.acts (with_seat m c given.0) e own _ (record { config = refl; files = refl; journal = refl })
+
+  parts-forms : Forms m (λ e n. Q n)
+  parts-forms = record {
+    opens = λ c isn iss wnd mss rule none. client-part _ _ c iss _ _;
+    gets = λ c path x is le. client-part _ _ c x.iss _ _;
+    writes = λ c bytes x is le. client-part _ _ c x.iss _ _;
+    shuts = λ c x is. client-part _ _ c x.iss _ _;
+    aborts = λ c x is. client-part _ _ c x.iss _ _;
+    holds = λ c x is. client-part _ _ c x.iss _ _;
+    takes = λ c x is. client-part _ _ c x.iss _ _;
+    injects = λ c bytes x rule is. client-part _ _ c x.iss _ _;
+    client_timer = λ d c x same is. client-part _ _ c x.iss _ _;
+    front_timer = λ c x is. front-part _ _ c _;
+    front_gets = λ k c p x at on from to is. front-part _ _ c _;
+    client_gets = λ k c p x at on to is. client-part _ _ c x.iss _ _;
+    nobody = λ k p at on. s.passes m _ _ (record { config = refl; files = refl; journal = refl });
+    loses = λ k p at on. s.passes (record m { net = lose_at (k - 1) m.net }) _ _ (record { config = refl; files = refl; journal = refl });
+  }
+
+-- what is so of both is so of a step that is done
+pub step-parts : (m n : Machine) (e : Event) (Q : Machine → Type 0) → Parts m Q → HasRule e → machine_step m e ≡ Ok n → Q n
+step-parts m n e Q s rule is = step_has m n e (λ d k. Q k) (parts-forms m Q s) rule is

@@ -1,6 +1,5 @@
 -- A law of one connection is a law of each connection in every state that events lead to.
-use Rattle.std.proofs.Common.{◌≡◌, ℕ, List, [], ◌∷◌, ◌++◌, Some, None, Ok, refl, sym, ap, ◌∙◌, subst, ⊎_elim}
-use Rattle.std.specs.FinMap as table
+use Rattle.std.proofs.Common.{◌≡◌, ℕ, List, [], ◌∷◌, ◌++◌, Some, None, Ok, refl, sym, ◌∙◌, subst, ⊎_elim}
 use Rattle.std.specs.FinMap.{get-empty}
 use Rattle.std.specs.Ordering.{nat_cmp}
 use Rattle.lard_base.specs.declared.config.Config.{Config}
@@ -8,14 +7,13 @@ use Rattle.lard_base.specs.declared.event.Event.{Event}
 use Rattle.lard_files.specs.Files.{file_at}
 use Rattle.lard_history.specs.Own.{letters, net_of, own}
 use Rattle.lard_machine.specs.declared.machine.Machine.{Machine}
-use Rattle.lard_rules.specs.declared.places.Station.{Station}
 use Rattle.lard_machine.specs.Bounds.{HasRule}
 use Rattle.lard_machine.specs.Machine.{IsReached, machine_step, start}
 use Rattle.lard_machine.proofs.Runs.{passes-keep, passes-more, step-set}
 use Rattle.lard_rules.proofs.Seats.{blank-seat, no-part, no-seat}
 use Rattle.lard_view.specs.Carry.{IsLaw, OfEach, setting}
 use Rattle.lard_view.specs.View.{Conn, Goes, IsSound, Move, Rules, Setting, blank, conn, grown, part_of, setting_of}
-use Rattle.lard_view.proofs.Shapes.{IsAfter, step-after}
+use Rattle.lard_view.proofs.After.{IsAfter, step-after}
 use Rattle.lard_view.proofs.Steps.{step_moves}
 use Rattle.lard_view.proofs.Turns.{IsFine, fine}
 
@@ -39,12 +37,8 @@ gone Inv P x y h keeps g = ⊎_elim
     (λ (k : (v : Move) × P x v × (y ≡ grown x v)). subst Inv (sym k.2) (keeps k.0 k.1)) g
 
 module _ (m n : Machine) (e : Event) (h : IsViewed m) (rule : HasRule e) (is : machine_step m e ≡ Ok n) where
-  pub number : (c : ℕ) (x : Station) → table.get m.clients c ≡ Some x → x.client.c ≡ c
-  unfolding conn part_of
-  number c x at = (h.sound c).number x at
-
   pub after : IsAfter m n
-  after = step-after m h.told number e n rule is
+  after = step-after m h.told h.sound e n rule is
 
   pub moves : (P : Conn → Move → Type 0) → Rules (setting_of m) P → (q : ℕ) → Goes P (conn m q) (conn n q)
   moves P R q = step_moves m P R h.sound h.told e n rule is q

@@ -2,7 +2,7 @@
 use Rattle.std.proofs.Common.{◌≡◌, ℕ, List, [], ◌∷◌, ◌++◌, map, Bool, true, false, cond, refl, sym, ap, ◌∙◌, nat_eq}
 use Rattle.std.proofs.lemmas.List.Sums.{fold-append}
 use Rattle.std.specs.List.{fold}
-use Rattle.lard_history.specs.Journal.{Tale, tale_step, touched_step, untold}
+use Rattle.lard_history.specs.Journal.{Tale, tale_step, untold}
 use Rattle.lard_base.specs.declared.event.Event.TheVariants as event
 use Rattle.lard_history.specs.Own.{EachRow, Seen, Row, Came, seen_step, tale_of}
 use Rattle.lard_history.proofs.Lifting.{each_row-append}
@@ -11,12 +11,12 @@ use Rattle.lard_journal.specs.declared.rec.Rec.{Rec}
 use Rattle.lard_journal.specs.declared.rec.Rec.TheVariants as rec
 use Rattle.lard_rules.specs.Client.{client_injects}
 use Rattle.lard_rules.specs.declared.places.Station.{Station}
-use Rattle.lard_view.specs.Carry.{IsGuardedLaw, IsLaw, IsUntouchedLaw, Untouched, UntouchedRules, WhileUntouched, tale_at}
-use Rattle.lard_view.specs.View.{Conn, IsSound, Move, Rules, Setting, client_does, grown, inject_seen, rows_of, seen_in}
+use Rattle.lard_view.specs.Carry.{IsGuardedLaw, IsLaw, IsUntouchedLaw, Untouched, WhileUntouched, tale_at}
+use Rattle.lard_view.specs.View.{Conn, IsSound, Move, Rules, Setting, UntouchedRules, client_does, grown, inject_seen, rows_of, seen_in}
 
 -- less is so of each rule, where more is
-pub weaker : (k : Setting) (P Q : Conn → Move → Type 0) → ((x : Conn) (v : Move) → P x v → Q x v) → Rules k P → Rules k Q
-weaker k P Q w R = record {
+untouched-weaker : (k : Setting) (P Q : Conn → Move → Type 0) → ((x : Conn) (v : Move) → P x v → Q x v) → UntouchedRules k P → UntouchedRules k Q
+untouched-weaker k P Q w R = record {
   opens = λ x isn iss wnd mss rule none. w x _ (R.opens x isn iss wnd mss rule none);
   gets = λ x s path there le. w x _ (R.gets x s path there le);
   writes = λ x s bytes there le. w x _ (R.writes x s bytes there le);
@@ -24,7 +24,6 @@ weaker k P Q w R = record {
   aborts = λ x s there. w x _ (R.aborts x s there);
   holds = λ x s there. w x _ (R.holds x s there);
   takes = λ x s there. w x _ (R.takes x s there);
-  injects = λ x s bytes there rule. w x _ (R.injects x s bytes there rule);
   client_fires = λ x s there. w x _ (R.client_fires x s there);
   client_hears = λ x s bytes there was. w x _ (R.client_hears x s bytes there was);
   front_fires = λ x s there. w x _ (R.front_fires x s there);
@@ -32,9 +31,15 @@ weaker k P Q w R = record {
   ignores = λ x from to bytes was. w x _ (R.ignores x from to bytes was);
 }
 
+pub weaker : (k : Setting) (P Q : Conn → Move → Type 0) → ((x : Conn) (v : Move) → P x v → Q x v) → Rules k P → Rules k Q
+weaker k P Q w R = record {
+  untouched = untouched-weaker k P Q w R.untouched;
+  injects = λ x s bytes there rule. w x _ (R.injects x s bytes there rule);
+}
+
 -- two facts of each rule at once
-pub both : (k : Setting) (P Q : Conn → Move → Type 0) → Rules k P → Rules k Q → Rules k (λ x v. P x v × Q x v)
-both k P Q R S = record {
+untouched-both : (k : Setting) (P Q : Conn → Move → Type 0) → UntouchedRules k P → UntouchedRules k Q → UntouchedRules k (λ x v. P x v × Q x v)
+untouched-both k P Q R S = record {
   opens = λ x isn iss wnd mss rule none. (R.opens x isn iss wnd mss rule none, S.opens x isn iss wnd mss rule none);
   gets = λ x s path there le. (R.gets x s path there le, S.gets x s path there le);
   writes = λ x s bytes there le. (R.writes x s bytes there le, S.writes x s bytes there le);
@@ -42,12 +47,17 @@ both k P Q R S = record {
   aborts = λ x s there. (R.aborts x s there, S.aborts x s there);
   holds = λ x s there. (R.holds x s there, S.holds x s there);
   takes = λ x s there. (R.takes x s there, S.takes x s there);
-  injects = λ x s bytes there rule. (R.injects x s bytes there rule, S.injects x s bytes there rule);
   client_fires = λ x s there. (R.client_fires x s there, S.client_fires x s there);
   client_hears = λ x s bytes there was. (R.client_hears x s bytes there was, S.client_hears x s bytes there was);
   front_fires = λ x s there. (R.front_fires x s there, S.front_fires x s there);
   front_hears = λ x s bytes there was. (R.front_hears x s bytes there was, S.front_hears x s bytes there was);
   ignores = λ x from to bytes was. (R.ignores x from to bytes was, S.ignores x from to bytes was);
+}
+
+pub both : (k : Setting) (P Q : Conn → Move → Type 0) → Rules k P → Rules k Q → Rules k (λ x v. P x v × Q x v)
+both k P Q R S = record {
+  untouched = untouched-both k P Q R.untouched S.untouched;
+  injects = λ x s bytes there rule. (R.injects x s bytes there rule, S.injects x s bytes there rule);
 }
 
 -- ---- once touched, a connection stays so
@@ -90,21 +100,7 @@ injected-touches x s bytes =
 
 with_injects : (k : Setting) (P Q : Conn → Move → Type 0) → ((x : Conn) (v : Move) → P x v → Q x v) → UntouchedRules k P
     → ((x : Conn) (s : Station) (bytes : List ℕ) → Q x (client_does x s (inject_seen x.c bytes) (client_injects s.client bytes))) → Rules k Q
-with_injects k P Q w R injects = record {
-  opens = λ x isn iss wnd mss rule none. w x _ (R.opens x isn iss wnd mss rule none);
-  gets = λ x s path there le. w x _ (R.gets x s path there le);
-  writes = λ x s bytes there le. w x _ (R.writes x s bytes there le);
-  shuts = λ x s there. w x _ (R.shuts x s there);
-  aborts = λ x s there. w x _ (R.aborts x s there);
-  holds = λ x s there. w x _ (R.holds x s there);
-  takes = λ x s there. w x _ (R.takes x s there);
-  injects = λ x s bytes there rule. injects x s bytes;
-  client_fires = λ x s there. w x _ (R.client_fires x s there);
-  client_hears = λ x s bytes there was. w x _ (R.client_hears x s bytes there was);
-  front_fires = λ x s there. w x _ (R.front_fires x s there);
-  front_hears = λ x s bytes there was. w x _ (R.front_hears x s bytes there was);
-  ignores = λ x from to bytes was. w x _ (R.ignores x from to bytes was);
-}
+with_injects k P Q w R injects = record { untouched = untouched-weaker k P Q w R; injects = λ x s bytes there rule. injects x s bytes }
 
 pub untouched-law : (k : Setting) (Given Inv : Conn → Type 0) → IsUntouchedLaw k Given Inv → IsLaw k Given (Untouched Inv)
 untouched-law k Given Inv law = record {

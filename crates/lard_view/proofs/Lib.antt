@@ -1,7 +1,9 @@
 pub mod Acts
+pub mod After
 pub mod Carried
 pub mod ClientTurns
 pub mod Endpoints
+pub mod Firsts
 pub mod Guarded
 pub mod InSteps
 pub mod Moving

@@ -1,19 +1,16 @@
--- The shape of a step, of no one connection: it begins by its event and no other, and what the journal tells of packets
--- goes on as the network does.
-use Rattle.std.proofs.Common.{◌≡◌, ℕ, ◌+◌, ◌-◌, List, [], ◌∷◌, ◌++◌, map, length, Bool, true, false, Option, Some, None, Ok, refl, sym, ap, ◌∙◌, append_assoc}
-use Rattle.std.proofs.lemmas.List.Sums.{fold-append}
+-- The shapes of a step: an event names a place, which acts; a packet comes to a place, which acts, or to nobody; a packet is
+-- lost. The forms of a step are told by their shapes here and nowhere else, so what speaks of whole steps has four cases.
+use Rattle.std.proofs.Common.{◌≡◌, ◌≢◌, ℕ, ◌-◌, List, [], ◌∷◌, ◌++◌, map, Bool, false, Option, Some, None, IsSome, Ok, refl, sym, ap, subst, ⊎_elim}
 use Rattle.std.specs.FinMap as table
-use Rattle.std.specs.List.{fold}
 use Rattle.lard_base.specs.declared.event.Event.{Event}
 use Rattle.lard_base.specs.declared.event.Event.TheVariants as event
 use Rattle.lard_base.specs.declared.place.Place.{Place}
 use Rattle.lard_base.specs.declared.place.Place.TheVariants.{Front, Node, Client}
 use Rattle.lard_client.specs.Control.{ClientBlock, is_armed}
-use Rattle.lard_history.specs.Journal.{request}
-use Rattle.lard_history.specs.Own.{net_of, net_step}
-use Rattle.lard_history.specs.Steps.{is_opening}
-use Rattle.lard_history.proofs.Each.{Each, Each-append, Each-weaker}
-use Rattle.lard_history.proofs.Stepping.{AreInside, IsOneStep}
+use Rattle.lard_history.specs.Journal.{acting_in, request}
+use Rattle.lard_history.specs.Own.{Has, Letter, Seen, Row, Came, conn_of, event_conn, letter_of, letters}
+use Rattle.lard_history.proofs.Each.{Each}
+use Rattle.lard_history.proofs.Seeing.{has-letter}
 use Rattle.lard_journal.specs.declared.rec.Rec.{Rec}
 use Rattle.lard_journal.specs.declared.rec.Rec.TheVariants as rec
 use Rattle.lard_machine.specs.declared.machine.Machine.{Machine}
@@ -22,134 +19,247 @@ use Rattle.lard_rules.specs.declared.places.Turn.{Turn}
 use Rattle.lard_machine.specs.Bounds.{HasRule}
 use Rattle.lard_rules.specs.Client.{client_aborts, client_gets, client_holds, client_injects, client_opens, client_shuts, client_takes, client_timer, client_writes}
 use Rattle.lard_rules.specs.Front.{front_gets, front_timer}
-use Rattle.lard_rules.specs.Outs.{timer_change}
-use Rattle.lard_rules.specs.Seat.{Seat, front_armed}
-use Rattle.lard_machine.specs.Machine.{Act, acted, client_acted, client_goes_on, client_put, env_of, front_acted, machine_step, packets_of, passed, records, seat, sent_records, with_seat}
-use Rattle.lard_machine.proofs.Forms.{Forms, step_has}
-use Rattle.lard_net.specs.Net.{Packet, lose_at}
+use Rattle.lard_rules.specs.Seat.{Seat, MayFollow, front_armed, front_part}
+use Rattle.lard_rules.proofs.Seats.{part-elsewhere, part-here, seat-elsewhere, seat-here}
+use Rattle.lard_rules.proofs.Sound.{fires-settles, gets-settles}
+use Rattle.lard_machine.specs.Machine.{Act, acted, client_acted, client_goes_on, client_put, env_of, front_acted, machine_step, passed, seat, with_seat}
+use Rattle.lard_machine.proofs.Forms.{Forms, IsIgnored, step_has}
+use Rattle.lard_net.specs.Net.{Packet, lose_at, packet_at}
 use Rattle.lard_segment.specs.declared.segment.Dir.TheVariants.{ToClient, ToCluster}
 use Rattle.lard_segment.specs.Segment.{decoded}
-use Rattle.lard_view.specs.View.{Conn, Move, armed_at, rows_of, sending, timer_rows}
-use Rattle.lard_view.proofs.Moving.{notes-net, sents-net, timer-net}
-use Rattle.lard_view.proofs.Turns.{IsClientTurn, IsFrontTurn, NotedAt, aborts-turn, fires-turn, front_fires-turn, front_gets-turn, hears-turn, holds-turn, injects-turn, opens-turn, shuts-turn, takes-turn, writes-turn}
+use Rattle.lard_table.proofs.Map.{get_inserted, get_other}
+use Rattle.lard_view.specs.View.{AreBetween, Conn, GoesBetween, IsSound, Move, Part, Rules, Was, armed_at, client_does, conn, front_does, packet_seen, part_of, setting_of, station_armed, with_front, with_station}
+use Rattle.lard_view.proofs.Firsts.{HasOwn, gets-others, own-alone, own-front, writes-own}
+use Rattle.lard_view.proofs.Guarded.{both}
+use Rattle.lard_view.proofs.Turns.{IsFine, IsTurn, fine, front_fires-turn, front_gets-turn}
 
--- Behind m comes one step, and the journal tells of the packets that there are.
-pub record IsAfter (m n : Machine) : Type 0 where
-  pub step : List Rec
-  pub is : n.journal ≡ m.journal ++ step
-  pub one : IsOneStep step
-  pub told : net_of n.journal ≡ n.net
+-- ---- the shapes
 
--- ---- no record of a turn begins a step
+-- what stands directly behind an event, of whatever connection
+abbrev pub behind : Event → List Rec
+behind (event.Open c isn iss wnd mss) = rec.Opened c isn iss wnd mss ∷ []
+behind (event.Deliver k) = rec.Got k ∷ []
+behind (event.Lose k) = rec.Lost k ∷ []
+behind (event.Inject c bytes) = rec.Injected c ∷ []
+behind _ = []
 
-note-inside : (place : Place) (c : ℕ) (r : Rec) → NotedAt place c r → is_opening r ≡ false
-note-inside (Client e) c (rec.Wrote d bytes) h = refl
-note-inside (Client e) c (rec.Accepted d bytes) h = refl
-note-inside (Client e) c (rec.Eof d) h = refl
-note-inside (Client e) c (rec.Aborted d) h = refl
-note-inside Front c (rec.Took Front d epoch) h = refl
-note-inside Front c (rec.Served Front d r code size via) h = refl
-note-inside Front c (rec.Reset Front d total) h = refl
-note-inside _ c _ h = absurd h
+-- it stands behind an event that names connection c, and says nothing of packets
+abbrev pub IsAside : ℕ → Rec → Type 0
+IsAside c (rec.Opened d isn iss wnd mss) = d ≡ c
+IsAside c (rec.Injected d) = d ≡ c
+IsAside c _ = ⊥
 
-sents-inside : (k : ℕ) (place : Place) (ss : List (Place × List ℕ)) → AreInside (sent_records k place ss)
-sents-inside k place [] = tt
-sents-inside k place (s ∷ ss) = (refl, sents-inside (k + 1) place ss)
+-- Place a.place acts on connection a.c: w is m with what it keeps put back, and p is the connection's part in it.
+pub record ActsFrom (m w : Machine) (e : Event) (a : Act) (p : Part) : Type 0 where
+  pub net : w.net ≡ m.net
+  pub journal : w.journal ≡ m.journal
+  pub events : w.events ≡ m.events
+  pub answered : w.answered ≡ m.answered
+  pub mine : part_of w a.c ≡ p
+  pub others : (q : ℕ) → q ≢ a.c → part_of w q ≡ part_of m q
+  pub was : a.was_armed ≡ armed_at a.place (part_of m a.c)
+  pub now : a.is_armed ≡ armed_at a.place p
+  pub opened : IsSome p.station
+  pub turn : IsTurn a.place a.c a.turn
+  pub first : HasOwn e (behind e ++ a.turn.notes)
 
-timer-inside : (place : Place) (c : ℕ) (a b : Bool) → AreInside (timer_change place c a b)
-timer-inside place c false false = tt
-timer-inside place c false true = (refl, tt)
-timer-inside place c true false = (refl, tt)
-timer-inside place c true true = tt
+-- the event names the place, and the connection
+pub record IsNamed (e : Event) (place : Place) (c : ℕ) : Type 0 where
+  pub acts : (J : List Rec) → acting_in J e ≡ Some place
+  pub of : event_conn e ≡ Some c
+  pub aside : Each (IsAside c) (behind e)
 
--- so no record that a move writes does
-pub rows-inside : (x : Conn) (v : Move) → Each (NotedAt v.place x.c) v.turn.notes → AreInside (rows_of x v)
-unfolding timer_rows
-rows-inside x v notes =
-    let inside : Rec → Type 0 = λ r. is_opening r ≡ false in
-    Each-append inside (v.turn.notes ++ map (sending v.place) v.turn.segments) (timer_rows v.place x.c x.part v.part)
-    (Each-append inside v.turn.notes (map (sending v.place) v.turn.segments) (Each-weaker (NotedAt v.place x.c) inside (note-inside v.place x.c) v.turn.notes notes) (sends v.turn.segments))
-    (timer-inside v.place x.c (armed_at v.place x.part) (armed_at v.place v.part)) where
-      sends : (ss : List (Place × List ℕ)) → AreInside (map (sending v.place) ss)
-      sends [] = tt
-      sends (s ∷ ss) = (refl, sends ss)
+-- packet k comes to the place, on the connection
+pub record Comes (m : Machine) (k : ℕ) (l : Packet) (place : Place) (c : ℕ) : Type 0 where
+  pub at : packet_at m.net k ≡ Some l
+  pub there : l.lost ≡ false
+  pub to : l.to ≡ place
+  pub of : conn_of l.from l.to l.bytes ≡ Some c
 
--- ---- a step
+-- the move that it makes
+abbrev pub move_of : Act → List Seen → Part → Move
+move_of a heads p = record { place = a.place; heads = heads; turn = a.turn; part = p }
 
--- an event's own records, of no packet that is sent or lost
-abbrev AreAside : List Rec → Type 0
-AreAside rs = Each (λ r. (is_opening r ≡ false) × ((net : List Packet) → net_step net r ≡ net)) rs
+-- Q is so of each shape that a step from m may have, where P is so of the move that a place makes.
+pub record Shapes (m : Machine) (P : Conn → Move → Type 0) (Q : Event → Machine → Type 0) : Type 0 where
+  pub named : (w : Machine) (e : Event) (a : Act) (p : Part) → ActsFrom m w e a p → IsNamed e a.place a.c → P (conn m a.c) (move_of a (map Row (rec.Event 0 e ∷ behind e)) p) → Q e (acted w e (behind e) a)
+  pub comes : (w : Machine) (k : ℕ) (l : Packet) (a : Act) (p : Part) → ActsFrom m w (event.Deliver k) a p → Comes m k l a.place a.c → P (conn m a.c) (move_of a (Came (letter_of l) ∷ []) p)
+      → Q (event.Deliver k) (acted w (event.Deliver k) (rec.Got k ∷ []) a)
+  pub nobody : (k : ℕ) (l : Packet) → packet_at m.net k ≡ Some l → (l.lost ≡ false) × IsIgnored m l.from l.to → Q (event.Deliver k) (passed m (event.Deliver k) (rec.Got k ∷ []))
+  pub loses : (k : ℕ) (l : Packet) → packet_at m.net k ≡ Some l → l.lost ≡ false → Q (event.Lose k) (passed (record m { net = lose_at (k - 1) m.net }) (event.Lose k) (rec.Lost k ∷ []))
 
-aside-net : (net : List Packet) (rs : List Rec) → AreAside rs → fold net_step net rs ≡ net
-aside-net net [] e = refl
-aside-net net (r ∷ rs) e = ap (λ n. fold net_step n rs) (e.0.1 net) ∙ aside-net net rs e.1
+-- ---- packets of sound connections
 
-aside-inside : (rs : List Rec) → AreAside rs → AreInside rs
-aside-inside rs e = Each-weaker (λ r. (is_opening r ≡ false) × ((net : List Packet) → net_step net r ≡ net)) (λ r. is_opening r ≡ false) (λ r h. h.0) rs e
+between-has : (c : ℕ) (l : Letter) (ls : List Letter) → Has l ls → AreBetween c ls → GoesBetween c l.from l.to
+between-has c l [] h e = absurd h
+between-has c l (x ∷ xs) h e = ⊎_elim (λ (s : x ≡ l). subst (λ (k : Letter). GoesBetween c k.from k.to) s e.0) (λ (k : Has l xs). between-has c l xs k e.1) h
 
-module _ (m : Machine) (told : net_of m.journal ≡ m.net) where
-  acted-after : (w : Machine) (e : Event) (own_ : List Rec) (a : Act) → w.net ≡ m.net → w.journal ≡ m.journal → AreAside own_ → Each (NotedAt a.place a.c) a.turn.notes → IsAfter m (acted w e own_ a)
-  unfolding acted
-  acted-after w e own_ a net journal aside notes =
-      let A : List Rec = rec.Event (w.events + 1) e ∷ own_ in
-      let S : List Rec = sent_records (length w.net + 1) a.place a.turn.segments in
-      let T : List Rec = timer_change a.place a.c a.was_armed a.is_armed in
-      let inside : Rec → Type 0 = λ r. is_opening r ≡ false in
-      record {
-        step = records w e own_ a;
-        is = ap (λ (J : List Rec). J ++ records w e own_ a) journal;
-        one = (
-          refl,
-          Each-append inside ((own_ ++ a.turn.notes) ++ S) T (Each-append inside (own_ ++ a.turn.notes) S
-              (Each-append inside own_ a.turn.notes (aside-inside own_ aside) (Each-weaker (NotedAt a.place a.c) inside (note-inside a.place a.c) a.turn.notes notes))
-              (sents-inside (length w.net + 1) a.place a.turn.segments)) (timer-inside a.place a.c a.was_armed a.is_armed),
-        );
-        told =
-            fold-append net_step [] w.journal (((A ++ a.turn.notes) ++ S) ++ T)
-            ∙ ap (λ n. fold net_step n (((A ++ a.turn.notes) ++ S) ++ T)) (ap net_of journal ∙ told ∙ sym net)
-            ∙ fold-append net_step w.net ((A ++ a.turn.notes) ++ S) T
-            ∙ ap (λ n. fold net_step n T) (fold-append net_step w.net (A ++ a.turn.notes) S
-            ∙ ap (λ n. fold net_step n S) (fold-append net_step w.net A a.turn.notes ∙ ap (λ n. fold net_step n a.turn.notes) (aside-net w.net own_ aside) ∙ notes-net a.place a.c w.net a.turn.notes notes)
-            ∙ sents-net w.net (length w.net + 1) a.place a.turn.segments)
-            ∙ timer-net (w.net ++ packets_of a.place a.turn.segments) a.place a.c a.was_armed a.is_armed;
-      }
+module _ (m : Machine) (k : ℕ) (p : Packet) (at : packet_at m.net k ≡ Some p) where
+  -- it was sent on its connection
+  pub was-sent : (c : ℕ) → conn_of p.from p.to p.bytes ≡ Some c → Was (conn m c) p.from p.to p.bytes
+  unfolding conn
+  was-sent c of = has-letter c k m.net p at of
 
-  passed-after : (w : Machine) (e : Event) (r : Rec) → w.journal ≡ m.journal → is_opening r ≡ false → net_step m.net r ≡ w.net → IsAfter m (passed w e (r ∷ []))
-  passed-after w e r journal inside net = record {
-    step = rec.Event (w.events + 1) e ∷ r ∷ [];
-    is = ap (λ (J : List Rec). J ++ rec.Event (w.events + 1) e ∷ r ∷ []) journal;
-    one = (refl, (inside, tt));
-    told = fold-append net_step [] w.journal (rec.Event (w.events + 1) e ∷ r ∷ []) ∙ ap (λ n. net_step n r) (ap net_of journal ∙ told) ∙ net;
+  module _ (sound : (q : ℕ) → IsSound (conn m q)) where
+    -- so it goes between its client and the front end
+    pub goes-between : (d : ℕ) → conn_of p.from p.to p.bytes ≡ Some d → GoesBetween d p.from p.to
+    unfolding conn
+    goes-between d of = between-has d (letter_of p) (letters d m.net) (has-letter d k m.net p at of) (sound d).between
+
+    -- to a client it comes from the front end
+    from-front : (c : ℕ) → p.to ≡ Client c → p.from ≡ Front
+    from-front c to = go p.from refl where
+      go : (from : Place) → p.from ≡ from → from ≡ Front
+      go Front e = refl
+      go (Client d) e = absurd (subst (λ (q : Place). GoesBetween d (Client d) q) to (subst (λ (q : Place). GoesBetween d q p.to) e (goes-between d (ap (λ q. conn_of q p.to p.bytes) e))))
+      go (Node n) e = absurd (subst (λ (q : Place). GoesBetween c (Node n) q) to (subst (λ (q : Place). GoesBetween c q p.to) e (goes-between c (λ i. conn_of (e i) (to i) p.bytes))))
+
+  -- between these places
+  module _ (from to : Place) (is-from : p.from ≡ from) (is-to : p.to ≡ to) where
+    letter-is : ◌≡◌ {A = Letter} (letter_of p) (record { from = from; to = to; bytes = p.bytes })
+    letter-is = λ i. record { from = is-from i; to = is-to i; bytes = p.bytes }
+
+    was : (c : ℕ) → conn_of p.from p.to p.bytes ≡ Some c → Was (conn m c) from to p.bytes
+    was c of = subst (λ (l : Letter). Has l (conn m c).letters) letter-is (was-sent c of)
+
+-- ---- what a place keeps is put back
+
+module _ (m : Machine) where
+  client-mine : (c : ℕ) (s : Station) → part_of (client_put m c s) c ≡ with_station (part_of m c) s
+  unfolding part_of
+  client-mine c s = λ i. record { station = get_inserted m.clients c s i; front = front_part m.front c; seat = seat m c }
+
+  client-others : (c q : ℕ) (s : Station) → q ≢ c → part_of (client_put m c s) q ≡ part_of m q
+  unfolding part_of
+  client-others c q s n = λ i. record { station = get_other m.clients c q s n i; front = front_part m.front q; seat = seat m q }
+
+  client-from : (e : Event) (c iss : ℕ) (armed : Bool) (given : ClientBlock × Turn) → armed ≡ station_armed (table.get m.clients c) → IsTurn (Client c) c given.1 → HasOwn e (behind e ++ given.1.notes)
+      → ActsFrom m (client_put m c (record { client = given.0; iss = iss })) e (record { place = Client c; c = c; turn = given.1; was_armed = armed; is_armed = is_armed given.0 })
+      (with_station (part_of m c) (record { client = given.0; iss = iss }))
+  unfolding part_of
+  client-from e c iss armed given timer turn first = record {
+    net = refl;
+    journal = refl;
+    events = refl;
+    answered = refl;
+    mine = client-mine c (record { client = given.0; iss = iss });
+    others = λ q n. client-others c q (record { client = given.0; iss = iss }) n;
+    was = timer;
+    now = refl;
+    opened = refl;
+    turn = turn;
+    first = first;
   }
 
-  client-after : (e : Event) (own_ : List Rec) (c iss : ℕ) (was : Bool) (given : ClientBlock × Turn) → AreAside own_ → IsClientTurn c given → IsAfter m (client_acted m e own_ c iss was given)
-  client-after e own_ c iss was given aside turn =
-      acted-after (client_put m c (record { client = given.0; iss = iss })) e own_ (record { place = Client c; c = c; turn = given.1; was_armed = was; is_armed = is_armed given.0 }) refl refl aside turn.notes
+  front-mine : (c : ℕ) (x : Seat) → MayFollow (seat m c) x → part_of (with_seat m c x) c ≡ with_front (part_of m c) x
+  unfolding part_of
+  front-mine c x may = λ i. record { station = table.get m.clients c; front = part-here m.front c x i; seat = seat-here m.front c x may i }
 
-  front-after : (e : Event) (own_ : List Rec) (c : ℕ) (given : Seat × Turn) → AreAside own_ → IsFrontTurn c (seat m c) given → IsAfter m (front_acted m e own_ c given)
-  front-after e own_ c given aside turn =
-      acted-after (with_seat m c given.0) e own_ (record { place = Front; c = c; turn = given.1; was_armed = front_armed (seat m c); is_armed = front_armed given.0 }) refl refl aside turn.notes
+  front-others : (c q : ℕ) (x : Seat) → q ≢ c → part_of (with_seat m c x) q ≡ part_of m q
+  unfolding part_of
+  front-others c q x n = λ i. record { station = table.get m.clients q; front = part-elsewhere m.front c x q n i; seat = seat-elsewhere m.front c x q n i }
 
-  -- in each form of a step, where each client is its own
-  forms-after : ((c : ℕ) (x : Station) → table.get m.clients c ≡ Some x → x.client.c ≡ c) → Forms m (λ e n. IsAfter m n)
-  forms-after number = record {
-    opens = λ c isn iss wnd mss rule none. client-after (event.Open c isn iss wnd mss) (rec.Opened c isn iss wnd mss ∷ []) c iss false (client_opens c isn wnd mss) ((refl, λ net. refl), tt) (opens-turn c isn wnd mss);
-    gets = λ c path x is le. client-after (event.Get c path) [] c x.iss (is_armed x.client) (client_writes x.client (request path)) tt (writes-turn c x.client (number c x is) (request path));
-    writes = λ c bytes x is le. client-after (event.Write c bytes) [] c x.iss (is_armed x.client) (client_writes x.client bytes) tt (writes-turn c x.client (number c x is) bytes);
-    shuts = λ c x is. client-after (event.Shut c) [] c x.iss (is_armed x.client) (client_shuts x.client) tt (shuts-turn c x.client (number c x is));
-    aborts = λ c x is. client-after (event.Abort c) [] c x.iss (is_armed x.client) (client_aborts x.client) tt (aborts-turn c x.client (number c x is));
-    holds = λ c x is. client-after (event.Hold c) [] c x.iss (is_armed x.client) (client_holds x.client) tt (holds-turn c x.client (number c x is));
-    takes = λ c x is. client-after (event.Take c) [] c x.iss (is_armed x.client) (client_takes x.client) tt (takes-turn c x.client (number c x is));
-    injects = λ c bytes x rule is. client-after (event.Inject c bytes) (rec.Injected c ∷ []) c x.iss (is_armed x.client) (client_injects x.client bytes) ((refl, λ net. refl), tt) (injects-turn c x.client (number c x is) bytes);
-    client_timer = λ d c x same is. client-after (event.Timer (Client d) c) [] c x.iss (is_armed x.client) (client_timer x.client) tt (fires-turn c x.client (number c x is));
-    front_timer = λ c x is. front-after (event.Timer Front c) [] c (front_timer (env_of m c x.iss) (seat m c)) tt (front_fires-turn (env_of m c x.iss) (seat m c));
-    front_gets = λ k c p x at on from to is. front-after (event.Deliver k) (rec.Got k ∷ []) c (front_gets (env_of m c x.iss) (seat m c) (decoded p.bytes c ToCluster)) ((refl, λ net. refl), tt)
-        (front_gets-turn (env_of m c x.iss) (seat m c) (decoded p.bytes c ToCluster));
-    client_gets = λ k c p x at on to is. client-after (event.Deliver k) (rec.Got k ∷ []) c x.iss (is_armed x.client) (client_gets x.client (decoded p.bytes c ToClient)) ((refl, λ net. refl), tt)
-        (hears-turn c x.client (number c x is) (decoded p.bytes c ToClient));
-    nobody = λ k p at on. passed-after m (event.Deliver k) (rec.Got k) refl refl refl;
-    loses = λ k p at on. passed-after (record m { net = lose_at (k - 1) m.net }) (event.Lose k) (rec.Lost k) refl refl refl;
+  front-from : (e : Event) (c : ℕ) (x : Station) (given : Seat × Turn) → table.get m.clients c ≡ Some x → MayFollow (seat m c) given.0 → IsTurn Front c given.1
+      → HasOwn e (behind e ++ given.1.notes)
+      → ActsFrom m (with_seat m c given.0) e (record { place = Front; c = c; turn = given.1; was_armed = front_armed (seat m c); is_armed = front_armed given.0 }) (with_front (part_of m c) given.0)
+  unfolding part_of
+  front-from e c x given is may turn first = record {
+    net = refl;
+    journal = refl;
+    events = refl;
+    answered = refl;
+    mine = front-mine c given.0 may;
+    others = λ q n. front-others c q given.0 n;
+    was = refl;
+    now = refl;
+    opened = subst (λ (o : Option Station). IsSome o) (sym is) refl;
+    turn = turn;
+    first = first;
   }
 
-  pub step-after : ((c : ℕ) (x : Station) → table.get m.clients c ≡ Some x → x.client.c ≡ c) → (e : Event) (n : Machine) → HasRule e → machine_step m e ≡ Ok n → IsAfter m n
-  step-after number e n rule is = step_has m n e (λ d k. IsAfter m k) (forms-after number) rule is
+-- ---- each form has its shape
+
+module _ (m : Machine) (sound : (q : ℕ) → IsSound (conn m q)) (P : Conn → Move → Type 0) (R : Rules (setting_of m) P) (Q : Event → Machine → Type 0) (s : Shapes m P Q) where
+  abbrev Does : Conn → Move → Type 0
+  Does x v = P x v × IsFine x v
+
+  G : Rules (setting_of m) Does
+  G = both (setting_of m) P IsFine R (fine (setting_of m))
+
+  -- a client that opened acts, by an event that names it
+  event-shape : (e : Event) (c : ℕ) (x : Station) (given : ClientBlock × Turn) → table.get m.clients c ≡ Some x → IsNamed e (Client c) c → HasOwn e (behind e ++ given.1.notes)
+      → Does (conn m c) (client_does (conn m c) x (map Row (rec.Event 0 e ∷ behind e)) given) → Q e (client_acted m e (behind e) c x.iss (is_armed x.client) given)
+  unfolding conn
+  event-shape e c x given is named first does = s.named _ e _ _ (client-from m e c x.iss (is_armed x.client) given (sym (ap station_armed is)) (does.1 (sound c)).0 first) named does.0
+
+  -- a packet comes to a client that opened
+  packet-shape : (k c : ℕ) (l : Packet) (x : Station) (given : ClientBlock × Turn) → table.get m.clients c ≡ Some x → Comes m k l (Client c) c → HasOwn (event.Deliver k) (rec.Got k ∷ given.1.notes)
+      → Does (conn m c) (client_does (conn m c) x (Came (letter_of l) ∷ []) given) → Q (event.Deliver k) (client_goes_on m (event.Deliver k) (rec.Got k ∷ []) c x given)
+  unfolding conn
+  packet-shape k c l x given is comes first does = s.comes _ k l _ _ (client-from m (event.Deliver k) c x.iss (is_armed x.client) given (sym (ap station_armed is)) (does.1 (sound c)).0 first) comes does.0
+
+  -- the front end's timer fires, or a packet comes to it
+  fires-shape : (c : ℕ) (x : Station) (given : Seat × Turn) → table.get m.clients c ≡ Some x → MayFollow (seat m c) given.0 → HasOwn (event.Timer Front c) given.1.notes
+      → Does (conn m c) (front_does (conn m c) (Row (rec.Event 0 (event.Timer Front c)) ∷ []) given) → Q (event.Timer Front c) (front_acted m (event.Timer Front c) [] c given)
+  unfolding conn
+  fires-shape c x given is may first does =
+      s.named _ (event.Timer Front c) _ _ (front-from m (event.Timer Front c) c x given is may (does.1 (sound c)).0 first) (record { acts = λ J. refl; of = refl; aside = tt }) does.0
+
+  front-shape : (k c : ℕ) (l : Packet) (x : Station) (given : Seat × Turn) → table.get m.clients c ≡ Some x → Comes m k l Front c → MayFollow (seat m c) given.0
+      → HasOwn (event.Deliver k) (rec.Got k ∷ given.1.notes) → Does (conn m c) (front_does (conn m c) (Came (letter_of l) ∷ []) given) → Q (event.Deliver k) (front_acted m (event.Deliver k) (rec.Got k ∷ []) c given)
+  unfolding conn
+  front-shape k c l x given is comes may first does = s.comes _ k l _ _ (front-from m (event.Deliver k) c x given is may (does.1 (sound c)).0 first) comes does.0
+
+  -- a packet that is seen to come is this one
+  seen-come : (l : Packet) (c : ℕ) (from to : Place) (v : List Seen → Move) → l.from ≡ from → l.to ≡ to → Does (conn m c) (v (packet_seen from to l.bytes)) → Does (conn m c) (v (Came (letter_of l) ∷ []))
+  seen-come l c from to v is-from is-to does =
+      let same : ◌≡◌ {A = Letter} (record { from = from; to = to; bytes = l.bytes }) (letter_of l) = λ j. record { from = sym is-from j; to = sym is-to j; bytes = l.bytes } in
+      subst (λ (k : Letter). Does (conn m c) (v (Came k ∷ []))) same does
+
+  shapes-forms : Forms m Q
+  unfolding conn part_of
+  shapes-forms = record {
+    opens = λ c isn iss wnd mss rule none.
+        let does = G.untouched.opens (conn m c) isn iss wnd mss rule none in
+        s.named _ (event.Open c isn iss wnd mss) _ _ (client-from m (event.Open c isn iss wnd mss) c iss false (client_opens c isn wnd mss) (sym (ap station_armed none)) (does.1 (sound c)).0
+        (own-alone (event.Open c isn iss wnd mss) (rec.Opened c isn iss wnd mss ∷ []) refl)) (record { acts = λ J. refl; of = refl; aside = (refl, tt) }) does.0;
+    gets = λ c path x is le. event-shape (event.Get c path) c x (client_writes x.client (request path)) is (record { acts = λ J. refl; of = refl; aside = tt })
+        (own-alone (event.Get c path) (client_writes x.client (request path)).1.notes (writes-own x.client c (request path) ((sound c).number x is))) (G.untouched.gets (conn m c) x path is le);
+    writes = λ c bytes x is le. event-shape (event.Write c bytes) c x (client_writes x.client bytes) is (record { acts = λ J. refl; of = refl; aside = tt })
+        (own-alone (event.Write c bytes) (client_writes x.client bytes).1.notes (writes-own x.client c bytes ((sound c).number x is))) (G.untouched.writes (conn m c) x bytes is le);
+    shuts = λ c x is. event-shape (event.Shut c) c x (client_shuts x.client) is (record { acts = λ J. refl; of = refl; aside = tt }) (own-alone (event.Shut c) [] refl) (G.untouched.shuts (conn m c) x is);
+    aborts = λ c x is. event-shape (event.Abort c) c x (client_aborts x.client) is (record { acts = λ J. refl; of = refl; aside = tt })
+        (own-alone (event.Abort c) (rec.Aborted x.client.c ∷ []) (ap (λ d. rec.Aborted d ∷ []) ((sound c).number x is))) (G.untouched.aborts (conn m c) x is);
+    holds = λ c x is. event-shape (event.Hold c) c x (client_holds x.client) is (record { acts = λ J. refl; of = refl; aside = tt }) (own-alone (event.Hold c) [] refl) (G.untouched.holds (conn m c) x is);
+    takes = λ c x is. event-shape (event.Take c) c x (client_takes x.client) is (record { acts = λ J. refl; of = refl; aside = tt }) (own-alone (event.Take c) [] refl) (G.untouched.takes (conn m c) x is);
+    injects = λ c bytes x rule is. event-shape (event.Inject c bytes) c x (client_injects x.client bytes) is (record { acts = λ J. refl; of = refl; aside = (refl, tt) })
+        (own-alone (event.Inject c bytes) (rec.Injected c ∷ []) refl) (G.injects (conn m c) x bytes is rule);
+    client_timer = λ d c x same is. subst (λ (z : ℕ). Q (event.Timer (Client z) c) (client_goes_on m (event.Timer (Client z) c) [] c x (client_timer x.client))) (sym same)
+        (event-shape (event.Timer (Client c) c) c x (client_timer x.client) is (record { acts = λ J. refl; of = refl; aside = tt }) (own-alone (event.Timer (Client c) c) [] refl) (G.untouched.client_fires (conn m c) x is));
+    front_timer = λ c x is.
+        let turn = front_fires-turn (env_of m c x.iss) (seat m c) in
+        let given = front_timer (env_of m c x.iss) (seat m c) in
+        fires-shape c x given is (fires-settles (env_of m c x.iss) (seat m c)).follows (own-front (event.Timer Front c) [] given.1.notes c refl turn.notes) (G.untouched.front_fires (conn m c) x is);
+    front_gets = λ k c l x at there from to is.
+        let turn = front_gets-turn (env_of m c x.iss) (seat m c) (decoded l.bytes c ToCluster) in
+        let given = front_gets (env_of m c x.iss) (seat m c) (decoded l.bytes c ToCluster) in
+        let of : conn_of l.from l.to l.bytes ≡ Some c = ap (λ q. conn_of q l.to l.bytes) from in
+        front-shape k c l x given is (record { at = at; there = there; to = to; of = of }) (gets-settles (env_of m c x.iss) (seat m c) (decoded l.bytes c ToCluster)).follows (own-front (event.Deliver k) (rec.Got k ∷ []) given.1.notes c refl turn.notes)
+        (seen-come l c (Client c) Front (λ heads. front_does (conn m c) heads given) from to (G.untouched.front_hears (conn m c) x l.bytes is (was m k l at (Client c) Front from to c of)));
+    client_gets = λ k c l x at there to is.
+        let given = client_gets x.client (decoded l.bytes c ToClient) in
+        let from : l.from ≡ Front = from-front m k l at sound c to in
+        let of : conn_of l.from l.to l.bytes ≡ Some c = λ i. conn_of (from i) (to i) l.bytes in
+        packet-shape k c l x given is (record { at = at; there = there; to = to; of = of }) (rec.Got k ∷ [], given.1.notes, refl, refl, gets-others x.client (decoded l.bytes c ToClient))
+        (seen-come l c Front (Client c) (λ heads. client_does (conn m c) x heads given) from to (G.untouched.client_hears (conn m c) x l.bytes is (was m k l at Front (Client c) from to c of)));
+    nobody = s.nobody;
+    loses = s.loses;
+  }
+
+  -- what is so of each shape is so of a step that is done
+  pub step-has : (e : Event) (n : Machine) → HasRule e → machine_step m e ≡ Ok n → Q e n
+  step-has e n rule is = step_has m n e Q shapes-forms rule is
+
+-- the same where nothing is asked of the move
+pub step-shaped : (m n : Machine) (e : Event) (Q : Event → Machine → Type 0) → ((q : ℕ) → IsSound (conn m q)) → Shapes m IsFine Q → HasRule e → machine_step m e ≡ Ok n → Q e n
+step-shaped m n e Q sound s rule is = step-has m sound IsFine (fine (setting_of m)) Q s e n rule is

@@ -6,7 +6,7 @@ use Rattle.std.specs.List.{fold}
 use Rattle.lard_answers.specs.Answers.{answer, answer_code}
 use Rattle.lard_base.specs.declared.event.Event.TheVariants as event
 use Rattle.lard_base.specs.declared.place.Place.{Place}
-use Rattle.lard_base.specs.declared.place.Place.TheVariants.{Front, Node, Client}
+use Rattle.lard_base.specs.declared.place.Place.TheVariants.{Front, Client}
 use Rattle.lard_base.specs.declared.place.Reason.TheVariants as reason
 use Rattle.lard_base.specs.declared.place.Via.TheVariants.{Own}
 use Rattle.lard_client.specs.Arriving.{arrived}
@@ -14,11 +14,11 @@ use Rattle.lard_client.specs.Control.{ClientBlock, aborted, held_on, is_writing,
 use Rattle.lard_client.specs.Leaving.{abort_ready, after_timer, timed}
 use Rattle.lard_endpoint.specs.declared.control.moving.Final.{Final}
 use Rattle.lard_endpoint.specs.Arriving.{on_segment}
-use Rattle.lard_endpoint.specs.Control.{ControlBlock, listening}
+use Rattle.lard_endpoint.specs.Control.{listening}
 use Rattle.lard_endpoint.specs.Leaving as leaving
-use Rattle.lard_endpoint.specs.Moving.{end_reason, final_of, may_end}
+use Rattle.lard_endpoint.specs.Moving.{final_of}
 use Rattle.lard_history.specs.Journal.{answered_step, request}
-use Rattle.lard_history.specs.Own.{Letter, Seen, conn_of, plain, whose}
+use Rattle.lard_history.specs.Own.{Letter, Seen}
 use Rattle.lard_history.proofs.Each.{Each, Each-append, Each-weaker}
 use Rattle.lard_journal.specs.declared.rec.Rec.{Rec}
 use Rattle.lard_journal.specs.declared.rec.Rec.TheVariants as rec
@@ -281,21 +281,23 @@ begins-fine x isn iss wnd mss h =
 -- each rule is fine
 pub fine : (k : Setting) → Rules k IsFine
 fine k = record {
-  opens = λ x isn iss wnd mss rule none. begins-fine x isn iss wnd mss;
-  gets = λ x s path there le. client-fine x s (event_seen (event.Get x.c path)) (client_writes s.client (request path)) (λ h. writes-turn x.c s.client (h.number s there) (request path));
-  writes = λ x s bytes there le. client-fine x s (event_seen (event.Write x.c bytes)) (client_writes s.client bytes) (λ h. writes-turn x.c s.client (h.number s there) bytes);
-  shuts = λ x s there. client-fine x s (event_seen (event.Shut x.c)) (client_shuts s.client) (λ h. shuts-turn x.c s.client (h.number s there));
-  aborts = λ x s there. client-fine x s (event_seen (event.Abort x.c)) (client_aborts s.client) (λ h. aborts-turn x.c s.client (h.number s there));
-  holds = λ x s there. client-fine x s (event_seen (event.Hold x.c)) (client_holds s.client) (λ h. holds-turn x.c s.client (h.number s there));
-  takes = λ x s there. client-fine x s (event_seen (event.Take x.c)) (client_takes s.client) (λ h. takes-turn x.c s.client (h.number s there));
+  untouched = record {
+    opens = λ x isn iss wnd mss rule none. begins-fine x isn iss wnd mss;
+    gets = λ x s path there le. client-fine x s (event_seen (event.Get x.c path)) (client_writes s.client (request path)) (λ h. writes-turn x.c s.client (h.number s there) (request path));
+    writes = λ x s bytes there le. client-fine x s (event_seen (event.Write x.c bytes)) (client_writes s.client bytes) (λ h. writes-turn x.c s.client (h.number s there) bytes);
+    shuts = λ x s there. client-fine x s (event_seen (event.Shut x.c)) (client_shuts s.client) (λ h. shuts-turn x.c s.client (h.number s there));
+    aborts = λ x s there. client-fine x s (event_seen (event.Abort x.c)) (client_aborts s.client) (λ h. aborts-turn x.c s.client (h.number s there));
+    holds = λ x s there. client-fine x s (event_seen (event.Hold x.c)) (client_holds s.client) (λ h. holds-turn x.c s.client (h.number s there));
+    takes = λ x s there. client-fine x s (event_seen (event.Take x.c)) (client_takes s.client) (λ h. takes-turn x.c s.client (h.number s there));
+    client_fires = λ x s there. client-fine x s (event_seen (event.Timer (Client x.c) x.c)) (client_timer s.client) (λ h. fires-turn x.c s.client (h.number s there));
+    client_hears = λ x s bytes there was. client-fine x s (packet_seen Front (Client x.c) bytes) (client_gets s.client (decoded bytes x.c ToClient))
+        (λ h. hears-turn x.c s.client (h.number s there) (decoded bytes x.c ToClient));
+    front_fires = λ x s there. front-fine x (event_seen (event.Timer Front x.c)) (front_timer (env_at k x s) x.part.seat) (fires-settles (env_at k x s) x.part.seat) (front_fires-turn (env_at k x s) x.part.seat);
+    front_hears = λ x s bytes there was. front-fine x (packet_seen (Client x.c) Front bytes) (front_gets (env_at k x s) x.part.seat (decoded bytes x.c ToCluster))
+        (gets-settles (env_at k x s) x.part.seat (decoded bytes x.c ToCluster)) (front_gets-turn (env_at k x s) x.part.seat (decoded bytes x.c ToCluster));
+    ignores = λ x from to bytes was h.
+        let fine : IsTurn to x.c silent = record { notes = tt; segments = tt; answered = λ n. omega arith } in
+        (fine, record { between = between-grown x (ignoring x from to bytes) h fine; number = h.number; seat = h.seat });
+  };
   injects = λ x s bytes there rule. client-fine x s (inject_seen x.c bytes) (client_injects s.client bytes) (λ h. injects-turn x.c s.client (h.number s there) bytes);
-  client_fires = λ x s there. client-fine x s (event_seen (event.Timer (Client x.c) x.c)) (client_timer s.client) (λ h. fires-turn x.c s.client (h.number s there));
-  client_hears = λ x s bytes there was. client-fine x s (packet_seen Front (Client x.c) bytes) (client_gets s.client (decoded bytes x.c ToClient))
-      (λ h. hears-turn x.c s.client (h.number s there) (decoded bytes x.c ToClient));
-  front_fires = λ x s there. front-fine x (event_seen (event.Timer Front x.c)) (front_timer (env_at k x s) x.part.seat) (fires-settles (env_at k x s) x.part.seat) (front_fires-turn (env_at k x s) x.part.seat);
-  front_hears = λ x s bytes there was. front-fine x (packet_seen (Client x.c) Front bytes) (front_gets (env_at k x s) x.part.seat (decoded bytes x.c ToCluster))
-      (gets-settles (env_at k x s) x.part.seat (decoded bytes x.c ToCluster)) (front_gets-turn (env_at k x s) x.part.seat (decoded bytes x.c ToCluster));
-  ignores = λ x from to bytes was h.
-      let fine : IsTurn to x.c silent = record { notes = tt; segments = tt; answered = λ n. omega arith } in
-      (fine, record { between = between-grown x (ignoring x from to bytes) h fine; number = h.number; seat = h.seat });
 }

@@ -1,25 +1,15 @@
 -- What a law of one connection owes, to be a law of every run.
-use Rattle.std.specs.Prelude.{◌≡◌, ℕ, nat_lt, false, List, [], ◌∷◌, Some, None}
+use Rattle.std.specs.Prelude.{◌≡◌, ℕ, false, List, [], ◌∷◌}
 use Rattle.lard_base.specs.declared.config.Config.{Config}
 use Rattle.lard_base.specs.declared.event.Event.{Event}
-use Rattle.lard_base.specs.declared.event.Event.TheVariants as event
-use Rattle.lard_base.specs.declared.place.Place.{Place}
-use Rattle.lard_base.specs.declared.place.Place.TheVariants.{Front, Client}
-use Rattle.lard_client.specs.Control.{written_len}
 use Rattle.lard_files.specs.Files.{file_at}
-use Rattle.lard_history.specs.Journal.{Tale, request, tale_step}
+use Rattle.lard_history.specs.Journal.{Tale, tale_step}
 use Rattle.lard_history.specs.Own.{EachRow, Seen, tale_of}
 use Rattle.lard_journal.specs.declared.rec.Rec.{Rec}
 use Rattle.lard_journal.specs.declared.rec.Rec.TheVariants as rec
 use Rattle.lard_machine.specs.declared.machine.Machine.{Machine}
-use Rattle.lard_rules.specs.declared.places.Station.{Station}
-use Rattle.lard_machine.specs.Bounds.{HasRule}
-use Rattle.lard_rules.specs.Client.{client_writes, client_shuts, client_holds, client_takes, client_aborts, client_timer, client_gets}
-use Rattle.lard_rules.specs.Front.{front_gets, front_timer}
 use Rattle.lard_machine.specs.Machine.{IsReached}
-use Rattle.lard_segment.specs.declared.segment.Dir.TheVariants.{ToClient, ToCluster}
-use Rattle.lard_segment.specs.Segment.{decoded}
-use Rattle.lard_view.specs.View.{Conn, IsSound, Move, Rules, Setting, Was, blank, client_begins, client_does, conn, env_at, event_seen, front_does, grown, ignoring, packet_seen, seen_in}
+use Rattle.lard_view.specs.View.{Conn, IsSound, Rules, Setting, UntouchedRules, blank, conn, grown, seen_in}
 
 abbrev pub setting : Config → List (List ℕ × List ℕ) → Setting
 setting config files = record { files = file_at files; stream = config.stream }
@@ -43,26 +33,6 @@ pub record IsStepLaw (k : Setting) (Given : Conn → Type 0) (must : ℕ → Lis
 -- what is told of a connection
 abbrev pub tale_at : Conn → Tale
 tale_at x = tale_of x.c x.seen
-
--- P is so of each move that a rule makes, but of a packet that the schedule puts on the way
-pub record UntouchedRules (k : Setting) (P : Conn → Move → Type 0) : Type 0 where
-  pub opens : (x : Conn) (isn iss wnd mss : ℕ) → HasRule (event.Open x.c isn iss wnd mss) → x.part.station ≡ None → P x (client_begins x isn iss wnd mss)
-  pub gets : (x : Conn) (s : Station) (path : List ℕ) → x.part.station ≡ Some s → nat_lt k.stream (written_len s.client (request path)) ≡ false
-      → P x (client_does x s (event_seen (event.Get x.c path)) (client_writes s.client (request path)))
-  pub writes : (x : Conn) (s : Station) (bytes : List ℕ) → x.part.station ≡ Some s → nat_lt k.stream (written_len s.client bytes) ≡ false
-      → P x (client_does x s (event_seen (event.Write x.c bytes)) (client_writes s.client bytes))
-  pub shuts : (x : Conn) (s : Station) → x.part.station ≡ Some s → P x (client_does x s (event_seen (event.Shut x.c)) (client_shuts s.client))
-  pub aborts : (x : Conn) (s : Station) → x.part.station ≡ Some s → P x (client_does x s (event_seen (event.Abort x.c)) (client_aborts s.client))
-  pub holds : (x : Conn) (s : Station) → x.part.station ≡ Some s → P x (client_does x s (event_seen (event.Hold x.c)) (client_holds s.client))
-  pub takes : (x : Conn) (s : Station) → x.part.station ≡ Some s → P x (client_does x s (event_seen (event.Take x.c)) (client_takes s.client))
-  pub client_fires : (x : Conn) (s : Station) → x.part.station ≡ Some s → P x (client_does x s (event_seen (event.Timer (Client x.c) x.c)) (client_timer s.client))
-  pub client_hears : (x : Conn) (s : Station) (bytes : List ℕ) → x.part.station ≡ Some s → Was x Front (Client x.c) bytes
-      → P x (client_does x s (packet_seen Front (Client x.c) bytes) (client_gets s.client (decoded bytes x.c ToClient)))
-  pub front_fires : (x : Conn) (s : Station) → x.part.station ≡ Some s
-      → P x (front_does x (event_seen (event.Timer Front x.c)) (front_timer (env_at k x s) x.part.seat))
-  pub front_hears : (x : Conn) (s : Station) (bytes : List ℕ) → x.part.station ≡ Some s → Was x (Client x.c) Front bytes
-      → P x (front_does x (packet_seen (Client x.c) Front bytes) (front_gets (env_at k x s) x.part.seat (decoded bytes x.c ToCluster)))
-  pub ignores : (x : Conn) (from to : Place) (bytes : List ℕ) → Was x from to bytes × (x.part.station ≡ None) → P x (ignoring x from to bytes)
 
 -- Of a connection as long as the schedule did not touch it: it holds of what is blank, and each rule keeps it.
 pub record IsUntouchedLaw (k : Setting) (Given Inv : Conn → Type 0) : Type 0 where

@@ -153,8 +153,9 @@ ignoring x from to bytes = record { place = to; heads = packet_seen from to byte
 abbrev pub env_at : Setting → Conn → Station → FrontEnv
 env_at k x s = record { c = x.c; iss = s.iss; files = k.files; stream = k.stream }
 
--- P is so of each move that a rule makes
-pub record Rules (k : Setting) (P : Conn → Move → Type 0) : Type 0 where
+-- P is so of each move of a rule that leaves a connection untouched: of all rules but that of a packet which the schedule puts
+-- on the way.
+pub record UntouchedRules (k : Setting) (P : Conn → Move → Type 0) : Type 0 where
   pub opens : (x : Conn) (isn iss wnd mss : ℕ) → HasRule (event.Open x.c isn iss wnd mss) → x.part.station ≡ None → P x (client_begins x isn iss wnd mss)
   pub gets : (x : Conn) (s : Station) (path : List ℕ) → x.part.station ≡ Some s → nat_lt k.stream (written_len s.client (request path)) ≡ false
       → P x (client_does x s (event_seen (event.Get x.c path)) (client_writes s.client (request path)))
@@ -164,8 +165,6 @@ pub record Rules (k : Setting) (P : Conn → Move → Type 0) : Type 0 where
   pub aborts : (x : Conn) (s : Station) → x.part.station ≡ Some s → P x (client_does x s (event_seen (event.Abort x.c)) (client_aborts s.client))
   pub holds : (x : Conn) (s : Station) → x.part.station ≡ Some s → P x (client_does x s (event_seen (event.Hold x.c)) (client_holds s.client))
   pub takes : (x : Conn) (s : Station) → x.part.station ≡ Some s → P x (client_does x s (event_seen (event.Take x.c)) (client_takes s.client))
-  pub injects : (x : Conn) (s : Station) (bytes : List ℕ) → x.part.station ≡ Some s → HasRule (event.Inject x.c bytes)
-      → P x (client_does x s (inject_seen x.c bytes) (client_injects s.client bytes))
   pub client_fires : (x : Conn) (s : Station) → x.part.station ≡ Some s → P x (client_does x s (event_seen (event.Timer (Client x.c) x.c)) (client_timer s.client))
   pub client_hears : (x : Conn) (s : Station) (bytes : List ℕ) → x.part.station ≡ Some s → Was x Front (Client x.c) bytes
       → P x (client_does x s (packet_seen Front (Client x.c) bytes) (client_gets s.client (decoded bytes x.c ToClient)))
@@ -174,6 +173,12 @@ pub record Rules (k : Setting) (P : Conn → Move → Type 0) : Type 0 where
   pub front_hears : (x : Conn) (s : Station) (bytes : List ℕ) → x.part.station ≡ Some s → Was x (Client x.c) Front bytes
       → P x (front_does x (packet_seen (Client x.c) Front bytes) (front_gets (env_at k x s) x.part.seat (decoded bytes x.c ToCluster)))
   pub ignores : (x : Conn) (from to : Place) (bytes : List ℕ) → Was x from to bytes × (x.part.station ≡ None) → P x (ignoring x from to bytes)
+
+-- P is so of each move that a rule makes
+pub record Rules (k : Setting) (P : Conn → Move → Type 0) : Type 0 where
+  pub untouched : UntouchedRules k P
+  pub injects : (x : Conn) (s : Station) (bytes : List ℕ) → x.part.station ≡ Some s → HasRule (event.Inject x.c bytes)
+      → P x (client_does x s (inject_seen x.c bytes) (client_injects s.client bytes))
 
 -- ---- what the view itself rests on
 
