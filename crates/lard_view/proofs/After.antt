@@ -15,7 +15,8 @@ use Rattle.lard_journal.specs.declared.rec.Rec.{Rec}
 use Rattle.lard_journal.specs.declared.rec.Rec.TheVariants as rec
 use Rattle.lard_machine.specs.declared.machine.Machine.{Machine}
 use Rattle.lard_machine.specs.Bounds.{HasRule}
-use Rattle.lard_machine.specs.Machine.{Act, acted, machine_step, packets_of, passed, records, sent_records, timer_change}
+use Rattle.lard_machine.specs.Machine.{Act, acted, machine_step, packets_of, passed, records, sent_records}
+use Rattle.lard_rules.specs.Outs.{timer_change}
 use Rattle.lard_net.specs.Net.{Packet, lose_at}
 use Rattle.lard_view.specs.View.{Conn, IsSound, Move, armed_at, conn, rows_of, sending, timer_rows}
 use Rattle.lard_view.proofs.Moving.{notes-net, sents-net, timer-net}
