@@ -1,5 +1,5 @@
 -- A connection of which no timer runs is complete.
-use Rattle.std.proofs.Common.{◌≡◌, ◌≤◌, ◌+◌, ◌^◌, ℕ, Bool, true, false, cond, not, ◌&&◌, List, map, length, take, Option, Some, None, arith, refl, ap, ◌∙◌, sym, subst}
+use Rattle.std.proofs.Common.{◌≡◌, ◌≢◌, ◌≤◌, ◌+◌, ◌^◌, ℕ, Bool, true, false, cond, not, ◌&&◌, List, map, length, take, Option, Some, None, arith, refl, ap, ◌∙◌, sym, subst}
 use Rattle.std.proofs.lemmas.Bool.{and_parts, both_ways, eqb-true}
 use Rattle.std.proofs.Math.Seq.{take-length}
 use Rattle.std.specs.List.{concat}
@@ -84,14 +84,14 @@ module _ (files : FilesAt) (w out : Stream) (vs : List Verdict) (x : ClientBlock
       by-reading false e open_ = open_ e
 
   -- one that both sides closed
-  closed-done : (last : Final) → EndedAs w out vs last → Acks out.first (taken_by x) last.snd.0 → x.accepted ≤ 2 ^ 30 → IsDone w out vs x
-  closed-done last e acks few = held-done e.block e.count e.held heard taken where
+  closed-done : (last : Final) → last.reason ≡ reason.Closed → EndedAs w out vs last → Acks out.first (taken_by x) last.snd.0 → x.accepted ≤ 2 ^ 30 → IsDone w out vs x
+  closed-done last why e acks few = held-done e.block e.count e.held heard taken where
     b : ControlBlock
     b = e.block
 
     both : (b.send.finished ≡ true) × (is_clear b.send ≡ true) × (b.recv.fin ≡ true)
     both =
-        let ends = and_parts (b.send.finished && is_clear b.send) b.recv.fin e.both in
+        let ends = and_parts (b.send.finished && is_clear b.send) b.recv.fin (e.both why) in
         let said = and_parts b.send.finished (is_clear b.send) ends.0 in
         (said.0, said.1, ends.1)
 
@@ -191,8 +191,11 @@ module _ (files : FilesAt) (c : ℕ) (w out : Stream) (vs : List Verdict) (x : S
     held : FrontHolds x.iss (taken_by x.client) y.aborted (Some (Closed last))
     held = subst (λ (o : Option FrontConn). FrontHolds x.iss (taken_by x.client) y.aborted o) e r.front
 
+    not_limit : last.reason ≡ reason.Closed → last.reason ≢ reason.Limit
+    not_limit is l = let no : reason.Closed ≡ reason.Limit = sym is ∙ l in cc
+
     by-reason : (why : Reason) → last.reason ≡ why → Done
-    by-reason reason.Closed is = closed-done files w out vs x.client a.says a.client.accepts last (h.closed is) (subst (λ (n : ℕ). Acks n (taken_by x.client) last.snd.0) (sym a.begins) (held.0 is)) few
+    by-reason reason.Closed is = closed-done files w out vs x.client a.says a.client.accepts last is (h.ended (not_limit is)) (subst (λ (n : ℕ). Acks n (taken_by x.client) last.snd.0) (sym a.begins) (held.0 is)) few
     by-reason reason.Peer is = absurd (both_ways y.aborted not_aborted (held.1 is))
     by-reason reason.Limit is = absurd (both_ways y.reset not_reset (sym told ∙ h.limit is))
 

@@ -7,14 +7,14 @@ use Rattle.lard_base.specs.declared.event.Event.TheVariants as event
 use Rattle.lard_base.specs.declared.place.Place.{Place}
 use Rattle.lard_base.specs.declared.place.Place.TheVariants.{Front, Client}
 use Rattle.lard_base.specs.declared.place.TimerKind.TheVariants.{Tcp}
-use Rattle.lard_history.specs.Journal.{Tale, event_shuts, reset_step, tale_step, untold, was_reset}
+use Rattle.lard_history.specs.Journal.{Tale, armed_step, event_shuts, is_kind, is_place, is_running, reset_step, tale_step, untold, was_reset}
 use Rattle.lard_history.specs.Own.{Seen, Row, Came, event_conn, own, plain, seen_step, whose}
 use Rattle.lard_history.proofs.Lifting.{IsOwnFold, fold-own}
 use Rattle.lard_history.proofs.Seeing.{other_number, same_number}
 use Rattle.lard_journal.specs.declared.rec.Rec.{Rec}
 use Rattle.lard_journal.specs.declared.rec.Rec.TheVariants as rec
 use Rattle.lard_laws_bytes.specs.Keeping.{AreClientNotes, AreFrontNotes}
-use Rattle.lard_laws_quiet.specs.Quiet.{aborted_step, armed_step, ended_step, has_aborted, has_ended, is_kind, is_place, is_running, shut_step, was_shut}
+use Rattle.lard_laws_quiet.specs.Quiet.{aborted_step, ended_step, has_aborted, has_ended, shut_step, was_shut}
 use Rattle.lard_laws_quiet.proofs.Acked.{ends_in}
 use Rattle.lard_machine.specs.Machine.{front_armed, timer_change}
 use Rattle.lard_view.specs.View.{Conn, Move, armed_at, grown, rows_of, sending, station_armed, timer_rows}
