@@ -284,23 +284,30 @@ module _ (past : List Rec) where
   exactly-none : Exactly []
   exactly-none p c kind = nothing-changes p c kind (is_running past p c kind)
 
-  exactly-change : (place : Place) (c : ℕ) (was is : Bool) → is_running past place c Tcp ≡ was → Exactly (timer_change place c was is)
-  exactly-change place c false false e = exactly-none
-  exactly-change place c true true e = exactly-none
-  exactly-change place c false true e p d kind = go (is_change_of p d kind (rec.Armed place c Tcp)) refl where
+  -- of one timer a record, where it did not run, or did
+  exactly-armed : (place : Place) (c : ℕ) → is_running past place c Tcp ≡ false → Exactly (rec.Armed place c Tcp ∷ [])
+  exactly-armed place c e p d kind = go (is_change_of p d kind (rec.Armed place c Tcp)) refl where
     go : (b : Bool) → is_change_of p d kind (rec.Armed place c Tcp) ≡ b → cond b (rec.Armed place c Tcp ∷ []) [] ≡ change_of p d kind (is_running past p d kind) (cond b true (is_running past p d kind))
     go false n = nothing-changes p d kind (is_running past p d kind)
     go true n =
         let same = is-its-own place p c d Tcp kind n in
         let was : is_running past p d kind ≡ false = (λ i. is_running past (sym same.0 i) (sym same.1 i) (sym same.2 i)) ∙ e in
         (λ i. rec.Armed (same.0 i) (same.1 i) (same.2 i) ∷ []) ∙ ap (λ b. change_of p d kind b true) (sym was)
-  exactly-change place c true false e p d kind = go (is_change_of p d kind (rec.Cleared place c Tcp)) refl where
+
+  exactly-cleared : (place : Place) (c : ℕ) → is_running past place c Tcp ≡ true → Exactly (rec.Cleared place c Tcp ∷ [])
+  exactly-cleared place c e p d kind = go (is_change_of p d kind (rec.Cleared place c Tcp)) refl where
     go : (b : Bool) → is_change_of p d kind (rec.Cleared place c Tcp) ≡ b → cond b (rec.Cleared place c Tcp ∷ []) [] ≡ change_of p d kind (is_running past p d kind) (cond b false (is_running past p d kind))
     go false n = nothing-changes p d kind (is_running past p d kind)
     go true n =
         let same = is-its-own place p c d Tcp kind n in
         let was : is_running past p d kind ≡ true = (λ i. is_running past (sym same.0 i) (sym same.1 i) (sym same.2 i)) ∙ e in
         (λ i. rec.Cleared (same.0 i) (same.1 i) (same.2 i) ∷ []) ∙ ap (λ b. change_of p d kind b false) (sym was)
+
+  exactly-change : (place : Place) (c : ℕ) (was is : Bool) → is_running past place c Tcp ≡ was → Exactly (timer_change place c was is)
+  exactly-change place c false false e = exactly-none
+  exactly-change place c false true e = exactly-armed place c e
+  exactly-change place c true false e = exactly-cleared place c e
+  exactly-change place c true true e = exactly-none
 
   -- a step whose last records are those
   step-changes : (before rows : List Rec) → Still before → list_all is_change rows ≡ true → Exactly rows → ChangesTimers past (before ++ rows)
