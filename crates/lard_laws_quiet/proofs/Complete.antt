@@ -9,7 +9,7 @@ use Rattle.lard_base.specs.declared.place.Reason.{Reason}
 use Rattle.lard_base.specs.declared.place.Reason.TheVariants as reason
 use Rattle.lard_client.specs.declared.phase.Phase.{Phase}
 use Rattle.lard_client.specs.declared.phase.Phase.TheVariants.{Open, Aborted, Reset}
-use Rattle.lard_client.specs.Control.{ClientBlock, is_established, is_open, is_open_in}
+use Rattle.lard_client.specs.Control.{ClientBlock, is_armed, is_established, is_open, is_open_in}
 use Rattle.lard_endpoint.specs.Control.{ControlBlock}
 use Rattle.lard_endpoint.specs.declared.control.moving.Final.{Final}
 use Rattle.lard_history.specs.Journal.{Tale}
@@ -138,7 +138,7 @@ module _ (files : FilesAt) (w out : Stream) (vs : List Verdict) (x : ClientBlock
 
 module _ (files : FilesAt) (c : ℕ) (w out : Stream) (vs : List Verdict) (x : Station) (f : Option FrontConn) (t : Tale) (y : Story)
     (a : Agrees files c w out vs x f t) (r : ConnHolds x f y) (told : t.was_reset ≡ y.reset) (not_aborted : y.aborted ≡ false) (not_reset : y.reset ≡ false)
-    (client_quiet : y.client_armed ≡ false) (front_quiet : y.front_armed ≡ false) where
+    (client_quiet : is_armed x.client ≡ false) (front_quiet : front_armed f ≡ false) where
   open_ : is_open x.client ≡ true
   open_ = go x.client.phase refl where
     go : (p : Phase) → x.client.phase ≡ p → is_open_in p ≡ true
@@ -147,7 +147,7 @@ module _ (files : FilesAt) (c : ℕ) (w out : Stream) (vs : List Verdict) (x : S
     go Reset e = absurd (both_ways y.reset not_reset (r.client.resets e))
 
   cleared : is_clear x.client.send ≡ true
-  cleared = go (is_open x.client) open_ (is_clear x.client.send) (sym r.client_armed ∙ client_quiet) where
+  cleared = go (is_open x.client) open_ (is_clear x.client.send) client_quiet where
     go : (o : Bool) → o ≡ true → (k : Bool) → (o && not k) ≡ false → k ≡ true
     go true e true n = refl
     go true e false n = absurd (both_ways true n refl)
@@ -173,7 +173,7 @@ module _ (files : FilesAt) (c : ℕ) (w out : Stream) (vs : List Verdict) (x : S
   front_done (Some (Held b count)) e =
       let h : HoldsIt w out vs b count = subst (FrontAgrees w out vs t.was_reset) e a.front in
       let heard : 1 + length w.bytes + one_if w.ended ≤ heard_by b.recv = subst (λ (o : Option FrontConn). 1 + length w.bytes + one_if w.ended ≤ heard_of x.client.send.iss o) e all_heard in
-      let clear : is_clear b.send ≡ true = not_not (is_clear b.send) (sym (ap front_armed e) ∙ sym r.front_armed ∙ front_quiet) in
+      let clear : is_clear b.send ≡ true = not_not (is_clear b.send) (sym (ap front_armed e) ∙ front_quiet) in
       let una : b.send.una ≡ symbols b.send = clear-una b.send clear in
       let count : length out.bytes ≡ b.send.total = h.speaks.part.count in
       let end : one_if out.ended ≡ one_if b.send.finished = ap (λ (s : Stream). one_if s.ended) h.out_is in
