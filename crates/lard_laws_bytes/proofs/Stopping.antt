@@ -1,5 +1,5 @@
 -- The front end reads until it has stopped: no request is left unread, and behind the client's FIN the cluster's follows.
-use Rattle.std.proofs.Common.{◌≡◌, ◌<◌, ◌+◌, ℕ, zero, suc, Bool, true, false, cond, nat_lt, not, ◌&&◌, List, [], ◌∷◌, map, length, take, drop, Option, Some, None, arith, refl, ap, ◌∙◌, sym, length-drop}
+use Rattle.std.proofs.Common.{◌≡◌, ◌<◌, ◌+◌, ℕ, zero, suc, Bool, true, false, cond, nat_lt, not, ◌&&◌, List, [], ◌∷◌, map, length, take, drop, Some, None, arith, refl, ap, ◌∙◌, sym, length-drop}
 use Rattle.std.proofs.lemmas.Bool.{cond_both, and_parts, not-true}
 use Rattle.std.proofs.lemmas.List.{take-append-drop}
 use Rattle.lard_answers.specs.Answers.{answer}

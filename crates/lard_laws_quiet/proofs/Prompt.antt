@@ -1,5 +1,5 @@
 -- What is acknowledged is answered: of one connection, by what its packets may acknowledge and what the front end read.
-use Rattle.std.proofs.Common.{◌≡◌, ◌≢◌, ◌≤◌, ◌<◌, ◌+◌, ◌-◌, ◌^◌, ℕ, max, nat_eq, Bool, true, false, cond, ◌&&◌, List, [], ◌∷◌, ◌++◌, length, take, Option, Some, None, Result, Ok, Err, arith, refl, ap, ◌∙◌, sym, subst}
+use Rattle.std.proofs.Common.{◌≡◌, ◌≤◌, ◌<◌, ◌+◌, ◌-◌, ◌^◌, ℕ, max, nat_eq, Bool, true, false, cond, ◌&&◌, List, [], ◌∷◌, ◌++◌, length, take, Option, Some, None, Result, Ok, Err, arith, refl, ap, ◌∙◌, sym, subst}
 use Rattle.std.proofs.Math.Nat.{max-le}
 use Rattle.std.proofs.lemmas.Bool.{both_ways, cond_both}
 use Rattle.std.proofs.lemmas.List.{take_all}
@@ -8,12 +8,10 @@ use Rattle.lard_answers.specs.Answers.{FilesAt, verdicts}
 use Rattle.lard_answers.proofs.Growing.{verdicts-nothing}
 use Rattle.lard_base.specs.declared.place.Place.{Place}
 use Rattle.lard_base.specs.declared.place.Place.TheVariants.{Front, Node, Client}
-use Rattle.lard_base.specs.declared.place.Reason.{Reason}
-use Rattle.lard_base.specs.declared.place.Reason.TheVariants as reason
 use Rattle.lard_endpoint.specs.Control.{ControlBlock}
 use Rattle.lard_endpoint.specs.declared.control.moving.Final.{Final}
 use Rattle.lard_history.specs.Journal.{Numbers, Tale, goes_to, is_cluster, numbers_of, served, tale, was_reset, wrote}
-use Rattle.lard_history.specs.Own.{Letter, conn_of, letter_of, letters, net_of, net_step, own, tale_of}
+use Rattle.lard_history.specs.Own.{Letter, conn_of, letters, net_step, own, tale_of}
 use Rattle.lard_history.proofs.Each.{Each}
 use Rattle.lard_history.proofs.Lifting.{tale-own}
 use Rattle.lard_history.proofs.Seeing.{by_number, letters-all, letters-append, letters-lost, other_number}
@@ -42,7 +40,7 @@ use Rattle.lard_segment.specs.Segment.{Said, decoded}
 use Rattle.lard_seq.specs.Seq.{one_if, seq_offset}
 use Rattle.lard_truth.specs.Truth.{Hears, IsStream, Stream}
 use Rattle.lard_truth.proofs.Speaking.{speaks-stream}
-use Rattle.lard_view.specs.View.{AreBetween, GoesBetween, IsSound, conn}
+use Rattle.lard_view.specs.View.{AreBetween, GoesBetween, conn}
 use Rattle.lard_view.proofs.Carried.{IsViewed}
 
 -- ---- what the front end took is answered

@@ -1,9 +1,7 @@
 -- When timers change: what each move tells of its connection's timers, and what a step does.
-use Rattle.std.proofs.Common.{◌≡◌, ◌≢◌, ◌⊎◌, ℕ, ◌+◌, List, [], ◌∷◌, ◌++◌, map, length, append_assoc, append-nil, Bool, true, false, not, cond, ◌&&◌, Option, Some, None, Ok, inl, inr, refl, sym, ap, ◌∙◌, subst, ⊎_elim, nat_eq}
+use Rattle.std.proofs.Common.{◌≡◌, ◌≢◌, ◌⊎◌, ℕ, ◌+◌, List, [], ◌∷◌, ◌++◌, map, length, append-nil, Bool, true, false, not, cond, ◌&&◌, Some, None, Ok, inl, inr, refl, sym, ap, ◌∙◌, subst, nat_eq}
 use Rattle.std.proofs.lemmas.Bool.{and_parts, both_ways}
-use Rattle.std.proofs.lemmas.List.Folds.{list_all-append}
 use Rattle.std.proofs.lemmas.List.Sums.{fold-append}
-use Rattle.std.specs.FinMap as table
 use Rattle.std.specs.List.{filter, fold, list_all}
 use Rattle.lard_base.specs.declared.config.Config.{Config}
 use Rattle.lard_base.specs.declared.event.Event.{Event}

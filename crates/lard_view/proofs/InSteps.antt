@@ -1,6 +1,6 @@
 -- Laws of a step: from the move of each connection in it to the steps of the whole journal. And laws of a record, and of
 -- the end of each step.
-use Rattle.std.proofs.Common.{◌≡◌, ℕ, List, [], ◌∷◌, ◌++◌, Ok, refl, sym, ap, ◌∙◌, subst, ⊎_elim, append-nil}
+use Rattle.std.proofs.Common.{◌≡◌, ℕ, List, [], ◌++◌, Ok, refl, sym, ap, ◌∙◌, subst, ⊎_elim, append-nil}
 use Rattle.lard_base.specs.declared.config.Config.{Config}
 use Rattle.lard_base.specs.declared.event.Event.{Event}
 use Rattle.lard_history.specs.Laws.{EachMay}
@@ -13,9 +13,9 @@ use Rattle.lard_history.proofs.Stepping.{AreLawful, cancel, one-more, step-holds
 use Rattle.lard_journal.specs.declared.rec.Rec.{Rec}
 use Rattle.lard_machine.specs.declared.machine.Machine.{Machine}
 use Rattle.lard_machine.specs.Bounds.{HasRule}
-use Rattle.lard_machine.specs.Machine.{IsReached, machine_step, start}
+use Rattle.lard_machine.specs.Machine.{IsReached, machine_step}
 use Rattle.lard_view.specs.Carry.{IsStepLaw, OfEach, setting}
-use Rattle.lard_view.specs.View.{Conn, Goes, IsSound, Move, Rules, Setting, conn, grown, seen_in, setting_of}
+use Rattle.lard_view.specs.View.{Conn, Goes, IsSound, Move, Rules, Setting, conn, grown, seen_in}
 use Rattle.lard_view.proofs.Carried.{IsOn, IsViewed, after, carried-keep, moves, on-setting}
 
 -- what a connection sees of a step is what its move says
