@@ -10,12 +10,14 @@ use Rattle.lard_journal.specs.Range.{IsFileInRange, IsReportInRange}
 use Rattle.lard_journal.specs.Report.{file_text, heading_line, rec_line, report}
 use Rattle.lard_laws_bytes.specs.Runs.{ClientsAcceptAnswers, JournalsServeTheAnswers, JournalsTellTheTruth}
 use Rattle.lard_laws_clients.specs.Laws.{ClientsTakeInOrder, TakesInOrder}
+use Rattle.lard_laws_quiet.specs.Prompt.{IsPrompt, JournalsArePrompt}
 use Rattle.lard_laws_quiet.specs.Quiet.{IsCompleteWhenQuiet, JournalsAreComplete}
 use Rattle.lard_laws_places.proofs.Reached.{journals-follow, reached-holds, reached-may}
 use Rattle.lard_laws_records.proofs.Bytes.{each-all}
 use Rattle.lard_laws_records.specs.Records.{IsFile, IsGiven, RecordsAreInRange}
 use Rattle.lard_laws_steps.specs.Clients.{ClientsKeepTheirTables, KeepsTables}
 use Rattle.lard_laws_steps.specs.Fronts.{TakesOnce, TheFrontEndTakesOnce}
+use Rattle.lard_laws_steps.specs.Timers.{ChangesInSteps, TimersChangeInSteps}
 use Rattle.lard_machine.specs.declared.machine.Machine.{Machine}
 use Rattle.lard_machine.specs.Machine.{IsReached, Passes, start}
 use Rattle.lard_schedule.specs.declared.reader.Stage.{Stage}
@@ -79,6 +81,9 @@ module _ (text : List ℕ) where
   pub taken_once : TheFrontEndTakesOnce → TakesOnce (journal_of text)
   taken_once law = law (config_of text) (files_of text) (machine_of text) reached
 
+  pub timers : TimersChangeInSteps → ChangesInSteps (journal_of text)
+  timers law = law (config_of text) (files_of text) (machine_of text) reached
+
   -- ---- laws of bytes
 
   pub tells : JournalsTellTheTruth → TellsTheTruth (file_at (files_of text)) (journal_of text)
@@ -89,6 +94,9 @@ module _ (text : List ℕ) where
 
   pub service : JournalsServeTheAnswers → ServesTheAnswers (file_at (files_of text)) (journal_of text)
   service law = law (config_of text) (files_of text) (machine_of text) small reached
+
+  pub prompt : JournalsArePrompt → IsPrompt (journal_of text)
+  prompt law = law (config_of text) (files_of text) (machine_of text) small reached
 
   pub quiet : JournalsAreComplete → IsCompleteWhenQuiet (file_at (files_of text)) (journal_of text)
   quiet law = law (config_of text) (files_of text) (machine_of text) small reached
@@ -154,9 +162,11 @@ pub record Laws : Type 0 where
   pub takers : ClientsTakeInOrder
   pub tables : ClientsKeepTheirTables
   pub taken_once : TheFrontEndTakesOnce
+  pub timers : TimersChangeInSteps
   pub tells : JournalsTellTheTruth
   pub prefix : ClientsAcceptAnswers
   pub service : JournalsServeTheAnswers
+  pub prompt : JournalsArePrompt
   pub quiet : JournalsAreComplete
   pub records : RecordsAreInRange
   pub reports : ReportsTellAll
@@ -184,10 +194,12 @@ ran laws status left left_now old new r = record {
   takers = takers r.text laws.takers;
   tables = tables r.text laws.tables;
   taken_once = taken_once r.text laws.taken_once;
+  timers = timers r.text laws.timers;
   tells = tells r.text laws.tells;
   prefix = prefix r.text laws.prefix;
   service = service r.text laws.service;
   resets = resets r.text;
+  prompt = prompt r.text laws.prompt;
   quiet = quiet r.text laws.quiet;
   tells_all = tells_all laws.records laws.reports r.text;
 }

@@ -13,9 +13,11 @@ use Rattle.lard_grammar.specs.Schedule.{IsSchedule, text_of}
 use Rattle.lard_history.specs.Laws.{AcceptsOnlyAnswers, ActsInPlace, Follows, IsNetwork, IsOwnership, IsSoleSender, ResetsAtTheLimit, ServesTheAnswers, TellsTheTruth, WritesWhileOpen}
 use Rattle.lard_journal.specs.declared.rec.Rec.{Rec}
 use Rattle.lard_laws_clients.specs.Laws.{TakesInOrder}
+use Rattle.lard_laws_quiet.specs.Prompt.{IsPrompt}
 use Rattle.lard_laws_quiet.specs.Quiet.{IsCompleteWhenQuiet}
 use Rattle.lard_laws_steps.specs.Clients.{KeepsTables}
 use Rattle.lard_laws_steps.specs.Fronts.{TakesOnce}
+use Rattle.lard_laws_steps.specs.Timers.{ChangesInSteps}
 use Rattle.lard_lines.specs.Lines.{lines_of}
 use Rattle.lard_machine.specs.Machine.{Passes, start}
 use Rattle.lard_machine.specs.declared.machine.Machine.{Machine}
@@ -104,10 +106,12 @@ pub record Ran (status : Status) (left left_now old new : Option (List ℕ)) : T
   pub takers : TakesInOrder journal
   pub tables : KeepsTables journal
   pub taken_once : TakesOnce journal
+  pub timers : ChangesInSteps journal
   pub tells : TellsTheTruth (file_at files) journal
   pub prefix : AcceptsOnlyAnswers (file_at files) journal
   pub service : ServesTheAnswers (file_at files) journal
   pub resets : ResetsAtTheLimit config.stream journal
+  pub prompt : IsPrompt journal
   pub quiet : IsCompleteWhenQuiet (file_at files) journal
   -- The report tells all of this: a text with the same report has the same configuration, files with the same paths and
   -- lengths, and the same journal.

@@ -14,9 +14,9 @@ use lard_base::{InputFault, NoMemory, Sink, Source};
 use lard_journal::report_tells_all;
 use lard_laws_bytes::every_run_is_true;
 use lard_laws_clients::clients_take_what_comes_next;
-use lard_laws_quiet::quiet_connections_are_complete;
+use lard_laws_quiet::{acknowledged_requests_are_answered, quiet_connections_are_complete};
 use lard_laws_records::records_are_in_range;
-use lard_laws_steps::{clients_keep_their_tables, the_front_end_takes_once};
+use lard_laws_steps::{clients_keep_their_tables, the_front_end_takes_once, timers_are_told};
 use lard_lines::Lines;
 use std::alloc::Global;
 
@@ -49,6 +49,8 @@ pub fn run<S: Source, K: Sink>(
     clients_take_what_comes_next();
     clients_keep_their_tables();
     the_front_end_takes_once();
+    timers_are_told();
+    acknowledged_requests_are_answered();
     quiet_connections_are_complete();
     records_are_in_range();
     report_tells_all();

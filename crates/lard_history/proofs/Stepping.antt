@@ -1,8 +1,10 @@
 -- The steps of a journal that goes on by one step.
 use Rattle.std.proofs.Common.{◌≡◌, List, [], ◌∷◌, ◌++◌, Bool, true, false, cond, refl, sym, ap, ◌∙◌, subst, append_assoc, append-nil}
-use Rattle.lard_history.specs.Steps.{EachStep, is_opening, split, steps}
+use Rattle.lard_history.specs.Laws.{EachMay}
+use Rattle.lard_history.specs.Steps.{EachStep, HoldsBefore, is_opening, split, steps}
 use Rattle.lard_history.proofs.Each.{Each}
 use Rattle.lard_journal.specs.declared.rec.Rec.{Rec}
+use Rattle.lard_journal.specs.declared.rec.Rec.TheVariants as rec
 
 -- no record begins a step
 abbrev pub AreInside : List Rec → Type 0
@@ -62,6 +64,27 @@ module _ (must : List Rec → List Rec → Type 0) where
     subst (λ (k : List Rec × List (List Rec)). EachStep must [] k.1) (sym (split-append J s o))
         (steps-append [] (steps J) s l.1 (subst (λ (l : List Rec). must l s) (sym (sym (ap (λ (z : List Rec). z ++ joins (steps J)) l.0) ∙ joins-split J)) h)),
   )
+
+-- what holds at the end of each step
+module _ (P : List Rec → Type 0) where
+  inside-holds : (past : List Rec) (r : Rec) → is_opening r ≡ false → HoldsBefore P past r
+  inside-holds past (rec.Event i e) n = absurd cc
+  inside-holds past (rec.Inner e) n = absurd cc
+  inside-holds past _ n = tt
+
+  all-hold : (past rs : List Rec) → AreInside rs → EachMay (HoldsBefore P) past rs
+  all-hold past [] n = tt
+  all-hold past (r ∷ rs) n = (inside-holds past r n.0, all-hold (past ++ r ∷ []) rs n.1)
+
+  opening-holds : (past : List Rec) (r : Rec) → P past → HoldsBefore P past r
+  opening-holds past (rec.Event i e) h = h
+  opening-holds past (rec.Inner e) h = h
+  opening-holds past _ h = tt
+
+  -- a step that begins where P holds
+  pub step-holds : (past step : List Rec) → P past → IsOneStep step → EachMay (HoldsBefore P) past step
+  step-holds past [] h one = tt
+  step-holds past (r ∷ rs) h one = (opening-holds past r h, all-hold (past ++ r ∷ []) rs one.1)
 
 -- what stands behind the same is the same
 pub cancel : {A : Type 0} (xs ys zs : List A) → xs ++ ys ≡ xs ++ zs → ys ≡ zs

@@ -6,6 +6,8 @@ use Rattle.lard_base.specs.declared.event.Event.{Event}
 use Rattle.lard_base.specs.declared.event.Event.TheVariants as event
 use Rattle.lard_base.specs.declared.place.Place.{Place}
 use Rattle.lard_base.specs.declared.place.Place.TheVariants.{Front, Node, Client}
+use Rattle.lard_base.specs.declared.place.TimerKind.{TimerKind}
+use Rattle.lard_base.specs.declared.place.TimerKind.TheVariants.{Tcp, Offer, Ask, Fetch, Ended}
 use Rattle.lard_journal.specs.declared.rec.Rec.{Rec}
 use Rattle.lard_journal.specs.declared.rec.Rec.TheVariants as rec
 use Rattle.lard_request.specs.declared.verdict.Verdict.{Verdict}
@@ -209,6 +211,31 @@ fin_step c was _ = was
 -- the cluster's FIN was sent to client c
 abbrev pub fin_sent : List Rec → ℕ → Bool
 fin_sent J c = fold (fin_step c) false J
+
+-- ---- timers
+
+abbrev pub is_place : Place → Place → Bool
+is_place Front Front = true
+is_place (Node n) (Node m) = nat_eq n m
+is_place (Client c) (Client d) = nat_eq c d
+is_place _ _ = false
+
+abbrev pub is_kind : TimerKind → TimerKind → Bool
+is_kind Tcp Tcp = true
+is_kind Offer Offer = true
+is_kind Ask Ask = true
+is_kind Fetch Fetch = true
+is_kind Ended Ended = true
+is_kind _ _ = false
+
+abbrev pub armed_step : Place → ℕ → TimerKind → Bool → Rec → Bool
+armed_step p c kind was (rec.Armed q d k) = if is_place q p && (nat_eq d c && is_kind k kind) then true else was
+armed_step p c kind was (rec.Cleared q d k) = if is_place q p && (nat_eq d c && is_kind k kind) then false else was
+armed_step p c kind was _ = was
+
+-- the timer of this kind of connection c at a place runs: it was armed, and not cleared since
+abbrev pub is_running : List Rec → Place → ℕ → TimerKind → Bool
+is_running J p c kind = fold (armed_step p c kind) false J
 
 -- ---- clients that close their side
 

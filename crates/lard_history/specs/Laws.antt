@@ -135,8 +135,8 @@ ServesTheAnswers files J = EachMay (MayServe files) [] J
 -- ---- the reset law
 
 -- The responses on a connection have at most `stream` bytes, and none follows a reset, which counts more. With the law
--- of service, which says what it counts, a reset stands only where the next response would pass the limit. That it does
--- stand there is said by the machine alone.
+-- of service, which says what it counts, a reset stands only where the next response would pass the limit. By the law of
+-- prompt answers (lard_laws_quiet) it does stand there, no later than in the step in which the request is acknowledged.
 abbrev pub MayReset : ℕ → List Rec → Rec → Type 0
 MayReset stream past (rec.Served place c r code size via) = (served_bytes past c + size ≤ stream) × (was_reset past c ≡ false)
 MayReset stream past (rec.Reset place c total) = (stream < total) × (was_reset past c ≡ false)

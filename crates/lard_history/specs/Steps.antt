@@ -1,5 +1,6 @@
 -- The steps of a journal, and laws of a step.
 use Rattle.std.specs.Prelude.{Bool, true, false, List, [], ◌∷◌, ◌++◌, if◌then◌else◌}
+use Rattle.lard_history.specs.Laws.{EachMay}
 use Rattle.lard_journal.specs.declared.rec.Rec.{Rec}
 use Rattle.lard_journal.specs.declared.rec.Rec.TheVariants as rec
 
@@ -22,3 +23,14 @@ steps J = (split J).1
 abbrev pub EachStep : (List Rec → List Rec → Type 0) → List Rec → List (List Rec) → Type 0
 EachStep must past [] = Unit {0}
 EachStep must past (s ∷ ss) = must past s × EachStep must (past ++ s) ss
+
+-- P holds where this record begins a step
+abbrev pub HoldsBefore : (List Rec → Type 0) → List Rec → Rec → Type 0
+HoldsBefore P past (rec.Event i e) = P past
+HoldsBefore P past (rec.Inner e) = P past
+HoldsBefore P past _ = Unit {0}
+
+-- P holds at the end of each step: wherever an event follows, and at the end of the journal
+pub record AtEachEnd (P : List Rec → Type 0) (J : List Rec) : Type 0 where
+  pub before : EachMay (HoldsBefore P) [] J
+  pub last : P J

@@ -1,14 +1,13 @@
--- Where the front end has read all that a client wrote, it has answered all of it.
-use Rattle.std.proofs.Common.{◌≡◌, ℕ, ◌||◌, Bool, true, false, List, [], ◌∷◌, ◌++◌, length, take, drop, arith, refl, ap, ◌∙◌, sym, append-nil}
-use Rattle.std.proofs.Math.ListN.{drop_of_length-le}
+-- What the front end got of what a client wrote, it has answered.
+use Rattle.std.proofs.Common.{◌≡◌, ◌≤◌, ◌+◌, ◌-◌, ℕ, ◌||◌, Bool, true, false, List, [], ◌∷◌, ◌++◌, length, take, drop, arith, refl, ap, ◌∙◌, sym, append-nil, length-append}
+use Rattle.std.proofs.Math.Seq.{take-add, take-length}
 use Rattle.lard_answers.specs.Answers.{FilesAt, IsPrefix, closes_any, until_close, verdicts, verdicts_on}
 use Rattle.lard_answers.proofs.Following.{until_close-behind}
-use Rattle.lard_answers.proofs.Growing.{until_close-nil, until_close-closed, until_close-open, verdicts-are}
+use Rattle.lard_answers.proofs.Growing.{until_close-nil, until_close-closed, until_close-open, verdicts-are, verdicts-grow}
 use Rattle.lard_block.specs.Blocks.{blocks}
 use Rattle.lard_endpoint.specs.Control.{ControlBlock}
 use Rattle.lard_laws_bytes.specs.Agreement.{HoldsIt, SaysAnswers}
-use Rattle.lard_laws_bytes.proofs.ReadingBytes.{place, read-split}
-use Rattle.lard_recv.specs.Recv.{Received}
+use Rattle.lard_laws_bytes.proofs.ReadingBytes.{read-came}
 use Rattle.lard_request.specs.declared.verdict.Verdict.{Verdict}
 use Rattle.lard_request.specs.Verdict.{closes}
 use Rattle.lard_truth.specs.Truth.{Stream}
@@ -41,30 +40,44 @@ front-closes (u ∷ us) (v ∷ vs) shut h = go (front-closes us vs) (closes u) r
 
 -- ---- what was read
 
--- where a front end has stopped and got all that the client wrote, the verdicts are those on all of it
-pub all-answered : (w out : Stream) (vs : List Verdict) (b : ControlBlock) (count : ℕ) (files : FilesAt) → SaysAnswers files w out vs → HoldsIt w out vs b count
-    → b.recv.got ≡ length w.bytes → verdicts w.bytes ≡ vs
-all-answered w out vs b count files says h all = go b.recv.discarding refl where
-  r : Received
-  r = b.recv
+-- fewer bytes have no more verdicts
+pub fewer-verdicts : (w : List ℕ) (a k : ℕ) → a ≤ k → length (verdicts (take a w)) ≤ length (verdicts (take k w))
+fewer-verdicts w a k le =
+    let at : k ≡ a + (k - a) = omega (arith, le) in
+    let more = verdicts-grow (take a w) (take (k - a) (drop a w)) in
+    let whole : verdicts (take k w) ≡ verdicts (take a w) ++ more.0 = ap verdicts (ap (λ n. take n w) at ∙ take-add a (k - a) w) ∙ more.1 in
+    omega (arith, ap length whole, length-append (verdicts (take a w)) more.0)
 
-  front : IsPrefix vs (until_close (verdicts_on (blocks w.bytes)))
-  front =
+module _ (w out : Stream) (vs : List Verdict) (b : ControlBlock) (count : ℕ) (files : FilesAt) (says : SaysAnswers files w out vs) (h : HoldsIt w out vs b count) where
+  -- where nothing is discarded the verdicts are those on the bytes that came
+  came-judged : b.recv.discarding ≡ false → verdicts (take b.recv.got w.bytes) ≡ vs
+  came-judged e =
+      verdicts-are (take b.recv.got w.bytes)
+      ∙ ap (λ xs. until_close (verdicts_on (blocks xs))) (read-came w b.recv h.hears e)
+      ∙ ap until_close (h.has_read.cut e b.recv.unread ∙ ap (λ ps. vs ++ verdicts_on ps) (h.stopped.none e))
+      ∙ until_close-behind vs [] (h.has_read.goes_on e) ∙ ap (λ xs. vs ++ xs) until_close-nil ∙ append-nil vs
+
+  -- and where something is, they are those on all that the client wrote, since one of them closes
+  closed-judged : b.recv.discarding ≡ true → verdicts w.bytes ≡ vs
+  closed-judged e =
       let first = says.fronts [] in
-      (first.0, sym (verdicts-are w.bytes) ∙ ap verdicts (sym (append-nil w.bytes)) ∙ first.1)
+      verdicts-are w.bytes
+      ∙ front-closes (verdicts_on (blocks w.bytes)) vs (h.has_read.stops e).1 (first.0, sym (verdicts-are w.bytes) ∙ ap verdicts (sym (append-nil w.bytes)) ∙ first.1)
 
-  -- what was read and what is unread are all
-  whole : r.discarding ≡ false → w.bytes ≡ take (place r) w.bytes ++ r.unread
-  whole e =
-      let nothing : drop r.got w.bytes ≡ [] = ap (λ n. drop n w.bytes) all ∙ drop_of_length-le w.bytes (omega arith) in
-      read-split w r h.hears e ∙ ap (λ xs. take (place r) w.bytes ++ (r.unread ++ xs)) nothing ∙ ap (λ xs. take (place r) w.bytes ++ xs) (append-nil r.unread)
+  -- a front end that got all that the client wrote has answered all of it
+  pub all-answered : b.recv.got ≡ length w.bytes → verdicts w.bytes ≡ vs
+  all-answered all = go b.recv.discarding refl where
+    go : (t : Bool) → b.recv.discarding ≡ t → verdicts w.bytes ≡ vs
+    go true e = closed-judged e
+    go false e = ap verdicts (sym (ap (λ n. take n w.bytes) all ∙ take-length w.bytes)) ∙ came-judged e
 
-  judged : r.discarding ≡ false → verdicts_on (blocks w.bytes) ≡ vs
-  judged e =
-      ap (λ xs. verdicts_on (blocks xs)) (whole e) ∙ h.has_read.cut e r.unread ∙ ap (λ ps. vs ++ verdicts_on ps) (h.stopped.none e) ∙ append-nil vs
-
-  go : (t : Bool) → r.discarding ≡ t → verdicts w.bytes ≡ vs
-  go true e = verdicts-are w.bytes ∙ front-closes (verdicts_on (blocks w.bytes)) vs (h.has_read.stops e).1 front
-  go false e =
-      verdicts-are w.bytes ∙ ap until_close (judged e) ∙ ap until_close (sym (append-nil vs)) ∙ until_close-behind vs [] (h.has_read.goes_on e)
-      ∙ ap (λ xs. vs ++ xs) until_close-nil ∙ append-nil vs
+  -- and one that got some of it has answered that
+  pub came-answered : length (verdicts (take b.recv.got w.bytes)) ≤ length vs
+  came-answered = go b.recv.discarding refl where
+    go : (t : Bool) → b.recv.discarding ≡ t → length (verdicts (take b.recv.got w.bytes)) ≤ length vs
+    go true e =
+        let within = h.hears.within in
+        let fewer = fewer-verdicts w.bytes b.recv.got (length w.bytes) within in
+        let all : length (verdicts (take (length w.bytes) w.bytes)) ≡ length vs = ap (λ xs. length (verdicts xs)) (take-length w.bytes) ∙ ap length (closed-judged e) in
+        omega (arith, fewer, all)
+    go false e = let same : length (verdicts (take b.recv.got w.bytes)) ≡ length vs = ap length (came-judged e) in omega (arith, same)

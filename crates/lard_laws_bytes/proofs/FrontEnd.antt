@@ -1,5 +1,5 @@
 -- A turn of the front end, by the state of the connection.
-use Rattle.std.proofs.Common.{◌≡◌, ◌≤◌, ◌<◌, ◌+◌, ◌^◌, ℕ, Bool, true, false, cond, not, ◌&&◌, ◌||◌, List, [], ◌∷◌, ◌++◌, map, length, Option, Some, None, IfSome, arith, inr, refl, ap, ◌∙◌, sym, subst}
+use Rattle.std.proofs.Common.{◌≡◌, ◌≢◌, ◌≤◌, ◌<◌, ◌+◌, ◌^◌, ℕ, Bool, true, false, cond, not, ◌&&◌, ◌||◌, List, [], ◌∷◌, ◌++◌, map, length, Option, Some, None, IfSome, arith, inr, refl, ap, ◌∙◌, sym, subst}
 use Rattle.std.specs.List.{concat, list_any}
 use Rattle.std.specs.Prelude.{Ok}
 use Rattle.std.proofs.lemmas.Bool.{cond_both, and_parts, or_parts}
@@ -16,7 +16,7 @@ use Rattle.lard_endpoint.specs.Moving.{is_closed, may_end, end_reason, final_of}
 use Rattle.lard_journal.specs.declared.rec.Rec.TheVariants as rec
 use Rattle.lard_laws_bytes.specs.Agreement.{AreReplies, EndedAs, EndedIt, FrontAgrees, HasRead, HasStopped, HoldsIt, IsReply, SaysAnswers}
 use Rattle.lard_laws_bytes.specs.Keeping.{FrontTurned, FrontHearsTruth, FrontTimerIsTrue, IsEnv, resets}
-use Rattle.lard_laws_bytes.proofs.FrontEndpoint.{IsBetween, between-sound, between-timed, between-arrived, between-begun, read-same, read-arrived, same-finished}
+use Rattle.lard_laws_bytes.proofs.FrontEndpoint.{IsBetween, between-sound, between-timed, between-arrived, between-begun, read-same, read-arrived, reset-leaves, same-finished}
 use Rattle.lard_laws_bytes.proofs.FrontSpeaking.{Spoke, awaits-within, emits-spoke, emits_symbols-spoke, timed-reply}
 use Rattle.lard_laws_bytes.proofs.Notes.{or-false}
 use Rattle.lard_laws_bytes.proofs.Reading.{Goes, IsReading, Serves, or-last, reads-goes}
@@ -51,6 +51,22 @@ closed-open b = go b.reset refl where
   go true e f = absurd (cc)
   go false e f = e
 
+-- as it was before the client reset it
+abbrev unreset : ControlBlock → ControlBlock
+unreset b = record b { reset = false }
+
+unreset-same : (b : ControlBlock) → b.reset ≡ false → b ≡ unreset b
+unreset-same b e = ap (λ r. record b { reset = r }) e
+
+-- one that had stopped has stopped behind a segment too, where it may not read on
+stopped-heard : (b : ControlBlock) (s : Said) → b.reset ≡ false → (on_segment b s).1.send.finished ≡ b.send.finished → HasStopped b
+    → (not (on_segment b s).1.reset && (not (on_segment b s).1.send.finished && true)) ≡ false → HasStopped (on_segment b s).1
+stopped-heard b s calm same h n = go (on_segment b s).1.reset refl (on_segment b s).1.send.finished refl n where
+  go : (r : Bool) → (on_segment b s).1.reset ≡ r → (f : Bool) → (on_segment b s).1.send.finished ≡ f → (not r && (not f && true)) ≡ false → HasStopped (on_segment b s).1
+  go true e f g m = stopped-alike b (on_segment b s).1 (reset-leaves b s calm e) same h
+  go false e true g m = stopped-arrived b s same h g
+  go false e false g m = absurd (cc)
+
 module _ (env : FrontEnv) (w out : Stream) (vs : List Verdict) (was_reset : Bool) where
   abbrev Turned : Seat × Turn → Type 0
   Turned given = FrontTurned env.files env.c w out vs was_reset given
@@ -58,33 +74,35 @@ module _ (env : FrontEnv) (w out : Stream) (vs : List Verdict) (was_reset : Bool
   abbrev reset_in : Service → Bool
   reset_in s = was_reset || list_any resets s.notes
 
+  between-unreset : (now : Stream) (b : ControlBlock) → IsBetween w now b → IsBetween w now (unreset b)
+  between-unreset now b h = record { same_irs = h.same_irs; speaks = h.speaks; out_is = h.out_is; hears = h.hears }
+
   -- what is left of an endpoint that ended
   ended-it : (now : Stream) (us : List Verdict) (b : ControlBlock) (why : Reason) (r : Bool) → IsBetween w now b → (why ≡ reason.Limit → r ≡ true)
-      → (why ≡ reason.Closed → EndedAs w now us (final_of b why)) → EndedIt w now us r (final_of b why)
-  ended-it now us b why r h limit closed = record { snd_fits = omega arith; acks = awaits-within w now b h; limit = limit; closed = closed }
+      → (why ≢ reason.Limit → EndedAs w now us (final_of b why)) → EndedIt w now us r (final_of b why)
+  ended-it now us b why r h limit ended = record { snd_fits = omega arith; acks = awaits-within w now b h; limit = limit; ended = ended }
 
-  -- an endpoint that said what it may is held as it was, unless the client reset it
+  -- an endpoint that said what it may is held as it was, but for a reset of the client
   still-holds : (s : Service) (g : Serves env w out vs s) (r : Bool) (said : List (Place × List ℕ) × ControlBlock) → Spoke env.c w g.out_now r s.block said → HasRead w s.block g.vs_now
-      → (s.block.reset ≡ false → HasStopped s.block) → said.1.reset ≡ false → HoldsIt w g.out_now g.vs_now said.1 s.count
-  still-holds s g r said talk read stops e = record {
+      → HasStopped s.block → HoldsIt w g.out_now g.vs_now (unreset said.1) s.count
+  still-holds s g r said talk read stops = record {
     counted = g.counted;
-    sound = between-sound w g.out_now said.1 talk.between;
+    not_reset = refl;
+    sound = between-sound w g.out_now (unreset said.1) (between-unreset g.out_now said.1 talk.between);
     speaks = talk.between.speaks;
     out_is = talk.between.out_is;
     hears = talk.between.hears;
-    has_read = read-same w g.out_now s.block said.1 g.vs_now g.between talk.between talk.recv read;
-    stopped = stopped-alike s.block said.1 talk.recv (same-finished w g.out_now s.block said.1 g.between talk.between) (stops (sym talk.reset ∙ e));
+    has_read = read-same w g.out_now s.block (unreset said.1) g.vs_now g.between (between-unreset g.out_now said.1 talk.between) talk.recv read;
+    stopped = stopped-alike s.block (unreset said.1) talk.recv (same-finished w g.out_now s.block said.1 g.between talk.between) stops;
   }
 
   -- one that may end, and was not reset, had both sides closed
-  ended-as : (now : Stream) (us : List Verdict) (b : ControlBlock) (count : ℕ) → (b.reset ≡ false → HoldsIt w now us b count) → may_end b ≡ true → end_reason b ≡ reason.Closed
-      → EndedAs w now us (final_of b (end_reason b))
-  ended-as now us b count holds may why =
-      let open_ : b.reset ≡ false = closed-open b why in
-      record { block = b; count = count; held = holds open_; both = sym (ap (λ r. r || is_closed b) open_) ∙ may; is = ap (final_of b) why }
+  ended-as : (now : Stream) (us : List Verdict) (b : ControlBlock) (count : ℕ) → HoldsIt w now us (unreset b) count → may_end b ≡ true → EndedAs w now us (final_of b (end_reason b))
+  ended-as now us b count holds may =
+      record { block = unreset b; count = count; held = holds; both = λ why. sym (ap (λ r. r || is_closed b) (closed-open b why)) ∙ may; is = refl }
 
   -- what goes out at the end of a turn, and how the connection is left
-  spoken-turned : (s : Service) (g : Serves env w out vs s) (before : List (Place × List ℕ)) → HasRead w s.block g.vs_now → (s.block.reset ≡ false → HasStopped s.block)
+  spoken-turned : (s : Service) (g : Serves env w out vs s) (before : List (Place × List ℕ)) → HasRead w s.block g.vs_now → HasStopped s.block
       → AreReplies env.c w g.out_now (reset_in s) before → Turned (spoken env s before)
   spoken-turned s g before read stops replies =
       let r = reset_in s in
@@ -99,8 +117,8 @@ module _ (env : FrontEnv) (w out : Stream) (vs : List Verdict) (was_reset : Bool
         says = g.says;
         agrees = cond_both (may_end said.1) (Over (final_of said.1 (end_reason said.1))) (AtFront said.1 s.count) P
             (λ may. ended-it g.out_now g.vs_now said.1 (end_reason said.1) r talk.between (λ e. absurd (not_limit said.1 e))
-            (ended-as g.out_now g.vs_now said.1 s.count holds may))
-            (λ e. holds (or_parts said.1.reset (is_closed said.1) e).0);
+            (λ _. ended-as g.out_now g.vs_now said.1 s.count holds may))
+            (λ e. subst (λ (d : ControlBlock). HoldsIt w g.out_now g.vs_now d s.count) (sym (unreset-same said.1 (or_parts said.1.reset (is_closed said.1) e).0)) holds);
         noted = g.noted;
         sent = replies-append env.c w g.out_now r before said.0 replies talk.sent;
       }
@@ -126,7 +144,7 @@ module _ (env : FrontEnv) (w out : Stream) (vs : List Verdict) (was_reset : Bool
         vs_after = g.vs_now;
         longer = g.longer;
         says = g.says;
-        agrees = ended-it g.out_now g.vs_now said.1 reason.Limit r talk.between (λ _. was) (λ e. absurd (cc));
+        agrees = ended-it g.out_now g.vs_now said.1 reason.Limit r talk.between (λ _. was) (λ n. absurd (n refl));
         noted = g.noted;
         sent = replies-append env.c w g.out_now r said.0 (told env (limit_said last) ∷ []) talk.sent ((refl, (limit_said last, refl, limit-reply g.out_now said.1 r was), tt));
       }
@@ -135,7 +153,7 @@ module _ (env : FrontEnv) (w out : Stream) (vs : List Verdict) (was_reset : Bool
   settled-turned : (s : Service) → Goes env w out vs s → Stops s → Turned (settled env s)
   settled-turned s g stops = go s.over refl g.1 where
     go : (o : Option ℕ) → s.over ≡ o → IsReading w g.0.vs_now s.block s.notes o → Turned (elim o [ None ↦ spoken env s [] | Some total ↦ cut_off env s ])
-    go None e read = spoken-turned s g.0 [] read (λ open_. stops open_ e) tt
+    go None e read = spoken-turned s g.0 [] read (stops e) tt
     go (Some total) e reset = cut_off-turned s g.0 reset
 
   -- nothing is noted, and the streams stay
@@ -181,7 +199,7 @@ module _ (env : FrontEnv) (w out : Stream) (vs : List Verdict) (was_reset : Bool
       let after = between-arrived w out b before s is t in
       let start = opening (on_segment b s).1 count in
       let first = turn-begins (on_segment b s).1 count says h.counted after (read-arrived w out b vs s before after h.has_read) in
-      let stops = reads-stops env start (λ _. stopped-arrived b s (same-finished w out b (on_segment b s).1 before after) h.stopped) in
+      let stops = reads-stops env start (λ _ n. stopped-heard b s h.not_reset (same-finished w out b (on_segment b s).1 before after) h.stopped n) in
       settled-turned (reads env start) (reads-goes env w out vs most (length (on_segment b s).1.recv.unread + 1) start first) stops
 
   timer-turned : (b : ControlBlock) (count : ℕ) → SaysAnswers env.files w out vs → HoldsIt w out vs b count → Turned (front_timer env (AtFront b count))
@@ -192,7 +210,7 @@ module _ (env : FrontEnv) (w out : Stream) (vs : List Verdict) (was_reset : Bool
       let read = read-same w out b (after_timer b) vs before after (timer-left b out.bytes h.speaks).2 h.has_read in
       let first = turn-begins (after_timer b) count says h.counted after read in
       let stopped = stopped-alike b (after_timer b) (timer-left b out.bytes h.speaks).2 (same-finished w out b (after_timer b) before after) h.stopped in
-      spoken-turned (opening (after_timer b) count) first.0 (ready_of env (after_timer b) (timed b)) first.1 (λ _. stopped) (replies (timed b) refl)
+      spoken-turned (opening (after_timer b) count) first.0 (ready_of env (after_timer b) (timed b)) first.1 stopped (replies (timed b) refl)
     where
       replies : (o : Option Ready) → timed b ≡ o → AreReplies env.c w out (was_reset || false) (ready_of env (after_timer b) o)
       replies None e = tt
@@ -222,7 +240,7 @@ module _ (env : FrontEnv) (w out : Stream) (vs : List Verdict) (was_reset : Bool
         counted = sym (ap length none);
         between = between;
         noted = record { front = (refl, tt); served = omega arith; size = omega arith; unless_ended = inr refl; serve = λ t told. ((λ J e. tt), tt) };
-      }) [] (nothing-read s env.iss none) (λ _. stopped-begun s env.iss) tt
+      }) [] (nothing-read s env.iss none) (stopped-begun s env.iss) tt
 
   met-turned : (s : Said) → env.iss ≡ out.first → SaysAnswers env.files w out vs → (vs ≡ []) × (out.ended ≡ false) → IsTrueOf w s → Turned (met env s)
   met-turned s begins says h t = cond_both (is_plain_syn s) (begun env s) (Nowhere, silent) Turned

@@ -1,6 +1,6 @@
 -- An endpoint between two streams: it speaks one and hears the other, whatever befalls it.
 use Rattle.std.proofs.Common.{◌≡◌, ◌≤◌, ◌<◌, ◌+◌, ◌^◌, ℕ, true, false, cond, nat_lt, ◌==◌, not, ◌&&◌, List, [], ◌++◌, length, take, arith, length-append, refl, ap, ◌∙◌, sym, subst}
-use Rattle.std.proofs.lemmas.Bool.{cond_both, cond-false}
+use Rattle.std.proofs.lemmas.Bool.{both_ways, cond_both, cond-false}
 use Rattle.lard_arrival.specs.Arrival.{is_acceptable, is_allowed, bare}
 use Rattle.lard_endpoint.specs.declared.control.arriving.Arrival.{Arrival}
 use Rattle.lard_endpoint.specs.declared.control.arriving.Arrival.TheVariants.{Fine, AckOwed, Reset}
@@ -149,6 +149,33 @@ segment-takes P s b h k =
     (λ _. cond_both (is_allowed (rcv_nxt b) (rcv_wnd b) s) (AckOwed, (on_ack (owing b) (bare s)).1) dropped Q
     (λ _. bare-takes P s (owing b) h)
     (λ _. cond_both s.flags.rst (Fine, b) (AckOwed, owing b) Q (λ _. h) (λ _. h)))
+
+-- ---- resets
+
+-- what a segment acknowledges and carries resets nothing
+ack-resets-not : (b : ControlBlock) (s : Said) → b.reset ≡ false → (on_ack b s).1.reset ≡ false
+ack-resets-not b s calm =
+    let Calm : Arrival × ControlBlock → Type 0 = λ p. p.1.reset ≡ false in
+    let acked : ControlBlock = record b { send = after_ack b.send s.ack s.seq s.wnd } in
+    let beyond = nat_lt b.send.nxt (seq_offset s.ack b.send.iss) in
+    cond_both (not s.flags.ack) (Fine, b) (cond beyond (AckOwed, owing b) (on_acked acked s)) Calm (λ _. calm)
+    (λ _. cond_both beyond (AckOwed, owing b) (on_acked acked s) Calm (λ _. calm)
+    (λ _. cond_both (acked.send.una == 0) (Fine, acked) (on_text acked s) Calm (λ _. calm)
+    (λ _. cond_both (length s.payload == 0 && not s.flags.fin) (Fine, acked) (AckOwed, record acked { recv = arrived b.recv s.seq s.payload s.flags.fin; owed = true }) Calm (λ _. calm) (λ _. calm))))
+
+-- and what resets the connection carries nothing
+pub reset-leaves : (b : ControlBlock) (s : Said) → b.reset ≡ false → (on_segment b s).1.reset ≡ true → (on_segment b s).1.recv ≡ b.recv
+reset-leaves b s calm =
+    let Q : Arrival × ControlBlock → Type 0 = λ p. p.1.reset ≡ true → p.1.recv ≡ b.recv in
+    let reset : Arrival × ControlBlock = cond (s.seq == rcv_nxt b) (Reset, record b { reset = true }) (AckOwed, owing b) in
+    let dropped : Arrival × ControlBlock = cond s.flags.rst (Fine, b) (AckOwed, owing b) in
+    cond_both (is_acceptable (rcv_nxt b) (rcv_wnd b) s) (on_rst b s) (on_unacceptable b s) Q
+    (λ _. cond_both (not s.flags.rst) (on_syn b s) reset Q
+    (λ _. cond_both s.flags.syn (AckOwed, owing b) (on_ack b s) Q (λ _ t. refl) (λ _ t. absurd (both_ways (on_ack b s).1.reset (ack-resets-not b s calm) t)))
+    (λ _. cond_both (s.seq == rcv_nxt b) (Reset, record b { reset = true }) (AckOwed, owing b) Q (λ _ t. refl) (λ _ t. refl)))
+    (λ _. cond_both (is_allowed (rcv_nxt b) (rcv_wnd b) s) (AckOwed, (on_ack (owing b) (bare s)).1) dropped Q
+    (λ _ t. absurd (both_ways (on_ack (owing b) (bare s)).1.reset (ack-resets-not (owing b) (bare s) calm) t))
+    (λ _. cond_both s.flags.rst (Fine, b) (AckOwed, owing b) Q (λ _ t. refl) (λ _ t. refl)))
 
 -- ---- what was read stays read
 

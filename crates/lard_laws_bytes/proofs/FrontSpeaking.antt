@@ -4,14 +4,12 @@ use Rattle.std.proofs.lemmas.Bool.{cond_both}
 use Rattle.lard_base.specs.declared.place.Place.{Place}
 use Rattle.lard_endpoint.proofs.Windows.{emitted-tells, timed-tells}
 use Rattle.lard_endpoint.specs.Control.{ControlBlock, rcv_nxt}
-use Rattle.lard_endpoint.specs.Leaving.{owes, advanced, emitted, after_emit, timed, after_timer, filled, after_piece, after_owed, told}
+use Rattle.lard_endpoint.specs.Leaving.{emitted, after_emit, timed, after_timer, filled}
 use Rattle.lard_laws_bytes.specs.Agreement.{AreReplies, IsReply}
 use Rattle.lard_laws_bytes.proofs.FrontEndpoint.{IsBetween, between-emitted}
 use Rattle.lard_rules.specs.Speaking.{to_client, emits, has_symbol, emits_symbols}
 use Rattle.lard_segment.specs.declared.segment.Ready.{Ready}
 use Rattle.lard_segment.specs.Segment.{Said}
-use Rattle.lard_send.specs.declared.piece.Piece.{Piece}
-use Rattle.lard_send.specs.Send.{next_piece}
 use Rattle.lard_seq.specs.Seq.{one_if, seq_add}
 use Rattle.lard_truth.specs.Truth.{Stream}
 use Rattle.lard_truth.proofs.Endpoint.{emitted-fair, timed-fair, emit-left}
@@ -89,26 +87,18 @@ module _ (c : ℕ) (Sound : ControlBlock → Type 0) (Is : ControlBlock → List
         (λ _. more b r (emits_symbols c n (after_emit b)) h e later)
         (λ _. cut b h)
 
--- what is sent does not reset the endpoint
-emit-reset : (b : ControlBlock) → (after_emit b).reset ≡ b.reset
-emit-reset b = cond_both b.reset b (after_piece (advanced b) (next_piece b.send) (after_owed (advanced b))) (λ (d : ControlBlock). d.reset ≡ b.reset) (λ _. refl) (λ _. go (next_piece b.send)) where
-  go : (o : Option Piece) → (after_piece (advanced b) o (after_owed (advanced b))).reset ≡ b.reset
-  go (Some p) = refl
-  go None = cond_both (owes (advanced b)) (told (advanced b)) (advanced b) (λ (d : ControlBlock). d.reset ≡ b.reset) (λ _. refl) (λ _. refl)
-
 -- what goes out are true replies, and the endpoint has read what it had
 pub record Spoke (c : ℕ) (w out : Stream) (was_reset : Bool) (b : ControlBlock) (given : List (Place × List ℕ) × ControlBlock) : Type 0 where
   pub sent : AreReplies c w out was_reset given.0
   pub between : IsBetween w out given.1
   pub recv : given.1.recv ≡ b.recv
-  pub reset : given.1.reset ≡ b.reset
 
 module _ (c : ℕ) (w out : Stream) (was_reset : Bool) where
   abbrev Speaks_on : ControlBlock → List (Place × List ℕ) × ControlBlock → Type 0
   Speaks_on b given = Spoke c w out was_reset b given
 
   silent-spoke : (b : ControlBlock) → IsBetween w out b → Speaks_on b ([], b)
-  silent-spoke b h = record { sent = tt; between = h; recv = refl; reset = refl }
+  silent-spoke b h = record { sent = tt; between = h; recv = refl }
 
   -- one segment, and those after it
   more-spoke : (b : ControlBlock) (r : Ready) (later : List (Place × List ℕ) × ControlBlock) → IsBetween w out b → emitted b ≡ Some r → Speaks_on (after_emit b) later
@@ -117,12 +107,11 @@ module _ (c : ℕ) (w out : Stream) (was_reset : Bool) where
     sent = (refl, (filled (after_emit b) r, refl, emitted-reply c w out was_reset b r h e), k.sent);
     between = k.between;
     recv = k.recv ∙ (emit-left b out.bytes h.speaks).2;
-    reset = k.reset ∙ emit-reset b;
   }
 
   -- a plain ACK that is not sent
   cut-spoke : (b : ControlBlock) → IsBetween w out b → Speaks_on b ([], after_emit b)
-  cut-spoke b h = record { sent = tt; between = between-emitted w out b h; recv = (emit-left b out.bytes h.speaks).2; reset = emit-reset b }
+  cut-spoke b h = record { sent = tt; between = between-emitted w out b h; recv = (emit-left b out.bytes h.speaks).2 }
 
   pub emits-spoke : (n : ℕ) (b : ControlBlock) → IsBetween w out b → Speaks_on b (emits c n b)
   emits-spoke n b h = emits-all c (IsBetween w out) Speaks_on (between-emitted w out) silent-spoke more-spoke cut-spoke n b h

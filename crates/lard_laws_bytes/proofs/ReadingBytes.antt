@@ -78,17 +78,19 @@ abbrev pub place : Received → ℕ
 place r = r.got - length r.unread
 
 module _ (x : Stream) (r : Received) (h : Hears x r) (kept : r.discarding ≡ false) where
-  -- behind the bytes that were read come the unread ones
-  pub read-split : x.bytes ≡ take (place r) x.bytes ++ (r.unread ++ drop r.got x.bytes)
-  read-split =
+  -- the bytes that came are those that were read, and the unread ones behind them
+  pub read-came : take r.got x.bytes ≡ take (place r) x.bytes ++ r.unread
+  read-came =
       let within = h.sound.within in
       let sum : r.got ≡ place r + length r.unread = omega arith in
       let unread : r.unread ≡ take (length r.unread) (drop (place r) x.bytes) =
       h.part.part kept ∙ ap (λ n. drop (place r) (take n x.bytes)) sum ∙ drop-take (place r) (length r.unread) x.bytes in
-      sym (take-append-drop r.got x.bytes)
-      ∙ ap (λ w. w ++ drop r.got x.bytes)
-      (ap (λ n. take n x.bytes) sum ∙ take-add (place r) (length r.unread) x.bytes ∙ ap (λ w. take (place r) x.bytes ++ w) (sym unread))
-      ∙ append_assoc (take (place r) x.bytes) r.unread (drop r.got x.bytes)
+      ap (λ n. take n x.bytes) sum ∙ take-add (place r) (length r.unread) x.bytes ∙ ap (λ w. take (place r) x.bytes ++ w) (sym unread)
+
+  -- and behind these come the others
+  pub read-split : x.bytes ≡ take (place r) x.bytes ++ (r.unread ++ drop r.got x.bytes)
+  read-split =
+      sym (take-append-drop r.got x.bytes) ∙ ap (λ w. w ++ drop r.got x.bytes) read-came ∙ append_assoc (take (place r) x.bytes) r.unread (drop r.got x.bytes)
 
   pub read-more : (n : ℕ) → take (place (consumed r n)) x.bytes ≡ take (place r) x.bytes ++ take n r.unread
   read-more n =

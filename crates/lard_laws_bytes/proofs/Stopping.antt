@@ -1,5 +1,5 @@
 -- The front end reads until it has stopped: no request is left unread, and behind the client's FIN the cluster's follows.
-use Rattle.std.proofs.Common.{◌≡◌, ◌<◌, ◌+◌, ℕ, zero, suc, Bool, true, false, cond, nat_lt, not, ◌&&◌, List, [], ◌∷◌, map, length, take, drop, Option, Some, None, arith, refl, ap, ◌∙◌, sym, length-drop}
+use Rattle.std.proofs.Common.{◌≡◌, ◌<◌, ◌+◌, ℕ, zero, suc, Bool, true, false, cond, nat_lt, not, ◌&&◌, List, [], ◌∷◌, map, length, take, drop, Some, None, arith, refl, ap, ◌∙◌, sym, length-drop}
 use Rattle.std.proofs.lemmas.Bool.{cond_both, and_parts, not-true}
 use Rattle.std.proofs.lemmas.List.{take-append-drop}
 use Rattle.lard_answers.specs.Answers.{answer}
@@ -76,24 +76,27 @@ stopped-arrived b s same h f =
 
 -- ---- reading
 
--- it has stopped where it finished, unless the connection is to be reset
+-- it has stopped where it may not read on, unless the connection is to be reset
 abbrev pub MayStop : Service → Type 0
-MayStop s = s.over ≡ None → s.block.send.finished ≡ true → HasStopped s.block
+MayStop s = s.over ≡ None → may_read s ≡ false → HasStopped s.block
 
--- it has stopped, unless the connection was reset or is to be
+-- it has stopped, unless the connection is to be reset
 abbrev pub Stops : Service → Type 0
-Stops s = s.block.reset ≡ false → s.over ≡ None → HasStopped s.block
+Stops s = s.over ≡ None → HasStopped s.block
 
--- nothing but the end keeps one from reading whose connection neither was reset nor is to be
-finished-there : (s : Service) → may_read s ≡ false → s.block.reset ≡ false → s.over ≡ None → s.block.send.finished ≡ true
-finished-there s may open_ within = go s.block.reset s.block.send.finished s.over may open_ within where
-  go : (r f : Bool) (o : Option ℕ) → (not r && (not f && (elim o [ None ↦ true | Some total ↦ false ]))) ≡ false → r ≡ false → o ≡ None → f ≡ true
-  go r true o e g k = refl
-  go true false o e g k = absurd (cc)
-  go false false None e g k = absurd (cc)
-  go false false (Some total) e g k = absurd (cc)
+-- one that neither was reset nor finished may read
+reads-there : (r f : Bool) → r ≡ false → f ≡ false → (not r && (not f && true)) ≡ false → ⊥
+reads-there true f e g n = absurd (cc)
+reads-there false true e g n = absurd (cc)
+reads-there false false e g n = absurd (cc)
 
--- one that may read has not finished
+-- one that may read was not reset
+unreset-there : (s : Service) → may_read s ≡ true → s.block.reset ≡ false
+unreset-there s may =
+    let limit : Bool = elim s.over [ None ↦ true | Some total ↦ false ] in
+    not-true s.block.reset (and_parts (not s.block.reset) (not s.block.send.finished && limit) may).0
+
+-- and has not finished
 pub unfinished-there : (s : Service) → may_read s ≡ true → s.block.send.finished ≡ false
 unfinished-there s may =
     let limit : Bool = elim s.over [ None ↦ true | Some total ↦ false ] in
@@ -101,43 +104,43 @@ unfinished-there s may =
     not-true s.block.send.finished (and_parts (not s.block.send.finished) limit rest).0
 
 -- an answer that closes discards what comes, and no other finishes
-answered-may : (env : FrontEnv) (v : Verdict) (s : Service) → s.block.send.finished ≡ false → MayStop (answered env v s)
-answered-may env v s open_ =
+answered-may : (env : FrontEnv) (v : Verdict) (s : Service) → s.block.reset ≡ false → s.block.send.finished ≡ false → MayStop (answered env v s)
+answered-may env v s calm open_ =
     let bytes = answer env.files v in
     let total = s.block.send.total + length bytes in
     let more = queueing s.block bytes in
     cond_both (nat_lt env.stream total) (passed_over env total s) (queued env v bytes s) MayStop
     (λ _ e f. absurd (cc))
-    (λ _ e. cond_both (closes v) (finishing (discarding_on more)) more (λ (d : ControlBlock). d.send.finished ≡ true → HasStopped d)
-    (λ _ f. stopped-discarding (finishing (discarding_on more)) refl) (λ _ f. absurd (cc)))
+    (λ _ e. cond_both (closes v) (finishing (discarding_on more)) more (λ (d : ControlBlock). (not d.reset && (not d.send.finished && true)) ≡ false → HasStopped d)
+    (λ _ f. stopped-discarding (finishing (discarding_on more)) refl) (λ _ f. absurd (reads-there s.block.reset s.block.send.finished calm open_ f)))
 
 -- where no whole block is left it stops, behind the client's FIN with its own
 ended-stops : (s : Service) → s.block.send.finished ≡ false → blocks s.block.recv.unread ≡ [] → Stops (ended_at_fin s)
 ended-stops s open_ none = cond_both s.block.recv.fin (record s { block = finishing s.block }) s Stops
-    (λ fin _ _. record { none = λ _. none; finishes = λ _ _. refl; only_then = λ _ _. fin })
-    (λ fin _ _. record { none = λ _. none; finishes = λ _ i. absurd (cc); only_then = λ _ i. absurd (cc) })
+    (λ fin _. record { none = λ _. none; finishes = λ _ _. refl; only_then = λ _ _. fin })
+    (λ fin _. record { none = λ _. none; finishes = λ _ i. absurd (cc); only_then = λ _ i. absurd (cc) })
 
 module _ (env : FrontEnv) where
   -- what is found is read, where the rest is read that way
-  found-stops : (later : Service → Service) (s : Service) → ((u : Service) → length (unread u) < length (unread s) → MayStop u → Stops (later u)) → s.block.send.finished ≡ false
+  found-stops : (later : Service → Service) (s : Service) → ((u : Service) → length (unread u) < length (unread s) → MayStop u → Stops (later u)) → s.block.reset ≡ false → s.block.send.finished ≡ false
       → (x : Found) → IsWithin x (length (unread s)) → cut_of (unread s) ≡ x → Stops (read_found env later s x)
-  found-stops later s rest open_ (More skip) h e = ended-stops (consumed skip s) open_ (none-behind (unread s) skip e)
-  found-stops later s rest open_ (Block skip len) h e =
+  found-stops later s rest calm open_ (More skip) h e = ended-stops (consumed skip s) open_ (none-behind (unread s) skip e)
+  found-stops later s rest calm open_ (Block skip len) h e =
       let v = verdict (take len (drop skip (unread s))) in
       let next = consumed (skip + len) s in
-      rest (answered env v next) (omega (arith, answered-unread env v next, length-drop (skip + len) (unread s), h.0, h.2)) (answered-may env v next open_)
-  found-stops later s rest open_ (TooLong skip) h e =
+      rest (answered env v next) (omega (arith, answered-unread env v next, length-drop (skip + len) (unread s), h.0, h.2)) (answered-may env v next calm open_)
+  found-stops later s rest calm open_ (TooLong skip) h e =
       let v : Verdict = Fault code.FieldsTooLarge in
       let next = consumed (length (unread s)) s in
-      rest (answered env v next) (omega (arith, answered-unread env v next, length-drop (length (unread s)) (unread s), h)) (answered-may env v next open_)
+      rest (answered env v next) (omega (arith, answered-unread env v next, length-drop (length (unread s)) (unread s), h)) (answered-may env v next calm open_)
 
   -- as many turns as there are unread bytes are enough
   turns-stop : (n : ℕ) (s : Service) → length (unread s) < n → MayStop s → Stops (reads_on n env s)
   unfolding reads_on
   turns-stop zero s less h = absurd (omega (arith, less))
   turns-stop (suc n) s less h = cond_both (may_read s) (read_found env (reads_on n env) s (cut_of (unread s))) s Stops
-      (λ may. found-stops (reads_on n env) s (λ u k m. turns-stop n u (omega (arith, k, less)) m) (unfinished-there s may) (cut_of (unread s)) (cut-within (unread s)) refl)
-      (λ may open_ within. h within (finished-there s may open_ within))
+      (λ may. found-stops (reads_on n env) s (λ u k m. turns-stop n u (omega (arith, k, less)) m) (unreset-there s may) (unfinished-there s may) (cut_of (unread s)) (cut-within (unread s)) refl)
+      (λ may within. h within may)
 
   -- so reading goes on until it has stopped
   pub reads-stops : (s : Service) → MayStop s → Stops (reads env s)

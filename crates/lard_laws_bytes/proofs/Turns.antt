@@ -45,6 +45,7 @@ module _ (w v : Stream) (g : GoesOn w v) where
   holds-grown : (out : Stream) (vs : List Verdict) (b : ControlBlock) (count : ℕ) → HoldsIt w out vs b count → HoldsIt v out vs b count
   holds-grown out vs b count h = record {
     counted = h.counted;
+    not_reset = h.not_reset;
     sound = h.sound;
     speaks = h.speaks;
     out_is = h.out_is;
@@ -65,7 +66,7 @@ module _ (w v : Stream) (g : GoesOn w v) where
     snd_fits = h.snd_fits;
     acks = acks-grown last h.acks;
     limit = h.limit;
-    closed = λ e. ended-grown out vs last (h.closed e);
+    ended = λ e. ended-grown out vs last (h.ended e);
   }
 
 -- ---- one connection

@@ -1,6 +1,6 @@
 -- What holds of one connection between any two steps: what its client and the front end keep, what the journal says of
 -- it, and what every segment that was ever sent says, agree.
-use Rattle.std.specs.Prelude.{◌≡◌, ℕ, ◌+◌, ◌-◌, ◌^◌, ◌<◌, ◌≤◌, Bool, true, false, List, [], ◌∷◌, ◌++◌, map, length, take, Option, Some, None}
+use Rattle.std.specs.Prelude.{◌≡◌, ◌≢◌, ℕ, ◌+◌, ◌-◌, ◌^◌, ◌<◌, ◌≤◌, Bool, true, false, List, [], ◌∷◌, ◌++◌, map, length, take, Option, Some, None}
 use Rattle.std.specs.List.{concat}
 use Rattle.lard_answers.specs.Answers.{FilesAt, IsPrefix, answer, closes_any, verdicts, verdicts_on}
 use Rattle.lard_base.specs.declared.limits.TheConstants.{MAX_STREAM_BYTES}
@@ -64,9 +64,10 @@ pub record HasStopped (b : ControlBlock) : Type 0 where
 
 -- ---- the front end
 
--- It holds the endpoint, which answered these verdicts, and has read all that there was.
+-- It holds the endpoint, which its peer did not reset, which answered these verdicts, and has read all that there was.
 pub record HoldsIt (w out : Stream) (vs : List Verdict) (b : ControlBlock) (count : ℕ) : Type 0 where
   pub counted : count ≡ length vs
+  pub not_reset : b.reset ≡ false
   pub sound : IsControlBlock b
   pub speaks : Speaks b.send out.bytes
   pub out_is : out ≡ stream_of b.send out.bytes
@@ -74,20 +75,20 @@ pub record HoldsIt (w out : Stream) (vs : List Verdict) (b : ControlBlock) (coun
   pub has_read : HasRead w b vs
   pub stopped : HasStopped b
 
--- Both sides closed: it ended as this endpoint, which had read and said all.
+-- It ended as this endpoint, which had read all that there was. Both sides had closed, or the client reset it then.
 pub record EndedAs (w out : Stream) (vs : List Verdict) (last : Final) : Type 0 where
   pub block : ControlBlock
   pub count : ℕ
   pub held : HoldsIt w out vs block count
-  pub both : is_closed block ≡ true
-  pub is : last ≡ final_of block reason.Closed
+  pub both : last.reason ≡ reason.Closed → is_closed block ≡ true
+  pub is : last ≡ final_of block last.reason
 
--- It ended: the last numbers, a reset where that was for the stream limit, and else how it ended.
+-- It ended: the last numbers, a reset where that was for the stream limit, and else as what it ended.
 pub record EndedIt (w out : Stream) (vs : List Verdict) (was_reset : Bool) (last : Final) : Type 0 where
   pub snd_fits : last.snd.0 < 2 ^ 32
   pub acks : (n : ℕ) × (last.rcv.0 ≡ seq_add w.first n) × (n ≤ 2 + length w.bytes)
   pub limit : last.reason ≡ reason.Limit → was_reset ≡ true
-  pub closed : last.reason ≡ reason.Closed → EndedAs w out vs last
+  pub ended : last.reason ≢ reason.Limit → EndedAs w out vs last
 
 abbrev pub FrontAgrees : Stream → Stream → List Verdict → Bool → Seat → Type 0
 FrontAgrees w out vs was_reset Nowhere = (vs ≡ []) × (out.ended ≡ false)

@@ -1,5 +1,5 @@
 -- A connection of which no timer runs is complete.
-use Rattle.std.proofs.Common.{◌≡◌, ◌≤◌, ◌+◌, ◌^◌, ℕ, Bool, true, false, cond, not, ◌&&◌, List, map, length, take, Option, Some, None, arith, refl, ap, ◌∙◌, sym, subst}
+use Rattle.std.proofs.Common.{◌≡◌, ◌≢◌, ◌≤◌, ◌+◌, ◌^◌, ℕ, Bool, true, false, cond, not, ◌&&◌, List, map, length, take, Option, Some, None, arith, refl, ap, ◌∙◌, sym, subst}
 use Rattle.std.proofs.lemmas.Bool.{and_parts, both_ways, eqb-true}
 use Rattle.std.proofs.Math.Seq.{take-length}
 use Rattle.std.specs.List.{concat}
@@ -9,7 +9,7 @@ use Rattle.lard_base.specs.declared.place.Reason.{Reason}
 use Rattle.lard_base.specs.declared.place.Reason.TheVariants as reason
 use Rattle.lard_client.specs.declared.phase.Phase.{Phase}
 use Rattle.lard_client.specs.declared.phase.Phase.TheVariants.{Open, Aborted, Reset}
-use Rattle.lard_client.specs.Control.{ClientBlock, is_established, is_open, is_open_in}
+use Rattle.lard_client.specs.Control.{ClientBlock, is_armed, is_established, is_open, is_open_in}
 use Rattle.lard_endpoint.specs.Control.{ControlBlock}
 use Rattle.lard_endpoint.specs.declared.control.moving.Final.{Final}
 use Rattle.lard_history.specs.Journal.{Tale}
@@ -82,14 +82,14 @@ module _ (files : FilesAt) (w out : Stream) (vs : List Verdict) (x : ClientBlock
       by-reading false e open_ = open_ e
 
   -- one that both sides closed
-  closed-done : (last : Final) → EndedAs w out vs last → Acks out.first (taken_by x) last.snd.0 → x.accepted ≤ 2 ^ 30 → IsDone w out vs x
-  closed-done last e acks few = held-done e.block e.count e.held heard taken where
+  closed-done : (last : Final) → last.reason ≡ reason.Closed → EndedAs w out vs last → Acks out.first (taken_by x) last.snd.0 → x.accepted ≤ 2 ^ 30 → IsDone w out vs x
+  closed-done last why e acks few = held-done e.block e.count e.held heard taken where
     b : ControlBlock
     b = e.block
 
     both : (b.send.finished ≡ true) × (is_clear b.send ≡ true) × (b.recv.fin ≡ true)
     both =
-        let ends = and_parts (b.send.finished && is_clear b.send) b.recv.fin e.both in
+        let ends = and_parts (b.send.finished && is_clear b.send) b.recv.fin (e.both why) in
         let said = and_parts b.send.finished (is_clear b.send) ends.0 in
         (said.0, said.1, ends.1)
 
@@ -136,7 +136,7 @@ module _ (files : FilesAt) (w out : Stream) (vs : List Verdict) (x : ClientBlock
 
 module _ (files : FilesAt) (c : ℕ) (w out : Stream) (vs : List Verdict) (x : Station) (f : Seat) (t : Tale) (y : Story)
     (a : Agrees files c w out vs x f t) (r : ConnHolds x f y) (told : t.was_reset ≡ y.reset) (not_aborted : y.aborted ≡ false) (not_reset : y.reset ≡ false)
-    (client_quiet : y.client_armed ≡ false) (front_quiet : y.front_armed ≡ false) where
+    (client_quiet : is_armed x.client ≡ false) (front_quiet : front_armed f ≡ false) where
   open_ : is_open x.client ≡ true
   open_ = go x.client.phase refl where
     go : (p : Phase) → x.client.phase ≡ p → is_open_in p ≡ true
@@ -145,7 +145,7 @@ module _ (files : FilesAt) (c : ℕ) (w out : Stream) (vs : List Verdict) (x : S
     go Reset e = absurd (both_ways y.reset not_reset (r.client.resets e))
 
   cleared : is_clear x.client.send ≡ true
-  cleared = go (is_open x.client) open_ (is_clear x.client.send) (sym r.client_armed ∙ client_quiet) where
+  cleared = go (is_open x.client) open_ (is_clear x.client.send) client_quiet where
     go : (o : Bool) → o ≡ true → (k : Bool) → (o && not k) ≡ false → k ≡ true
     go true e true n = refl
     go true e false n = absurd (both_ways true n refl)
@@ -171,7 +171,7 @@ module _ (files : FilesAt) (c : ℕ) (w out : Stream) (vs : List Verdict) (x : S
   front_done (AtFront b count) e =
       let h : HoldsIt w out vs b count = subst (FrontAgrees w out vs t.was_reset) e a.front in
       let heard : 1 + length w.bytes + one_if w.ended ≤ heard_by b.recv = subst (λ (o : Seat). 1 + length w.bytes + one_if w.ended ≤ heard_of x.client.send.iss o) e all_heard in
-      let clear : is_clear b.send ≡ true = not_not (is_clear b.send) (sym (ap front_armed e) ∙ sym r.front_armed ∙ front_quiet) in
+      let clear : is_clear b.send ≡ true = not_not (is_clear b.send) (sym (ap front_armed e) ∙ front_quiet) in
       let una : b.send.una ≡ symbols b.send = clear-una b.send clear in
       let count : length out.bytes ≡ b.send.total = h.speaks.part.count in
       let end : one_if out.ended ≡ one_if b.send.finished = ap (λ (s : Stream). one_if s.ended) h.out_is in
@@ -189,8 +189,11 @@ module _ (files : FilesAt) (c : ℕ) (w out : Stream) (vs : List Verdict) (x : S
     held : FrontHolds x.iss (taken_by x.client) y.aborted (Over last)
     held = subst (λ (o : Seat). FrontHolds x.iss (taken_by x.client) y.aborted o) e r.front
 
+    not_limit : last.reason ≡ reason.Closed → last.reason ≢ reason.Limit
+    not_limit is l = let no : reason.Closed ≡ reason.Limit = sym is ∙ l in cc
+
     by-reason : (why : Reason) → last.reason ≡ why → Done
-    by-reason reason.Closed is = closed-done files w out vs x.client a.says a.client.accepts last (h.closed is) (subst (λ (n : ℕ). Acks n (taken_by x.client) last.snd.0) (sym a.begins) (held.0 is)) few
+    by-reason reason.Closed is = closed-done files w out vs x.client a.says a.client.accepts last is (h.ended (not_limit is)) (subst (λ (n : ℕ). Acks n (taken_by x.client) last.snd.0) (sym a.begins) (held.0 is)) few
     by-reason reason.Peer is = absurd (both_ways y.aborted not_aborted (held.1 is))
     by-reason reason.Limit is = absurd (both_ways y.reset not_reset (sym told ∙ h.limit is))
 

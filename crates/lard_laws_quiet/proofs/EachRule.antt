@@ -22,7 +22,7 @@ use Rattle.lard_laws_bytes.proofs.Later.{fair-letter}
 use Rattle.lard_laws_quiet.proofs.Acked.{ClientActed, ClientActs, FrontHolds, ReplyMay, WordMay, heard_of, taken_by}
 use Rattle.lard_laws_quiet.proofs.Holding.{AcksWhatWasTaken, Bounds, ConnHolds, LetterMay, bounds_at, bounds_of, grown-holds}
 use Rattle.lard_laws_quiet.proofs.Rules.{all-act}
-use Rattle.lard_laws_quiet.proofs.Story.{Story, aborted-told, client-tells, reset-at, still-grown, story_at}
+use Rattle.lard_laws_quiet.proofs.Story.{Story, aborted-told, client-tells, grown-story, reset-at, story_at}
 use Rattle.lard_laws_quiet.proofs.Turning.{OnlyShuts, client-keeps, front-keeps, held_before, opening-keeps}
 use Rattle.lard_rules.specs.declared.places.Station.{Station}
 use Rattle.lard_rules.specs.declared.places.Turn.{Turn}
@@ -173,6 +173,6 @@ module _ (k : Setting) (small : k.stream ≤ 2 ^ 30) where
       client_hears = λ x s bytes there was sound truth calm R. client-hears k small x s there (at-station k.files x s (truth calm) there) R bytes was;
       front_fires = λ x s there sound truth calm R. front-fires k small x s there (at-station k.files x s (truth calm) there) R;
       front_hears = λ x s bytes there was sound truth calm R. front-hears k small x s there (at-station k.files x s (truth calm) there) R bytes was;
-      ignores = λ x from to bytes was sound truth calm R. grown-holds x (ignoring x from to bytes) (story_at x) (still-grown x (ignoring x from to bytes) (story_at x) refl refl refl) R.tells R.packets tt;
+      ignores = λ x from to bytes was sound truth calm R. grown-holds x (ignoring x from to bytes) (story_at x) (grown-story x (ignoring x from to bytes) (story_at x) refl) R.tells R.packets tt;
     };
   }

@@ -38,7 +38,7 @@ use Rattle.lard_truth.proofs.Speaking.{one_small}
 -- ---- the end of a turn
 
 -- the last RCV.NXT tells how much was taken
-ended-heard : (w out : Stream) (b : ControlBlock) (why : Reason) → IsStream w → IsBetween w out b → heard_of w.first (Over (final_of b why)) ≡ heard_by b.recv
+pub ended-heard : (w out : Stream) (b : ControlBlock) (why : Reason) → IsStream w → IsBetween w out b → heard_of w.first (Over (final_of b why)) ≡ heard_by b.recv
 ended-heard w out b why is h =
     let sound = h.hears.sound.received in
     let one = one_small b.recv.fin in

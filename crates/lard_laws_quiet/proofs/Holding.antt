@@ -2,7 +2,7 @@
 use Rattle.std.proofs.Common.{◌≡◌, ℕ, ◌≤◌, List, [], ◌∷◌, ◌++◌, map, Bool, true, false, Option, Some, None, Result, Ok, sym, ap, ◌∙◌, subst, arith}
 use Rattle.lard_base.specs.declared.place.Place.{Place}
 use Rattle.lard_base.specs.declared.place.Place.TheVariants.{Front, Node, Client}
-use Rattle.lard_client.specs.Control.{is_armed, is_open}
+use Rattle.lard_client.specs.Control.{is_open}
 use Rattle.lard_history.specs.Own.{Letter}
 use Rattle.lard_history.proofs.Each.{Each, Each-append, Each-weaker}
 use Rattle.lard_laws_quiet.proofs.Acked.{Acks, ClientHolds, FrontHolds, RepliesMay, ReplyMay, WordMay, WordsMay, heard_of, taken_by}
@@ -18,14 +18,12 @@ use Rattle.lard_view.specs.View.{Conn, Move, grown, letter, letters_of}
 
 -- ---- its two ends
 
--- they acknowledge no more than was taken, its story tells what became of its client, and its timers run as told
+-- they acknowledge no more than was taken, and its story tells what became of its client
 pub record ConnHolds (x : Station) (f : Seat) (y : Story) : Type 0 where
   pub client : ClientHolds (heard_of x.client.send.iss f) y.aborted y.reset x.client
   pub front : FrontHolds x.iss (taken_by x.client) y.aborted f
   pub ended : x.client.eof ≡ true → y.ended ≡ true
   pub shut : is_open x.client ≡ true → y.shut ≡ true → x.client.send.finished ≡ true
-  pub client_armed : y.client_armed ≡ is_armed x.client
-  pub front_armed : y.front_armed ≡ front_armed f
 
 -- of one whose client has not opened nothing is told
 abbrev pub ConnTells : Option Station → Seat → Story → Type 0

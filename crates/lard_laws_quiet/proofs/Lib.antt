@@ -10,6 +10,7 @@ pub mod FrontReading
 pub mod FrontRules
 pub mod FrontSaying
 pub mod Holding
+pub mod Prompt
 pub mod Reached
 pub mod Rules
 pub mod Story

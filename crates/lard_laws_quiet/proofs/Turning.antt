@@ -5,7 +5,7 @@ use Rattle.std.proofs.lemmas.Bool.{both_ways}
 use Rattle.lard_answers.specs.Answers.{FilesAt}
 use Rattle.lard_base.specs.declared.place.Place.{Place}
 use Rattle.lard_base.specs.declared.place.Place.TheVariants as place
-use Rattle.lard_client.specs.Control.{ClientBlock, is_armed, is_open}
+use Rattle.lard_client.specs.Control.{ClientBlock, is_open}
 use Rattle.lard_history.specs.Own.{Seen}
 use Rattle.lard_history.proofs.Each.{Each}
 use Rattle.lard_laws_bytes.specs.Keeping.{ClientTurned, FrontTurned}
@@ -13,13 +13,13 @@ use Rattle.lard_laws_bytes.specs.Truthful.{ConnAgrees, IsTruthfulAt}
 use Rattle.lard_laws_bytes.proofs.Holding.{IsOpen}
 use Rattle.lard_laws_quiet.proofs.Acked.{ClientActed, ClientBegins, ClientHolds, FrontActed, FrontHolds, RepliesMay, WordsMay, ends_in, heard_of, taken_by}
 use Rattle.lard_laws_quiet.proofs.Holding.{AcksWhatWasTaken, Bounds, ConnHolds, ConnTells, Grows, LetterMay, acks-more, bounds_at, bounds_of, grown-holds, letters-more, replies-letters, words-letters}
-use Rattle.lard_laws_quiet.proofs.Story.{Story, Tells, client-grown, client-tells, ends-told, front-grown, front-tells, or-either, story_at, story_on, story_seen, unheard}
+use Rattle.lard_laws_quiet.proofs.Story.{Story, Tells, client-tells, ends-told, front-tells, grown-story, or-either, story_at, story_on, story_seen, unheard}
 use Rattle.lard_rules.specs.declared.places.Station.{Station}
 use Rattle.lard_rules.specs.declared.places.Turn.{Turn}
 use Rattle.lard_rules.specs.Seat.{Seat, Nowhere, AtFront, Away, Over, front_armed}
 use Rattle.lard_truth.specs.Truth.{Stream}
 use Rattle.lard_view.specs.Carry.{tale_at}
-use Rattle.lard_view.specs.View.{Conn, Move, client_does, front_does, grown, letter, station_armed, with_station}
+use Rattle.lard_view.specs.View.{Conn, Move, client_does, front_does, grown, letter, with_station}
 
 -- ---- what holds goes on holding as more is taken and told
 
@@ -85,14 +85,11 @@ module _ (files : FilesAt) (x : Conn) (s : Station) (there : x.part.station ≡ 
       abbrev y2 : Story
       y2 = story_on x.c y1 given.1.notes
 
-      abbrev z : Story
-      z = record y2 { client_armed = is_armed given.0 }
-
       tells : Tells y1 y2
       tells = client-tells x.c y1 given.1.notes k.notes
 
-      story_after : story_at (grown x (client_does x s heads given)) ≡ z
-      story_after = client-grown x (client_does x s heads given) y1 only refl (tells.client_armed ∙ held_before.client_armed ∙ sym (ap station_armed there))
+      story_after : story_at (grown x (client_does x s heads given)) ≡ y2
+      story_after = grown-story x (client_does x s heads given) y1 only
 
       iss_same : given.0.send.iss ≡ s.client.send.iss
       iss_same = sym (ap (λ (u : Stream). u.first) k.agrees.w_is) ∙ k.longer.first ∙ first_is
@@ -106,18 +103,16 @@ module _ (files : FilesAt) (x : Conn) (s : Station) (there : x.part.station ≡ 
           (λ (now : b ≡ true). finishes now open_)
           (or-either y.shut b (sym tells.shut ∙ shut))
 
-      holds_after : ConnHolds after f z
+      holds_after : ConnHolds after f y2
       holds_after = record {
         client = client-more (heard_of s.client.send.iss f) (heard_of given.0.send.iss f) a y2.aborted y.reset y2.reset given.0
             (let same = heard_same in omega arith) told tells.reset act.holds;
         front = front-more s.iss (taken_by s.client) (taken_by given.0) y.aborted y2.aborted f act.grows tells.aborted held_before.front;
         ended = λ t. ⊎_elim (λ (was : s.client.eof ≡ true). tells.ended (held_before.ended was)) (λ (now : ends_in given.1.notes ≡ true). ends-told x.c y1 given.1.notes k.notes now) (act.ended t);
         shut = shut_by;
-        client_armed = refl;
-        front_armed = tells.front_armed ∙ held_before.front_armed;
       }
 
-      grows_after : Grows (bounds_of (Some s) f y) (bounds_of (Some after) f z)
+      grows_after : Grows (bounds_of (Some s) f y) (bounds_of (Some after) f y2)
       grows_after = record { isn = iss_same; iss = refl; heard = (let same = heard_same in omega arith); taken = act.grows; aborted = tells.aborted }
 
       words_after : WordsMay x.c s.iss (taken_by given.0) y2.aborted given.1.segments
@@ -125,24 +120,21 @@ module _ (files : FilesAt) (x : Conn) (s : Station) (there : x.part.station ≡ 
           (words-told x.c out.first (taken_by given.0) a y2.aborted given.1.segments told act.sent)
 
       pub client-keeps : AcksWhatWasTaken (grown x (client_does x s heads given))
-      client-keeps = grown-holds x (client_does x s heads given) z story_after holds_after (past (bounds_of (Some after) f z) grows_after) (words-letters x.c (bounds_of (Some after) f z) given.1.segments words_after)
+      client-keeps = grown-holds x (client_does x s heads given) y2 story_after holds_after (past (bounds_of (Some after) f y2) grows_after) (words-letters x.c (bounds_of (Some after) f y2) given.1.segments words_after)
 
     -- ---- the front end's turn
     module _ (given : Seat × Turn) (k : FrontTurned files x.c w out O.talk.vs (tale_at x).was_reset given)
         (act : FrontActed x.c w.first out.first (taken_by s.client) y.aborted f given) (no_shut : b ≡ false) where
-      abbrev v2 : Story
-      v2 = story_on x.c y1 given.1.notes
-
       abbrev v : Story
-      v = record v2 { front_armed = front_armed given.0 }
+      v = story_on x.c y1 given.1.notes
 
-      says : Tells y1 v2
+      says : Tells y1 v
       says = front-tells x.c y1 given.1.notes k.noted.front
 
       story_then : story_at (grown x (front_does x heads given)) ≡ v
-      story_then = front-grown x (front_does x heads given) y1 only refl (says.front_armed ∙ held_before.front_armed)
+      story_then = grown-story x (front_does x heads given) y1 only
 
-      shut_same : v2.shut ≡ y.shut
+      shut_same : v.shut ≡ y.shut
       shut_same = says.shut ∙ ap (λ d. y.shut || d) no_shut ∙ or-false y.shut
 
       heard_grows : heard_of s.client.send.iss f ≤ heard_of s.client.send.iss given.0
@@ -150,13 +142,11 @@ module _ (files : FilesAt) (x : Conn) (s : Station) (there : x.part.station ≡ 
 
       holds_then : ConnHolds s given.0 v
       holds_then = record {
-        client = client-more (heard_of s.client.send.iss f) (heard_of s.client.send.iss given.0) y.aborted v2.aborted y.reset v2.reset s.client heard_grows says.aborted says.reset held_before.client;
-        front = front-more s.iss (taken_by s.client) (taken_by s.client) y.aborted v2.aborted given.0 (omega arith) says.aborted
+        client = client-more (heard_of s.client.send.iss f) (heard_of s.client.send.iss given.0) y.aborted v.aborted y.reset v.reset s.client heard_grows says.aborted says.reset held_before.client;
+        front = front-more s.iss (taken_by s.client) (taken_by s.client) y.aborted v.aborted given.0 (omega arith) says.aborted
             (subst (λ (n : ℕ). FrontHolds n (taken_by s.client) y.aborted given.0) O.agreed.begins act.holds);
         ended = λ t. says.ended (held_before.ended t);
         shut = λ open_ shut. held_before.shut open_ (sym shut_same ∙ shut);
-        client_armed = says.client_armed ∙ held_before.client_armed;
-        front_armed = refl;
       }
 
       grows_then : Grows (bounds_of (Some s) f y) (bounds_of (Some s) given.0 v)
@@ -184,9 +174,6 @@ module _ (files : FilesAt) (x : Conn) (T : IsTruthfulAt files x) (R : AcksWhatWa
   abbrev begun : Move
   begun = record { place = place.Client x.c; heads = heads; turn = given.1; part = with_station x.part station }
 
-  abbrev first_z : Story
-  first_z = record unheard { client_armed = is_armed given.0 }
-
   unheard_before : story_at x ≡ unheard
   unheard_before = subst (λ (o : Option Station). ConnTells o x.part.seat (story_at x)) none R.tells
 
@@ -196,29 +183,22 @@ module _ (files : FilesAt) (x : Conn) (T : IsTruthfulAt files x) (R : AcksWhatWa
   seen_none : story_seen x.c (story_at x) heads ≡ unheard
   seen_none = only ∙ ap (λ (y : Story). record y { shut = y.shut || false }) unheard_before
 
-  noted_none : story_on x.c unheard given.1.notes ≡ unheard
-  noted_none = ap (story_on x.c unheard) silent
+  first_story : story_at (grown x begun) ≡ unheard
+  first_story = grown-story x begun unheard seen_none ∙ ap (story_on x.c unheard) silent
 
-  first_story : story_at (grown x begun) ≡ first_z
-  first_story =
-      client-grown x begun unheard seen_none refl (ap (λ (y : Story). y.client_armed) noted_none ∙ sym (ap station_armed none))
-      ∙ ap (λ (y : Story). record y { client_armed = is_armed given.0 }) noted_none
-
-  first_holds : ConnHolds station Nowhere first_z
+  first_holds : ConnHolds station Nowhere unheard
   first_holds = record {
     client = begins.holds false false;
     front = tt;
     ended = λ t. absurd (both_ways given.0.eof begins.not_ended t);
     shut = λ open_ s. absurd cc;
-    client_armed = refl;
-    front_armed = refl;
   }
 
   pub opening-keeps : AcksWhatWasTaken (grown x begun)
   opening-keeps =
-      let b : Bounds = bounds_of (Some station) Nowhere first_z in
-      grown-holds x begun first_z first_story
-      (subst (λ (g : Seat). ConnTells (Some station) g first_z) (sym not_held) first_holds)
-      (subst (Each (LetterMay x.c (bounds_of (Some station) x.part.seat first_z))) (sym (T.fresh none)) tt)
-      (subst (λ (g : Seat). Each (LetterMay x.c (bounds_of (Some station) g first_z)) (map (letter (place.Client x.c)) given.1.segments)) (sym not_held)
+      let b : Bounds = bounds_of (Some station) Nowhere unheard in
+      grown-holds x begun unheard first_story
+      (subst (λ (g : Seat). ConnTells (Some station) g unheard) (sym not_held) first_holds)
+      (subst (Each (LetterMay x.c (bounds_of (Some station) x.part.seat unheard))) (sym (T.fresh none)) tt)
+      (subst (λ (g : Seat). Each (LetterMay x.c (bounds_of (Some station) g unheard)) (map (letter (place.Client x.c)) given.1.segments)) (sym not_held)
       (words-letters x.c b given.1.segments (begins.sent false)))

@@ -5,6 +5,7 @@
 
 ghost use Rattle.lard_laws_steps.specs.Clients.{ClientsKeepTheirTables};
 ghost use Rattle.lard_laws_steps.specs.Fronts.{TheFrontEndTakesOnce};
+ghost use Rattle.lard_laws_steps.specs.Timers.{TimersChangeInSteps, TimersRunAsKept};
 
 /// A client's state is a fold over its own events and the packets that it got, and behind each of these stand exactly the
 /// records that its table gives from that state (RFC 9293, 3.10).
@@ -16,4 +17,11 @@ pub fn clients_keep_their_tables()
 /// (RFC 9293, 3.10.7.2).
 pub fn the_front_end_takes_once()
     ensures { TheFrontEndTakesOnce }
+{}
+
+/// In every state the journal tells of each client's timer, and of the front end's, whether it is armed. A step has of
+/// each timer the record of its change and no other, behind all its other records (RFC 9293, 3.8.1).
+pub fn timers_are_told()
+    ensures flags { TimersRunAsKept }
+    ensures steps { TimersChangeInSteps }
 {}

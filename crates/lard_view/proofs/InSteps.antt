@@ -1,19 +1,21 @@
--- Laws of a step: from the move of each connection in it to the steps of the whole journal. And laws of a record.
-use Rattle.std.proofs.Common.{◌≡◌, ℕ, List, [], ◌∷◌, ◌++◌, Ok, refl, sym, ap, ◌∙◌, subst, ⊎_elim, append-nil}
+-- Laws of a step: from the move of each connection in it to the steps of the whole journal. And laws of a record, and of
+-- the end of each step.
+use Rattle.std.proofs.Common.{◌≡◌, ℕ, List, [], ◌++◌, Ok, refl, sym, ap, ◌∙◌, subst, ⊎_elim, append-nil}
 use Rattle.lard_base.specs.declared.config.Config.{Config}
 use Rattle.lard_base.specs.declared.event.Event.{Event}
 use Rattle.lard_history.specs.Laws.{EachMay}
 use Rattle.lard_history.specs.Own.{EachRow, Seen, net_of, own, seen_on}
-use Rattle.lard_history.specs.Steps.{EachStep, steps}
+use Rattle.lard_history.specs.Steps.{AtEachEnd, EachStep, HoldsBefore, steps}
+use Rattle.lard_history.proofs.Each.{each_append}
 use Rattle.lard_history.proofs.Lifting.{IsLocal, each_from_own}
 use Rattle.lard_history.proofs.Seeing.{own-append}
-use Rattle.lard_history.proofs.Stepping.{AreLawful, cancel, one-more}
+use Rattle.lard_history.proofs.Stepping.{AreLawful, cancel, one-more, step-holds}
 use Rattle.lard_journal.specs.declared.rec.Rec.{Rec}
 use Rattle.lard_machine.specs.declared.machine.Machine.{Machine}
 use Rattle.lard_machine.specs.Bounds.{HasRule}
-use Rattle.lard_machine.specs.Machine.{IsReached, machine_step, start}
+use Rattle.lard_machine.specs.Machine.{IsReached, machine_step}
 use Rattle.lard_view.specs.Carry.{IsStepLaw, OfEach, setting}
-use Rattle.lard_view.specs.View.{Conn, Goes, IsSound, Move, Rules, Setting, conn, grown, seen_in, setting_of}
+use Rattle.lard_view.specs.View.{Conn, Goes, IsSound, Move, Rules, Setting, conn, grown, seen_in}
 use Rattle.lard_view.proofs.Carried.{IsOn, IsViewed, after, carried-keep, moves, on-setting}
 
 -- what a connection sees of a step is what its move says
@@ -53,3 +55,12 @@ module _ (config : Config) (files : List (List ℕ × List ℕ)) where
       → ((m : Machine) → IsReached config files m → (q : ℕ) → EachRow (mine q) [] (conn m q).seen) → (m : Machine) → IsReached config files m → EachMay may [] m.journal
   unfolding conn
   carried-records may mine local each m r = each_from_own may mine local m.journal (λ q. each m r q)
+
+  -- what the journal of each state holds, it holds at the end of each of its steps
+  pub carried-ends : (P : List Rec → Type 0) → ((m : Machine) → IsReached config files m → P m.journal) → (m : Machine) → IsReached config files m → AtEachEnd P m.journal
+  carried-ends P always m r = record { before = carried-keep config files (λ k. EachMay (HoldsBefore P) [] k.journal) tt step m r; last = always m r } where
+    step : (k n : Machine) (e : Event) → IsOn config files k → IsViewed k → EachMay (HoldsBefore P) [] k.journal → HasRule e → machine_step k e ≡ Ok n → EachMay (HoldsBefore P) [] n.journal
+    step k n e on view h rule is =
+        let shape = after k n e view rule is in
+        subst (EachMay (HoldsBefore P) []) (sym shape.is)
+        (each_append (HoldsBefore P) [] k.journal shape.step h (step-holds P k.journal shape.step (always k on.reached) shape.one))

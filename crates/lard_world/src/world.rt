@@ -5,9 +5,11 @@ ghost use Rattle.lard_base.specs.Config.{IsInRange};
 ghost use Rattle.lard_files.specs.Files.{file_at};
 ghost use Rattle.lard_history.specs.Laws.{AcceptsOnlyAnswers, ActsInPlace, IsNetwork, IsOwnership, IsSoleSender, ResetsAtTheLimit, ServesTheAnswers, TellsTheTruth, WritesWhileOpen};
 ghost use Rattle.lard_laws_clients.specs.Laws.{TakesInOrder};
+ghost use Rattle.lard_laws_quiet.specs.Prompt.{IsPrompt};
 ghost use Rattle.lard_laws_quiet.specs.Quiet.{IsCompleteWhenQuiet};
 ghost use Rattle.lard_laws_steps.specs.Clients.{KeepsTables};
 ghost use Rattle.lard_laws_steps.specs.Fronts.{TakesOnce};
+ghost use Rattle.lard_laws_steps.specs.Timers.{ChangesInSteps};
 ghost use Rattle.lard_machine.specs.Bounds.{HasRule};
 ghost use Rattle.lard_machine.specs.Machine.{Steps, machine_step, start};
 ghost use Rattle.lard_world.specs.World.{is_short};
@@ -20,8 +22,8 @@ use lard_journal::Journal;
 use lard_laws_bytes::every_run_is_true;
 use lard_laws_clients::clients_take_what_comes_next;
 use lard_laws_places::{journals_are_lawful, states_are_told};
-use lard_laws_quiet::quiet_connections_are_complete;
-use lard_laws_steps::{clients_keep_their_tables, the_front_end_takes_once};
+use lard_laws_quiet::{acknowledged_requests_are_answered, quiet_connections_are_complete};
+use lard_laws_steps::{clients_keep_their_tables, the_front_end_takes_once, timers_are_told};
 use lard_machine::{Machine, Station, StepFault};
 use lard_net::Net;
 use lard_table::Table;
@@ -89,10 +91,12 @@ impl World {
         ensures takers { TakesInOrder self.new.machine.journal }
         ensures tables { KeepsTables self.new.machine.journal }
         ensures taken_once { TakesOnce self.new.machine.journal }
+        ensures timers { ChangesInSteps self.new.machine.journal }
         ensures resets { ResetsAtTheLimit self.old.machine.config.stream self.new.machine.journal }
         ensures tells { TellsTheTruth (file_at self.old.machine.files) self.new.machine.journal }
         ensures serves { ServesTheAnswers (file_at self.old.machine.files) self.new.machine.journal }
         ensures prefix { AcceptsOnlyAnswers (file_at self.old.machine.files) self.new.machine.journal }
+        ensures prompt { IsPrompt self.new.machine.journal }
         ensures quiet { IsCompleteWhenQuiet (file_at self.old.machine.files) self.new.machine.journal }
     {
         states_are_told();
@@ -101,6 +105,8 @@ impl World {
         clients_take_what_comes_next();
         clients_keep_their_tables();
         the_front_end_takes_once();
+        timers_are_told();
+        acknowledged_requests_are_answered();
         quiet_connections_are_complete();
         let done = steps::step(&mut self.machine, alloc, event);
         self.spoiled = is_short(done);

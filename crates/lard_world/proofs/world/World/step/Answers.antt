@@ -4,9 +4,11 @@ use Rattle.lard_base.specs.declared.config.Config.{Config}
 use Rattle.lard_files.specs.Files.{file_at}
 use Rattle.lard_history.specs.Laws.{AcceptsOnlyAnswers, ActsInPlace, IsNetwork, IsOwnership, IsSoleSender, ResetsAtTheLimit, ServesTheAnswers, TellsTheTruth, WritesWhileOpen}
 use Rattle.lard_laws_clients.specs.Laws.{TakesInOrder}
+use Rattle.lard_laws_quiet.specs.Prompt.{IsPrompt}
 use Rattle.lard_laws_quiet.specs.Quiet.{IsCompleteWhenQuiet}
 use Rattle.lard_laws_steps.specs.Clients.{KeepsTables}
 use Rattle.lard_laws_steps.specs.Fronts.{TakesOnce}
+use Rattle.lard_laws_steps.specs.Timers.{ChangesInSteps}
 use Rattle.lard_world.specs.World.{Standing}
 use Rattle.lard_world.proofs.Runs.{runs-on, still}
 use Rattle.lard_world.proofs.world.World.step.Goals as goal
@@ -69,6 +71,12 @@ returns-clause-taken_once c =
     still c.self.inside.machine c.step-done.new.machine c.args.event run c.requires.ruled TakesOnce
     (λ m r s f. c.the_front_end_takes_once.ensures m.config m.files m r.reached) c.step-done.result c.step-done.ensures
 
+pub returns-clause-timers : goal.returns-clause-timers
+returns-clause-timers c =
+    let run = c.self.invariant (ap (λ w. w.spoiled) c.self.view_is ∙ c.requires.usable) in
+    still c.self.inside.machine c.step-done.new.machine c.args.event run c.requires.ruled ChangesInSteps
+    (λ m r s f. c.timers_are_told.ensures.steps m.config m.files m r.reached) c.step-done.result c.step-done.ensures
+
 pub returns-clause-resets : goal.returns-clause-resets
 returns-clause-resets c =
     let run = c.self.invariant (ap (λ w. w.spoiled) c.self.view_is ∙ c.requires.usable) in
@@ -96,6 +104,12 @@ returns-clause-prefix c =
     subst (λ (w : Standing). AcceptsOnlyAnswers (file_at w.machine.files) c.step-done.new.machine.journal) c.self.view_is
     (still c.self.inside.machine c.step-done.new.machine c.args.event run c.requires.ruled (AcceptsOnlyAnswers (file_at c.self.inside.machine.files))
     (λ m r s f. subst (λ (fs : List (List ℕ × List ℕ)). AcceptsOnlyAnswers (file_at fs) m.journal) f (c.every_run_is_true.ensures.prefix m.config m.files m r.stream r.reached)) c.step-done.result c.step-done.ensures)
+
+pub returns-clause-prompt : goal.returns-clause-prompt
+returns-clause-prompt c =
+    let run = c.self.invariant (ap (λ w. w.spoiled) c.self.view_is ∙ c.requires.usable) in
+    still c.self.inside.machine c.step-done.new.machine c.args.event run c.requires.ruled IsPrompt
+    (λ m r s f. c.acknowledged_requests_are_answered.ensures m.config m.files m r.stream r.reached) c.step-done.result c.step-done.ensures
 
 pub returns-clause-quiet : goal.returns-clause-quiet
 returns-clause-quiet c =
