@@ -28,7 +28,8 @@ use Rattle.lard_laws_steps.proofs.Timers.{timers-kept}
 use Rattle.lard_laws_steps.specs.Timers.{RunsAsKept}
 use Rattle.lard_machine.specs.declared.machine.Machine.{Machine}
 use Rattle.lard_rules.specs.declared.places.Station.{Station}
-use Rattle.lard_machine.specs.Machine.{IsReached, front_armed}
+use Rattle.lard_machine.specs.Machine.{IsReached}
+use Rattle.lard_rules.specs.Seat.{front_armed}
 use Rattle.lard_view.specs.Carry.{OfEach, Untouched, setting, tale_at}
 use Rattle.lard_view.specs.View.{Conn, conn, part_of, station_armed}
 use Rattle.lard_view.proofs.Carried.{carried, reached-viewed}

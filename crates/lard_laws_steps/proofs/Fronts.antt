@@ -13,6 +13,9 @@ use Rattle.lard_base.specs.declared.place.Via.TheVariants.{Own}
 use Rattle.lard_client.specs.Control.{ClientBlock}
 use Rattle.lard_endpoint.specs.declared.control.moving.Final.{Final}
 use Rattle.lard_endpoint.specs.Arriving.{on_segment}
+use Rattle.lard_endpoint.specs.Control.{ControlBlock, listening}
+use Rattle.lard_endpoint.specs.Leaving.{after_timer}
+use Rattle.lard_endpoint.specs.Moving.{end_reason, final_of, may_end}
 use Rattle.lard_history.specs.Journal.{request}
 use Rattle.lard_history.specs.Own.{Has, Seen, Row}
 use Rattle.lard_history.proofs.Each.{Each, Each-append, Each-weaker}

@@ -26,11 +26,12 @@ use Rattle.lard_rules.specs.Outs.{timer_change}
 use Rattle.lard_rules.specs.Seat.{front_armed}
 use Rattle.lard_view.specs.Carry.{IsLaw, OfEach, setting}
 use Rattle.lard_view.specs.View.{Conn, IsSound, Move, Rules, Setting, armed_at, conn, grown, part_of, rows_of, sending, station_armed, timer_rows}
-use Rattle.lard_view.proofs.Acts.{Acts, IsStepOf, behind, step_acts}
+use Rattle.lard_view.proofs.Acts.{Acts, IsStepOf, step_acts}
 use Rattle.lard_view.proofs.Carried.{IsOn, IsViewed, after, carried, carried-keep, on-setting}
 use Rattle.lard_view.proofs.Guarded.{both, weaker}
 use Rattle.lard_view.proofs.Moving.{unchanged}
 use Rattle.lard_view.proofs.Rows.{grown-told}
+use Rattle.lard_view.proofs.Shapes.{behind}
 use Rattle.lard_view.proofs.Turns.{IsFine, NotedAt, fine}
 
 -- ---- records of no timer
@@ -154,19 +155,21 @@ record IsPlain (x : Conn) (v : Move) : Type 0 where
 
 plainly : (k : Setting) → Rules k IsPlain
 plainly k = record {
-  opens = λ x isn iss wnd mss rule none. record { heads = (refl, (refl, tt)); acts = inl (refl, refl) };
-  gets = λ x s path there le. record { heads = (refl, tt); acts = inl (refl, refl) };
-  writes = λ x s bytes there le. record { heads = (refl, tt); acts = inl (refl, refl) };
-  shuts = λ x s there. record { heads = (refl, tt); acts = inl (refl, refl) };
-  aborts = λ x s there. record { heads = (refl, tt); acts = inl (refl, refl) };
-  holds = λ x s there. record { heads = (refl, tt); acts = inl (refl, refl) };
-  takes = λ x s there. record { heads = (refl, tt); acts = inl (refl, refl) };
+  untouched = record {
+    opens = λ x isn iss wnd mss rule none. record { heads = (refl, (refl, tt)); acts = inl (refl, refl) };
+    gets = λ x s path there le. record { heads = (refl, tt); acts = inl (refl, refl) };
+    writes = λ x s bytes there le. record { heads = (refl, tt); acts = inl (refl, refl) };
+    shuts = λ x s there. record { heads = (refl, tt); acts = inl (refl, refl) };
+    aborts = λ x s there. record { heads = (refl, tt); acts = inl (refl, refl) };
+    holds = λ x s there. record { heads = (refl, tt); acts = inl (refl, refl) };
+    takes = λ x s there. record { heads = (refl, tt); acts = inl (refl, refl) };
+    client_fires = λ x s there. record { heads = (refl, tt); acts = inl (refl, refl) };
+    client_hears = λ x s bytes there was. record { heads = (tt, tt); acts = inl (refl, refl) };
+    front_fires = λ x s there. record { heads = (refl, tt); acts = inr (inl (refl, refl)) };
+    front_hears = λ x s bytes there was. record { heads = (tt, tt); acts = inr (inl (refl, refl)) };
+    ignores = λ x from to bytes was. record { heads = (tt, tt); acts = inr (inr refl) };
+  };
   injects = λ x s bytes there rule. record { heads = (refl, (refl, tt)); acts = inl (refl, refl) };
-  client_fires = λ x s there. record { heads = (refl, tt); acts = inl (refl, refl) };
-  client_hears = λ x s bytes there was. record { heads = (tt, tt); acts = inl (refl, refl) };
-  front_fires = λ x s there. record { heads = (refl, tt); acts = inr (inl (refl, refl)) };
-  front_hears = λ x s bytes there was. record { heads = (tt, tt); acts = inr (inl (refl, refl)) };
-  ignores = λ x from to bytes was. record { heads = (tt, tt); acts = inr (inr refl) };
 }
 
 abbrev Moves : Conn → Move → Type 0
@@ -359,7 +362,7 @@ module _ (config : Config) (files : List (List ℕ × List ℕ)) where
   one-step : (k n : Machine) (e : Event) → IsOn config files k → IsViewed k → AreLawful ChangesTimers k.journal → HasRule e → machine_step k e ≡ Ok n → AreLawful ChangesTimers n.journal
   one-step k n e on view h rule is =
       let shape = after k n e view rule is in
-      let step : IsStepOf Moves k n e = step_acts k Moves (subst (λ (s : Setting). Rules s Moves) (on-setting config files k on) (moving (setting config files))) view.sound view.told e n rule is in
+      let step : IsStepOf Moves k n e = step_acts k Moves (subst (λ (s : Setting). Rules s Moves) (on-setting config files k on) (moving (setting config files))) view.sound e n rule is in
       let opening : Rec = rec.Event (k.events + 1) e in
       let same : shape.step ≡ opening ∷ step.adds = cancel k.journal shape.step (opening ∷ step.adds) (sym shape.is ∙ step.journal) in
       subst (AreLawful ChangesTimers) (sym shape.is)
