@@ -31,7 +31,7 @@ use Rattle.lard_dispatch.proofs.Servers.{before-joined, before-reduced, before-t
 use Rattle.lard_dispatch.proofs.Sharing.{add-home}
 use Rattle.lard_dispatch.proofs.Standing.{admitted-away, apart-left, apart-pushed, apart-put, at-nodes-put}
 
-abbrev of : Config → Books → Dispatcher
+abbrev pub of : Config → Books → Dispatcher
 of cfg b = record { config = cfg; books = b }
 
 -- one more is admitted, one fewer, or as many
