@@ -142,9 +142,10 @@ batch-may ns cfg ask now (p ∷ ps) b one node at s =
     let within : IsNode b.loads.nodes choice.node = later-node cfg b ask p s node in
     let next : Books = shared_with cfg b ask p now in
     let rest : MayCallAll (reopened ns next.loads) (later_counted ask (all_choices cfg ask now ps next)) =
-    batch-may ns cfg ask now ps next one node (home-shared b.loads ask.c choice.node ask.size ∙ at) (shares-kept cfg ask now (p ∷ []) b node s) in
-    ((one, has-home b.loads ask.c ask.home at, within.0, within.1),
-    subst (λ (t : Tally). MayCallAll t (later_counted ask (all_choices cfg ask now ps next))) (sym (after-reopened ns b.loads (Share ask.c choice.node ask.size))) rest)
+    batch-may ns cfg ask now ps next one node (home-shared b.loads ask.c choice.node ask.size ∙ at) (shares-kept cfg ask now (p ∷ []) b node s) in (
+      (one, has-home b.loads ask.c ask.home at, within.0, within.1),
+      subst (λ (t : Tally). MayCallAll t (later_counted ask (all_choices cfg ask now ps next))) (sym (after-reopened ns b.loads (Share ask.c choice.node ask.size))) rest,
+    )
 
 -- who waits has the number of a connection
 abbrev pub AreConnections : List Waiting → Type 0
@@ -160,7 +161,7 @@ call-may ns d (First c target now) s a r line = go (is_full d) where
 call-may ns d (Later ask now) s a r line = (
   (r.0, has-home d.books.loads ask.c ask.home a),
   subst (λ (t : Tally). MayCallAll t (later_counted ask (all_choices d.config ask now ask.paths (batch_over d.books ask)))) (sym (after-reopened ns d.books.loads (BatchOver ask.c)))
-  (batch-may ns d.config ask now ask.paths (batch_over d.books ask) r.0 (home-node d.config.nodes d.books.loads.standings ask.c ask.home s.at_nodes a) (home-ended d.books.loads ask.c ∙ a) (ended-batch-kept d ask.c s)),
+      (batch-may ns d.config ask now ask.paths (batch_over d.books ask) r.0 (home-node d.config.nodes d.books.loads.standings ask.c ask.home s.at_nodes a) (home-ended d.books.loads ask.c ∙ a) (ended-batch-kept d ask.c s)),
 )
 call-may ns d (Ended c now) s a r line = ((r, is-in d.books.loads c a), go d.books.line line s.apart) where
   go : (ws : List Waiting) → AreConnections ws → AreApart d.books.loads.standings ws → MayCallAll (reopened ns (released d.books.loads c)) (next_counted (next_answer d.config now (released_from d.books c) ws))
