@@ -75,12 +75,9 @@ module _ (f : ℕ → ℕ) (low high : ℕ) (ordered : low ≤ high) where
   is_high n = nat_le high (f n)
 
   -- where none is below low, the sum is at least what those that are high, and those that are not, come to
-  at-least : (a k : ℕ) → ((n : ℕ) → a ≤ n → n < a + k → low ≤ f n) → count_by is_high (range_with_len a k) * high + count_by (λ n. not (is_high n)) (range_with_len a k) * low ≤ sum_by f (range_with_len a k)
-  at-least a zero each = omega arith
-  at-least a (suc k) each = go (is_high a) refl where
-    rest : count_by is_high (range_with_len (a + 1) k) * high + count_by (λ n. not (is_high n)) (range_with_len (a + 1) k) * low ≤ sum_by f (range_with_len (a + 1) k)
-    rest = at-least (a + 1) k (λ n some most. each n (omega (arith, some)) (omega (arith, most)))
-
+  highs-le-sum : (a k : ℕ) → ((n : ℕ) → a ≤ n → n < a + k → low ≤ f n) → count_by is_high (range_with_len a k) * high + count_by (λ n. not (is_high n)) (range_with_len a k) * low ≤ sum_by f (range_with_len a k)
+  highs-le-sum a zero each = omega arith
+  highs-le-sum a (suc k) each = go (highs-le-sum (a + 1) k (λ n some most. each n (omega (arith, some)) (omega (arith, most)))) (is_high a) refl where
     all : sum_by f (range_with_len a (suc k)) ≡ f a + sum_by f (range_with_len (a + 1) k)
     all = sum_by-cons f a (range_with_len (a + 1) k)
 
@@ -90,15 +87,16 @@ module _ (f : ℕ → ℕ) (low high : ℕ) (ordered : low ≤ high) where
     others : count_by (λ n. not (is_high n)) (range_with_len a (suc k)) ≡ cond (not (is_high a)) 1 0 + count_by (λ n. not (is_high n)) (range_with_len (a + 1) k)
     others = sum_by-cons (λ n. cond {A = ℕ} (not (is_high n)) 1 0) a (range_with_len (a + 1) k)
 
-    go : (b : Bool) → is_high a ≡ b → count_by is_high (range_with_len a (suc k)) * high + count_by (λ n. not (is_high n)) (range_with_len a (suc k)) * low ≤ sum_by f (range_with_len a (suc k))
-    go true e =
+    go : count_by is_high (range_with_len (a + 1) k) * high + count_by (λ n. not (is_high n)) (range_with_len (a + 1) k) * low ≤ sum_by f (range_with_len (a + 1) k)
+        → (b : Bool) → is_high a ≡ b → count_by is_high (range_with_len a (suc k)) * high + count_by (λ n. not (is_high n)) (range_with_len a (suc k)) * low ≤ sum_by f (range_with_len a (suc k))
+    go rest true e =
         let more : count_by is_high (range_with_len a (suc k)) ≡ suc (count_by is_high (range_with_len (a + 1) k)) = highs ∙ ap (λ b. cond b 1 0 + count_by is_high (range_with_len (a + 1) k)) e ∙ omega arith in
         let same : count_by (λ n. not (is_high n)) (range_with_len a (suc k)) ≡ count_by (λ n. not (is_high n)) (range_with_len (a + 1) k) = others ∙ ap (λ b. cond (not b) 1 0 + count_by (λ n. not (is_high n)) (range_with_len (a + 1) k)) e ∙ omega arith in
         let one : high ≤ f a = grind (arith, nat_tests, e) in
         let left : count_by is_high (range_with_len a (suc k)) * high ≡ count_by is_high (range_with_len (a + 1) k) * high + high = ap (λ n. n * high) more ∙ suc-mul (count_by is_high (range_with_len (a + 1) k)) high in
         let right : count_by (λ n. not (is_high n)) (range_with_len a (suc k)) * low ≡ count_by (λ n. not (is_high n)) (range_with_len (a + 1) k) * low = ap (λ n. n * low) same in
         omega (arith, rest, all, one, left, right)
-    go false e =
+    go rest false e =
         let same : count_by is_high (range_with_len a (suc k)) ≡ count_by is_high (range_with_len (a + 1) k) = highs ∙ ap (λ b. cond b 1 0 + count_by is_high (range_with_len (a + 1) k)) e ∙ omega arith in
         let more : count_by (λ n. not (is_high n)) (range_with_len a (suc k)) ≡ suc (count_by (λ n. not (is_high n)) (range_with_len (a + 1) k)) = others ∙ ap (λ b. cond (not b) 1 0 + count_by (λ n. not (is_high n)) (range_with_len (a + 1) k)) e ∙ omega arith in
         let one : low ≤ f a = each a (omega arith) (omega arith) in
@@ -150,5 +148,5 @@ few-are-high cfg calls may none_low =
     few-high (connections_at t) cfg.low cfg.high fit.ordered cfg.nodes
     (count_by (λ n. nat_le cfg.high (connections_at t n)) (numbers cfg.nodes)) (count_by (λ n. not (nat_le cfg.high (connections_at t n))) (numbers cfg.nodes)) (sum_by (connections_at t) (numbers cfg.nodes))
     fit.some_node fit.some_low (parts (connections_at t) cfg.low cfg.high fit.ordered 1 cfg.nodes)
-    (at-least (connections_at t) cfg.low cfg.high fit.ordered 1 cfg.nodes (λ n some most. none_low n some (omega (arith, most))))
+    (highs-le-sum (connections_at t) cfg.low cfg.high fit.ordered 1 cfg.nodes (λ n some most. none_low n some (omega (arith, most))))
     (omega (arith, homes, few))

@@ -246,13 +246,13 @@ sharing-kept d c n size h = go (map.get d.books.loads.standings c) refl where
   go None e = h
   go (Some s) e = cond_both (nat_eq n s.home) d.books.loads _ (λ (x : Tally). IsSound (record d { books = record d.books { loads = x } })) (λ _. h) (λ _. restanding d d.books.loads c s _ h e refl)
 
-ended-batch-kept : (d : Dispatcher) (c : ℕ) → IsSound d → IsSound (record d { books = record d.books { loads = batch_ended d.books.loads c } })
+pub ended-batch-kept : (d : Dispatcher) (c : ℕ) → IsSound d → IsSound (record d { books = record d.books { loads = batch_ended d.books.loads c } })
 ended-batch-kept d c h = go (map.get d.books.loads.standings c) refl where
   go : (o : Option Standing) → map.get d.books.loads.standings c ≡ o → IsSound (record d { books = record d.books { loads = ending d.books.loads c o } })
   go None e = h
   go (Some s) e = restanding d d.books.loads c s _ h e refl
 
-shares-kept : (cfg : Config) (ask : Ask) (now : Millis) (ps : List (List ℕ)) (b : Books) → IsNode cfg.nodes ask.home → IsSound (of cfg b) → IsSound (of cfg (all_shared cfg ask now ps b))
+pub shares-kept : (cfg : Config) (ask : Ask) (now : Millis) (ps : List (List ℕ)) (b : Books) → IsNode cfg.nodes ask.home → IsSound (of cfg b) → IsSound (of cfg (all_shared cfg ask now ps b))
 shares-kept cfg ask now [] b node h = h
 shares-kept cfg ask now (p ∷ ps) b node h =
     let choice : LaterChoice = later_choice_at cfg b ask p in

@@ -27,15 +27,18 @@ sum-put g m c o low high =
     let sum = changed_sum (λ q. g (fin.get (put_or m c o) q)) (λ q. g (fin.get m q)) c 1 most_connections low (omega (arith, high, most-is)) (λ q f. ap g (get_put_other m c q o f)) in
     omega (arith, sum, here)
 
--- none is admitted, and nothing counts that is no connection
-pub sum-empty : (g : Option Standing → ℕ) → g None ≡ 0 → sum_by (λ q. g (fin.get fin.empty q)) connections ≡ 0
+abbrev pub nobody : FinMap nat_cmp Standing
+nobody = fin.empty
+
+-- where none is admitted, and none counts nothing, the sum is nothing
+pub sum-empty : (g : Option Standing → ℕ) → g None ≡ 0 → sum_by (λ q. g (fin.get nobody q)) connections ≡ 0
 sum-empty g zero_none = none 1 most_connections where
-  none : (a k : ℕ) → sum_by (λ q. g (fin.get fin.empty q)) (range_with_len a k) ≡ 0
+  none : (a k : ℕ) → sum_by (λ q. g (fin.get nobody q)) (range_with_len a k) ≡ 0
   none a zero = refl
   none a (suc k) =
       let rest = none (a + 1) k in
-      let one : g (fin.get fin.empty a) ≡ 0 = ap g (get-empty nat_cmp a) ∙ zero_none in
-      omega (arith, rest, one, sum_by-cons (λ q. g (fin.get fin.empty q)) a (range_with_len (a + 1) k))
+      let one : g (fin.get nobody a) ≡ 0 = ap g (get-empty nat_cmp a) ∙ zero_none in
+      omega (arith, rest, one, sum_by-cons (λ q. g (fin.get nobody q)) a (range_with_len (a + 1) k))
 
 -- ---- the admitted, by their numbers
 
@@ -47,7 +50,7 @@ among-put : (m : FinMap nat_cmp Standing) (c : ℕ) (o : Option Standing) → 1 
 unfolding admitted_among
 among-put m c o low high = sum-put one_if m c o low high
 
-among-empty : admitted_among fin.empty ≡ 0
+among-empty : admitted_among nobody ≡ 0
 unfolding admitted_among
 among-empty = sum-empty one_if refl
 
