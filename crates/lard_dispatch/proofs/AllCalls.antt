@@ -1,5 +1,5 @@
 -- What holds between two calls holds after any number of them.
-use Rattle.std.proofs.Common.{◌≡◌, ℕ, ◌≤◌, List, [], ◌∷◌, is_some, nat_le, Bool, true, false, ◌&&◌, cond, Result, Some, None, Ok, Err, refl, sym, ap, subst, ◌∙◌}
+use Rattle.std.proofs.Common.{◌≡◌, ◌≤◌, List, [], ◌∷◌, nat_le, Bool, true, false, ◌&&◌, cond, Result, Ok, Err, refl, ap, subst, ◌∙◌}
 use Rattle.lard_base.specs.Config.{checked_from, config_check, room_of}
 use Rattle.lard_base.specs.declared.config.ConfigFault.{ConfigFault}
 use Rattle.lard_base.specs.declared.config.ConfigFault.TheVariants.{Range}
@@ -7,8 +7,8 @@ use Rattle.lard_base.specs.declared.config.Key.TheVariants.{Nodes, Low, High, Ag
 use Rattle.lard_base.specs.declared.config.Config.{Config}
 use Rattle.lard_loads.specs.Tally.{admitted, is_open}
 use Rattle.std.proofs.lemmas.Bool.{cond_both, leb-true}
-use Rattle.lard_dispatch.specs.Books.{Books, Dispatcher, begun}
-use Rattle.lard_dispatch.specs.Calls.{after_close, after_first, is_full}
+use Rattle.lard_dispatch.specs.Books.{Dispatcher, begun}
+use Rattle.lard_dispatch.specs.Calls.{is_full}
 use Rattle.lard_dispatch.specs.Laws.{Call, IsAllowed, AreAllowed, after_call, after_calls, StaysWithinTheRoom, WaitsForRoomAlone}
 use Rattle.lard_dispatch.specs.Laws.Call.{First, Later, Ended, Leave, Close}
 use Rattle.lard_dispatch.specs.Sound.{IsSound}

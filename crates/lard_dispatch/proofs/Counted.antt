@@ -1,33 +1,31 @@
 -- The loads are those of the calls of the loads that the dispatcher makes.
-use Rattle.std.proofs.Common.{◌≡◌, ℕ, zero, suc, ◌+◌, ◌*◌, ◌<◌, ◌≤◌, Bool, true, false, not, nat_eq, cond, List, [], ◌∷◌, ◌++◌, length, filter, sum_by, Option, Some, None, IfSome, is_some, Ok, refl, sym, ap, subst, ◌∙◌, arith}
+use Rattle.std.proofs.Common.{◌≡◌, ℕ, zero, suc, ◌+◌, ◌*◌, ◌<◌, ◌≤◌, Bool, true, false, not, nat_eq, cond, List, [], ◌∷◌, ◌++◌, length, filter, sum_by, Option, Some, None, is_some, refl, sym, ap, subst, ◌∙◌, arith}
 use Rattle.std.proofs.lemmas.Bool.{cond_both}
 use Rattle.std.specs.FinMap as fin
 use Rattle.std.specs.List.{AllByRecursion, range_with_len}
 use Rattle.lard_base.specs.declared.config.Config.{Config}
 use Rattle.lard_base.specs.declared.ids.Millis.{Millis}
 use Rattle.lard_base.specs.Members.{has, node_numbers}
-use Rattle.lard_loads.specs.Charges.{BatchOver, Connect, IsConnection, MayCall, MayCallAll, Release, Share, after, after_all}
+use Rattle.lard_loads.specs.Charges.{BatchOver, Connect, IsConnection, MayCallAll, Release, Share, after, after_all}
 use Rattle.lard_loads.specs.Charges.{Call as Counted}
-use Rattle.lard_loads.specs.Tally.{Standing, Tally, admitted, batch_ended, ending, home, is_open, load, numbers, released, shared, sharing, start}
+use Rattle.lard_loads.specs.Tally.{Standing, Tally, admitted, ending, home, is_open, load, numbers, released, sharing, start}
 use Rattle.lard_loads.proofs.Charged.{IsCharged, all_add_up, all_charged}
 use Rattle.lard_loads.proofs.Counts.{AreAmong, all_among}
-use Rattle.lard_policy.specs.declared.first.FirstChoice.{FirstChoice}
 use Rattle.lard_sets.specs.Sets.{set_of}
 use Rattle.lard_costs.specs.declared.cost.Cost.{Cost}
 use Rattle.lard_costs.specs.declared.later.LaterChoice.{LaterChoice}
 use Rattle.lard_costs.specs.Later.{cheaper, cheapest, later_choice, members_of, stays}
 use Rattle.lard_costs.specs.Costs.{cost_at, is_less}
 use Rattle.lard_dispatch.specs.declared.dispatch.Ask.{Ask}
-use Rattle.lard_dispatch.specs.declared.dispatch.First.{First as Answer}
 use Rattle.lard_dispatch.specs.declared.dispatch.First.TheVariants.{Go, Waits}
 use Rattle.lard_dispatch.specs.declared.line.Waiting.{Waiting}
 use Rattle.lard_dispatch.specs.Books.{Books, Dispatcher, begun}
-use Rattle.lard_dispatch.specs.Calls.{admitted_with, after_close, after_first, all_choices, all_shared, batch_over, choice_at, is_full, later_choice_at, next_admitted, next_answer, released_from, shared_with}
+use Rattle.lard_dispatch.specs.Calls.{admitted_with, all_choices, all_shared, batch_over, choice_at, is_full, later_choice_at, next_admitted, next_answer, released_from, shared_with}
 use Rattle.lard_dispatch.specs.Laws.{AreAllowed, Call, IsAllowed, after_call, after_calls}
 use Rattle.lard_dispatch.specs.Laws.Call.{First, Later, Ended, Leave, Close}
 use Rattle.lard_dispatch.specs.Line.{is_of, without}
 use Rattle.lard_dispatch.specs.Loads.{IsInRange, LoadsAddUp, LoadsAreCharges, MayBeMade, all_counted, counted, first_counted, later_counted, loads_after, next_counted, open_charges, share_units}
-use Rattle.lard_dispatch.specs.Sound.{AreApart, AreServedByNodes, IsNode, IsSound}
+use Rattle.lard_dispatch.specs.Sound.{AreApart, IsNode, IsSound}
 use Rattle.lard_dispatch.proofs.AllCalls.{call-kept, calls-kept, some-node}
 use Rattle.lard_dispatch.proofs.Chosen.{choice-within}
 use Rattle.lard_dispatch.proofs.Sharing.{home-ended, home-shared}

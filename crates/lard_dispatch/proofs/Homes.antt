@@ -1,5 +1,5 @@
 -- While no node has few connections, not all but one have many: there is no room for so many.
-use Rattle.std.proofs.Common.{◌≡◌, ℕ, zero, suc, ◌+◌, ◌-◌, ◌*◌, ◌<◌, ◌≤◌, Bool, true, false, not, ◌&&◌, nat_eq, nat_le, nat_lt, cond, List, [], ◌∷◌, sum_by, count_by, Option, Some, None, IfSome, Result, Ok, Err, refl, sym, ap, subst, ◌∙◌, ◌⊎◌, inl, inr, ⊎_elim, arith}
+use Rattle.std.proofs.Common.{◌≡◌, ℕ, zero, suc, ◌+◌, ◌-◌, ◌*◌, ◌<◌, ◌≤◌, Bool, true, false, not, ◌&&◌, nat_eq, nat_le, nat_lt, cond, List, [], ◌∷◌, sum_by, count_by, Option, Some, None, IfSome, Result, Ok, Err, refl, ap, subst, ◌∙◌, arith}
 use Rattle.std.proofs.Math.Nat.{suc-mul}
 use Rattle.std.proofs.lemmas.Bool.Decides.{nat_tests}
 use Rattle.std.proofs.lemmas.List.Sums.{sum_by-cons}
@@ -16,8 +16,8 @@ use Rattle.lard_loads.proofs.Charged.{one_node, zeros}
 use Rattle.lard_loads.proofs.Counts.{AreAmong, counted_once}
 use Rattle.lard_loads.proofs.Standings.{one_if}
 use Rattle.lard_dispatch.specs.Books.{begun}
-use Rattle.lard_dispatch.specs.Laws.{Call, after_calls}
-use Rattle.lard_dispatch.specs.Loads.{FewAreHighWhileNoneIsLow, MayBeMade, connections_at, is_at, loads_after}
+use Rattle.lard_dispatch.specs.Laws.{after_calls}
+use Rattle.lard_dispatch.specs.Loads.{FewAreHighWhileNoneIsLow, connections_at, is_at, loads_after}
 use Rattle.lard_dispatch.specs.Sound.{AreAtNodes, IsNode, IsSound}
 use Rattle.lard_dispatch.proofs.AllCalls.{configs-stay, within-room}
 use Rattle.lard_dispatch.proofs.Counted.{counted-among, sound-after}

@@ -1,5 +1,5 @@
 -- The open shares of a connection are at other nodes than its home, and count a whole at most together.
-use Rattle.std.proofs.Common.{◌≡◌, ◌≢◌, ℕ, zero, suc, ◌+◌, ◌*◌, ◌/◌, ◌<◌, ◌≤◌, Bool, true, false, nat_eq, cond, List, [], ◌∷◌, ◌++◌, length, sum_by, Option, Some, None, IfSome, refl, sym, ap, subst, ◌∙◌, ⊎_elim, arith}
+use Rattle.std.proofs.Common.{◌≡◌, ◌≢◌, ℕ, suc, ◌+◌, ◌*◌, ◌/◌, ◌≤◌, false, nat_eq, cond, List, [], ◌∷◌, ◌++◌, length, sum_by, Option, Some, None, IfSome, refl, sym, ap, subst, ⊎_elim, arith}
 use Rattle.std.proofs.Math.Nat.{mul-div-le, suc-mul}
 use Rattle.std.proofs.lemmas.Bool.{cases_eq, cond_both}
 use Rattle.std.proofs.lemmas.List.Sums.{sum_by_push}
@@ -20,7 +20,7 @@ use Rattle.lard_loads.proofs.Standings.{one_if}
 use Rattle.lard_dispatch.specs.declared.dispatch.Ask.{Ask}
 use Rattle.lard_dispatch.specs.declared.line.Waiting.{Waiting}
 use Rattle.lard_dispatch.specs.Books.{Books, Dispatcher, begun}
-use Rattle.lard_dispatch.specs.Calls.{after_close, after_first, all_shared, batch_over, is_full, later_choice_at, next_admitted, released_from, shared_with}
+use Rattle.lard_dispatch.specs.Calls.{all_shared, batch_over, is_full, later_choice_at, next_admitted, released_from, shared_with}
 use Rattle.lard_dispatch.specs.Laws.{Call, after_call, after_calls}
 use Rattle.lard_dispatch.specs.Laws.Call.{First, Later, Ended, Leave, Close}
 use Rattle.lard_dispatch.specs.Loads.{IsInRange, MayBeMade, NoLoadExceedsTheRoom, SharesAreWithinWholes, loads_after, open_charges, share_units}

@@ -1,30 +1,26 @@
 -- While no node is closed, no load is far above the thresholds: a connection goes to a node below twice T_high, and a share
 -- to one that is not above L_overload. So no node has more than 2 T_high connections, either.
-use Rattle.std.proofs.Common.{◌≡◌, ◌≢◌, ℕ, zero, suc, ◌+◌, ◌-◌, ◌*◌, ◌/◌, ◌<◌, ◌≤◌, Bool, true, false, ◌&&◌, ◌||◌, nat_eq, nat_lt, cond, List, [], ◌∷◌, ◌++◌, length, sum_by, Option, Some, None, IsSome, is_some, Ok, refl, sym, ap, subst, ◌∙◌, ◌⊎◌, inl, inr, ⊎_elim, arith}
+use Rattle.std.proofs.Common.{◌≡◌, ℕ, zero, suc, ◌+◌, ◌-◌, ◌*◌, ◌/◌, ◌<◌, ◌≤◌, Bool, true, false, ◌&&◌, ◌||◌, nat_eq, nat_lt, cond, List, [], ◌∷◌, ◌++◌, length, sum_by, Option, Some, None, IsSome, Ok, refl, sym, ap, subst, ◌∙◌, ◌⊎◌, inl, inr, ⊎_elim, arith}
 use Rattle.std.proofs.Math.Nat.{div-le_self, mul_assoc, suc-mul}
 use Rattle.std.proofs.lemmas.Bool.{cases_lt, cond_both, both_ways, eq-eqb}
 use Rattle.std.proofs.lemmas.Bool.Decides.{nat_tests}
 use Rattle.std.proofs.lemmas.List.Sums.{sum_by-cons, sum_by_push}
 use Rattle.std.proofs.lemmas.Nat.{mul-le}
 use Rattle.std.specs.FinMap as fin
-use Rattle.std.specs.FinMap.{get-empty}
 use Rattle.std.specs.List.{AllByRecursion, range_with_len}
 use Rattle.lard_base.specs.Config.{config_check, room_of}
 use Rattle.lard_base.specs.declared.config.Config.{Config}
 use Rattle.lard_base.specs.declared.ids.Millis.{Millis}
 use Rattle.lard_base.specs.Members.{has}
 use Rattle.lard_table.specs.Table.{put_or}
-use Rattle.lard_loads.specs.Charges.{IsConnection, after_all}
+use Rattle.lard_loads.specs.Charges.{IsConnection}
 use Rattle.lard_loads.specs.declared.slot.Share.{Share as Part}
 use Rattle.lard_loads.specs.Order.{first_in, is_before}
-use Rattle.lard_loads.specs.Tally.{Standing, Tally, admitted, batch_ended, connected, ending, home, home_of, is_open, least, load, load_of, numbers, released, shared, sharing, units_of, units_of_share}
+use Rattle.lard_loads.specs.Tally.{Standing, Tally, admitted, batch_ended, connected, ending, home, home_of, least, load, load_of, numbers, released, shared, sharing, units_of, units_of_share}
 use Rattle.lard_loads.proofs.Counts.{AreAmong, all_among, among-all, among-kept, load_above, loads_within, sum-empty, sum-put}
 use Rattle.lard_loads.proofs.Firsts.{IsIn, in_range}
 use Rattle.lard_loads.proofs.Sums.{load-empty, load-put}
 use Rattle.lard_sets.specs.Sets.{set_of}
-use Rattle.lard_policy.specs.First.{first_choice}
-use Rattle.lard_policy.specs.declared.first.FirstChoice.{FirstChoice}
-use Rattle.lard_policy.specs.Laws.{MayTakeMore}
 use Rattle.lard_policy.proofs.Order.{by_load, first_in-none_before}
 use Rattle.lard_policy.proofs.Relief.{relieves}
 use Rattle.lard_costs.specs.Costs.{cost_at, cost_locality, cost_replacement, is_less, more}
@@ -33,10 +29,10 @@ use Rattle.lard_costs.specs.declared.cost.Cost.TheVariants.{Over, Units}
 use Rattle.lard_dispatch.specs.declared.dispatch.Ask.{Ask}
 use Rattle.lard_dispatch.specs.declared.line.Waiting.{Waiting}
 use Rattle.lard_dispatch.specs.Books.{Books, Dispatcher, begun}
-use Rattle.lard_dispatch.specs.Calls.{after_close, after_first, all_shared, batch_over, choice_at, is_full, later_choice_at, next_admitted, released_from, shared_with}
+use Rattle.lard_dispatch.specs.Calls.{all_shared, batch_over, choice_at, is_full, later_choice_at, next_admitted, released_from, shared_with}
 use Rattle.lard_dispatch.specs.Laws.{AreAllowed, Call, IsAllowed, after_call, after_calls}
 use Rattle.lard_dispatch.specs.Laws.Call.{First, Later, Ended, Leave, Close}
-use Rattle.lard_dispatch.specs.Loads.{ClosesNone, IsInRange, MayBeMade, NoLoadExceedsTheThresholds, NoNodeHasTooMany, connections_at, counted}
+use Rattle.lard_dispatch.specs.Loads.{ClosesNone, IsInRange, NoLoadExceedsTheThresholds, NoNodeHasTooMany, connections_at, counted}
 use Rattle.lard_dispatch.specs.Sound.{AreApart, IsSound}
 use Rattle.lard_dispatch.proofs.AllCalls.{call-kept, config-stays, configs-stay, some-node}
 use Rattle.lard_dispatch.proofs.Counted.{AreConnections, call-counted, call-line, call-may, later-has}
