@@ -1,6 +1,6 @@
--- What it costs to send a later request to a node: the three costs of LARD (Aron, Druschel and Zwaenepoel, USENIX 1999,
--- section 4). L_idle, L_overload and Miss Cost are the numbers idle, over and miss of the configuration. They count
--- connections, as the costs do there: here loads and costs are in 840ths of one.
+-- What it costs to send a later request to a node: the three costs of the extended LARD policy (Aron, Druschel and
+-- Zwaenepoel, USENIX 1999). L_idle, L_overload and Miss Cost are the numbers idle, over and miss of the configuration. They
+-- count connections, as the costs do there: here loads and costs are in 840ths of one.
 use Rattle.std.specs.Prelude.{ℕ, ◌+◌, ◌-◌, ◌*◌, Bool, true, false, ◌||◌, nat_lt, if◌then◌else◌}
 use Rattle.lard_base.specs.declared.config.Config.{Config}
 use Rattle.lard_base.specs.Members.{has}

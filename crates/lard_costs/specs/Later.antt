@@ -1,5 +1,5 @@
 -- The later choice: the node of a further request on a persistent connection, after the extended LARD policy (Aron, Druschel
--- and Zwaenepoel, USENIX 1999, section 4).
+-- and Zwaenepoel, USENIX 1999).
 use Rattle.std.specs.Prelude.{ℕ, Bool, not, ◌&&◌, ◌||◌, nat_eq, nat_lt, List, [], ◌∷◌, filter, Option, Some, None, if◌then◌else◌}
 use Rattle.lard_base.specs.declared.config.Config.{Config}
 use Rattle.lard_base.specs.Members.{has, node_numbers}

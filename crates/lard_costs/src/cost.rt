@@ -1,4 +1,4 @@
-//! What it costs to send a request to a node: three costs (USENIX 1999, section 4), in 840ths of a connection.
+//! What it costs to send a request to a node: three costs (USENIX 1999), in 840ths of a connection.
 
 ghost use Rattle.std.specs.Prelude.{◌≡◌, ◌≤◌, ◌<◌, ◌^◌, Ok, Some, None};
 ghost use Rattle.lard_base.specs.Config.{config_check};

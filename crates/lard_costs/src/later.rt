@@ -1,4 +1,4 @@
-//! The later choice: the extended LARD policy (USENIX 1999, section 4).
+//! The later choice: the extended LARD policy (Aron, Druschel and Zwaenepoel, USENIX 1999).
 
 ghost use Rattle.std.specs.Prelude.{◌≡◌, ◌≤◌, ℕ, true, if◌then◌else◌};
 ghost use Rattle.lard_base.specs.Members.{has};

@@ -1,5 +1,5 @@
 -- What holds between two calls holds after any number of them.
-use Rattle.std.proofs.Common.{◌≡◌, ℕ, ◌≤◌, List, [], ◌∷◌, is_some, nat_le, Bool, true, false, ◌&&◌, cond, Result, Some, None, Ok, Err, refl, sym, ap, subst, ◌∙◌}
+use Rattle.std.proofs.Common.{◌≡◌, ◌≤◌, List, [], ◌∷◌, nat_le, Bool, true, false, ◌&&◌, cond, Result, Ok, Err, refl, ap, subst, ◌∙◌}
 use Rattle.lard_base.specs.Config.{checked_from, config_check, room_of}
 use Rattle.lard_base.specs.declared.config.ConfigFault.{ConfigFault}
 use Rattle.lard_base.specs.declared.config.ConfigFault.TheVariants.{Range}
@@ -7,40 +7,40 @@ use Rattle.lard_base.specs.declared.config.Key.TheVariants.{Nodes, Low, High, Ag
 use Rattle.lard_base.specs.declared.config.Config.{Config}
 use Rattle.lard_loads.specs.Tally.{admitted, is_open}
 use Rattle.std.proofs.lemmas.Bool.{cond_both, leb-true}
-use Rattle.lard_dispatch.specs.Books.{Books, Dispatcher, begun}
-use Rattle.lard_dispatch.specs.Calls.{after_close, after_first, is_full}
+use Rattle.lard_dispatch.specs.Books.{Dispatcher, begun}
+use Rattle.lard_dispatch.specs.Calls.{is_full}
 use Rattle.lard_dispatch.specs.Laws.{Call, IsAllowed, AreAllowed, after_call, after_calls, StaysWithinTheRoom, WaitsForRoomAlone}
 use Rattle.lard_dispatch.specs.Laws.Call.{First, Later, Ended, Leave, Close}
 use Rattle.lard_dispatch.specs.Sound.{IsSound}
 use Rattle.lard_dispatch.proofs.Soundness.{begun-sound, close-kept, ended-kept, first-kept, is-in, later-kept, leave-kept, not-in}
 
 -- a usable configuration has a node
-some-node : (cfg : Config) → config_check cfg ≡ Ok tt → 1 ≤ cfg.nodes
+pub some-node : (cfg : Config) → config_check cfg ≡ Ok tt → 1 ≤ cfg.nodes
 some-node cfg h = go (nat_le 1 cfg.nodes) (nat_le cfg.nodes 64) (checked_from cfg (Low ∷ High ∷ Age ∷ Idle ∷ Over ∷ Miss ∷ Cache ∷ Stream ∷ [])) refl h where
   go : (a b : Bool) (rest : Result (Unit {0}) ConfigFault) → nat_le 1 cfg.nodes ≡ a → cond {A = Result (Unit {0}) ConfigFault} (a && b) rest (Err (Range Nodes cfg.nodes)) ≡ Ok tt → 1 ≤ cfg.nodes
   go true b rest e t = leb-true 1 cfg.nodes e
   go false b rest e t = cc
 
-call-kept : (d : Dispatcher) (call : Call) → IsSound d → IsAllowed d call → IsSound (after_call d call)
+pub call-kept : (d : Dispatcher) (call : Call) → IsSound d → IsAllowed d call → IsSound (after_call d call)
 call-kept d (First c target now) s a = first-kept d c target now s (not-in d.books.loads c a.0) a.1
 call-kept d (Later ask now) s a = later-kept d ask now s a
 call-kept d (Ended c now) s a = ended-kept d c now s (is-in d.books.loads c a)
 call-kept d (Leave c) s a = leave-kept d c s
 call-kept d (Close n) s a = close-kept d n s a.0 a.1
 
-calls-kept : (d : Dispatcher) (calls : List Call) → IsSound d → AreAllowed d calls → IsSound (after_calls d calls)
+pub calls-kept : (d : Dispatcher) (calls : List Call) → IsSound d → AreAllowed d calls → IsSound (after_calls d calls)
 calls-kept d [] s a = s
 calls-kept d (call ∷ calls) s a = calls-kept (after_call d call) calls (call-kept d call s a.0) a.1
 
 -- no call changes the configuration
-config-stays : (d : Dispatcher) (call : Call) → (after_call d call).config ≡ d.config
+pub config-stays : (d : Dispatcher) (call : Call) → (after_call d call).config ≡ d.config
 config-stays d (First c target now) = cond_both (is_full d) _ _ (λ (x : Dispatcher). x.config ≡ d.config) (λ _. refl) (λ _. refl)
 config-stays d (Later ask now) = refl
 config-stays d (Ended c now) = refl
 config-stays d (Leave c) = refl
 config-stays d (Close n) = cond_both (is_open d.books.loads n) _ d (λ (x : Dispatcher). x.config ≡ d.config) (λ _. refl) (λ _. refl)
 
-configs-stay : (d : Dispatcher) (calls : List Call) → (after_calls d calls).config ≡ d.config
+pub configs-stay : (d : Dispatcher) (calls : List Call) → (after_calls d calls).config ≡ d.config
 configs-stay d [] = refl
 configs-stay d (call ∷ calls) = configs-stay (after_call d call) calls ∙ config-stays d call
 

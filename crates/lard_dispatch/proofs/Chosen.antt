@@ -1,5 +1,5 @@
 -- The node of a choice is one that there is.
-use Rattle.std.proofs.Common.{◌≡◌, ℕ, zero, suc, ◌+◌, ◌-◌, ◌<◌, ◌≤◌, Bool, true, false, ◌&&◌, ◌||◌, cond, List, [], ◌∷◌, length, filter, Option, Some, None, IfSome, unwrap_or, refl, sym, ap, subst, ◌∙◌, arith}
+use Rattle.std.proofs.Common.{◌≡◌, ℕ, zero, suc, ◌+◌, ◌-◌, ◌<◌, ◌≤◌, Bool, List, [], ◌∷◌, length, filter, Option, Some, None, IfSome, unwrap_or, subst, arith}
 use Rattle.std.proofs.lemmas.Bool.{cond_both}
 use Rattle.std.specs.List.{AllByRecursion, range_with_len}
 use Rattle.lard_base.specs.declared.config.Config.{Config}
@@ -9,7 +9,7 @@ use Rattle.lard_loads.specs.Order.{earlier, first_in, is_before, least_in}
 use Rattle.lard_loads.specs.Tally.{Tally, load, least, least_of, most_of, numbers}
 use Rattle.lard_sets.specs.Sets.{with_member}
 use Rattle.lard_policy.specs.declared.first.FirstChoice.{FirstChoice}
-use Rattle.lard_policy.specs.First.{chosen, first_choice, is_overloaded, joining, least_node, may_shrink, relieved}
+use Rattle.lard_policy.specs.First.{chosen, first_choice, is_overloaded, least_node, may_shrink, relieved}
 use Rattle.lard_dispatch.specs.Sound.{IsNode}
 
 -- what holds of each holds of the first in any order

@@ -1,12 +1,12 @@
 -- Who serves a target, and since when, once a choice has changed its set.
-use Rattle.std.proofs.Common.{◌≡◌, ℕ, zero, suc, ◌+◌, ◌-◌, ◌<◌, ◌≤◌, Bool, true, false, not, ◌&&◌, ◌||◌, nat_eq, cond, List, [], ◌∷◌, Option, Some, None, IfSome, is_some, unwrap_or, option_map, refl, sym, ap, subst, ◌∙◌, inl, inr, arith}
-use Rattle.std.proofs.lemmas.Bool.{cond_both, or_parts, and_parts, eqb-true}
+use Rattle.std.proofs.Common.{◌≡◌, ℕ, zero, suc, ◌≤◌, Bool, true, false, not, ◌||◌, nat_eq, cond, List, Option, Some, None, IfSome, is_some, unwrap_or, option_map, refl, sym, ap, subst, ◌∙◌, arith}
+use Rattle.std.proofs.lemmas.Bool.{cond_both, and_parts, eqb-true}
 use Rattle.std.proofs.lemmas.Slice.Eq.{bytes_eq-Decides}
 use Rattle.std.specs.Str.{bytes_eq}
 use Rattle.lard_base.specs.declared.ids.Millis.{Millis}
 use Rattle.lard_base.specs.Members.{has}
 use Rattle.lard_sets.specs.declared.sets.ServerSet.{ServerSet}
-use Rattle.lard_sets.specs.Sets.{added, closed, has_place, no_servers, place, put, removed, set_of, touched, with_member, without_member}
+use Rattle.lard_sets.specs.Sets.{closed, has_place, no_servers, place, put, set_of, touched, with_member, without_member}
 use Rattle.lard_sets.proofs.Changes.{place-closed, place-put}
 use Rattle.lard_sets.proofs.Flags.{has-with_member, has-without_member}
 use Rattle.lard_dispatch.specs.Calls.{joined, reduced}

@@ -1,5 +1,5 @@
 -- The loop over the paths of an Ask.
-use Rattle.std.proofs.Common.{◌≡◌, ℕ, zero, suc, ◌+◌, ◌-◌, ◌/◌, ◌<◌, ◌≤◌, Bool, true, false, nat_eq, cond, List, [], ◌∷◌, ◌++◌, length, drop, get_or, Option, Some, None, IfSome, is_some, refl, sym, ap, subst, ◌∙◌, arith}
+use Rattle.std.proofs.Common.{◌≡◌, ℕ, zero, suc, ◌+◌, ◌/◌, ◌<◌, ◌≤◌, true, nat_eq, List, [], ◌∷◌, ◌++◌, length, drop, get_or, Option, Some, None, IfSome, refl, sym, ap, subst, ◌∙◌, arith}
 use Rattle.std.proofs.lemmas.Bool.{cond_both}
 use Rattle.std.proofs.lemmas.List.{append_assoc, length-append}
 use Rattle.std.proofs.Math.Seq.{drop-cons}
@@ -8,13 +8,11 @@ use Rattle.std.specs.List.{AllByRecursion}
 use Rattle.lard_base.specs.declared.config.Config.{Config}
 use Rattle.lard_base.specs.declared.ids.Millis.{Millis}
 use Rattle.lard_table.proofs.Map.{get_inserted}
-use Rattle.lard_loads.specs.declared.slot.Share.{Share}
-use Rattle.lard_loads.specs.Tally.{Standing, Tally, batch_ended, ending, home, home_of, is_open, open_shares, shared, shares_of, sharing}
+use Rattle.lard_loads.specs.Tally.{Standing, Tally, batch_ended, ending, home, home_of, open_shares, shared, shares_of, sharing}
 use Rattle.lard_sets.specs.Sets.{has_place, set_of}
-use Rattle.lard_costs.specs.Later.{joining, later_choice}
+use Rattle.lard_costs.specs.Later.{later_choice}
 use Rattle.lard_costs.specs.declared.later.LaterChoice.{LaterChoice}
 use Rattle.lard_dispatch.specs.declared.dispatch.Ask.{Ask}
-use Rattle.lard_dispatch.specs.Books.{Books}
 use Rattle.lard_dispatch.specs.Calls.{all_choices, all_shared, joined, later_choice_at, unlined}
 use Rattle.lard_dispatch.specs.Sound.{AreServedByNodes, IsNode}
 use Rattle.lard_dispatch.proofs.Places.{kept-joined, next-books, next-choices}

@@ -1,6 +1,6 @@
 -- What holds between two calls is kept by each call.
-use Rattle.std.proofs.Common.{slice_get, ◌≡◌, ◌≢◌, ℕ, zero, suc, ◌+◌, ◌-◌, ◌<◌, ◌≤◌, Bool, true, false, not, ◌==◌, ◌&&◌, ◌||◌, nat_eq, cond, List, [], ◌∷◌, ◌++◌, length, filter, Option, Some, None, IfSome, is_some, Ok, refl, sym, ap, subst, ◌∙◌, arith}
-use Rattle.std.proofs.lemmas.Bool.{cond_both, cond-true, cond-false, both_ways, eqb-true, eq-eqb, ne_eqb, or_parts}
+use Rattle.std.proofs.Common.{slice_get, ◌≡◌, ◌≢◌, ℕ, zero, suc, ◌+◌, ◌-◌, ◌<◌, ◌≤◌, Bool, true, false, not, ◌||◌, nat_eq, cond, List, [], ◌∷◌, ◌++◌, length, filter, Option, Some, None, IfSome, is_some, Ok, refl, sym, ap, subst, ◌∙◌, arith}
+use Rattle.std.proofs.lemmas.Bool.{cond_both, both_ways, eqb-true, eq-eqb}
 use Rattle.std.specs.FinMap as map
 use Rattle.std.specs.FinMap.{FinMap, get-empty, len-empty, len-insert, len-remove}
 use Rattle.std.specs.Cmp.{nat_cmp_total}
@@ -9,7 +9,6 @@ use Rattle.std.specs.List.{AllByRecursion, list_any}
 use Rattle.lard_base.specs.declared.config.Config.{Config}
 use Rattle.lard_base.specs.declared.ids.Millis.{Millis}
 use Rattle.lard_base.specs.Config.{config_check, room_of}
-use Rattle.lard_table.specs.Table.{put_or}
 use Rattle.lard_table.proofs.Map.{some_len}
 use Rattle.lard_loads.specs.Tally.{Standing, Tally, admitted, batch_ended, connected, ending, has_other_open, is_open, home, home_of, numbers, released, shared, sharing}
 use Rattle.lard_loads.specs.Tally as tally
@@ -23,15 +22,15 @@ use Rattle.lard_costs.specs.declared.later.LaterChoice.{LaterChoice}
 use Rattle.lard_dispatch.specs.declared.dispatch.Ask.{Ask}
 use Rattle.lard_dispatch.specs.declared.line.Waiting.{Waiting}
 use Rattle.lard_dispatch.specs.Books.{Books, Dispatcher, begun}
-use Rattle.lard_dispatch.specs.Calls.{admitted_with, after_close, after_ended, after_first, after_later, after_leave, all_shared, batch_over, choice_at, is_full, joined, later_choice_at, next_admitted, placed_by, reduced, released_from, shared_by, shared_with}
-use Rattle.lard_dispatch.specs.Line.{is_of, waits, without}
+use Rattle.lard_dispatch.specs.Calls.{admitted_with, after_close, after_ended, after_first, after_later, after_leave, all_shared, batch_over, choice_at, is_full, joined, later_choice_at, next_admitted, released_from, shared_with}
+use Rattle.lard_dispatch.specs.Line.{waits, without}
 use Rattle.lard_dispatch.specs.Sound.{AreApart, AreAtNodes, AreBefore, AreServedByNodes, IsNode, IsSound}
 use Rattle.lard_dispatch.proofs.Chosen.{IsChosen, all-filter, all-numbers, choice-within}
 use Rattle.lard_dispatch.proofs.Servers.{before-joined, before-reduced, before-touched, served-closed, served-joined, served-reduced, served-touched}
 use Rattle.lard_dispatch.proofs.Sharing.{add-home}
 use Rattle.lard_dispatch.proofs.Standing.{admitted-away, apart-left, apart-pushed, apart-put, at-nodes-put}
 
-abbrev of : Config → Books → Dispatcher
+abbrev pub of : Config → Books → Dispatcher
 of cfg b = record { config = cfg; books = b }
 
 -- one more is admitted, one fewer, or as many
@@ -246,13 +245,13 @@ sharing-kept d c n size h = go (map.get d.books.loads.standings c) refl where
   go None e = h
   go (Some s) e = cond_both (nat_eq n s.home) d.books.loads _ (λ (x : Tally). IsSound (record d { books = record d.books { loads = x } })) (λ _. h) (λ _. restanding d d.books.loads c s _ h e refl)
 
-ended-batch-kept : (d : Dispatcher) (c : ℕ) → IsSound d → IsSound (record d { books = record d.books { loads = batch_ended d.books.loads c } })
+pub ended-batch-kept : (d : Dispatcher) (c : ℕ) → IsSound d → IsSound (record d { books = record d.books { loads = batch_ended d.books.loads c } })
 ended-batch-kept d c h = go (map.get d.books.loads.standings c) refl where
   go : (o : Option Standing) → map.get d.books.loads.standings c ≡ o → IsSound (record d { books = record d.books { loads = ending d.books.loads c o } })
   go None e = h
   go (Some s) e = restanding d d.books.loads c s _ h e refl
 
-shares-kept : (cfg : Config) (ask : Ask) (now : Millis) (ps : List (List ℕ)) (b : Books) → IsNode cfg.nodes ask.home → IsSound (of cfg b) → IsSound (of cfg (all_shared cfg ask now ps b))
+pub shares-kept : (cfg : Config) (ask : Ask) (now : Millis) (ps : List (List ℕ)) (b : Books) → IsNode cfg.nodes ask.home → IsSound (of cfg b) → IsSound (of cfg (all_shared cfg ask now ps b))
 shares-kept cfg ask now [] b node h = h
 shares-kept cfg ask now (p ∷ ps) b node h =
     let choice : LaterChoice = later_choice_at cfg b ask p in

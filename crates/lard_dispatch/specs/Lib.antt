@@ -4,6 +4,7 @@ pub use Rattle.lard_policy.specs.First
 pub use Rattle.lard_costs.specs.Later
 pub mod Books
 pub mod Laws
+pub mod Loads
 pub mod Calls
 pub mod Line
 pub mod Sound

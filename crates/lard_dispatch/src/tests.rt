@@ -4,7 +4,7 @@ ghost use Rattle.std.specs.Prelude.{OnOk};
 ghost use Rattle.lard_dispatch.specs.Sound.{AreBefore};
 
 use super::*;
-use lard_base::{Config, ConnId, Items, Millis, NoMemory, NodeId, Path};
+use lard_base::{Config, ConnId, Items, Members, Millis, NoMemory, NodeId, Path};
 use std::alloc::Global;
 use std::process::Abort;
 use std::test::Fail;
@@ -129,19 +129,31 @@ fn are_placed(
 
 type Batch = (bool, usize, usize);
 
-/// Whether the first requests go where the rows say, and what two batches of one connection get.
-fn assigned(alloc: Global, c: ConnId) -> Result<(bool, Batch, Batch), NoMemory> {
+/// The load of a node, where there is such a node.
+fn load(dispatch: &Dispatch, number: u32) -> Option<u32> {
+    let loads = dispatch.loads();
+    let n = loads.least_of(Members::none().with(NodeId::new(number)?))?;
+    Some(loads.of(n))
+}
+
+/// Whether the first requests go where the rows say; and what each of two batches of one connection gets, with the load of
+/// node 2 then.
+fn assigned(alloc: Global, c: ConnId) -> Result<(bool, [(Batch, Option<u32>); 2]), NoMemory> {
     let mut dispatch = Dispatch::new(alloc, Config::standard())?;
     let right = are_placed(&mut dispatch, alloc, PLACED)?;
     let seven = later(&mut dispatch, alloc, c, 8, 7)?;
+    let first = load(&dispatch, 2);
     let one = later(&mut dispatch, alloc, c, 1, 1)?;
-    Ok((right, seven, one))
+    let second = load(&dispatch, 2);
+    Ok((right, [(seven, first), (one, second)]))
 }
 
 #[test]
 fn requests_are_assigned(rt: HostRuntime) -> Result<(), Fail> {
-    let found = assigned(rt.alloc(), conn(&rt, 3)).ok().ok_or("memory")?;
-    assert_eq!(rt; found, (true, (false, 7, 7), (true, 1, 1)));
+    let (right, batches) = assigned(rt.alloc(), conn(&rt, 3)).ok().ok_or("memory")?;
+    assert!(rt; right);
+    assert_eq!(rt; batches[0], ((false, 7, 7), Some(1_575)));
+    assert_eq!(rt; batches[1], ((true, 1, 1), Some(1_680)));
     Ok(())
 }
 

@@ -283,23 +283,23 @@ nodes_stay t (Release c) = refl
 nodes_stay t (Share c n size) = nodes_shared t c n size
 nodes_stay t (BatchOver c) = nodes_ended t c
 
-all_nodes_stay : (t : Tally) (calls : List Call) → (after_all t calls).nodes ≡ t.nodes
+pub all_nodes_stay : (t : Tally) (calls : List Call) → (after_all t calls).nodes ≡ t.nodes
 all_nodes_stay t [] = refl
 all_nodes_stay t (call ∷ calls) = all_nodes_stay (after t call) calls ∙ nodes_stay t call
 
-zeros : (a k : ℕ) → sum_by (λ (n : ℕ). 0) (range_with_len a k) ≡ 0
+pub zeros : (a k : ℕ) → sum_by (λ (n : ℕ). 0) (range_with_len a k) ≡ 0
 zeros a zero = refl
 zeros a (suc k) = let rest = zeros (a + 1) k in omega (arith, rest, sum_by-cons (λ (n : ℕ). 0) a (range_with_len (a + 1) k))
 
-each_sum : (f g : ℕ → ℕ) → ((n : ℕ) → f n ≡ g n) → (ns : List ℕ) → sum_by f ns ≡ sum_by g ns
+pub each_sum : (f g : ℕ → ℕ) → ((n : ℕ) → f n ≡ g n) → (ns : List ℕ) → sum_by f ns ≡ sum_by g ns
 each_sum f g same [] = refl
 each_sum f g same (n ∷ ns) = let rest = each_sum f g same ns in let one = same n in omega (arith, rest, one, sum_by-cons f n ns, sum_by-cons g n ns)
 
-two_sums : (h f g : ℕ → ℕ) → ((n : ℕ) → h n ≡ f n + g n) → (ns : List ℕ) → sum_by h ns ≡ sum_by f ns + sum_by g ns
+pub two_sums : (h f g : ℕ → ℕ) → ((n : ℕ) → h n ≡ f n + g n) → (ns : List ℕ) → sum_by h ns ≡ sum_by f ns + sum_by g ns
 two_sums h f g same [] = refl
 two_sums h f g same (n ∷ ns) = let rest = two_sums h f g same ns in let one = same n in omega (arith, rest, one, sum_by-cons h n ns, sum_by-cons f n ns, sum_by-cons g n ns)
 
-none_left : (k u a many : ℕ) → k < a → sum_by (λ n. cond (nat_eq k n) u 0) (range_with_len a many) ≡ 0
+pub none_left : (k u a many : ℕ) → k < a → sum_by (λ n. cond (nat_eq k n) u 0) (range_with_len a many) ≡ 0
 none_left k u a zero below = refl
 none_left k u a (suc many) below =
     let no : nat_eq k a ≡ false = grind (arith, nat_tests, below) in
@@ -308,7 +308,7 @@ none_left k u a (suc many) below =
     omega (arith, first, rest, sum_by-cons (λ n. cond (nat_eq k n) u 0) a (range_with_len (a + 1) many))
 
 -- a node counts its own charge once among all nodes
-one_node : (k u a many : ℕ) → a ≤ k → k < a + many → sum_by (λ n. cond (nat_eq k n) u 0) (range_with_len a many) ≡ u
+pub one_node : (k u a many : ℕ) → a ≤ k → k < a + many → sum_by (λ n. cond (nat_eq k n) u 0) (range_with_len a many) ≡ u
 one_node k u a zero low high = absurd (omega (arith, low, high))
 one_node k u a (suc many) low high = go (one_node k u (a + 1) many) (cases_eq a k) where
   all : sum_by (λ n. cond (nat_eq k n) u 0) (range_with_len a (suc many)) ≡ cond (nat_eq k a) u 0 + sum_by (λ n. cond (nat_eq k n) u 0) (range_with_len (a + 1) many)

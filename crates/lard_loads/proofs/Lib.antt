@@ -2,14 +2,15 @@ mod Batches
 mod Beginnings
 mod Calls
 mod Changes
+pub mod Charged
 mod Choices
+pub mod Counts
 mod Exchanges
 pub mod Firsts
 mod Lines
 mod Moves
-mod Standings
-mod Charged
 pub mod Nodes
+pub mod Standings
 mod Starts
-mod Sums
+pub mod Sums
 mod Tallies

@@ -25,7 +25,7 @@ same_sum f g a (suc k) same =
     omega (arith, rest, first, sum_by-cons f a (range_with_len (a + 1) k), sum_by-cons g a (range_with_len (a + 1) k))
 
 -- one number counts another amount
-changed_sum : (f g : ℕ → ℕ) (c a k : ℕ) → a ≤ c → c < a + k → ((q : ℕ) → q ≢ c → f q ≡ g q) → sum_by f (range_with_len a k) + g c ≡ sum_by g (range_with_len a k) + f c
+pub changed_sum : (f g : ℕ → ℕ) (c a k : ℕ) → a ≤ c → c < a + k → ((q : ℕ) → q ≢ c → f q ≡ g q) → sum_by f (range_with_len a k) + g c ≡ sum_by g (range_with_len a k) + f c
 changed_sum f g c a zero low high same = absurd (omega (arith, low, high))
 changed_sum f g c a (suc k) low high same = go (changed_sum f g c (a + 1) k) (cases_eq a c) where
   left : sum_by f (range_with_len a (suc k)) ≡ f a + sum_by f (range_with_len (a + 1) k)

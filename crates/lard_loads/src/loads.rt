@@ -20,7 +20,7 @@ pub const WHOLE: u32 = 840;
 pub struct Loads {
     /// The running loads.
     ranking: Ranking,
-    open: Members,
+    open_nodes: Members,
     /// One for each connection, by its number.
     slots: Vec<Slot>,
     admitted: u32,
@@ -35,9 +35,9 @@ impl Model for Loads {
 
     ghost coded = { coded_tally };
 
-    ghost view = { λ l. tally_of (length l.ranking) l.open l.slots.items };
+    ghost view = { λ l. tally_of (length l.ranking) l.open_nodes l.slots.items };
 
-    ghost invariant = { λ l. IsTallied l.ranking l.open l.slots.items l.admitted };
+    ghost invariant = { λ l. IsTallied l.ranking l.open_nodes l.slots.items l.admitted };
 }
 
 impl Loads {
@@ -51,7 +51,7 @@ impl Loads {
         let slots = vec![in alloc; Slot::FREE; ConnId::MAX as usize]?;
         Ok(Loads {
             ranking,
-            open: first_nodes(nodes),
+            open_nodes: first_nodes(nodes),
             slots,
             admitted: 0,
         })
@@ -152,7 +152,7 @@ impl Loads {
         ensures node { least_node self.now ≡ Some result }
         ensures within { result ≤ self.now.nodes }
     {
-        self.ranking.least_of(self.open).unwrap()
+        self.ranking.least_of(self.open_nodes).unwrap()
     }
 
     /// The least loaded member, the lowest number at a tie. `None` exactly for an empty set.
@@ -184,7 +184,7 @@ impl Loads {
     pub fn has_other_open(&self, n: NodeId) -> bool
         ensures { result ≡ has_other_open_of self.now n }
     {
-        self.ranking.least_of(self.open.without(n)).is_some()
+        self.ranking.least_of(self.open_nodes.without(n)).is_some()
     }
 
     /// Closes a node to new assignments; connections stay there. Another node is open.
@@ -192,14 +192,14 @@ impl Loads {
         requires other { has_other_open_of self.old n ≡ true }
         ensures { self.new ≡ closed self.old n }
     {
-        self.open = self.open.without(n);
+        self.open_nodes = self.open_nodes.without(n);
     }
 
     /// Whether the node is one of these, and open to new assignments.
     pub fn is_open(&self, n: NodeId) -> bool
         ensures { result ≡ is_open_of self.now n }
     {
-        n.number() as usize <= self.ranking.nodes() && self.open.has(n)
+        n.number() as usize <= self.ranking.nodes() && self.open_nodes.has(n)
     }
 
     /// Ends the share of an admitted connection that was opened last, and answers whether there was one.

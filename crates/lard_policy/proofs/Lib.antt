@@ -1,4 +1,4 @@
 mod Choice
-mod Order
-mod Relief
+pub mod Order
+pub mod Relief
 mod Serving

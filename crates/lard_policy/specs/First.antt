@@ -1,4 +1,4 @@
--- The first choice: LARD with replication (Pai and others, ASPLOS 1998, section 2.5, figure 3). Its n, m and p are nodes; its
+-- The first choice: the pseudo-code of LARD with replication (Pai and others, ASPLOS 1998). Its n, m and p are nodes; its
 -- T_low, T_high and K are the numbers low, high and age of the configuration. Its loads count connections: here they are
 -- in 840ths of one.
 use Rattle.std.specs.Prelude.{ℕ, ◌-◌, ◌*◌, Bool, ◌&&◌, ◌||◌, nat_lt, nat_le, count_by, Option, Some, None, unwrap_or, if◌then◌else◌}

@@ -1,4 +1,4 @@
-//! The first choice: LARD with replication (ASPLOS 1998, section 2.5, figure 3).
+//! The first choice: LARD with replication (Pai and others, ASPLOS 1998).
 
 ghost use Rattle.std.specs.Prelude.{◌≡◌, ◌≤◌, Ok};
 ghost use Rattle.lard_base.specs.Config.{config_check};

@@ -1,4 +1,4 @@
-use Rattle.std.proofs.Common.{◌≡◌, ◌+◌, ◌-◌, ◌≤◌, length, vec_len, vec_capacity}
+use Rattle.std.proofs.Common.{◌+◌, ◌-◌, ◌≤◌, length, vec_len, vec_capacity}
 use Rattle.lard_dispatch.proofs.Sharing.{IsSharing}
 use Rattle.lard_dispatch.proofs.dispatch.share_all.Given as goal
 

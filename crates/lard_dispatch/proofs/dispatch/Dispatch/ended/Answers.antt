@@ -1,5 +1,5 @@
 -- A connection is released, and the first of the line admitted.
-use Rattle.std.proofs.Common.{◌≡◌, ℕ, ◌<◌, ◌≤◌, ◌∷◌, [], true, List, length, None, Some, is_some, sym, subst, ◌∙◌, ap, arith}
+use Rattle.std.proofs.Common.{◌≡◌, ℕ, ◌<◌, ◌≤◌, ◌∷◌, [], true, List, length, Some, is_some, sym, subst, ◌∙◌, ap, arith}
 use Rattle.std.specs.FinMap as map
 use Rattle.std.specs.Option.{option_copied}
 use Rattle.lard_base.specs.Config.{room_of}
@@ -9,7 +9,7 @@ use Rattle.lard_sets.specs.Sets.{has_place, set_of, touched}
 use Rattle.lard_policy.specs.declared.first.FirstChoice.{FirstChoice}
 use Rattle.lard_dispatch.specs.declared.line.Waiting.{Waiting}
 use Rattle.lard_dispatch.specs.Books.{Books, Dispatcher}
-use Rattle.lard_dispatch.specs.Calls.{admitted_with, after_ended, choice_at, ended_answer, next_admitted, next_answer, released_from, unlined}
+use Rattle.lard_dispatch.specs.Calls.{admitted_with, after_ended, choice_at, ended_answer, next_admitted, next_answer, released_from}
 use Rattle.lard_dispatch.specs.Sound.{AreApart, AreBefore, IsSound}
 use Rattle.lard_dispatch.proofs.Places.{place-own, placed, placed-books}
 use Rattle.lard_dispatch.proofs.Servers.{Sets, set_of-touched}

@@ -1,10 +1,9 @@
 -- The places are kept first, and then each path is assigned.
-use Rattle.std.proofs.Common.{◌≡◌, ℕ, ◌≤◌, ◌++◌, [], true, List, Some, nat_lt, sym, subst, ◌∙◌, ap, arith}
+use Rattle.std.proofs.Common.{◌≡◌, ℕ, ◌++◌, true, List, Some, sym, subst, ◌∙◌, ap, arith}
 use Rattle.std.specs.List.{AllByRecursion}
-use Rattle.lard_loads.specs.Tally.{Tally, batch_ended, home, open_shares}
+use Rattle.lard_loads.specs.Tally.{Tally, home, open_shares}
 use Rattle.lard_sets.specs.Sets.{has_place}
 use Rattle.lard_costs.specs.declared.later.LaterChoice.{LaterChoice}
-use Rattle.lard_dispatch.specs.declared.dispatch.Later.{Later}
 use Rattle.lard_dispatch.specs.Books.{Books, Dispatcher}
 use Rattle.lard_dispatch.specs.Calls.{after_later, all_choices, all_touched, batch_over, later_answer, unlined}
 use Rattle.lard_dispatch.specs.Sound.{AreBefore, AreServedByNodes, IsNode, IsSound}

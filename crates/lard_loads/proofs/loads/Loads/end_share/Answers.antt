@@ -13,15 +13,15 @@ use Rattle.lard_loads.proofs.loads.Loads.end_share.Goals as goal
 -- ---- no share is open
 
 pub invariant_of-self : goal.invariant_of-self
-invariant_of-self c = subst (λ (slots : List Slot). IsTallied c.self.inside.ranking c.self.inside.open slots c.self.inside.admitted)
+invariant_of-self c = subst (λ (slots : List Slot). IsTallied c.self.inside.ranking c.self.inside.open_nodes slots c.self.inside.admitted)
     (sym (kept c.self.invariant c.at.ensures.within c.index_mut.ensures.value c.in_default.ensures.same)) c.self.invariant
 
-none : (c : goal.In_default) → EndsShare c.args.self.now (tally_of (length c.self.inside.ranking) c.self.inside.open (set c.self.inside.slots.items c.at.result c.pop.new.self)) c.args.c false
+none : (c : goal.In_default) → EndsShare c.args.self.now (tally_of (length c.self.inside.ranking) c.self.inside.open_nodes (set c.self.inside.slots.items c.at.result c.pop.new.self)) c.args.c false
 none c =
     let home : HasHome c.index_mut.result.now = home_known c.self.invariant c.at.ensures.within c.index_mut.ensures.value c.self.view_is c.at.ensures.value c.requires.admitted in
     ends_none c.args.self.now _ c.args.c home.node
     (found_in c.self.invariant c.at.ensures.within c.index_mut.ensures.value c.self.view_is c.at.ensures.value ∙ standing-is c.index_mut.result.now _ _ home.is c.in_default.ensures.none)
-    (ap (tally_of (length c.self.inside.ranking) c.self.inside.open) (kept c.self.invariant c.at.ensures.within c.index_mut.ensures.value c.in_default.ensures.same) ∙ c.self.view_is)
+    (ap (tally_of (length c.self.inside.ranking) c.self.inside.open_nodes) (kept c.self.invariant c.at.ensures.within c.index_mut.ensures.value c.in_default.ensures.same) ∙ c.self.view_is)
 
 pub returns-in_default-clause-open : goal.returns-in_default-clause-open
 returns-in_default-clause-open c = (none c).was_open
@@ -51,7 +51,7 @@ invariant_of-self-2 c =
     let home : HasHome c.index_mut.result.now = home_known c.self.invariant c.at.ensures.within c.index_mut.ensures.value c.self.view_is c.at.ensures.value c.requires.admitted in
     unsharing c.self.invariant c.at.ensures.within c.index_mut.ensures.value c.pop.new.self c.in-Some.share home.is c.pop.ensures.home c.in-Some.ensures.last c.lower.ensures
 
-fewer : (c : goal.After-lower) → EndsShare c.args.self.now (tally_of (length c.lower.new.self) c.self.inside.open (set c.self.inside.slots.items c.at.result c.pop.new.self)) c.args.c true
+fewer : (c : goal.After-lower) → EndsShare c.args.self.now (tally_of (length c.lower.new.self) c.self.inside.open_nodes (set c.self.inside.slots.items c.at.result c.pop.new.self)) c.args.c true
 fewer c =
     let home : HasHome c.index_mut.result.now = home_known c.self.invariant c.at.ensures.within c.index_mut.ensures.value c.self.view_is c.at.ensures.value c.requires.admitted in
     ends_share c.args.self.now _ c.args.c home.node (open_in c.pop.new.self) c.in-Some.share

@@ -12,6 +12,6 @@ use Rattle.lard_loads.proofs.loads.Loads.has_other_open.Goals as goal
 pub returns : goal.returns
 returns c =
     c.is_some.ensures ∙ ap is_some c.least_of.ensures
-    ∙ ap (λ (ns : List ℕ). is_some (least_in (at_node c.self.inside.ranking) ns)) (open-without c.self.inside.open c.without.result c.args.n (length c.self.inside.ranking) c.without.ensures)
-    ∙ sym (any-first (is_before (at_node c.self.inside.ranking)) (λ m. not (nat_eq m c.args.n)) (filter (has c.self.inside.open) (numbers (length c.self.inside.ranking))))
+    ∙ ap (λ (ns : List ℕ). is_some (least_in (at_node c.self.inside.ranking) ns)) (open-without c.self.inside.open_nodes c.without.result c.args.n (length c.self.inside.ranking) c.without.ensures)
+    ∙ sym (any-first (is_before (at_node c.self.inside.ranking)) (λ m. not (nat_eq m c.args.n)) (filter (has c.self.inside.open_nodes) (numbers (length c.self.inside.ranking))))
     ∙ ap (λ (t : Tally). has_other_open t c.args.n) c.self.view_is

@@ -12,9 +12,9 @@ pub unwrap-requires : goal.unwrap-requires
 unwrap-requires c = rw c.least_of.ensures (has_first (is_before (at_node c.self.inside.ranking)) _ c.self.invariant.some_open)
 
 pub returns-clause-node : goal.returns-clause-node
-returns-clause-node c = sym (ap least c.self.view_is) ∙ sym (least_running c.self.invariant (has c.self.inside.open)) ∙ sym c.least_of.ensures ∙ c.unwrap.ensures
+returns-clause-node c = sym (ap least c.self.view_is) ∙ sym (least_running c.self.invariant (has c.self.inside.open_nodes)) ∙ sym c.least_of.ensures ∙ c.unwrap.ensures
 
 pub returns-clause-within : goal.returns-clause-within
 returns-clause-within c =
-    let within = (first_passes (is_before (at_node c.self.inside.ranking)) (has c.self.inside.open) (length c.self.inside.ranking) c.unwrap.result (sym c.least_of.ensures ∙ c.unwrap.ensures)).1 in
+    let within = (first_passes (is_before (at_node c.self.inside.ranking)) (has c.self.inside.open_nodes) (length c.self.inside.ranking) c.unwrap.result (sym c.least_of.ensures ∙ c.unwrap.ensures)).1 in
     subst (λ (t : Tally). c.unwrap.result ≤ t.nodes) c.self.view_is within
