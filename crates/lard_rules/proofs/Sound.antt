@@ -1,5 +1,5 @@
 -- What each rule of the front end keeps of a seat, and the front end's step of all of them.
-use Rattle.std.proofs.Common.{◌≡◌, ◌≢◌, ℕ, ◌+◌, ◌≤◌, Bool, true, false, cond, nat_lt, List, [], ◌∷◌, length, take, drop, Option, Some, None, Result, Ok, Err, refl, sym, ap, ◌∙◌, subst, arith, nat_eq, ⊎_elim, ◌^◌, IsTrue}
+use Rattle.std.proofs.Common.{◌≡◌, ◌≢◌, ℕ, ◌+◌, ◌≤◌, Bool, true, false, nat_lt, List, [], ◌∷◌, length, take, drop, Option, Some, None, Result, Ok, Err, refl, sym, ap, ◌∙◌, subst, arith, nat_eq, ⊎_elim, ◌^◌, IsTrue}
 use Rattle.std.proofs.lemmas.Bool.{cond_both}
 use Rattle.std.proofs.lemmas.Bool.Decides.{eqb_tells, nat_tests}
 use Rattle.lard_answers.specs.Answers.{FilesAt, answer, found}
@@ -24,11 +24,11 @@ use Rattle.lard_rules.specs.declared.front.FrontIn.TheVariants.{Segment, Message
 use Rattle.lard_rules.specs.declared.front.FrontState.{FrontState}
 use Rattle.lard_rules.specs.declared.places.Turn.{Turn}
 use Rattle.lard_rules.specs.Client.{silent}
-use Rattle.lard_rules.specs.Front.{FrontEnv, Service, answered, begun, closed_behind, consumed, cut_off, ended_at_fin, front_gets, front_hears, front_timer, is_plain_syn, last_words, passed_over, queued, reads, ready_of, rested, settled, spoken, tombstone}
+use Rattle.lard_rules.specs.Front.{FrontEnv, Service, answered, begun, closed_behind, consumed, cut_off, front_gets, front_hears, front_timer, is_plain_syn, last_words, passed_over, queued, reads, ready_of, rested, settled, spoken, tombstone}
 use Rattle.lard_rules.specs.FrontPlace.{FrontSetting, IsFrontSound, env_in, front_did, front_seats, front_step, seat_at}
 use Rattle.lard_rules.specs.Seat.{MayFollow, Seat, Nowhere, AtFront, Away, Over, no_connections}
 use Rattle.lard_rules.specs.Speaking.{speaks}
-use Rattle.lard_rules.proofs.Loops.{KeptByReading, KeptBySpeaking, reads_keep, speaks_keep}
+use Rattle.lard_rules.proofs.Loops.{KeptByReading, reads_keep, speaks_keep}
 use Rattle.lard_rules.proofs.Seats.{may-stay, no-seat, seat-elsewhere, seat-here}
 use Rattle.lard_rules.proofs.Totals.{HasAsMany, emit-many, segment-many, timer-many}
 use Rattle.lard_segment.specs.declared.fault.SegFault.{SegFault}
@@ -116,7 +116,7 @@ module _ (env : FrontEnv) where
   hears-settles : (x : Seat) (s : Said) → Settles x (front_hears env x s)
   hears-settles Nowhere s = cond_both {A = Seat × Turn} (is_plain_syn s) (begun env s) (Nowhere, silent) (Settles Nowhere)
       (λ t. spoken-settles Nowhere (serving (listening s env.iss) 0 (rec.Took place.Front env.c (record { 0 = 1 }) ∷ [])) [] (λ k. omega arith)) (λ t. still-settles Nowhere silent)
-  hears-settles (AtFront b count) s = 
+  hears-settles (AtFront b count) s =
       let w : Service = serving (on_segment b s).1 count [] in
       settled-settles (AtFront b count) (reads env w) (λ k. reads_keep env Counts reading-counts w (omega (arith, k, segment-many b s)))
   hears-settles Away s = still-settles Away silent

@@ -1,5 +1,5 @@
 -- What bounds a turn, and what a place does in a step.
-use Rattle.std.specs.Prelude.{◌≡◌, ℕ, ◌^◌, ◌≤◌, [], length}
+use Rattle.std.specs.Prelude.{◌≡◌, ◌^◌, ◌≤◌, [], length}
 use Rattle.lard_base.specs.declared.limits.TheConstants.{MAX_STREAM_BYTES}
 use Rattle.lard_rules.specs.declared.front.Out.{Out}
 use Rattle.lard_rules.specs.declared.places.Turn.{Turn}

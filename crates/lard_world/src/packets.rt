@@ -10,8 +10,8 @@ ghost use Rattle.lard_rules.specs.FrontPlace.{IsFrontSound};
 ghost use Rattle.lard_world.specs.Turns.{HasRoom};
 
 use crate::acting::{follow, pass};
-use crate::stations::{put_back, take_out};
 use crate::clients;
+use crate::stations::{put_back, take_out};
 use lard_base::{Bytes, ConnId, Event, NoMemory, Place};
 use lard_journal::Rec;
 use lard_machine::{Machine, StepFault};

@@ -38,7 +38,7 @@ returns-clause-ok c =
     let spot : spot_of (seat_at c.listen.new.state n) ≡ Here 0 = ap (λ t. spot_of (seat_at t n)) began ∙ ap spot_of (seat-here c.args.state.now n (AtFront first 0) tt) in
     let same : b ≡ first = at_front b first 0 0 (sym c.take_out-endpoint.ensures.seat ∙ ap (λ t. seat_at t n) began ∙ seat-here c.args.state.now n (AtFront first 0) tt) in
     let service : service_of b (record { count = c.new-service.result.count; notes = c.push.new.self; answered = c.new-service.result.answered; over = c.new-service.result.over })
-        ≡ record { block = first; count = 0; notes = Took Front n (record { 0 = 1 }) ∷ []; answered = 0; over = None } =
+    ≡ record { block = first; count = 0; notes = Took Front n (record { 0 = 1 }) ∷ []; answered = 0; over = None } =
     λ i. record {
       block = same i;
       count = c.new-service.ensures.0 i;

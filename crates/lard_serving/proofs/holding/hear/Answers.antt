@@ -1,5 +1,5 @@
 -- No byte is queued by what comes.
-use Rattle.std.proofs.Common.{◌≡◌, ◌≤◌, arith, ap, ◌∙◌}
+use Rattle.std.proofs.Common.{◌≡◌, arith, ap, ◌∙◌}
 use Rattle.lard_endpoint.specs.declared.control.arriving.Arrival.{Arrival}
 use Rattle.lard_endpoint.specs.Control.{ControlBlock}
 use Rattle.lard_rules.proofs.Totals.{segment-many}
