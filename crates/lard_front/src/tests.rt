@@ -1,6 +1,6 @@
 //! Each call of a front end once, with ample memory.
 
-ghost use Rattle.std.specs.Prelude.{◌≡◌, false, IfOk};
+ghost use Rattle.std.specs.Prelude.{IfOk};
 ghost use Rattle.lard_front.specs.Place.{IsShort};
 
 use super::*;
@@ -80,11 +80,12 @@ fn runs(
     alloc: Global,
     c: ConnId,
     inputs: &[(Input, Told)],
-) -> Result<bool, Fail>
-    requires { front.old.spoiled ≡ false }
-{
+) -> Result<bool, Fail> {
     let files = Files::new(alloc);
     for (what, told) in inputs {
+        if front.spoiled() {
+            return Ok(false);
+        }
         let out = front.step(alloc, &files, Millis(0), make_input(alloc, c, *what)?)?;
         if !is_told(&out, c, *told) {
             return Ok(false);
