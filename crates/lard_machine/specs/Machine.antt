@@ -142,7 +142,7 @@ abbrev pub with_seat : Machine → ℕ → Seat → Machine
 with_seat m c x = record m { front = front_seats m.front c x }
 
 abbrev pub env_of : Machine → ℕ → ℕ → FrontEnv
-env_of m c iss = record { c = c; iss = iss; files = file_at m.files; stream = m.config.stream }
+env_of m c iss = record { serve = record { place = place.Front; c = c; files = file_at m.files; stream = m.config.stream }; iss = iss }
 
 -- the front end acted: its rule gave this
 abbrev pub front_acted : Machine → Event → List Rec → ℕ → Seat × Turn → Machine

@@ -20,7 +20,7 @@ pub record FrontSetting : Type 0 where
   pub stream : ℕ  -- the most bytes of responses on one connection
 
 abbrev pub env_in : FrontSetting → ℕ → ℕ → FrontEnv
-env_in k c iss = record { c = c; iss = iss; files = k.files; stream = k.stream }
+env_in k c iss = record { serve = record { place = place.Front; c = c; files = k.files; stream = k.stream }; iss = iss }
 
 abbrev pub seat_at : FrontState → ℕ → Seat
 seat_at s c = seat_of (front_part s c)

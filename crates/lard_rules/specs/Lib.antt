@@ -3,4 +3,5 @@ pub mod Front
 pub mod FrontPlace
 pub mod Outs
 pub mod Seat
+pub mod Serving
 pub mod Speaking

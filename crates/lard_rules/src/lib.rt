@@ -9,4 +9,4 @@ pub mod front;
 pub mod places;
 
 pub use front::{FrontIn, FrontRest, FrontState, Out};
-pub use places::{Station, Turn};
+pub use places::{Ending, Station, Turn};

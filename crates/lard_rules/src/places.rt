@@ -2,6 +2,7 @@
 
 use lard_base::Sends;
 use lard_client::Client;
+use lard_endpoint::{Endpoint, Final};
 use lard_journal::Recs;
 
 /// A client's place.
@@ -22,4 +23,12 @@ pub struct Turn {
     pub segments: Sends,
     /// How many bytes of responses it queued.
     pub answered: u32,
+}
+
+/// Where a connection is at the end of a turn of the place that held it. It may hold an endpoint, and so has to be spent.
+pub enum Ending {
+    /// Still here: its endpoint, and how many responses were queued on it.
+    Here { endpoint: Endpoint, count: u32 },
+    /// It ended, with these numbers.
+    Over(Final),
 }

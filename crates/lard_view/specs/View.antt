@@ -151,7 +151,7 @@ abbrev pub ignoring : Conn → Place → Place → List ℕ → Move
 ignoring x from to bytes = record { place = to; heads = packet_seen from to bytes; turn = silent; part = x.part }
 
 abbrev pub env_at : Setting → Conn → Station → FrontEnv
-env_at k x s = record { c = x.c; iss = s.iss; files = k.files; stream = k.stream }
+env_at k x s = record { serve = record { place = Front; c = x.c; files = k.files; stream = k.stream }; iss = s.iss }
 
 -- P is so of each move of a rule that leaves a connection untouched: of all rules but that of a packet which the schedule puts
 -- on the way.
