@@ -1,0 +1,4 @@
+pub mod Loop
+pub mod Stay
+pub mod Node
+pub mod NodePlace
