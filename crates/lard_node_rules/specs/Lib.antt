@@ -1,4 +1,3 @@
-pub mod Loop
 pub mod Stay
 pub mod Node
 pub mod NodePlace

@@ -29,7 +29,7 @@ use Rattle.lard_node_rules.specs.declared.node.NodeTurn.{NodeTurn}
 use Rattle.lard_node_rules.specs.declared.stay.Asked.{Asked}
 use Rattle.lard_node_rules.specs.declared.stay.Stay.{Stay}
 use Rattle.lard_node_rules.specs.declared.stay.Want.{Want}
-use Rattle.lard_node_rules.specs.Loop.{state_of}
+use Rattle.lard_rules.specs.Loop.{state_of}
 use Rattle.lard_node_rules.specs.Stay.{NodeEnv, Work, came_for, come_progress, goes_on, named_paths, read_progress, reads_batch, tagged}
 use Rattle.lard_resend.specs.declared.kept.Kept.{Kept}
 use Rattle.lard_resend.specs.Kept.{is_under, put_in, rank, without}

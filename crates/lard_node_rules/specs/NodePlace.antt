@@ -6,8 +6,6 @@ use Rattle.std.specs.List.{flat_map, fold, list_any}
 use Rattle.lard_answers.specs.Answers.{FilesAt}
 use Rattle.lard_base.specs.declared.place.Place.{Place}
 use Rattle.lard_base.specs.declared.place.Place.TheVariants as place
-use Rattle.lard_base.specs.declared.place.TimerKind.{TimerKind}
-use Rattle.lard_base.specs.declared.place.TimerKind.TheVariants.{Tcp, Offer, Ask, Fetch, Ended}
 use Rattle.lard_cache.specs.Recency.{Recency, after_hit, after_put, has}
 use Rattle.lard_disk.specs.declared.disk.Job.{Job}
 use Rattle.lard_disk.specs.Jobs.{is_for, job_at, without_job}
@@ -26,7 +24,7 @@ use Rattle.lard_node_rules.specs.Node.{Deed, Drops, Says, Does, NodePart, messag
 use Rattle.lard_node_rules.specs.Stay.{NodeEnv}
 use Rattle.lard_resend.specs.Pending.{held, put_list}
 use Rattle.lard_rules.specs.declared.front.Out.{Out}
-use Rattle.lard_rules.specs.Outs.{nothing_done}
+use Rattle.lard_rules.specs.Outs.{kind_change, kinds, nothing_done}
 use Rattle.lard_segment.specs.declared.segment.Dir.TheVariants.{ToCluster}
 use Rattle.lard_segment.specs.Segment.{decoded}
 use Rattle.lard_table.specs.Table.{put_or}
@@ -72,16 +70,7 @@ hits notes cache = record cache { entries = fold hit_step cache.entries notes }
 abbrev pub told : NodeState → NodeTurn → NodeState
 told s t = record s { cache = hits t.notes s.cache; disk = s.disk ++ t.jobs }
 
--- the record of a timer of one kind that changed, from its flags before and after the step
-abbrev pub kind_change : Place → ℕ → TimerKind → Bool → Bool → List Rec
-kind_change p c kind false false = []
-kind_change p c kind false true = rec.Armed p c kind ∷ []
-kind_change p c kind true false = rec.Cleared p c kind ∷ []
-kind_change p c kind true true = []
-
-abbrev pub kinds : List TimerKind
-kinds = Tcp ∷ Offer ∷ Ask ∷ Fetch ∷ Ended ∷ []
-
+-- the records of the timers that changed, from what was kept before the step and after it
 abbrev pub timers_of : ℕ → ℕ → NodePart → NodePart → List Rec
 timers_of n c p q = flat_map (λ kind. kind_change (place.Node n) c kind (node_armed p kind) (node_armed q kind)) kinds
 

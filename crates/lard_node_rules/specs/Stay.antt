@@ -13,7 +13,7 @@ use Rattle.lard_node_rules.specs.declared.stay.Next.TheVariants.{Serve, Read, St
 use Rattle.lard_node_rules.specs.declared.stay.Progress.{Progress}
 use Rattle.lard_node_rules.specs.declared.stay.Progress.TheVariants.{Named, Reading, Awaited, Ready}
 use Rattle.lard_node_rules.specs.declared.stay.Want.{Want}
-use Rattle.lard_node_rules.specs.Loop.{Step, More, Done, runs}
+use Rattle.lard_rules.specs.Loop.{Step, More, Done, runs}
 use Rattle.lard_reader.specs.Batches.{batch_of, bytes_used}
 use Rattle.lard_request.specs.declared.verdict.Verdict.{Verdict}
 use Rattle.lard_rules.specs.Serving.{ServeEnv, Service, answered, consumed, ended_at_fin, may_read}

@@ -1,6 +1,7 @@
 pub mod Client
 pub mod Front
 pub mod FrontPlace
+pub mod Loop
 pub mod Outs
 pub mod Seat
 pub mod Serving
