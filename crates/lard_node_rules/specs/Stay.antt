@@ -171,9 +171,13 @@ turned env w Stop = Done w
 abbrev pub turn : NodeEnv → Work → Step Work
 turn env w = turned env w (next_of w)
 
--- what falls with each turn: a request that is read uses a byte at least
+-- what falls with each turn: a request that is read uses a byte at least, and a response that would pass the stream limit is the last
+abbrev pub left_over : Option ℕ → ℕ
+left_over None = 1
+left_over (Some total) = 0
+
 abbrev pub left : Work → ℕ
-left w = 2 * length w.service.block.recv.unread + length w.batch
+left w = 2 * length w.service.block.recv.unread + length w.batch + left_over w.service.over
 
 abbrev pub goes_on : NodeEnv → Work → Work
 goes_on env w = runs (turn env) left w
