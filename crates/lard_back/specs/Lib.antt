@@ -1,3 +1,5 @@
 pub mod Bounds
 pub mod Hand
+pub mod Place
+pub mod Sound
 pub mod Timers

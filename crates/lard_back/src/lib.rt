@@ -6,8 +6,9 @@
 //! takes a `BackEnd`.
 #![tactic(auto)]
 
+mod acting;
 mod hand;
 mod sends;
 mod timers;
 
-pub use timers::Flags;
+pub use acting::Setting;

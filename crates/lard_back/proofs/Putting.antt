@@ -1,0 +1,157 @@
+-- What was in hand and is put back: the tables are set at one connection, as if nothing had been taken out of them.
+use Rattle.std.proofs.Common.{◌≡◌, ℕ, ◌==◌, Bool, true, false, cond, List, [], ◌∷◌, ◌++◌, map, Option, Some, None, refl, sym, ap, subst, ◌∙◌}
+use Rattle.std.proofs.lemmas.Bool.{eqb-true}
+use Rattle.std.specs.FinMap.{FinMap, get, insert, remove}
+use Rattle.std.specs.FinMap as table
+use Rattle.std.specs.Ordering.{nat_cmp}
+use Rattle.lard_back.specs.declared.hand.At.{At}
+use Rattle.lard_back.specs.declared.hand.Rested.TheVariants as rested
+use Rattle.lard_back.specs.declared.timers.Flags.{Flags}
+use Rattle.lard_back.specs.Hand.{Held, ask_sent, asked_in, end_sent, ended_at, fetch_at, left, lent, rest_of, rested_in, sat, stage_of, turn_at, wanted}
+use Rattle.lard_back.specs.Place.{closes, ends_with, out_at, told_at}
+use Rattle.lard_base.specs.declared.ids.Epoch.{Epoch}
+use Rattle.lard_base.specs.declared.place.Place.{Place}
+use Rattle.lard_endpoint.specs.Control.{ControlBlock}
+use Rattle.lard_handoff_back.specs.declared.row.BackConn.{BackConn}
+use Rattle.lard_handoff_back.specs.declared.row.BackConn.TheVariants as stage
+use Rattle.lard_handoff_back.specs.declared.row.BackRow.{BackRow}
+use Rattle.lard_handoff_back.specs.Back.{Backs, staying, with_stage}
+use Rattle.lard_handoff_back.specs.Row.{held_in}
+use Rattle.lard_node_rules.specs.declared.node.NodeState.{NodeState}
+use Rattle.lard_node_rules.specs.declared.node.NodeTurn.{NodeTurn}
+use Rattle.lard_node_rules.specs.declared.stay.Asked.{Asked}
+use Rattle.lard_node_rules.specs.declared.stay.Want.{Want}
+use Rattle.lard_node_rules.specs.Node.{NodePart, all_sent, ask_kept, asked_kept, asked_sent, ended_sent, fetch_of, kept_after, row_of, stay_after, turn_by, wants_kept, wants_sent}
+use Rattle.lard_node_rules.specs.NodePlace.{NodeSetting, node_env, node_part, node_put, told}
+use Rattle.lard_node_rules.specs.Stay.{NodeEnv, Work}
+use Rattle.lard_resend.specs.declared.kept.Kept.{Kept}
+use Rattle.lard_resend.specs.Kept.{anew}
+use Rattle.lard_resend.specs.Pending.{held, put_list, renewed}
+use Rattle.lard_resend.proofs.Lists.{held_put, list_got, list_insert, list_twice, some_put}
+use Rattle.lard_resend.proofs.Renewed.{renewed_is}
+use Rattle.lard_rules.specs.declared.places.Ending.{Ending}
+use Rattle.lard_rules.specs.declared.places.Ending.TheVariants as ending
+use Rattle.lard_rules.specs.declared.places.Turn.{Turn}
+use Rattle.lard_table.proofs.Map.{get_inserted, get_put_same, insert_twice, put_twice}
+
+-- ---- the row
+
+-- an endpoint that is here in an epoch is in a row of that epoch
+row-epoch : (e : ℕ) (row : BackRow) (b : ControlBlock) → staying e (Some row) ≡ Some b → row.epoch.0 ≡ e
+row-epoch e row b h = go (row.epoch.0 == e) refl h where
+  go : (t : Bool) → (row.epoch.0 == e) ≡ t → cond t (held_in row.stage) None ≡ Some b → row.epoch.0 ≡ e
+  go true is g = eqb-true _ _ is
+  go false is g = let none : None ≡ Some b = g in absurd cc
+
+pub row-back : (m : Backs) (c e : ℕ) (o : Option BackRow) (b : ControlBlock) (st : BackConn) → staying e o ≡ Some b
+    → with_stage (with_stage m c stage.Out o) c st (get (with_stage m c stage.Out o) c) ≡ insert m c (record { stage = st; epoch = record { 0 = e } })
+row-back m c e None b st h = let none : None ≡ Some b = h in absurd cc
+row-back m c e (Some row) b st h =
+    let out : BackRow = record row { stage = stage.Out } in
+    ap (with_stage (insert m c out) c st) (get_inserted m c out) ∙ insert_twice m c out (record out { stage = st })
+    ∙ ap (λ (n : ℕ). insert m c (record { stage = st; epoch = record { 0 = n } })) (row-epoch e row b h)
+
+-- ---- the messages that are held
+
+kept-back : (env : NodeEnv) (at : At) (o : Option Asked) (m : Held) → env.serve.c ≡ at.c → env.epoch ≡ at.epoch.0 → (get m at.c ≡ Some [] → ⊥)
+    → asked_in at o m ≡ put_list m at.c (asked_kept env o (held m at.c))
+kept-back env at None m c e some = sym (list_got m at.c some)
+kept-back env at (Some a) m c e some =
+    renewed_is m at.c (ask_kept at.c at.epoch.0 a) ∙ (λ i. put_list m at.c (anew (ask_kept (sym c i) (sym e i) a) (held m at.c)))
+
+fetches-back : (env : NodeEnv) (at : At) (ws : List Want) (m : Held) → env.serve.c ≡ at.c → env.epoch ≡ at.epoch.0 → (get m at.c ≡ Some [] → ⊥)
+    → wanted at ws m ≡ put_list m at.c (wants_kept env ws (held m at.c))
+fetches-back env at [] m c e some = sym (list_got m at.c some)
+fetches-back env at (w ∷ ws) m c e some =
+    let k : Kept = fetch_at at w in
+    let ks : List Kept = anew k (held m at.c) in
+    let is : renewed m at.c k ≡ put_list m at.c ks = renewed_is m at.c k in
+    ap (wanted at ws) is
+    ∙ fetches-back env at ws (put_list m at.c ks) c e (some_put m at.c ks)
+    ∙ list_twice m at.c ks (wants_kept env ws (held (put_list m at.c ks) at.c))
+    ∙ ap (λ (ls : List Kept). put_list m at.c (wants_kept env ws ls)) (held_put m at.c ks)
+    ∙ (λ i. put_list m at.c (wants_kept env ws (anew (fetch_kept-of (sym c i) (sym e i)) (held m at.c)))) where
+      fetch_kept-of : ℕ → ℕ → Kept
+      fetch_kept-of c e = fetch_at (record { n = at.n; c = c; epoch = record { 0 = e } }) w
+
+-- what was awaited is forgotten, and one message held
+over-back : (m : Held) (c : ℕ) (ks : List Kept) (k : Kept) → renewed (remove (put_list m c ks) c) c k ≡ put_list m c (k ∷ [])
+over-back m c ks k =
+    let n : Held = put_list m c ks in
+    renewed_is (put_list n c []) c k
+    ∙ ap (λ (ls : List Kept). put_list (put_list n c []) c (anew k ls)) (held_put n c [])
+    ∙ list_twice n c [] (k ∷ []) ∙ list_twice m c ks (k ∷ [])
+
+-- ---- one connection's part
+
+pub part-put : (s : NodeState) (c : ℕ) (q : NodePart) → node_part (node_put s c q) c ≡ q
+part-put s c q = λ i. record {
+  row = get_put_same s.conns c q.row i;
+  stay = get_put_same s.stays c q.stay i;
+  kept = held_put s.kept c q.kept i;
+  fetches = held_put s.fetches c q.fetches i;
+}
+
+pub put-again : (s : NodeState) (c : ℕ) (p q : NodePart) → node_put (node_put s c p) c q ≡ node_put s c q
+put-again s c p q = λ i. record s {
+  conns = put_twice s.conns c p.row q.row i;
+  stays = put_twice s.stays c p.stay q.stay i;
+  kept = list_twice s.kept c p.kept q.kept i;
+  fetches = list_twice s.fetches c p.fetches q.fetches i;
+}
+
+-- ---- the end of a turn
+
+abbrev at_of : NodeSetting → ℕ → ℕ → At
+at_of k c epoch = record { n = k.n; c = c; epoch = record { 0 = epoch } }
+
+pub left-is : (k : NodeSetting) (s : NodeState) (c epoch : ℕ) (b : ControlBlock) (w : Work) (e : Ending) → staying epoch (get s.conns c) ≡ Some b
+    → (get s.kept c ≡ Some [] → ⊥) → (get s.fetches c ≡ Some [] → ⊥)
+    → left (sat (lent s c) c e) (at_of k c epoch) (rest_of w) (rested_in e) ≡ node_put s c (kept_after (node_env k s c epoch) (node_part s c) w e)
+left-is k s c epoch b w (ending.Here d count) h kept fetches = λ i. record s {
+  conns = row-back s.conns c epoch (get s.conns c) b (stage.Here d) h i;
+  stays = put_twice s.stays c None (Some (stay_after count w)) i;
+  kept = kept-back (node_env k s c epoch) (at_of k c epoch) w.asked s.kept refl refl kept i;
+  fetches = fetches-back (node_env k s c epoch) (at_of k c epoch) w.wants s.fetches refl refl fetches i;
+}
+left-is k s c epoch b w (ending.Over last) h kept fetches =
+    let at = at_of k c epoch in
+    let env : NodeEnv = node_env k s c epoch in
+    let k1 : asked_in at w.asked s.kept ≡ put_list s.kept c (asked_kept env w.asked (held s.kept c)) = kept-back env at w.asked s.kept refl refl kept in
+    let f1 : wanted at w.wants s.fetches ≡ put_list s.fetches c (wants_kept env w.wants (held s.fetches c)) = fetches-back env at w.wants s.fetches refl refl fetches in
+    let end : Kept = ended_at at last w.service.over in
+    let ks : List Kept = asked_kept env w.asked (held s.kept c) in
+    let k2 : renewed (remove (asked_in at w.asked s.kept) c) c end ≡ put_list s.kept c (end ∷ []) = ap (λ (m : Held). renewed (remove m c) c end) k1 ∙ over-back s.kept c ks end in
+    let f2 : remove (wanted at w.wants s.fetches) c ≡ put_list s.fetches c [] = ap (λ (m : Held). remove m c) f1 ∙ list_twice s.fetches c (wants_kept env w.wants (held s.fetches c)) [] in
+    (λ i. record s {
+      conns = row-back s.conns c epoch (get s.conns c) b stage.Ended h i;
+      stays = remove s.stays c;
+      kept = k2 i;
+      fetches = f2 i;
+    })
+
+ask-same : (env : NodeEnv) (at : At) (o : Option Asked) → env.serve.c ≡ at.c → env.epoch ≡ at.epoch.0 → ask_sent at o ≡ asked_sent env o
+ask-same env at None c e = refl
+ask-same env at (Some a) c e = λ i. (ask_to (sym c i) (sym e i)) where
+  ask_to : ℕ → ℕ → List (Place × List ℕ)
+  ask_to c e = ask_sent (record { n = at.n; c = c; epoch = record { 0 = e } }) (Some a)
+
+pub turn-is : (k : NodeSetting) (s : NodeState) (c epoch : ℕ) (before : List (Place × List ℕ)) (w : Work) (e : Ending) (turn : Turn)
+    → turn_at (at_of k c epoch) before (rest_of w) (rested_in e) turn ≡ turn_by (node_env k s c epoch) before w (e, turn)
+turn-is k s c epoch before w (ending.Here d count) turn = λ i. record (turn_by (node_env k s c epoch) before w (ending.Here d count, turn)) {
+  messages = before ++ ask-same (node_env k s c epoch) (at_of k c epoch) w.asked refl refl i ++ wants_sent (node_env k s c epoch) w.wants ++ [];
+}
+turn-is k s c epoch before w (ending.Over last) turn = λ i. record (turn_by (node_env k s c epoch) before w (ending.Over last, turn)) {
+  messages = before ++ ask-same (node_env k s c epoch) (at_of k c epoch) w.asked refl refl i ++ wants_sent (node_env k s c epoch) w.wants ++ ended_sent (node_env k s c epoch) w.service.over (ending.Over last);
+}
+
+-- the endpoint is put back, and the rest follows: this is what the rules say
+pub closes-is : (k : NodeSetting) (s : NodeState) (c epoch : ℕ) (was : Flags) (before : List (Place × List ℕ)) (b : ControlBlock) (w : Work) (given : Ending × Turn)
+    → staying epoch (get s.conns c) ≡ Some b → (get s.kept c ≡ Some [] → ⊥) → (get s.fetches c ≡ Some [] → ⊥)
+    → closes (sat (lent s c) c given.0) (at_of k c epoch) was before (rest_of w) (rested_in given.0) given.1 ≡ ends_with k s c epoch was before w given
+closes-is k s c epoch was before b w given h kept fetches =
+    let at = at_of k c epoch in
+    let q : NodePart = kept_after (node_env k s c epoch) (node_part s c) w given.0 in
+    let t : NodeTurn = turn_by (node_env k s c epoch) before w given in
+    (λ i. told_at (left-is k s c epoch b w given.0 h kept fetches i) at was (turn-is k s c epoch before w given.0 given.1 i))
+    ∙ ap (λ (p : NodePart). (told (node_put s c q) t, out_at at was p t)) (part-put s c q)
