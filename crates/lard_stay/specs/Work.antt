@@ -6,6 +6,7 @@ use Rattle.lard_disk.specs.declared.disk.Job.{Job}
 use Rattle.lard_endpoint.specs.Control.{ControlBlock}
 use Rattle.lard_node_rules.specs.declared.stay.Asked.{Asked}
 use Rattle.lard_node_rules.specs.declared.stay.Progress.{Progress}
+use Rattle.lard_node_rules.specs.declared.stay.Stay.{Stay}
 use Rattle.lard_node_rules.specs.declared.stay.Want.{Want}
 use Rattle.lard_node_rules.specs.Stay.{NodeEnv, Work as Ruled, come_progress, read_progress}
 use Rattle.lard_seq.specs.Seq.{one_if}
@@ -57,13 +58,22 @@ pub record IsAsk (a : Asked) : Type 0 where
 abbrev pub IsWant : Want → Type 0
 IsWant w = IsPath w.path
 
+-- ---- between two turns
+
+-- a stay that is kept beside its endpoint
+pub record IsStaySound (b : ControlBlock) (s : Stay) : Type 0 where
+  pub within : s.served + length s.batch + length b.recv.unread ≤ b.recv.got  -- each request that was read had a byte
+  pub few : length s.batch ≤ 8
+  pub asks : s.asks ≤ s.served + length s.batch  -- each Ask was for a batch with a request
+
 -- ---- between two calls
 
+-- the same of what is in hand, whose bytes of responses are counted and whose messages can be written
 pub record IsSound (b : ControlBlock) (w : Work) : Type 0 where
   pub counted : serving.IsCounted b w.service
-  pub within : w.service.count + length w.batch + length b.recv.unread ≤ b.recv.got  -- each request that was read had a byte
+  pub within : w.service.count + length w.batch + length b.recv.unread ≤ b.recv.got
   pub few : length w.batch ≤ 8
-  pub asks : w.asks ≤ w.service.count + length w.batch  -- each Ask was for a batch with a request
+  pub asks : w.asks ≤ w.service.count + length w.batch
   pub asked : IfSome w.asked IsAsk
   pub wants : All IsWant w.wants
 

@@ -4,13 +4,13 @@
 //! each connection that is here, with the endpoint in hand, and puts the endpoint and what is left of the stay back.
 #![tactic(auto)]
 
-pub mod coming;
-pub mod paths;
-pub mod starting;
+mod coming;
+mod paths;
+mod starting;
 #[cfg(test)]
 mod tests;
-pub mod turns;
-pub mod work;
+mod turns;
+mod work;
 
 pub use coming::{come, complete, tag};
 pub use paths::count_named;

@@ -1,9 +1,9 @@
 //! What is in hand of a stay.
 
-ghost use Rattle.std.specs.Prelude.{◌≡◌, [], ℕ};
+ghost use Rattle.std.specs.Prelude.{◌≡◌, []};
 ghost use Rattle.lard_endpoint.specs.Control.{ControlBlock};
-ghost use Rattle.lard_node_rules.specs.Node.{stay_after, work_of};
-ghost use Rattle.lard_stay.specs.Work.{work_seen};
+ghost use Rattle.lard_node_rules.specs.Node.{work_of};
+ghost use Rattle.lard_stay.specs.Work.{IsSound, IsStaySound, work_seen};
 
 use lard_base::{Epoch, Items, NodeId};
 use lard_cache::Cache;
@@ -45,7 +45,10 @@ pub struct Work {
 impl Work {
     /// What is in hand of a stay; nothing was done in the turn yet.
     pub fn new(alloc: Global, stay: Stay) -> Work
-        ensures { (b : ControlBlock) → work_seen b result ≡ work_of b stay }
+        ensures seen { (b : ControlBlock) → work_seen b result ≡ work_of b stay }
+        ensures sound { (b : ControlBlock) → IsStaySound b stay → IsSound b result }
+        ensures batch { result.batch ≡ stay.batch }
+        ensures none { (result.jobs ≡ []) × (result.wants ≡ []) }
     {
         let Stay {
             served,
