@@ -1,3 +1,5 @@
+pub mod Acting
 pub mod Keeping
 pub mod Messages
 pub mod Putting
+pub mod Turning

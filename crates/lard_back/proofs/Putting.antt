@@ -8,7 +8,7 @@ use Rattle.lard_back.specs.declared.hand.At.{At}
 use Rattle.lard_back.specs.declared.hand.Rested.TheVariants as rested
 use Rattle.lard_back.specs.declared.timers.Flags.{Flags}
 use Rattle.lard_back.specs.Hand.{Held, ask_sent, asked_in, end_sent, ended_at, fetch_at, left, lent, rest_of, rested_in, sat, stage_of, turn_at, wanted}
-use Rattle.lard_back.specs.Place.{closes, ends_with, out_at, told_at}
+use Rattle.lard_back.specs.Place.{closes, ends_with, env_of, out_at, told_at}
 use Rattle.lard_base.specs.declared.ids.Epoch.{Epoch}
 use Rattle.lard_base.specs.declared.place.Place.{Place}
 use Rattle.lard_endpoint.specs.Control.{ControlBlock}
@@ -22,7 +22,7 @@ use Rattle.lard_node_rules.specs.declared.node.NodeTurn.{NodeTurn}
 use Rattle.lard_node_rules.specs.declared.stay.Asked.{Asked}
 use Rattle.lard_node_rules.specs.declared.stay.Want.{Want}
 use Rattle.lard_node_rules.specs.Node.{NodePart, all_sent, ask_kept, asked_kept, asked_sent, ended_sent, fetch_of, kept_after, row_of, stay_after, turn_by, wants_kept, wants_sent}
-use Rattle.lard_node_rules.specs.NodePlace.{NodeSetting, node_env, node_part, node_put, told}
+use Rattle.lard_node_rules.specs.NodePlace.{NodeSetting, node_part, node_put, told}
 use Rattle.lard_node_rules.specs.Stay.{NodeEnv, Work}
 use Rattle.lard_resend.specs.declared.kept.Kept.{Kept}
 use Rattle.lard_resend.specs.Kept.{anew}
@@ -102,30 +102,26 @@ put-again s c p q = λ i. record s {
 
 -- ---- the end of a turn
 
-abbrev at_of : NodeSetting → ℕ → ℕ → At
-at_of k c epoch = record { n = k.n; c = c; epoch = record { 0 = epoch } }
-
-pub left-is : (k : NodeSetting) (s : NodeState) (c epoch : ℕ) (b : ControlBlock) (w : Work) (e : Ending) → staying epoch (get s.conns c) ≡ Some b
-    → (get s.kept c ≡ Some [] → ⊥) → (get s.fetches c ≡ Some [] → ⊥)
-    → left (sat (lent s c) c e) (at_of k c epoch) (rest_of w) (rested_in e) ≡ node_put s c (kept_after (node_env k s c epoch) (node_part s c) w e)
-left-is k s c epoch b w (ending.Here d count) h kept fetches = λ i. record s {
-  conns = row-back s.conns c epoch (get s.conns c) b (stage.Here d) h i;
-  stays = put_twice s.stays c None (Some (stay_after count w)) i;
-  kept = kept-back (node_env k s c epoch) (at_of k c epoch) w.asked s.kept refl refl kept i;
-  fetches = fetches-back (node_env k s c epoch) (at_of k c epoch) w.wants s.fetches refl refl fetches i;
+pub left-is : (k : NodeSetting) (s : NodeState) (at : At) (b : ControlBlock) (w : Work) (e : Ending) → staying at.epoch.0 (get s.conns at.c) ≡ Some b
+    → (get s.kept at.c ≡ Some [] → ⊥) → (get s.fetches at.c ≡ Some [] → ⊥)
+    → left (sat (lent s at.c) at.c e) at (rest_of w) (rested_in e) ≡ node_put s at.c (kept_after (env_of k s at) (node_part s at.c) w e)
+left-is k s at b w (ending.Here d count) h kept fetches = λ i. record s {
+  conns = row-back s.conns at.c at.epoch.0 (get s.conns at.c) b (stage.Here d) h i;
+  stays = put_twice s.stays at.c None (Some (stay_after count w)) i;
+  kept = kept-back (env_of k s at) at w.asked s.kept refl refl kept i;
+  fetches = fetches-back (env_of k s at) at w.wants s.fetches refl refl fetches i;
 }
-left-is k s c epoch b w (ending.Over last) h kept fetches =
-    let at = at_of k c epoch in
-    let env : NodeEnv = node_env k s c epoch in
-    let k1 : asked_in at w.asked s.kept ≡ put_list s.kept c (asked_kept env w.asked (held s.kept c)) = kept-back env at w.asked s.kept refl refl kept in
-    let f1 : wanted at w.wants s.fetches ≡ put_list s.fetches c (wants_kept env w.wants (held s.fetches c)) = fetches-back env at w.wants s.fetches refl refl fetches in
+left-is k s at b w (ending.Over last) h kept fetches =
+    let env : NodeEnv = env_of k s at in
+    let k1 : asked_in at w.asked s.kept ≡ put_list s.kept at.c (asked_kept env w.asked (held s.kept at.c)) = kept-back env at w.asked s.kept refl refl kept in
+    let f1 : wanted at w.wants s.fetches ≡ put_list s.fetches at.c (wants_kept env w.wants (held s.fetches at.c)) = fetches-back env at w.wants s.fetches refl refl fetches in
     let end : Kept = ended_at at last w.service.over in
-    let ks : List Kept = asked_kept env w.asked (held s.kept c) in
-    let k2 : renewed (remove (asked_in at w.asked s.kept) c) c end ≡ put_list s.kept c (end ∷ []) = ap (λ (m : Held). renewed (remove m c) c end) k1 ∙ over-back s.kept c ks end in
-    let f2 : remove (wanted at w.wants s.fetches) c ≡ put_list s.fetches c [] = ap (λ (m : Held). remove m c) f1 ∙ list_twice s.fetches c (wants_kept env w.wants (held s.fetches c)) [] in
+    let ks : List Kept = asked_kept env w.asked (held s.kept at.c) in
+    let k2 : renewed (remove (asked_in at w.asked s.kept) at.c) at.c end ≡ put_list s.kept at.c (end ∷ []) = ap (λ (m : Held). renewed (remove m at.c) at.c end) k1 ∙ over-back s.kept at.c ks end in
+    let f2 : remove (wanted at w.wants s.fetches) at.c ≡ put_list s.fetches at.c [] = ap (λ (m : Held). remove m at.c) f1 ∙ list_twice s.fetches at.c (wants_kept env w.wants (held s.fetches at.c)) [] in
     (λ i. record s {
-      conns = row-back s.conns c epoch (get s.conns c) b stage.Ended h i;
-      stays = remove s.stays c;
+      conns = row-back s.conns at.c at.epoch.0 (get s.conns at.c) b stage.Ended h i;
+      stays = remove s.stays at.c;
       kept = k2 i;
       fetches = f2 i;
     })
@@ -136,22 +132,21 @@ ask-same env at (Some a) c e = λ i. (ask_to (sym c i) (sym e i)) where
   ask_to : ℕ → ℕ → List (Place × List ℕ)
   ask_to c e = ask_sent (record { n = at.n; c = c; epoch = record { 0 = e } }) (Some a)
 
-pub turn-is : (k : NodeSetting) (s : NodeState) (c epoch : ℕ) (before : List (Place × List ℕ)) (w : Work) (e : Ending) (turn : Turn)
-    → turn_at (at_of k c epoch) before (rest_of w) (rested_in e) turn ≡ turn_by (node_env k s c epoch) before w (e, turn)
-turn-is k s c epoch before w (ending.Here d count) turn = λ i. record (turn_by (node_env k s c epoch) before w (ending.Here d count, turn)) {
-  messages = before ++ ask-same (node_env k s c epoch) (at_of k c epoch) w.asked refl refl i ++ wants_sent (node_env k s c epoch) w.wants ++ [];
+pub turn-is : (k : NodeSetting) (s : NodeState) (at : At) (before : List (Place × List ℕ)) (w : Work) (e : Ending) (turn : Turn)
+    → turn_at at before (rest_of w) (rested_in e) turn ≡ turn_by (env_of k s at) before w (e, turn)
+turn-is k s at before w (ending.Here d count) turn = λ i. record (turn_by (env_of k s at) before w (ending.Here d count, turn)) {
+  messages = before ++ ask-same (env_of k s at) at w.asked refl refl i ++ wants_sent (env_of k s at) w.wants ++ [];
 }
-turn-is k s c epoch before w (ending.Over last) turn = λ i. record (turn_by (node_env k s c epoch) before w (ending.Over last, turn)) {
-  messages = before ++ ask-same (node_env k s c epoch) (at_of k c epoch) w.asked refl refl i ++ wants_sent (node_env k s c epoch) w.wants ++ ended_sent (node_env k s c epoch) w.service.over (ending.Over last);
+turn-is k s at before w (ending.Over last) turn = λ i. record (turn_by (env_of k s at) before w (ending.Over last, turn)) {
+  messages = before ++ ask-same (env_of k s at) at w.asked refl refl i ++ wants_sent (env_of k s at) w.wants ++ ended_sent (env_of k s at) w.service.over (ending.Over last);
 }
 
 -- the endpoint is put back, and the rest follows: this is what the rules say
-pub closes-is : (k : NodeSetting) (s : NodeState) (c epoch : ℕ) (was : Flags) (before : List (Place × List ℕ)) (b : ControlBlock) (w : Work) (given : Ending × Turn)
-    → staying epoch (get s.conns c) ≡ Some b → (get s.kept c ≡ Some [] → ⊥) → (get s.fetches c ≡ Some [] → ⊥)
-    → closes (sat (lent s c) c given.0) (at_of k c epoch) was before (rest_of w) (rested_in given.0) given.1 ≡ ends_with k s c epoch was before w given
-closes-is k s c epoch was before b w given h kept fetches =
-    let at = at_of k c epoch in
-    let q : NodePart = kept_after (node_env k s c epoch) (node_part s c) w given.0 in
-    let t : NodeTurn = turn_by (node_env k s c epoch) before w given in
-    (λ i. told_at (left-is k s c epoch b w given.0 h kept fetches i) at was (turn-is k s c epoch before w given.0 given.1 i))
-    ∙ ap (λ (p : NodePart). (told (node_put s c q) t, out_at at was p t)) (part-put s c q)
+pub closes-is : (k : NodeSetting) (s : NodeState) (at : At) (was : Flags) (before : List (Place × List ℕ)) (b : ControlBlock) (w : Work) (given : Ending × Turn)
+    → staying at.epoch.0 (get s.conns at.c) ≡ Some b → (get s.kept at.c ≡ Some [] → ⊥) → (get s.fetches at.c ≡ Some [] → ⊥)
+    → closes (sat (lent s at.c) at.c given.0) at was before (rest_of w) (rested_in given.0) given.1 ≡ ends_with k s at was before w given
+closes-is k s at was before b w given h kept fetches =
+    let q : NodePart = kept_after (env_of k s at) (node_part s at.c) w given.0 in
+    let t : NodeTurn = turn_by (env_of k s at) before w given in
+    (λ i. told_at (left-is k s at b w given.0 h kept fetches i) at was (turn-is k s at before w given.0 given.1 i))
+    ∙ ap (λ (p : NodePart). (told (node_put s at.c q) t, out_at at was p t)) (part-put s at.c q)

@@ -2,4 +2,5 @@ pub mod Bounds
 pub mod Hand
 pub mod Place
 pub mod Sound
+pub mod Stores
 pub mod Timers

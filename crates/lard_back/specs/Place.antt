@@ -1,40 +1,48 @@
 -- What the code of a node has in hand, as the rules have it, and what a turn in hand comes to.
-use Rattle.std.specs.Prelude.{ℕ, List, [], Option, Some, None}
-use Rattle.lard_back.specs.declared.acting.Deed.{Deed}
-use Rattle.lard_back.specs.declared.acting.Deed.TheVariants.{Heard, Tagged, Content, Read}
+use Rattle.std.specs.Prelude.{◌≡◌, ℕ, ◌≤◌, List, [], length, Option, Some, None}
+use Rattle.lard_back.specs.declared.acting.Done.{Done}
 use Rattle.lard_back.specs.declared.acting.Setting.{Setting}
 use Rattle.lard_back.specs.declared.hand.At.{At}
 use Rattle.lard_back.specs.declared.hand.Rest.{Rest}
 use Rattle.lard_back.specs.declared.hand.Rested.{Rested}
 use Rattle.lard_back.specs.declared.timers.Flags.{Flags}
-use Rattle.lard_back.specs.Hand.{left, turn_at}
+use Rattle.lard_back.specs.Bounds.{AreWants, IsAsk, MayTell}
+use Rattle.lard_back.specs.Hand.{left, rest_of, rested_in, sat, turn_at}
+use Rattle.lard_back.specs.Sound.{EndsSound, IsNodeSound}
 use Rattle.lard_back.specs.Timers.{flag_changes, flags_of}
 use Rattle.lard_base.specs.declared.place.Place.{Place}
-use Rattle.lard_endpoint.specs.Arriving.{on_segment}
+use Rattle.lard_base.specs.declared.place.Place.TheVariants.{Node}
+use Rattle.lard_cache.specs.Recency.{Recency, has}
 use Rattle.lard_endpoint.specs.Control.{ControlBlock}
 use Rattle.lard_files.specs.Files.{file_at}
 use Rattle.lard_node_rules.specs.declared.node.NodeState.{NodeState}
 use Rattle.lard_node_rules.specs.declared.node.NodeTurn.{NodeTurn}
 use Rattle.lard_node_rules.specs.declared.stay.Stay.{Stay}
-use Rattle.lard_node_rules.specs.Node.{NodePart, kept_after, turn_by, work_of}
-use Rattle.lard_node_rules.specs.NodePlace.{NodeSetting, node_env, node_part, node_put, told}
-use Rattle.lard_node_rules.specs.Stay.{NodeEnv, Work, came_for, come_progress, goes_on, read_progress, tagged}
+use Rattle.lard_node_rules.specs.Node.{NodePart, here, kept_after, turn_by}
+use Rattle.lard_node_rules.specs.NodePlace.{NodeSetting, node_part, node_put, told}
+use Rattle.lard_node_rules.specs.Stay.{NodeEnv, Work}
 use Rattle.lard_rules.specs.declared.front.Out.{Out}
 use Rattle.lard_rules.specs.declared.places.Ending.{Ending}
 use Rattle.lard_rules.specs.declared.places.Turn.{Turn}
 use Rattle.lard_rules.specs.Outs.{nothing_done}
 use Rattle.lard_rules.specs.Serving.{settled}
-use Rattle.lard_segment.specs.Segment.{said}
+use Rattle.lard_serving.specs.Bounds.{IsTurn}
 
 abbrev pub setting_seen : Setting → NodeSetting
 setting_seen k = record { n = k.n; files = file_at k.files.now; stream = k.stream }
 
--- what a deed makes of what is in hand
-abbrev pub does : NodeEnv → Deed → Work → Work
-does env (Heard s) w = goes_on env (record w { service = record w.service { block = (on_segment w.service.block (said s.now)).1 } })
-does env (Tagged nodes) w = goes_on env (tagged env nodes.now w)
-does env (Content from r) w = goes_on env (came_for (come_progress from) r w)
-does env (Read r) w = goes_on env (came_for read_progress r w)
+-- what a stay rests on
+abbrev pub env_at : NodeSetting → Recency → ℕ → At → NodeEnv
+env_at k cache queue at = record {
+  serve = record { place = Node at.n; c = at.c; files = k.files; stream = k.stream };
+  n = at.n;
+  epoch = at.epoch.0;
+  cached = has cache.entries;
+  queue = queue;
+}
+
+abbrev pub env_of : NodeSetting → NodeState → At → NodeEnv
+env_of k s at = env_at k s.cache (length s.disk) at
 
 abbrev pub out_at : At → Flags → NodePart → NodeTurn → Out
 out_at at was q t = record {
@@ -56,15 +64,35 @@ closes s at was before rest r turn = told_at (left s at rest r) at was (turn_at 
 
 -- ---- the same, by the rules
 
-abbrev pub ends_with : NodeSetting → NodeState → ℕ → ℕ → Flags → List (Place × List ℕ) → Work → Ending × Turn → NodeState × Out
-ends_with k s c epoch was before w given =
-    (told (node_put s c (kept_after (node_env k s c epoch) (node_part s c) w given.0)) (turn_by (node_env k s c epoch) before w given),
-     out_at (record { n = k.n; c = c; epoch = record { 0 = epoch } }) was (kept_after (node_env k s c epoch) (node_part s c) w given.0) (turn_by (node_env k s c epoch) before w given))
-
-abbrev pub rests_with : NodeSetting → NodeState → ℕ → ℕ → Flags → List (Place × List ℕ) → Work → NodeState × Out
-rests_with k s c epoch was before w = ends_with k s c epoch was before w (settled (node_env k s c epoch).serve w.service)
+abbrev pub ends_with : NodeSetting → NodeState → At → Flags → List (Place × List ℕ) → Work → Ending × Turn → NodeState × Out
+ends_with k s at was before w given =
+    (told (node_put s at.c (kept_after (env_of k s at) (node_part s at.c) w given.0)) (turn_by (env_of k s at) before w given),
+     out_at at was (kept_after (env_of k s at) (node_part s at.c) w given.0) (turn_by (env_of k s at) before w given))
 
 -- something is done to a connection, where it is here
-abbrev pub acted : NodeSetting → NodeState → ℕ → ℕ → Flags → Deed → Option (ControlBlock × Stay) → NodeState × Out
-acted k s c epoch was deed None = (s, nothing_done)
-acted k s c epoch was deed (Some x) = rests_with k s c epoch was [] (does (node_env k s c epoch) deed (work_of x.0 x.1))
+abbrev pub acted : NodeSetting → NodeState → At → Flags → (NodeEnv → ControlBlock × Stay → Work) → Option (ControlBlock × Stay) → NodeState × Out
+acted k s at was f None = (s, nothing_done)
+acted k s at was f (Some x) = ends_with k s at was [] (f (env_of k s at) x) (settled (env_of k s at).serve (f (env_of k s at) x).service)
+
+-- the state is sound once it was done
+pub record IsActed (k : NodeSetting) (s : NodeState) (at : At) (was : Flags) (f : NodeEnv → ControlBlock × Stay → Work) (n : NodeState) (out : Out) : Type 0 where
+  pub does : (n, out) ≡ acted k s at was f (here at.epoch.0 (node_part s at.c))
+  pub sound : IsNodeSound n
+
+-- ---- a turn that is done
+
+-- what a rule made of what was in hand, once its endpoint said what it may
+pub record IsDone (w : Work) (given : Ending × Turn) (e : Ending) (d : Done) : Type 0 where
+  pub rest : d.rest ≡ rest_of w
+  pub turn : (e, d.turn) ≡ given
+  pub fits : IsTurn d.turn
+  pub asked : IsAsk d.rest.asked
+  pub wants : AreWants d.rest.wants
+  pub count : MayTell (rested_in e) d.rest.over
+  pub jobs : length d.rest.jobs ≤ 9
+  pub sound : EndsSound e w
+
+-- all that was in hand is put back, and the turn told
+pub record IsGone (s : NodeState) (at : At) (was : Flags) (before : List (Place × List ℕ)) (w : Work) (given : Ending × Turn) (n : NodeState) (out : Out) : Type 0 where
+  pub closes : (n, out) ≡ closes (sat s at.c given.0) at was before (rest_of w) (rested_in given.0) given.1
+  pub sound : EndsSound given.0 w

@@ -1,5 +1,5 @@
 -- What holds of a node's state between two steps.
-use Rattle.std.specs.Prelude.{◌≡◌, ℕ, ◌+◌, ◌≤◌, List, [], length, Option, Some, None}
+use Rattle.std.specs.Prelude.{◌≡◌, ℕ, List, [], Option, Some, None}
 use Rattle.std.specs.FinMap as table
 use Rattle.std.specs.FinMap.{FinMap}
 use Rattle.std.specs.Ordering.{nat_cmp}
@@ -13,12 +13,7 @@ use Rattle.lard_node_rules.specs.Stay.{Work}
 use Rattle.lard_resend.specs.declared.kept.Kept.{Kept}
 use Rattle.lard_rules.specs.declared.places.Ending.{Ending}
 use Rattle.lard_rules.specs.declared.places.Ending.TheVariants as ending
-
--- a stay beside its endpoint
-pub record IsStaySound (b : ControlBlock) (s : Stay) : Type 0 where
-  pub within : s.served + length s.batch + length b.recv.unread ≤ b.recv.got  -- each request that was read had a byte
-  pub few : length s.batch ≤ 8
-  pub asks : s.asks ≤ s.served + length s.batch  -- each Ask was for a batch with a request
+use Rattle.lard_stay.specs.Work.{IsStaySound}
 
 -- a stay stands exactly beside an endpoint that is here, and no endpoint is in hand
 abbrev pub IsStaying : BackConn → Option Stay → Type 0

@@ -1,8 +1,35 @@
 //! What is done to a connection that is here: it is taken out, its rule is followed with all of it in hand, and it is put back.
 
-use lard_base::NodeId;
+ghost use Rattle.std.specs.Prelude.{◌≡◌, ◌+◌, ◌^◌, ◌<◌, ◌≤◌, [], length, true, ℕ, IfOk};
+ghost use Rattle.std.specs.FinMap as table;
+ghost use Rattle.lard_back.specs.Bounds.{AreMessages, AreWants, IsAsk, IsNodeOut, MayTell};
+ghost use Rattle.lard_back.specs.Place.{IsActed, IsDone, IsGone, closes, env_at, env_of, setting_seen, told_at};
+ghost use Rattle.lard_back.specs.Sound.{IsNodeSound};
+ghost use Rattle.lard_base.specs.declared.limits.TheConstants.{MAX_STREAM_BYTES};
+ghost use Rattle.lard_endpoint.specs.Arriving.{on_segment};
+ghost use Rattle.lard_handoff_back.specs.Back.{may_put};
+ghost use Rattle.lard_node_rules.specs.Node.{work_of};
+ghost use Rattle.lard_node_rules.specs.Stay.{came_for, come_progress, goes_on, read_progress, tagged};
+ghost use Rattle.lard_rules.specs.Serving.{settled};
+ghost use Rattle.lard_rules.specs.Speaking.{AreShort};
+ghost use Rattle.lard_segment.specs.Segment.{said};
+ghost use Rattle.lard_serving.specs.Bounds.{IsTurn};
+ghost use Rattle.lard_serving.specs.Serving.{env_seen};
+ghost use Rattle.lard_stay.specs.Work.{IsSound, work_seen};
+
+use crate::hand::{At, Rest, Rested, leave, put_back, take_out};
+use crate::stores::tell;
+use crate::timers::{Flags, changes, running};
+use lard_base::{NoMemory, NodeId, Place, Sends};
+use lard_cache::Cache;
+use lard_endpoint::Endpoint;
 use lard_files::Files;
+use lard_node_rules::{NodeState, NodeTurn};
+use lard_rules::{Ending, Out, Turn};
 use lard_segment::Segment;
+use lard_serving::{nothing, settled};
+use lard_stay::{Env, Work, come, complete, go_on, tag};
+use std::alloc::Global;
 
 /// What never changes in a run.
 #[derive(Clone, Copy)]
@@ -14,15 +41,299 @@ pub struct Setting<'a> {
     pub stream: u32,
 }
 
-/// What is done to a connection that is here.
-#[derive(Clone, Copy)]
-pub enum Deed<'a> {
-    /// A segment of the client comes.
-    Heard(&'a Segment<'a>),
-    /// The nodes of its Ask come.
-    Tagged(&'a [NodeId]),
-    /// A content comes from a node, for the request of this number.
-    Content { from: NodeId, r: u32 },
-    /// A job of the node's disk was completed for the request of this number.
-    Read(u32),
+/// What a turn leaves beside its endpoint.
+#[derive(Debug, Drop)]
+pub struct Done {
+    pub turn: Turn,
+    pub rest: Rest,
+}
+
+/// A segment of the client comes to a connection, where it is here in this epoch; its timers ran so before the step.
+pub fn hear(
+    state: &mut NodeState,
+    alloc: Global,
+    setting: &Setting<'_>,
+    at: &At,
+    was: Flags,
+    segment: &Segment<'_>,
+) -> Result<Out, NoMemory>
+    requires node { at.now.n ≡ setting.now.n }
+    requires sound { IsNodeSound state.old }
+    requires stream { setting.now.stream ≤ MAX_STREAM_BYTES }
+    requires few { length state.old.disk < 2 ^ 31 }
+    ensures acted { IfOk result (λ out. IsActed (setting_seen setting.now) state.old at.now was (λ env x. goes_on env (work_of (on_segment x.0 (said segment.now)).1 x.1)) state.new out) }
+    ensures fits { IfOk result IsNodeOut }
+{
+    let Some((mut endpoint, stay)) = take_out(state, at.c, at.epoch) else {
+        return Ok(nothing(alloc));
+    };
+    let _arrival = endpoint.arrive(segment);
+    let work = Work::new(alloc, stay);
+    go(state, alloc, setting, at, was, endpoint, work)
+}
+
+/// The nodes of its Ask come to a connection, where it is here in this epoch.
+pub fn assign(
+    state: &mut NodeState,
+    alloc: Global,
+    setting: &Setting<'_>,
+    at: &At,
+    was: Flags,
+    nodes: &[NodeId],
+) -> Result<Out, NoMemory>
+    requires node { at.now.n ≡ setting.now.n }
+    requires sound { IsNodeSound state.old }
+    requires stream { setting.now.stream ≤ MAX_STREAM_BYTES }
+    requires few { length state.old.disk < 2 ^ 31 }
+    ensures acted { IfOk result (λ out. IsActed (setting_seen setting.now) state.old at.now was (λ env x. goes_on env (tagged env nodes.now (work_of x.0 x.1))) state.new out) }
+    ensures fits { IfOk result IsNodeOut }
+{
+    let Some((endpoint, stay)) = take_out(state, at.c, at.epoch) else {
+        return Ok(nothing(alloc));
+    };
+    let work = Work::new(alloc, stay);
+    match start(alloc, setting, at, &state.cache, &endpoint, work, nodes) {
+        Ok(work) => return go(state, alloc, setting, at, was, endpoint, work),
+        Err(NoMemory) => {
+            let _ = put_back(&mut state.conns, at.c, Ending::Here { endpoint, count: 0 });
+            return Err(NoMemory);
+        }
+    }
+}
+
+/// What is in hand of a stay once the nodes of its Ask came.
+fn start(
+    alloc: Global,
+    setting: &Setting<'_>,
+    at: &At,
+    cache: &Cache,
+    endpoint: &Endpoint,
+    mut work: Work,
+    nodes: &[NodeId],
+) -> Result<Work, NoMemory>
+    requires sound { IsSound endpoint.now work }
+    requires jobs { length work.jobs ≤ 0 }
+    ensures work { IfOk result (λ started. (queue : ℕ) → work_seen endpoint.now started ≡ tagged (env_at (setting_seen setting.now) cache.now queue at.now) nodes.now (work_seen endpoint.now work)) }
+    ensures sound { IfOk result (IsSound endpoint.now) }
+    ensures jobs { IfOk result (λ started. length started.jobs ≤ 8) }
+{
+    let env = Env {
+        serve: serve(setting, at),
+        node: at.n,
+        epoch: at.epoch,
+        cache,
+        queue: 0,
+    };
+    tag(alloc, &env, endpoint, &mut work, nodes)?;
+    Ok(work)
+}
+
+/// A content comes from a node for a request of a connection, where it is here in this epoch.
+pub fn bring(
+    state: &mut NodeState,
+    alloc: Global,
+    setting: &Setting<'_>,
+    at: &At,
+    was: Flags,
+    from: NodeId,
+    r: u32,
+) -> Result<Out, NoMemory>
+    requires node { at.now.n ≡ setting.now.n }
+    requires sound { IsNodeSound state.old }
+    requires stream { setting.now.stream ≤ MAX_STREAM_BYTES }
+    requires few { length state.old.disk < 2 ^ 31 }
+    ensures acted { IfOk result (λ out. IsActed (setting_seen setting.now) state.old at.now was (λ env x. goes_on env (came_for (come_progress from) r (work_of x.0 x.1))) state.new out) }
+    ensures fits { IfOk result IsNodeOut }
+{
+    let Some((endpoint, stay)) = take_out(state, at.c, at.epoch) else {
+        return Ok(nothing(alloc));
+    };
+    let mut work = Work::new(alloc, stay);
+    come(alloc, &mut work, from, r);
+    go(state, alloc, setting, at, was, endpoint, work)
+}
+
+/// A job of the node's disk was completed for a request of a connection, where it is here in this epoch.
+pub fn read(
+    state: &mut NodeState,
+    alloc: Global,
+    setting: &Setting<'_>,
+    at: &At,
+    was: Flags,
+    r: u32,
+) -> Result<Out, NoMemory>
+    requires node { at.now.n ≡ setting.now.n }
+    requires sound { IsNodeSound state.old }
+    requires stream { setting.now.stream ≤ MAX_STREAM_BYTES }
+    requires few { length state.old.disk < 2 ^ 31 }
+    ensures acted { IfOk result (λ out. IsActed (setting_seen setting.now) state.old at.now was (λ env x. goes_on env (came_for read_progress r (work_of x.0 x.1))) state.new out) }
+    ensures fits { IfOk result IsNodeOut }
+{
+    let Some((endpoint, stay)) = take_out(state, at.c, at.epoch) else {
+        return Ok(nothing(alloc));
+    };
+    let mut work = Work::new(alloc, stay);
+    complete(alloc, &mut work, r);
+    go(state, alloc, setting, at, was, endpoint, work)
+}
+
+/// A stay goes on from what is in hand, and all of it is put back; the endpoint also where memory did not suffice for that.
+fn go(
+    state: &mut NodeState,
+    alloc: Global,
+    setting: &Setting<'_>,
+    at: &At,
+    was: Flags,
+    endpoint: Endpoint,
+    work: Work,
+) -> Result<Out, NoMemory>
+    requires out { may_put (table.get state.old.conns at.now.c) ≡ true }
+    requires sound { IsSound endpoint work }
+    requires jobs { length work.jobs ≤ 8 }
+    requires stream { setting.now.stream ≤ MAX_STREAM_BYTES }
+    requires few { length state.old.disk < 2 ^ 31 }
+    ensures gone { IfOk result (λ out. let env = env_of (setting_seen setting.now) state.old at.now in let w = goes_on env (work_seen endpoint work) in IsGone state.old at.now was [] w (settled env.serve w.service) state.new out) }
+    ensures fits { IfOk result IsNodeOut }
+{
+    let queue = state.disk.len();
+    let (ending, done) = follow(alloc, setting, at, &state.cache, queue, endpoint, work);
+    let rested = put_back(&mut state.conns, at.c, ending);
+    close(state, alloc, at, was, Sends::new(alloc), rested, done?)
+}
+
+/// What serving rests on.
+pub fn serve<'a>(setting: &Setting<'a>, at: &At) -> lard_serving::Env<'a>
+    ensures { result ≡ record { place = Place.Node at.now.n; c = at.now.c; files = setting.now.files; stream = setting.now.stream } }
+{
+    lard_serving::Env {
+        place: Place::Node(at.n),
+        c: at.c,
+        files: setting.files,
+        stream: setting.stream,
+    }
+}
+
+/// A stay goes on with the endpoint in hand, which comes back in each case.
+fn follow(
+    alloc: Global,
+    setting: &Setting<'_>,
+    at: &At,
+    cache: &Cache,
+    queue: u32,
+    mut endpoint: Endpoint,
+    mut work: Work,
+) -> (Ending, Result<Done, NoMemory>)
+    requires sound { IsSound endpoint work }
+    requires jobs { length work.jobs ≤ 8 }
+    requires stream { setting.now.stream ≤ MAX_STREAM_BYTES }
+    requires queue { queue < 2 ^ 31 }
+    ensures done { IfOk result.1 (λ done. let env = env_at (setting_seen setting.now) cache.now queue at.now in let w = goes_on env (work_seen endpoint work) in IsDone w (settled env.serve w.service) result.0 done) }
+{
+    let env = Env {
+        serve: serve(setting, at),
+        node: at.n,
+        epoch: at.epoch,
+        cache,
+        queue,
+    };
+    match go_on(alloc, &env, &mut endpoint, &mut work) {
+        Ok(()) => return settle(alloc, &env.serve, endpoint, work),
+        Err(NoMemory) => return (Ending::Here { endpoint, count: 0 }, Err(NoMemory)),
+    }
+}
+
+/// The endpoint says what it may, and ends where it may or has to.
+pub fn settle(
+    alloc: Global,
+    env: &lard_serving::Env<'_>,
+    endpoint: Endpoint,
+    work: Work,
+) -> (Ending, Result<Done, NoMemory>)
+    requires sound { IsSound endpoint work }
+    requires jobs { length work.jobs ≤ 9 }
+    ensures done { IfOk result.1 (λ done. IsDone (work_seen endpoint work) (settled (env_seen env.now) (work_seen endpoint work).service) result.0 done) }
+{
+    let Work {
+        service,
+        batch,
+        asks,
+        jobs,
+        wants,
+        asked,
+    } = work;
+    let over = service.over;
+    let rest = Rest {
+        batch,
+        asks,
+        jobs,
+        wants,
+        asked,
+        over,
+    };
+    let (ending, turn) = settled(alloc, env, endpoint, service);
+    match turn {
+        Ok(turn) => return (ending, Ok(Done { turn, rest })),
+        Err(NoMemory) => return (ending, Err(NoMemory)),
+    }
+}
+
+/// The end of a turn, once the endpoint is back.
+pub fn close(
+    state: &mut NodeState,
+    alloc: Global,
+    at: &At,
+    was: Flags,
+    before: Sends,
+    rested: Rested,
+    done: Done,
+) -> Result<Out, NoMemory>
+    requires fit { AreMessages before }
+    requires asked { IsAsk done.rest.asked }
+    requires wants { AreWants done.rest.wants }
+    requires count { MayTell rested done.rest.over }
+    requires fits { IsTurn done.turn }
+    requires few { length state.old.disk + length done.rest.jobs < 2 ^ 32 }
+    ensures ok { IfOk result (λ out. (state.new, out) ≡ closes state.old at.now was before done.rest rested done.turn) }
+    ensures fits { IfOk result IsNodeOut }
+{
+    let Done { turn, rest } = done;
+    let told = leave(state, alloc, at, before, rest, rested, turn)?;
+    tell_turn(state, alloc, at, was, told)
+}
+
+/// The cache and the disk are told what a turn did, and it goes out.
+pub fn tell_turn(
+    state: &mut NodeState,
+    alloc: Global,
+    at: &At,
+    was: Flags,
+    turn: NodeTurn,
+) -> Result<Out, NoMemory>
+    requires few { length state.old.disk + length turn.jobs < 2 ^ 32 }
+    requires short { AreShort turn.segments }
+    requires packets { length turn.segments ≤ 2 ^ 31 }
+    requires counted { turn.answered ≤ MAX_STREAM_BYTES }
+    requires fit { AreMessages turn.messages }
+    ensures ok { IfOk result (λ out. (state.new, out) ≡ told_at state.old at.now was turn) }
+    ensures fits { IfOk result IsNodeOut }
+{
+    let is = running(state, at.c);
+    let timers = changes(alloc, at.n, at.c, was, is)?;
+    let NodeTurn {
+        notes,
+        segments,
+        gave,
+        messages,
+        jobs,
+        answered,
+    } = turn;
+    tell(state, &notes, jobs)?;
+    Ok(Out {
+        notes,
+        segments,
+        gave,
+        messages,
+        timers,
+        answered,
+    })
 }

@@ -9,6 +9,7 @@
 mod acting;
 mod hand;
 mod sends;
+mod stores;
 mod timers;
 
 pub use acting::Setting;

@@ -1,0 +1,121 @@
+-- What was done to a connection in hand is what its rule says, and leaves the state sound.
+use Rattle.std.proofs.Common.{◌≡◌, ℕ, ◌==◌, Bool, true, false, cond, List, [], Option, Some, None, Result, Ok, Err, IfOk, refl, sym, ap, subst, ◌∙◌, inl, inr}
+use Rattle.std.proofs.lemmas.Bool.{cases_eq}
+use Rattle.std.specs.FinMap.{FinMap, get}
+use Rattle.std.specs.FinMap as table
+use Rattle.lard_back.specs.declared.hand.At.{At}
+use Rattle.lard_back.specs.declared.timers.Flags.{Flags}
+use Rattle.lard_back.specs.Hand.{Held, lent, lent_if}
+use Rattle.lard_back.specs.Place.{IsActed, IsGone, acted, ends_with, env_of}
+use Rattle.lard_back.specs.Sound.{EndsSound, IsAtRest, IsNodeSound, IsStaying, NoneEmpty}
+use Rattle.lard_back.proofs.Putting.{closes-is}
+use Rattle.lard_base.specs.declared.place.Place.{Place}
+use Rattle.lard_endpoint.specs.Control.{ControlBlock}
+use Rattle.lard_handoff_back.specs.declared.row.BackConn.{BackConn}
+use Rattle.lard_handoff_back.specs.declared.row.BackRow.{BackRow}
+use Rattle.lard_handoff_back.specs.declared.row.BackConn.TheVariants as stage
+use Rattle.lard_handoff_back.specs.Back.{staying}
+use Rattle.lard_handoff_back.specs.Row.{held_in}
+use Rattle.lard_node_rules.specs.declared.node.NodeState.{NodeState}
+use Rattle.lard_node_rules.specs.declared.node.NodeTurn.{NodeTurn}
+use Rattle.lard_node_rules.specs.declared.stay.Stay.{Stay}
+use Rattle.lard_node_rules.specs.Node.{NodePart, both_of, here, kept_after, turn_by}
+use Rattle.lard_node_rules.specs.NodePlace.{NodeSetting, node_part, node_put, told}
+use Rattle.lard_node_rules.specs.Stay.{NodeEnv, Work}
+use Rattle.lard_resend.proofs.Lists.{found_other, some_put}
+use Rattle.lard_resend.specs.Pending.{put_list}
+use Rattle.lard_resend.specs.declared.kept.Kept.{Kept}
+use Rattle.lard_rules.specs.declared.front.Out.{Out}
+use Rattle.lard_rules.specs.declared.places.Ending.{Ending}
+use Rattle.lard_rules.specs.declared.places.Ending.TheVariants as ending
+use Rattle.lard_rules.specs.declared.places.Turn.{Turn}
+use Rattle.lard_rules.specs.Outs.{nothing_done}
+use Rattle.lard_rules.specs.Serving.{settled}
+use Rattle.lard_stay.specs.Work.{IsStaySound}
+use Rattle.lard_table.proofs.Map.{get_put_same, get_put_other}
+
+-- ---- a sound state
+
+empty-put : (m : Held) (c : ℕ) (ks : List Kept) → NoneEmpty m → NoneEmpty (put_list m c ks)
+empty-put m c ks all q h = elim (cases_eq q c) [
+  | inl e ↦ some_put m c ks (subst (λ n. get (put_list m c ks) n ≡ Some []) e h)
+  | inr n ↦ all q (sym (found_other m c q ks n) ∙ h)
+]
+
+pub put-sound : (s : NodeState) (c : ℕ) (q : NodePart) → IsAtRest q.row q.stay → IsNodeSound s → IsNodeSound (node_put s c q)
+put-sound s c q rest sound = record {
+  stays = λ p. elim (cases_eq p c) [
+    | inl e ↦ subst (λ n. IsAtRest (get (node_put s c q).conns n) (get (node_put s c q).stays n)) (sym e)
+        (subst (λ row. IsAtRest row (get (node_put s c q).stays c)) (sym (get_put_same s.conns c q.row)) (subst (IsAtRest q.row) (sym (get_put_same s.stays c q.stay)) rest))
+    | inr n ↦ subst (λ row. IsAtRest row (get (node_put s c q).stays p)) (sym (get_put_other s.conns c p q.row n)) (subst (IsAtRest (get s.conns p)) (sym (get_put_other s.stays c p q.stay n)) (sound.stays p))
+  ];
+  kept = empty-put s.kept c q.kept sound.kept;
+  fetches = empty-put s.fetches c q.fetches sound.fetches;
+}
+
+pub told-sound : (s : NodeState) (t : NodeTurn) → IsNodeSound s → IsNodeSound (told s t)
+told-sound s t sound = record { stays = sound.stays; kept = sound.kept; fetches = sound.fetches }
+
+ends-rest : (env : NodeEnv) (p : NodePart) (w : Work) (e : Ending) → EndsSound e w → IsAtRest (kept_after env p w e).row (kept_after env p w e).stay
+ends-rest env p w (ending.Here b count) s = s
+ends-rest env p w (ending.Over last) s = tt
+
+-- ---- what was in hand
+
+both-parts : (o : Option ControlBlock) (p : Option Stay) (x : ControlBlock × Stay) → both_of o p ≡ Some x → (o ≡ Some x.0) × (p ≡ Some x.1)
+both-parts None p x h = let none : None ≡ Some x = h in absurd cc
+both-parts (Some b) None x h = let none : None ≡ Some x = h in absurd cc
+both-parts (Some b) (Some s) x h = let same : (b, s) ≡ x = cc in (ap (λ (y : ControlBlock × Stay). Some y.0) same, ap (λ (y : ControlBlock × Stay). Some y.1) same)
+
+pub here-parts : (s : NodeState) (at : At) (x : ControlBlock × Stay) → here at.epoch.0 (node_part s at.c) ≡ Some x
+    → (staying at.epoch.0 (get s.conns at.c) ≡ Some x.0) × (get s.stays at.c ≡ Some x.1)
+here-parts s at x h = both-parts (staying at.epoch.0 (get s.conns at.c)) (get s.stays at.c) x h
+
+-- all of it is put back: this is what the rules say, and the state is sound
+pub gone-ends : (k : NodeSetting) (s : NodeState) (at : At) (was : Flags) (before : List (Place × List ℕ)) (b : ControlBlock) (w : Work) (given : Ending × Turn) (n : NodeState) (out : Out)
+    → staying at.epoch.0 (get s.conns at.c) ≡ Some b → IsNodeSound s → IsGone (lent s at.c) at was before w given n out
+    → ((n, out) ≡ ends_with k s at was before w given) × IsNodeSound n
+gone-ends k s at was before b w given n out staying sound gone =
+    let is : (n, out) ≡ ends_with k s at was before w given = gone.closes ∙ closes-is k s at was before b w given staying (sound.kept at.c) (sound.fetches at.c) in
+    let q : NodePart = kept_after (env_of k s at) (node_part s at.c) w given.0 in
+    let kept : IsNodeSound (told (node_put s at.c q) (turn_by (env_of k s at) before w given)) =
+      told-sound (node_put s at.c q) (turn_by (env_of k s at) before w given) (put-sound s at.c q (ends-rest (env_of k s at) (node_part s at.c) w given.0 gone.sound) sound) in
+    (is, subst IsNodeSound (ap (λ (x : NodeState × Out). x.0) (sym is)) kept)
+
+pub gone-acted : (k : NodeSetting) (s t : NodeState) (at : At) (was : Flags) (f : NodeEnv → ControlBlock × Stay → Work) (x : ControlBlock × Stay) (w : Work) (n : NodeState) (out : Out)
+    → here at.epoch.0 (node_part s at.c) ≡ Some x → t ≡ lent s at.c → w ≡ f (env_of k s at) x → IsNodeSound s
+    → IsGone t at was [] w (settled (env_of k s at).serve w.service) n out → IsActed k s at was f n out
+gone-acted k s t at was f x w n out found lends is sound gone =
+    let v : Work = f (env_of k s at) x in
+    let g : IsGone (lent s at.c) at was [] v (settled (env_of k s at).serve v.service) n out =
+      subst (λ (u : Work). IsGone (lent s at.c) at was [] u (settled (env_of k s at).serve u.service) n out) is
+      (subst (λ (u : NodeState). IsGone u at was [] w (settled (env_of k s at).serve w.service) n out) lends gone) in
+    let all = gone-ends k s at was [] x.0 v (settled (env_of k s at).serve v.service) n out (here-parts s at x found).0 sound g in
+    record { does = all.0 ∙ ap (acted k s at was f) (sym found); sound = all.1 }
+
+-- where it is not here, nothing is done
+pub none-acted : (k : NodeSetting) (s n : NodeState) (at : At) (was : Flags) (f : NodeEnv → ControlBlock × Stay → Work) (out : Out)
+    → here at.epoch.0 (node_part s at.c) ≡ None → n ≡ s → out ≡ nothing_done → IsNodeSound s → IsActed k s at was f n out
+none-acted k s n at was f out found same nothing sound = record {
+  does = (λ i. (same i, nothing i)) ∙ ap (acted k s at was f) (sym found);
+  sound = subst IsNodeSound (sym same) sound;
+}
+
+-- ---- a stay that is found is sound
+
+pub stay-sound : (s : NodeState) (at : At) (b : ControlBlock) (v : Stay) → here at.epoch.0 (node_part s at.c) ≡ Some (b, v) → IsNodeSound s → IsStaySound b v
+stay-sound s at b v found sound =
+    let parts = here-parts s at (b, v) found in
+    go (get s.conns at.c) parts.0 (subst (IsAtRest (get s.conns at.c)) parts.1 (sound.stays at.c)) where
+      in-stage : (stage : BackConn) → held_in stage ≡ Some b → IsStaying stage (Some v) → IsStaySound b v
+      in-stage (stage.Here d) e h = let same : d ≡ b = cc in subst (λ d. IsStaySound d v) same h
+      in-stage stage.Out e h = absurd h
+      in-stage stage.Ended e h = absurd h
+      in-stage stage.Gone e h = absurd h
+
+      go : (o : Option BackRow) → staying at.epoch.0 o ≡ Some b → IsAtRest o (Some v) → IsStaySound b v
+      go None e h = absurd h
+      go (Some row) e h = in-stage row.stage (held-row (row.epoch.0 == at.epoch.0) e) h where
+        held-row : (t : Bool) → cond t (held_in row.stage) None ≡ Some b → held_in row.stage ≡ Some b
+        held-row true e = e
+        held-row false e = let none : None ≡ Some b = e in absurd cc

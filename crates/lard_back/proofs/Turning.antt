@@ -1,0 +1,106 @@
+-- What a turn leaves is sound, and its end may be told.
+use Rattle.std.proofs.Common.{◌≡◌, ℕ, suc, ◌+◌, ◌≤◌, Bool, true, false, cond, List, [], ◌∷◌, length, Option, Some, None, Result, Ok, Err, IfOk, All, IfSome, refl, sym, ap, subst, ◌∙◌, arith}
+use Rattle.std.proofs.lemmas.Bool.{cond_both}
+use Rattle.std.specs.List.{AllByRecursion}
+use Rattle.lard_back.specs.declared.acting.Done.{Done}
+use Rattle.lard_back.specs.declared.hand.Rest.{Rest}
+use Rattle.lard_back.specs.Bounds.{AreWants, MayTell}
+use Rattle.lard_back.specs.Bounds as bounds
+use Rattle.lard_back.specs.Hand.{rest_of, rested_in}
+use Rattle.lard_back.specs.Place.{IsDone}
+use Rattle.lard_back.specs.Sound.{EndsSound, IsWorkSound, stay_in}
+use Rattle.lard_back.proofs.Keeping.{segment-gains, speaks-same}
+use Rattle.lard_base.specs.declared.place.Place.{Place}
+use Rattle.lard_base.specs.declared.place.Reason.{Reason}
+use Rattle.lard_base.specs.declared.place.Reason.TheVariants.{Closed, Peer, Limit}
+use Rattle.lard_endpoint.specs.Arriving.{on_segment}
+use Rattle.lard_endpoint.specs.Control.{ControlBlock}
+use Rattle.lard_endpoint.specs.Moving.{end_reason, final_of, may_end}
+use Rattle.lard_message.specs.Message.{IsCount}
+use Rattle.lard_node_rules.specs.declared.stay.Asked.{Asked}
+use Rattle.lard_node_rules.specs.declared.stay.Want.{Want}
+use Rattle.lard_node_rules.specs.Stay.{NodeEnv, Work}
+use Rattle.lard_recv.specs.Recv.{Received}
+use Rattle.lard_rules.specs.declared.places.Ending.{Ending}
+use Rattle.lard_rules.specs.declared.places.Ending.TheVariants.{Here, Over}
+use Rattle.lard_rules.specs.declared.places.Turn.{Turn}
+use Rattle.lard_rules.specs.Serving.{ServeEnv, Service, cut_off, rested, settled, spoken}
+use Rattle.lard_rules.specs.Speaking.{speaks}
+use Rattle.lard_rules.proofs.Totals.{segment-many}
+use Rattle.lard_segment.specs.Segment.{Said}
+use Rattle.lard_serving.specs.Bounds.{IsTurn}
+use Rattle.lard_stay.specs.declared.work.Work.{Work as InHand}
+use Rattle.lard_stay.specs.Work.{IsAsk, IsSound, IsStaySound, IsWant, work_seen}
+
+-- ---- the end of a turn
+
+-- the same bytes came, and as many are unread
+same-sound : (b d : ControlBlock) (w : Work) → d.recv ≡ b.recv → IsStaySound b (stay_in w) → IsStaySound d (record (stay_in w) { served = w.service.count })
+same-sound b d w e s = record {
+  within = subst (λ (r : Received). w.service.count + length w.batch + length r.unread ≤ r.got) (sym e) s.within;
+  few = s.few;
+  asks = s.asks;
+}
+
+rested-sound : (b d : ControlBlock) (w : Work) → d.recv ≡ b.recv → IsStaySound b (stay_in w) → EndsSound (rested d w.service.count) w
+rested-sound b d w e s = cond_both (may_end d) (Over (final_of d (end_reason d))) (Here d w.service.count) (λ end. EndsSound end w) (λ t. tt) (λ t. same-sound b d w e s)
+
+pub spoken-sound : (env : ServeEnv) (w : Work) (before : List (Place × List ℕ)) → IsWorkSound w → EndsSound (spoken env w.service before).0 w
+spoken-sound env w before s = rested-sound w.service.block (speaks env.c w.service.block).1 w (speaks-same env.c w.service.block) s
+
+pub settled-sound : (env : ServeEnv) (w : Work) → IsWorkSound w → EndsSound (settled env w.service).0 w
+settled-sound env w s = go w.service.over where
+  go : (o : Option ℕ) → EndsSound (elim o as (λ p. Ending × Turn) [ None ↦ spoken env w.service [] | Some total ↦ cut_off env w.service ]).0 w
+  go None = spoken-sound env w [] s
+  go (Some total) = tt
+
+no-count : (r : Reason) → IsCount r 0
+no-count Limit = tt
+no-count Closed = refl
+no-count Peer = refl
+
+rested-tells : (d : ControlBlock) (count : ℕ) → MayTell (rested_in (rested d count)) None
+rested-tells d count = cond_both (may_end d) (Over (final_of d (end_reason d))) (Here d count) (λ end. MayTell (rested_in end) None) (λ t. no-count (end_reason d)) (λ t. tt)
+
+pub spoken-tells : (env : ServeEnv) (s : Service) (before : List (Place × List ℕ)) → MayTell (rested_in (spoken env s before).0) None
+spoken-tells env s before = rested-tells (speaks env.c s.block).1 s.count
+
+pub settled-tells : (env : ServeEnv) (s : Service) → MayTell (rested_in (settled env s).0) s.over
+settled-tells env s = go s.over where
+  go : (o : Option ℕ) → MayTell (rested_in (elim o as (λ p. Ending × Turn) [ None ↦ spoken env s [] | Some total ↦ cut_off env s ]).0) o
+  go None = spoken-tells env s []
+  go (Some total) = tt
+
+-- ---- a turn that is done
+
+ask-fits : (o : Option Asked) → IfSome o IsAsk → bounds.IsAsk o
+ask-fits None h = tt
+ask-fits (Some a) h = (h.few, h.some, h.within, h.short)
+
+pub work-sound : (b : ControlBlock) (w : InHand) → IsSound b w → IsWorkSound (work_seen b w)
+work-sound b w s = record { within = s.within; few = s.few; asks = s.asks }
+
+wants-fit : (ws : List Want) → All IsWant ws → AreWants ws
+wants-fit [] h = tt
+wants-fit (w ∷ ws) h =
+    let first : IsWant w = h 0 w (omega arith) in
+    (first, wants-fit ws (λ k d lt. h (suc k) d (omega (arith, lt))))
+
+-- the endpoint said what it may
+pub settled-is : (env : ServeEnv) (b : ControlBlock) (w : InHand) (e : Ending) (turn : Turn) → IsSound b w → length w.jobs ≤ 9
+    → (e, turn) ≡ settled env (work_seen b w).service → IsTurn turn → IsDone (work_seen b w) (settled env (work_seen b w).service) e (record { turn = turn; rest = rest_of (work_seen b w) })
+settled-is env b w e turn s few is fits =
+    let ended : e ≡ (settled env (work_seen b w).service).0 = ap (λ (x : Ending × Turn). x.0) is in
+    record {
+      rest = refl;
+      turn = is;
+      fits = fits;
+      asked = ask-fits w.asked s.asked;
+      wants = wants-fit w.wants s.wants;
+      count = subst (λ (x : Ending). MayTell (rested_in x) w.service.over) (sym ended) (settled-tells env (work_seen b w).service);
+      jobs = few;
+      sound = subst (λ (x : Ending). EndsSound x (work_seen b w)) (sym ended) (settled-sound env (work_seen b w) (work-sound b w s));
+    }
+
+pub of_ok : {A E : Type 0} (P : A → Type 0) (r : Result A E) (a : A) → r ≡ Ok a → IfOk r P → P a
+of_ok P r a is h = subst (λ x. IfOk x P) is h
