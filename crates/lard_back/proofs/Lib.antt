@@ -1,4 +1,4 @@
-pub mod Acting
+pub mod Acted
 pub mod Keeping
 pub mod Messages
 pub mod Putting

@@ -1,9 +1,9 @@
 //! What is done to a connection that is here: it is taken out, its rule is followed with all of it in hand, and it is put back.
 
-ghost use Rattle.std.specs.Prelude.{◌≡◌, ◌+◌, ◌^◌, ◌<◌, ◌≤◌, [], length, true, ℕ, IfOk};
+ghost use Rattle.std.specs.Prelude.{◌≡◌, ◌+◌, ◌^◌, ◌<◌, ◌≤◌, [], length, true, IfOk};
 ghost use Rattle.std.specs.FinMap as table;
 ghost use Rattle.lard_back.specs.Bounds.{AreMessages, AreWants, IsAsk, IsNodeOut, MayTell};
-ghost use Rattle.lard_back.specs.Place.{IsActed, IsDone, IsGone, closes, env_at, env_of, setting_seen, told_at};
+ghost use Rattle.lard_back.specs.Place.{IsActed, IsDone, IsGone, closes, env_of, setting_seen, told_at};
 ghost use Rattle.lard_back.specs.Sound.{IsNodeSound};
 ghost use Rattle.lard_base.specs.declared.limits.TheConstants.{MAX_STREAM_BYTES};
 ghost use Rattle.lard_endpoint.specs.Arriving.{on_segment};
@@ -21,7 +21,6 @@ use crate::hand::{At, Rest, Rested, leave, put_back, take_out};
 use crate::stores::tell;
 use crate::timers::{Flags, changes, running};
 use lard_base::{NoMemory, NodeId, Place, Sends};
-use lard_cache::Cache;
 use lard_endpoint::Endpoint;
 use lard_files::Files;
 use lard_node_rules::{NodeState, NodeTurn};
@@ -92,7 +91,7 @@ pub fn assign(
         return Ok(nothing(alloc));
     };
     let work = Work::new(alloc, stay);
-    match start(alloc, setting, at, &state.cache, &endpoint, work, nodes) {
+    match start(alloc, setting, at, state, &endpoint, work, nodes) {
         Ok(work) => return go(state, alloc, setting, at, was, endpoint, work),
         Err(NoMemory) => {
             let _ = put_back(&mut state.conns, at.c, Ending::Here { endpoint, count: 0 });
@@ -106,14 +105,14 @@ fn start(
     alloc: Global,
     setting: &Setting<'_>,
     at: &At,
-    cache: &Cache,
+    state: &NodeState,
     endpoint: &Endpoint,
     mut work: Work,
     nodes: &[NodeId],
 ) -> Result<Work, NoMemory>
     requires sound { IsSound endpoint.now work }
     requires jobs { length work.jobs ≤ 0 }
-    ensures work { IfOk result (λ started. (queue : ℕ) → work_seen endpoint.now started ≡ tagged (env_at (setting_seen setting.now) cache.now queue at.now) nodes.now (work_seen endpoint.now work)) }
+    ensures work { IfOk result (λ started. work_seen endpoint.now started ≡ tagged (env_of (setting_seen setting.now) state.now at.now) nodes.now (work_seen endpoint.now work)) }
     ensures sound { IfOk result (IsSound endpoint.now) }
     ensures jobs { IfOk result (λ started. length started.jobs ≤ 8) }
 {
@@ -121,8 +120,8 @@ fn start(
         serve: serve(setting, at),
         node: at.n,
         epoch: at.epoch,
-        cache,
-        queue: 0,
+        cache: &state.cache,
+        queue: state.disk.len(),
     };
     tag(alloc, &env, endpoint, &mut work, nodes)?;
     Ok(work)
@@ -195,8 +194,7 @@ fn go(
     ensures gone { IfOk result (λ out. let env = env_of (setting_seen setting.now) state.old at.now in let w = goes_on env (work_seen endpoint work) in IsGone state.old at.now was [] w (settled env.serve w.service) state.new out) }
     ensures fits { IfOk result IsNodeOut }
 {
-    let queue = state.disk.len();
-    let (ending, done) = follow(alloc, setting, at, &state.cache, queue, endpoint, work);
+    let (ending, done) = follow(alloc, setting, at, state, endpoint, work);
     let rested = put_back(&mut state.conns, at.c, ending);
     close(state, alloc, at, was, Sends::new(alloc), rested, done?)
 }
@@ -218,23 +216,22 @@ fn follow(
     alloc: Global,
     setting: &Setting<'_>,
     at: &At,
-    cache: &Cache,
-    queue: u32,
+    state: &NodeState,
     mut endpoint: Endpoint,
     mut work: Work,
 ) -> (Ending, Result<Done, NoMemory>)
     requires sound { IsSound endpoint work }
     requires jobs { length work.jobs ≤ 8 }
     requires stream { setting.now.stream ≤ MAX_STREAM_BYTES }
-    requires queue { queue < 2 ^ 31 }
-    ensures done { IfOk result.1 (λ done. let env = env_at (setting_seen setting.now) cache.now queue at.now in let w = goes_on env (work_seen endpoint work) in IsDone w (settled env.serve w.service) result.0 done) }
+    requires few { length state.now.disk < 2 ^ 31 }
+    ensures done { IfOk result.1 (λ done. let env = env_of (setting_seen setting.now) state.now at.now in let w = goes_on env (work_seen endpoint work) in IsDone w (settled env.serve w.service) result.0 done) }
 {
     let env = Env {
         serve: serve(setting, at),
         node: at.n,
         epoch: at.epoch,
-        cache,
-        queue,
+        cache: &state.cache,
+        queue: state.disk.len(),
     };
     match go_on(alloc, &env, &mut endpoint, &mut work) {
         Ok(()) => return settle(alloc, &env.serve, endpoint, work),

@@ -1,5 +1,5 @@
 -- What was done to a connection in hand is what its rule says, and leaves the state sound.
-use Rattle.std.proofs.Common.{◌≡◌, ℕ, ◌==◌, Bool, true, false, cond, List, [], Option, Some, None, Result, Ok, Err, IfOk, refl, sym, ap, subst, ◌∙◌, inl, inr}
+use Rattle.std.proofs.Common.{◌≡◌, ℕ, ◌+◌, ◌-◌, ◌≤◌, ◌==◌, nat_lt, Bool, true, false, cond, List, [], length, Option, Some, None, Result, Ok, Err, IfOk, refl, sym, ap, subst, ◌∙◌, arith, inl, inr}
 use Rattle.std.proofs.lemmas.Bool.{cases_eq}
 use Rattle.std.specs.FinMap.{FinMap, get}
 use Rattle.std.specs.FinMap as table
@@ -8,8 +8,11 @@ use Rattle.lard_back.specs.declared.timers.Flags.{Flags}
 use Rattle.lard_back.specs.Hand.{Held, lent, lent_if}
 use Rattle.lard_back.specs.Place.{IsActed, IsGone, acted, ends_with, env_of}
 use Rattle.lard_back.specs.Sound.{EndsSound, IsAtRest, IsNodeSound, IsStaying, NoneEmpty}
+use Rattle.lard_back.proofs.Keeping.{Gains, segment-gains}
 use Rattle.lard_back.proofs.Putting.{closes-is}
+use Rattle.lard_base.specs.declared.errors.NoMemory.{NoMemory}
 use Rattle.lard_base.specs.declared.place.Place.{Place}
+use Rattle.lard_endpoint.specs.Arriving.{on_segment}
 use Rattle.lard_endpoint.specs.Control.{ControlBlock}
 use Rattle.lard_handoff_back.specs.declared.row.BackConn.{BackConn}
 use Rattle.lard_handoff_back.specs.declared.row.BackRow.{BackRow}
@@ -21,7 +24,8 @@ use Rattle.lard_node_rules.specs.declared.node.NodeTurn.{NodeTurn}
 use Rattle.lard_node_rules.specs.declared.stay.Stay.{Stay}
 use Rattle.lard_node_rules.specs.Node.{NodePart, both_of, here, kept_after, turn_by}
 use Rattle.lard_node_rules.specs.NodePlace.{NodeSetting, node_part, node_put, told}
-use Rattle.lard_node_rules.specs.Stay.{NodeEnv, Work}
+use Rattle.lard_node_rules.specs.declared.stay.Progress.{Progress}
+use Rattle.lard_node_rules.specs.Stay.{NodeEnv, Work, came_for, come_on}
 use Rattle.lard_resend.proofs.Lists.{found_other, some_put}
 use Rattle.lard_resend.specs.Pending.{put_list}
 use Rattle.lard_resend.specs.declared.kept.Kept.{Kept}
@@ -31,7 +35,10 @@ use Rattle.lard_rules.specs.declared.places.Ending.TheVariants as ending
 use Rattle.lard_rules.specs.declared.places.Turn.{Turn}
 use Rattle.lard_rules.specs.Outs.{nothing_done}
 use Rattle.lard_rules.specs.Serving.{settled}
-use Rattle.lard_stay.specs.Work.{IsStaySound}
+use Rattle.lard_rules.proofs.Totals.{segment-many}
+use Rattle.lard_segment.specs.Segment.{Said}
+use Rattle.lard_stay.specs.declared.work.Work.{Work as InHand}
+use Rattle.lard_stay.specs.Work.{IsSound, IsStaySound, work_seen}
 use Rattle.lard_table.proofs.Map.{get_put_same, get_put_other}
 
 -- ---- a sound state
@@ -119,3 +126,43 @@ stay-sound s at b v found sound =
         held-row : (t : Bool) → cond t (held_in row.stage) None ≡ Some b → held_in row.stage ≡ Some b
         held-row true e = e
         held-row false e = let none : None ≡ Some b = e in absurd cc
+
+-- ---- in the code
+
+pub acted-by : (k : NodeSetting) (s t : NodeState) (at : At) (was : Flags) (f : NodeEnv → ControlBlock × Stay → Work) (x : ControlBlock × Stay) (w : Work) (n : NodeState) (r : Result Out NoMemory)
+    → Some x ≡ here at.epoch.0 (node_part s at.c) → t ≡ lent s at.c → w ≡ f (env_of k t at) x → IsNodeSound s
+    → IfOk r (λ out. IsGone t at was [] w (settled (env_of k t at).serve w.service) n out) → IfOk r (λ out. IsActed k s at was f n out)
+acted-by k s t at was f x w n (Ok out) found lends is sound gone =
+    let g : IsGone t at was [] (f (env_of k t at) x) (settled (env_of k t at).serve (f (env_of k t at) x).service) n out =
+      subst (λ (u : Work). IsGone t at was [] u (settled (env_of k t at).serve u.service) n out) is gone in
+    let h : IsGone (lent s at.c) at was [] (f (env_of k s at) x) (settled (env_of k s at).serve (f (env_of k s at) x).service) n out =
+      subst (λ (u : NodeState). IsGone u at was [] (f (env_of k u at) x) (settled (env_of k u at).serve (f (env_of k u at) x).service) n out) lends g in
+    gone-acted k s (lent s at.c) at was f x (f (env_of k s at) x) n out (sym found) refl refl sound h
+acted-by k s t at was f x w n (Err e) found lends is sound gone = tt
+
+-- a segment was taken
+pub heard-sound : (b d : ControlBlock) (s : Said) (w : InHand) → d ≡ (on_segment b s).1 → IsSound b w → IsSound d w
+heard-sound b d s w e sound =
+    let gains : Gains b.recv d.recv = subst (λ (c : ControlBlock). Gains b.recv c.recv) (sym e) (segment-gains b s) in
+    let many : d.send.total ≡ b.send.total = ap (λ (c : ControlBlock). c.send.total) e ∙ segment-many b s in
+    record {
+      counted = record { responses = omega (arith, gains, sound.within); bytes = omega (arith, many, sound.counted.bytes) };
+      within = omega (arith, gains, sound.within);
+      few = sound.few;
+      asks = sound.asks;
+      asked = sound.asked;
+      wants = sound.wants;
+    }
+
+-- what came adds no job
+came-jobs : (f : Progress → Progress) (r : ℕ) (w : Work) → (came_for f r w).jobs ≡ w.jobs
+came-jobs f r w = go (nat_lt w.service.count r) where
+  go : (t : Bool) → (cond t (record w { batch = come_on f (r - (w.service.count + 1)) w.batch }) w).jobs ≡ w.jobs
+  go true = refl
+  go false = refl
+
+pub came-few : (f : Progress → Progress) (r : ℕ) (b : ControlBlock) (v w : InHand) → work_seen b w ≡ came_for f r (work_seen b v) → v.jobs ≡ [] → length w.jobs ≤ 8
+came-few f r b v w e none =
+    let no : w.jobs ≡ [] = ap (λ (u : Work). u.jobs) e ∙ came-jobs f r (work_seen b v) ∙ none in
+    let len : length w.jobs ≡ 0 = ap length no in
+    omega (arith, len)
