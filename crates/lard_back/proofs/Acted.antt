@@ -86,7 +86,7 @@ gone-ends k s at was before b w given n out staying sound gone =
     let is : (n, out) ≡ ends_with k s at was before w given = gone.closes ∙ closes-is k s at was before b w given staying (sound.kept at.c) (sound.fetches at.c) in
     let q : NodePart = kept_after (env_of k s at) (node_part s at.c) w given.0 in
     let kept : IsNodeSound (told (node_put s at.c q) (turn_by (env_of k s at) before w given)) =
-      told-sound (node_put s at.c q) (turn_by (env_of k s at) before w given) (put-sound s at.c q (ends-rest (env_of k s at) (node_part s at.c) w given.0 gone.sound) sound) in
+    told-sound (node_put s at.c q) (turn_by (env_of k s at) before w given) (put-sound s at.c q (ends-rest (env_of k s at) (node_part s at.c) w given.0 gone.sound) sound) in
     (is, subst IsNodeSound (ap (λ (x : NodeState × Out). x.0) (sym is)) kept)
 
 pub gone-acted : (k : NodeSetting) (s t : NodeState) (at : At) (was : Flags) (f : NodeEnv → ControlBlock × Stay → Work) (x : ControlBlock × Stay) (w : Work) (n : NodeState) (out : Out)
@@ -95,8 +95,8 @@ pub gone-acted : (k : NodeSetting) (s t : NodeState) (at : At) (was : Flags) (f 
 gone-acted k s t at was f x w n out found lends is sound gone =
     let v : Work = f (env_of k s at) x in
     let g : IsGone (lent s at.c) at was [] v (settled (env_of k s at).serve v.service) n out =
-      subst (λ (u : Work). IsGone (lent s at.c) at was [] u (settled (env_of k s at).serve u.service) n out) is
-      (subst (λ (u : NodeState). IsGone u at was [] w (settled (env_of k s at).serve w.service) n out) lends gone) in
+    subst (λ (u : Work). IsGone (lent s at.c) at was [] u (settled (env_of k s at).serve u.service) n out) is
+    (subst (λ (u : NodeState). IsGone u at was [] w (settled (env_of k s at).serve w.service) n out) lends gone) in
     let all = gone-ends k s at was [] x.0 v (settled (env_of k s at).serve v.service) n out (here-parts s at x found).0 sound g in
     record { does = all.0 ∙ ap (acted k s at was f) (sym found); sound = all.1 }
 
@@ -134,9 +134,9 @@ pub acted-by : (k : NodeSetting) (s t : NodeState) (at : At) (was : Flags) (f : 
     → IfOk r (λ out. IsGone t at was [] w (settled (env_of k t at).serve w.service) n out) → IfOk r (λ out. IsActed k s at was f n out)
 acted-by k s t at was f x w n (Ok out) found lends is sound gone =
     let g : IsGone t at was [] (f (env_of k t at) x) (settled (env_of k t at).serve (f (env_of k t at) x).service) n out =
-      subst (λ (u : Work). IsGone t at was [] u (settled (env_of k t at).serve u.service) n out) is gone in
+    subst (λ (u : Work). IsGone t at was [] u (settled (env_of k t at).serve u.service) n out) is gone in
     let h : IsGone (lent s at.c) at was [] (f (env_of k s at) x) (settled (env_of k s at).serve (f (env_of k s at) x).service) n out =
-      subst (λ (u : NodeState). IsGone u at was [] (f (env_of k u at) x) (settled (env_of k u at).serve (f (env_of k u at) x).service) n out) lends g in
+    subst (λ (u : NodeState). IsGone u at was [] (f (env_of k u at) x) (settled (env_of k u at).serve (f (env_of k u at) x).service) n out) lends g in
     gone-acted k s (lent s at.c) at was f x (f (env_of k s at) x) n out (sym found) refl refl sound h
 acted-by k s t at was f x w n (Err e) found lends is sound gone = tt
 

@@ -1,4 +1,5 @@
 pub mod Acted
+pub mod Deeds
 pub mod Keeping
 pub mod Messages
 pub mod Putting

@@ -65,9 +65,10 @@ closes s at was before rest r turn = told_at (left s at rest r) at was (turn_at 
 -- ---- the same, by the rules
 
 abbrev pub ends_with : NodeSetting → NodeState → At → Flags → List (Place × List ℕ) → Work → Ending × Turn → NodeState × Out
-ends_with k s at was before w given =
-    (told (node_put s at.c (kept_after (env_of k s at) (node_part s at.c) w given.0)) (turn_by (env_of k s at) before w given),
-     out_at at was (kept_after (env_of k s at) (node_part s at.c) w given.0) (turn_by (env_of k s at) before w given))
+ends_with k s at was before w given = (
+  told (node_put s at.c (kept_after (env_of k s at) (node_part s at.c) w given.0)) (turn_by (env_of k s at) before w given),
+  out_at at was (kept_after (env_of k s at) (node_part s at.c) w given.0) (turn_by (env_of k s at) before w given),
+)
 
 -- something is done to a connection, where it is here
 abbrev pub acted : NodeSetting → NodeState → At → Flags → (NodeEnv → ControlBlock × Stay → Work) → Option (ControlBlock × Stay) → NodeState × Out

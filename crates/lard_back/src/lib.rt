@@ -8,6 +8,7 @@
 
 mod acting;
 mod hand;
+mod rules;
 mod sends;
 mod stores;
 mod timers;

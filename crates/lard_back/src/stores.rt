@@ -27,11 +27,7 @@ use std::alloc::Global;
 // ---- a turn is told
 
 /// The cache is told the hits of a turn, and the disk is given its jobs.
-pub fn tell(
-    state: &mut NodeState,
-    notes: &Recs,
-    jobs: Items<Job>,
-) -> Result<(), NoMemory>
+pub fn tell(state: &mut NodeState, notes: &Recs, jobs: Items<Job>) -> Result<(), NoMemory>
     requires few { length state.old.disk + length jobs < 2 ^ 32 }
     ensures { OnOk result (state.new ≡ told_of state.old notes.now jobs) }
 {
@@ -110,7 +106,8 @@ fn answer(
     ensures fits { IfOk result IsNodeOut }
 {
     let mut out = lard_serving::nothing(alloc);
-    out.messages.push(content(alloc, setting, from, at, r, &path)?)?;
+    out.messages
+        .push(content(alloc, setting, from, at, r, &path)?)?;
     let _ = state.cache.hit(path.as_slice());
     out.notes.push(Rec::Hit { n: at.n, path })?;
     Ok(out)
@@ -132,7 +129,13 @@ fn read(
     let mut out = lard_serving::nothing(alloc);
     let copy = path.copy(alloc)?;
     let (n, m, c) = (at.n, from, at.c);
-    out.notes.push(Rec::Queued { n, m, c, r, path: copy })?;
+    out.notes.push(Rec::Queued {
+        n,
+        m,
+        c,
+        r,
+        path: copy,
+    })?;
     state.disk.queue(Job {
         origin: from,
         c,

@@ -59,13 +59,7 @@ fn holds_kind(kept: &[Kept], kind: TimerKind) -> bool
 }
 
 /// The records of the timers that changed, in the order of their kinds.
-pub fn changes(
-    alloc: Global,
-    n: NodeId,
-    c: ConnId,
-    was: Flags,
-    is: Flags,
-) -> Result<Recs, NoMemory>
+pub fn changes(alloc: Global, n: NodeId, c: ConnId, was: Flags, is: Flags) -> Result<Recs, NoMemory>
     ensures { IfOk result (λ recs. recs ≡ flag_changes n c was is) }
 {
     let mut recs = Recs::new(alloc);

@@ -18,5 +18,5 @@ returns-in-Ok-clause-acted c =
     acted-by k c.args.state.now t c.args.at.now c.args.was (λ env x. goes_on env (tagged env c.args.nodes.now (work_of x.0 x.1))) (c.in-Some.endpoint, c.in-Some.stay)
     (goes_on env (work_seen c.in-Some.endpoint c.in-Ok.work)) c.go.new.state c.go.result c.in-Some.ensures.found c.in-Some.ensures.after
     (ap (goes_on env) (of_ok (λ (u : InHand). work_seen c.in-Some.endpoint u ≡ tagged env c.args.nodes.now (work_seen c.in-Some.endpoint c.new-work.result)) _ c.in-Ok.work c.in-Ok.is c.start.ensures.work
-      ∙ ap (tagged env c.args.nodes.now) (c.new-work.ensures.seen c.in-Some.endpoint)))
+    ∙ ap (tagged env c.args.nodes.now) (c.new-work.ensures.seen c.in-Some.endpoint)))
     c.requires.sound c.go.ensures.gone

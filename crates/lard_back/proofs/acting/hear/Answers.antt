@@ -13,7 +13,7 @@ use Rattle.lard_back.proofs.acting.hear.Goals as goal
 
 pub go-requires-clause-sound : goal.go-requires-clause-sound
 go-requires-clause-sound c =
-    heard-sound c.in-Some.endpoint c.arrive-arrival.new.endpoint (said c.args.segment.now) c.new-work.result (ap (λ (x : Arrival × ControlBlock). x.1) c.arrive-arrival.ensures)
+    heard-sound c.in-Some.endpoint c.arrive-arrival.new.self (said c.args.segment.now) c.new-work.result (ap (λ (x : Arrival × ControlBlock). x.1) c.arrive-arrival.ensures)
     (c.new-work.ensures.sound c.in-Some.endpoint (stay-sound c.args.state.now c.args.at.now c.in-Some.endpoint c.in-Some.stay (sym c.in-Some.ensures.found) c.requires.sound))
 
 pub returns-clause-acted : goal.returns-clause-acted
@@ -21,6 +21,6 @@ returns-clause-acted c =
     let k = setting_seen c.args.setting.now in
     let t = c.take_out.new.state in
     acted-by k c.args.state.now t c.args.at.now c.args.was (λ env x. goes_on env (work_of (on_segment x.0 (said c.args.segment.now)).1 x.1)) (c.in-Some.endpoint, c.in-Some.stay)
-    (goes_on (env_of k t c.args.at.now) (work_seen c.arrive-arrival.new.endpoint c.new-work.result)) c.go.new.state c.go.result c.in-Some.ensures.found c.in-Some.ensures.after
-    (ap (goes_on (env_of k t c.args.at.now)) (c.new-work.ensures.seen c.arrive-arrival.new.endpoint ∙ ap (λ (x : Arrival × ControlBlock). work_of x.1 c.in-Some.stay) c.arrive-arrival.ensures))
+    (goes_on (env_of k t c.args.at.now) (work_seen c.arrive-arrival.new.self c.new-work.result)) c.go.new.state c.go.result c.in-Some.ensures.found c.in-Some.ensures.after
+    (ap (goes_on (env_of k t c.args.at.now)) (c.new-work.ensures.seen c.arrive-arrival.new.self ∙ ap (λ (x : Arrival × ControlBlock). work_of x.1 c.in-Some.stay) c.arrive-arrival.ensures))
     c.requires.sound c.go.ensures.gone
