@@ -130,11 +130,10 @@ fn serve_by_nodes(
     if !stands(&work, &[Progress::Named, Progress::Ready(Via::Own)]) || !asks(&work, 1, 5, 3) {
         return Ok(Some("a first batch, and the Ask for it"));
     }
-    if served(&work, 1) != Some((1, 200, 43, Via::Cache)) {
-        return Ok(Some("the first response"));
-    }
-    if count_named(env.serve.files, work.batch.as_slice()) != 1 {
-        return Ok(Some("one path to be assigned"));
+    if served(&work, 1) != Some((1, 200, 43, Via::Cache))
+        || count_named(env.serve.files, work.batch.as_slice()) != 1
+    {
+        return Ok(Some("the first response, and one path to be assigned"));
     }
     tag(alloc, env, endpoint, &mut work, &[two])?;
     come(alloc, &mut work, three, 2);
@@ -149,11 +148,9 @@ fn serve_by_nodes(
     go_on(alloc, env, endpoint, &mut work)?;
     if served(&work, 2) != Some((2, 200, 40, Via::Node(two)))
         || served(&work, 3) != Some((3, 404, 45, Via::Own))
+        || !stands(&work, &[])
     {
         return Ok(Some("the other responses"));
-    }
-    if !stands(&work, &[]) || work.service.answered != 128 {
-        return Ok(Some("nothing to be served"));
     }
     Ok(None)
 }
