@@ -64,6 +64,8 @@ fn node_at(nodes: &[NodeId], at: usize) -> Option<NodeId>
 pub fn come(alloc: Global, work: &mut Work, from: NodeId, r: u32)
     ensures came { (b : ControlBlock) → work_seen b work.new ≡ came_for (come_progress from) r (work_seen b work.old) }
     ensures sound { (b : ControlBlock) → IsSound b work.old → IsSound b work.new }
+    ensures jobs { work.new.jobs ≡ work.old.jobs }
+    ensures wants { work.new.wants ≡ work.old.wants }
 {
     come_on(alloc, work, Coming::Content(from), r);
 }
@@ -73,6 +75,8 @@ pub fn come(alloc: Global, work: &mut Work, from: NodeId, r: u32)
 pub fn complete(alloc: Global, work: &mut Work, r: u32)
     ensures came { (b : ControlBlock) → work_seen b work.new ≡ came_for read_progress r (work_seen b work.old) }
     ensures sound { (b : ControlBlock) → IsSound b work.old → IsSound b work.new }
+    ensures jobs { work.new.jobs ≡ work.old.jobs }
+    ensures wants { work.new.wants ≡ work.old.wants }
 {
     come_on(alloc, work, Coming::Job, r);
 }
@@ -121,6 +125,8 @@ fn come_progress(from: NodeId, progress: Progress) -> Progress
 fn come_on(alloc: Global, work: &mut Work, coming: Coming, r: u32)
     ensures came { (b : ControlBlock) → work_seen b work.new ≡ came_for (progress_by coming) r (work_seen b work.old) }
     ensures sound { (b : ControlBlock) → IsSound b work.old → IsSound b work.new }
+    ensures jobs { work.new.jobs ≡ work.old.jobs }
+    ensures wants { work.new.wants ≡ work.old.wants }
 {
     if r <= work.service.count {
         return;
