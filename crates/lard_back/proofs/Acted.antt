@@ -43,7 +43,7 @@ use Rattle.lard_table.proofs.Map.{get_put_same, get_put_other}
 
 -- ---- a sound state
 
-empty-put : (m : Held) (c : ℕ) (ks : List Kept) → NoneEmpty m → NoneEmpty (put_list m c ks)
+pub empty-put : (m : Held) (c : ℕ) (ks : List Kept) → NoneEmpty m → NoneEmpty (put_list m c ks)
 empty-put m c ks all q h = elim (cases_eq q c) [
   | inl e ↦ some_put m c ks (subst (λ n. get (put_list m c ks) n ≡ Some []) e h)
   | inr n ↦ all q (sym (found_other m c q ks n) ∙ h)

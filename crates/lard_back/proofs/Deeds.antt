@@ -1,8 +1,13 @@
 -- What was done to a connection is the deed of its rule.
-use Rattle.std.proofs.Common.{◌≡◌, ℕ, Bool, true, false, cond, List, [], ◌∷◌, ◌++◌, append_assoc, append-nil, Option, Some, None, Result, Ok, Err, IfOk, refl, sym, ap, ◌∙◌}
+use Rattle.std.proofs.Common.{◌≡◌, ℕ, Bool, true, false, cond, List, [], ◌∷◌, ◌++◌, append_assoc, append-nil, Option, Some, None, Result, Ok, Err, IfOk, refl, sym, ap, subst, ◌∙◌}
+use Rattle.std.proofs.lemmas.Bool.{cond-true, cond-false}
 use Rattle.lard_back.specs.declared.hand.At.{At}
 use Rattle.lard_back.specs.declared.timers.Flags.{Flags}
-use Rattle.lard_back.specs.Place.{IsActed, acted, ends_with, env_of}
+use Rattle.lard_back.specs.Place.{IsActed, acted, ends_with, env_of, out_at}
+use Rattle.lard_back.specs.Awaiting.{awaits}
+use Rattle.lard_back.specs.Hand.{Held}
+use Rattle.lard_back.specs.Sound.{IsNodeSound, NoneEmpty}
+use Rattle.lard_back.proofs.Acted.{empty-put}
 use Rattle.lard_back.specs.Timers.{flag_changes, flags_of}
 use Rattle.lard_base.specs.declared.errors.NoMemory.{NoMemory}
 use Rattle.lard_base.specs.declared.place.Place.{Place}
@@ -14,12 +19,20 @@ use Rattle.lard_endpoint.specs.Control.{ControlBlock}
 use Rattle.lard_journal.specs.declared.rec.Rec.{Rec}
 use Rattle.lard_node_rules.specs.declared.node.NodeState.{NodeState}
 use Rattle.lard_node_rules.specs.declared.stay.Stay.{Stay}
-use Rattle.lard_node_rules.specs.Node.{NodePart, heard_by, here, node_armed, node_forwarded, rests, work_of}
+use Rattle.lard_node_rules.specs.declared.node.NodeTurn.{NodeTurn}
+use Rattle.lard_node_rules.specs.Node.{Deed, Does, Drops, NodePart, heard_by, here, is_awaited, kept_after, node_armed, node_forwarded, node_tagged, rests, tagged_by, turn_by, with_work, work_of}
 use Rattle.lard_node_rules.specs.NodePlace.{NodeSetting, node_deed, node_did, node_env, node_out, node_part, node_put, timers_of, told}
-use Rattle.lard_node_rules.specs.Stay.{NodeEnv, Work, goes_on}
+use Rattle.lard_node_rules.specs.Stay.{NodeEnv, Work, goes_on, tagged}
+use Rattle.lard_resend.specs.declared.kept.Kept.{Kept}
+use Rattle.lard_resend.specs.Kept.{without}
+use Rattle.lard_resend.specs.Pending.{held, put_list, settled}
+use Rattle.lard_resend.proofs.Lists.{list_got, list_twice}
+use Rattle.lard_resend.proofs.Renewed.{held_settled, settled_is}
 use Rattle.lard_rules.specs.declared.front.Out.{Out}
+use Rattle.lard_rules.specs.declared.places.Ending.{Ending}
+use Rattle.lard_table.specs.Table.{put_or}
 use Rattle.lard_rules.specs.Outs.{kind_change, nothing_done}
-use Rattle.lard_rules.specs.Serving.{settled}
+use Rattle.lard_rules.specs.Serving as serving
 use Rattle.lard_segment.specs.declared.fault.SegFault.{SegFault}
 use Rattle.lard_segment.specs.Segment.{Said}
 
@@ -38,7 +51,7 @@ here_at k at = record { n = k.n; c = at.c; epoch = at.epoch }
 
 -- all that was in hand is put back
 pub did-is : (k : NodeSetting) (s : NodeState) (at : At) (before : List (Place × List ℕ)) (w : Work)
-    → ends_with k s (here_at k at) (flags_of (node_part s at.c)) before w (settled (env_of k s (here_at k at)).serve w.service)
+    → ends_with k s (here_at k at) (flags_of (node_part s at.c)) before w (serving.settled (env_of k s (here_at k at)).serve w.service)
     ≡ node_did k s at.c (rests (node_env k s at.c at.epoch.0) (node_part s at.c) before w)
 did-is k s at before w =
     let given = rests (node_env k s at.c at.epoch.0) (node_part s at.c) before w in
@@ -70,3 +83,76 @@ forward-by k s n at was m d (Ok out) done flags node is =
     ∙ forwarded k s at m node
     ∙ ap (λ (e : Result Said SegFault). node_deed k s at.c (node_forwarded (node_env k s at.c at.epoch.0) (node_part s at.c) e)) (sym is)
 forward-by k s n at was m d (Err e) done flags node is = tt
+
+-- ---- a message that awaited its answer is dropped before the rule
+
+-- what else is put back is the same
+put-over : (s t : NodeState) (c : ℕ) (ks fs : List Kept) (q : NodePart) → t.conns ≡ s.conns → t.stays ≡ s.stays → t.cache ≡ s.cache → t.disk ≡ s.disk
+    → t.kept ≡ put_list s.kept c ks → t.fetches ≡ put_list s.fetches c fs → node_put t c q ≡ node_put s c q
+put-over s t c ks fs q conns stays cache disk kept fetches = λ i. record {
+  conns = put_or (conns i) c q.row;
+  stays = put_or (stays i) c q.stay;
+  kept = (ap (λ (m : Held). put_list m c q.kept) kept ∙ list_twice s.kept c ks q.kept) i;
+  fetches = (ap (λ (m : Held). put_list m c q.fetches) fetches ∙ list_twice s.fetches c fs q.fetches) i;
+  cache = cache i;
+  disk = disk i;
+}
+
+-- the Ask of a connection is dropped
+abbrev unasked : NodeState → ℕ → NodeState
+unasked s c = record s { kept = settled s.kept c Ask 0 }
+
+pub unasked-sound : (s : NodeState) (c : ℕ) → IsNodeSound s → IsNodeSound (unasked s c)
+unasked-sound s c sound = record {
+  stays = sound.stays;
+  kept = subst NoneEmpty (sym (settled_is s.kept c Ask 0 (sound.kept c))) (empty-put s.kept c (without Ask 0 (held s.kept c)) sound.kept);
+  fetches = sound.fetches;
+}
+
+abbrev unasked-part : NodePart → NodePart
+unasked-part p = record p { kept = without Ask 0 p.kept }
+
+-- the turn of a connection whose Ask was dropped
+pub unasked-did : (k : NodeSetting) (s : NodeState) (at : At) (before : List (Place × List ℕ)) (w : Work) → IsNodeSound s
+    → ends_with k (unasked s at.c) (here_at k at) (flags_of (node_part s at.c)) before w (serving.settled (env_of k s (here_at k at)).serve w.service)
+    ≡ node_did k s at.c (rests (node_env k s at.c at.epoch.0) (unasked-part (node_part s at.c)) before w)
+unasked-did k s at before w sound =
+    let c = at.c in
+    let env : NodeEnv = node_env k s c at.epoch.0 in
+    let e : Ending = (serving.settled env.serve w.service).0 in
+    let turn : NodeTurn = turn_by env before w (serving.settled env.serve w.service) in
+    let p : NodePart = node_part (unasked s c) c in
+    let q : NodePart = kept_after env (unasked-part (node_part s c)) w e in
+    let same : p ≡ unasked-part (node_part s c) = λ i. record (node_part s c) { kept = held_settled s.kept c Ask 0 i } in
+    let over : node_put (unasked s c) c q ≡ node_put s c q =
+    put-over s (unasked s c) c (without Ask 0 (held s.kept c)) (held s.fetches c) q refl refl refl refl (settled_is s.kept c Ask 0 (sound.kept c)) (sym (list_got s.fetches c (sound.fetches c))) in
+    (λ i. (told (node_put (unasked s c) c (kept_after env (same i) w e)) turn, out_at (here_at k at) (flags_of (node_part s c)) (kept_after env (same i) w e) turn))
+    ∙ (λ i. (told (over i) turn, record (node_out k.n c (node_part s c) q turn) { timers = changes-are k.n c (node_part s c) q i }))
+
+tagged-here : (k : NodeSetting) (s : NodeState) (at : At) (number : ℕ) (nodes : List ℕ) (o : Option (ControlBlock × Stay)) → IsNodeSound s → awaits k s at number nodes o ≡ true
+    → acted k (unasked s at.c) (here_at k at) (flags_of (node_part s at.c)) (λ env x. goes_on env (tagged env nodes (work_of x.0 x.1))) o
+    ≡ node_deed k s at.c (tagged_by (node_env k s at.c at.epoch.0) number nodes (node_part s at.c) o)
+tagged-here k s at number nodes None sound h = absurd cc
+tagged-here k s at number nodes (Some x) sound h =
+    let env : NodeEnv = node_env k s at.c at.epoch.0 in
+    let w : Work = goes_on env (tagged env nodes (work_of x.0 x.1)) in
+    unasked-did k s at [] w sound
+    ∙ ap (node_deed k s at.c) (sym (cond-true (is_awaited env number nodes (node_part s at.c) x.1) (Does (rests env (unasked-part (node_part s at.c)) [] w)) Drops h))
+
+pub tag-by : (k : NodeSetting) (s t n : NodeState) (at : At) (was : Flags) (number : ℕ) (nodes : List ℕ) (r : Result Out NoMemory)
+    → IfOk r (λ out. IsActed k t at was (λ env x. goes_on env (tagged env nodes (work_of x.0 x.1))) n out) → t ≡ unasked s at.c → was ≡ flags_of (node_part s at.c) → at.n ≡ k.n → IsNodeSound s
+    → awaits k s at number nodes (here at.epoch.0 (node_part s at.c)) ≡ true
+    → IfOk r (λ out. (n, out) ≡ node_deed k s at.c (node_tagged (node_env k s at.c at.epoch.0) (node_part s at.c) number nodes))
+tag-by k s t n at was number nodes (Ok out) done dropped flags node sound h =
+    let f : NodeEnv → ControlBlock × Stay → Work = λ env x. goes_on env (tagged env nodes (work_of x.0 x.1)) in
+    done.does
+    ∙ (λ i. acted k (dropped i) (at-node k at node i) (flags i) f (here at.epoch.0 (node_part (dropped i) at.c)))
+    ∙ tagged-here k s at number nodes (here at.epoch.0 (node_part s at.c)) sound h
+tag-by k s t n at was number nodes (Err e) done dropped flags node sound h = tt
+
+pub tag-not : (k : NodeSetting) (s : NodeState) (at : At) (number : ℕ) (nodes : List ℕ) (o : Option (ControlBlock × Stay)) → awaits k s at number nodes o ≡ false
+    → (s, nothing_done) ≡ node_deed k s at.c (tagged_by (node_env k s at.c at.epoch.0) number nodes (node_part s at.c) o)
+tag-not k s at number nodes None h = refl
+tag-not k s at number nodes (Some x) h =
+    let env : NodeEnv = node_env k s at.c at.epoch.0 in
+    ap (node_deed k s at.c) (sym (cond-false (is_awaited env number nodes (node_part s at.c) x.1) (with_work env (unasked-part (node_part s at.c)) [] (goes_on env (tagged env nodes (work_of x.0 x.1)))) Drops h))

@@ -1,3 +1,4 @@
+pub mod Awaiting
 pub mod Bounds
 pub mod Hand
 pub mod Place

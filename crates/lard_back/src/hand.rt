@@ -70,7 +70,7 @@ pub fn take_out(state: &mut NodeState, c: ConnId, epoch: Epoch) -> Option<(Endpo
 }
 
 /// Whether a connection is here in this epoch.
-fn is_here(state: &NodeState, c: ConnId, epoch: Epoch) -> bool
+pub fn is_here(state: &NodeState, c: ConnId, epoch: Epoch) -> bool
     ensures { result ≡ is_some (here epoch.0 (node_part state.now c)) }
 {
     let Some(row) = state.conns.row(c) else {

@@ -3,20 +3,23 @@
 ghost use Rattle.std.specs.Prelude.{◌≡◌, ◌^◌, ◌<◌, ◌≤◌, length, IfOk, OnOk};
 ghost use Rattle.lard_back.specs.Bounds.{IsNodeOut};
 ghost use Rattle.lard_back.specs.Place.{setting_seen};
+ghost use Rattle.lard_back.specs.Awaiting.{awaits};
 ghost use Rattle.lard_back.specs.Sound.{IsNodeSound};
 ghost use Rattle.lard_base.specs.declared.limits.TheConstants.{MAX_SEGMENT_BYTES, MAX_STREAM_BYTES};
-ghost use Rattle.lard_node_rules.specs.Node.{node_forwarded};
+ghost use Rattle.lard_node_rules.specs.Node.{here, node_forwarded, node_tagged};
 ghost use Rattle.lard_node_rules.specs.NodePlace.{node_deed, node_env, node_part};
 ghost use Rattle.lard_segment.specs.Segment.{decoded};
 
-use crate::acting::{Setting, hear};
-use crate::hand::At;
+use crate::acting::{Setting, assign, hear};
+use crate::hand::{At, is_here};
 use crate::timers::running;
-use lard_base::NoMemory;
+use lard_base::{ConnId, NoMemory, NodeId, TimerKind};
 use lard_node_rules::NodeState;
+use lard_resend::PendingKey;
 use lard_rules::Out;
 use lard_segment::{Dir, decode};
 use lard_serving::nothing;
+use lard_stay::count_named;
 use std::alloc::Global;
 
 /// A segment that the front end forwarded comes, of at most 1,520 bytes. What does not decode is dropped.
@@ -41,4 +44,53 @@ pub fn forward(
         Ok(segment) => return hear(state, alloc, setting, at, was, &segment),
         Err(_) => return Ok(nothing(alloc)),
     }
+}
+
+/// A Tag comes. It counts where an Ask is awaited, has that number, and has a node for each of its paths.
+pub fn tagged(
+    state: &mut NodeState,
+    alloc: Global,
+    setting: &Setting<'_>,
+    at: &At,
+    number: u32,
+    nodes: &[NodeId],
+) -> Result<Out, NoMemory>
+    requires node { at.now.n ≡ setting.now.n }
+    requires sound { IsNodeSound state.old }
+    requires stream { setting.now.stream ≤ MAX_STREAM_BYTES }
+    requires few { length state.old.disk < 2 ^ 31 }
+    ensures ok { IfOk result (λ out. let k = setting_seen setting.now in (state.new, out) ≡ node_deed k state.old at.now.c (node_tagged (node_env k state.old at.now.c at.now.epoch.0) (node_part state.old at.now.c) number nodes.now)) }
+    ensures sound { OnOk result (IsNodeSound state.new) }
+    ensures fits { IfOk result IsNodeOut }
+{
+    let was = running(state, at.c);
+    if !awaits(state, setting, at, number, nodes) {
+        return Ok(nothing(alloc));
+    }
+    let _ = state.kept.settle(ask_of(at.c));
+    assign(state, alloc, setting, at, was, nodes)
+}
+
+/// The key of a connection's Ask.
+fn ask_of(c: ConnId) -> PendingKey
+    ensures { result ≡ record { c = c; kind = TimerKind.Ask; r = 0 } }
+{
+    let kind = TimerKind::Ask;
+    PendingKey { c, kind, r: 0 }
+}
+
+/// Whether a Tag with this number and these nodes is awaited.
+fn awaits(state: &NodeState, setting: &Setting<'_>, at: &At, number: u32, nodes: &[NodeId]) -> bool
+    requires node { at.now.n ≡ setting.now.n }
+    ensures { result ≡ awaits (setting_seen setting.now) state.now at.now number nodes.now (here at.now.epoch.0 (node_part state.now at.now.c)) }
+{
+    if !is_here(state, at.c, at.epoch) {
+        return false;
+    }
+    let Some(stay) = state.stays.get(at.c.number()) else {
+        return false;
+    };
+    state.kept.holds(&ask_of(at.c))
+        && stay.asks == number
+        && nodes.len() == count_named(setting.files, stay.batch.as_slice())
 }

@@ -1,0 +1,13 @@
+-- Which messages of other places are awaited.
+use Rattle.std.specs.Prelude.{ℕ, Bool, false, List, Option, Some, None}
+use Rattle.lard_back.specs.declared.hand.At.{At}
+use Rattle.lard_endpoint.specs.Control.{ControlBlock}
+use Rattle.lard_node_rules.specs.declared.node.NodeState.{NodeState}
+use Rattle.lard_node_rules.specs.declared.stay.Stay.{Stay}
+use Rattle.lard_node_rules.specs.Node.{is_awaited}
+use Rattle.lard_node_rules.specs.NodePlace.{NodeSetting, node_env, node_part}
+
+-- whether a Tag counts
+abbrev pub awaits : NodeSetting → NodeState → At → ℕ → List ℕ → Option (ControlBlock × Stay) → Bool
+awaits k s at number nodes None = false
+awaits k s at number nodes (Some x) = is_awaited (node_env k s at.c at.epoch.0) number nodes (node_part s at.c) x.1
