@@ -1,6 +1,6 @@
 -- What was done to a connection is the deed of its rule.
-use Rattle.std.proofs.Common.{◌≡◌, ℕ, Bool, true, false, cond, List, [], ◌∷◌, ◌++◌, append_assoc, append-nil, Option, Some, None, Result, Ok, Err, IfOk, refl, sym, ap, subst, ◌∙◌}
-use Rattle.std.proofs.lemmas.Bool.{cond-true, cond-false}
+use Rattle.std.proofs.Common.{◌≡◌, ℕ, Bool, true, false, cond, List, [], ◌∷◌, ◌++◌, append_assoc, append-nil, Option, Some, None, is_some, Result, Ok, Err, IfOk, refl, sym, ap, subst, ◌∙◌}
+use Rattle.std.proofs.lemmas.Bool.{cond-true}
 use Rattle.lard_back.specs.declared.hand.At.{At}
 use Rattle.lard_back.specs.declared.timers.Flags.{Flags}
 use Rattle.lard_back.specs.Place.{IsActed, acted, ends_with, env_of, out_at}
@@ -17,12 +17,14 @@ use Rattle.lard_base.specs.declared.place.TimerKind.TheVariants.{Tcp, Ask, Fetch
 use Rattle.lard_endpoint.specs.Arriving.{on_segment}
 use Rattle.lard_endpoint.specs.Control.{ControlBlock}
 use Rattle.lard_journal.specs.declared.rec.Rec.{Rec}
+use Rattle.lard_lateral.specs.Lateral.{after_content}
+use Rattle.lard_lateral.specs.Lateral as lateral
 use Rattle.lard_node_rules.specs.declared.node.NodeState.{NodeState}
 use Rattle.lard_node_rules.specs.declared.stay.Stay.{Stay}
 use Rattle.lard_node_rules.specs.declared.node.NodeTurn.{NodeTurn}
-use Rattle.lard_node_rules.specs.Node.{Deed, Does, Drops, NodePart, heard_by, here, is_awaited, kept_after, node_armed, node_forwarded, node_tagged, rests, tagged_by, turn_by, with_work, work_of}
+use Rattle.lard_node_rules.specs.Node.{Deed, Does, Drops, NodePart, come_by, heard_by, here, is_awaited, kept_after, node_armed, node_content, node_forwarded, node_tagged, rests, tagged_by, turn_by, with_work, work_of}
 use Rattle.lard_node_rules.specs.NodePlace.{NodeSetting, node_deed, node_did, node_env, node_out, node_part, node_put, timers_of, told}
-use Rattle.lard_node_rules.specs.Stay.{NodeEnv, Work, goes_on, tagged}
+use Rattle.lard_node_rules.specs.Stay.{NodeEnv, Work, came_for, come_progress, goes_on, tagged}
 use Rattle.lard_resend.specs.declared.kept.Kept.{Kept}
 use Rattle.lard_resend.specs.Kept.{without}
 use Rattle.lard_resend.specs.Pending.{held, put_list, settled}
@@ -150,9 +152,61 @@ tag-by k s t n at was number nodes (Ok out) done dropped flags node sound h =
     ∙ tagged-here k s at number nodes (here at.epoch.0 (node_part s at.c)) sound h
 tag-by k s t n at was number nodes (Err e) done dropped flags node sound h = tt
 
-pub tag-not : (k : NodeSetting) (s : NodeState) (at : At) (number : ℕ) (nodes : List ℕ) (o : Option (ControlBlock × Stay)) → awaits k s at number nodes o ≡ false
-    → (s, nothing_done) ≡ node_deed k s at.c (tagged_by (node_env k s at.c at.epoch.0) number nodes (node_part s at.c) o)
-tag-not k s at number nodes None h = refl
-tag-not k s at number nodes (Some x) h =
+-- ---- a content comes
+
+-- a Fetch of a connection is dropped
+abbrev unfetched : NodeState → ℕ → ℕ → NodeState
+unfetched s c r = record s { fetches = settled s.fetches c Fetch r }
+
+pub unfetched-sound : (s : NodeState) (c r : ℕ) → IsNodeSound s → IsNodeSound (unfetched s c r)
+unfetched-sound s c r sound = record {
+  stays = sound.stays;
+  kept = sound.kept;
+  fetches = subst NoneEmpty (sym (settled_is s.fetches c Fetch r (sound.fetches c))) (empty-put s.fetches c (without Fetch r (held s.fetches c)) sound.fetches);
+}
+
+abbrev unfetched-part : ℕ → NodePart → NodePart
+unfetched-part r p = record p { fetches = without Fetch r p.fetches }
+
+-- the turn of a connection a Fetch of which was dropped
+unfetched-did : (k : NodeSetting) (s : NodeState) (at : At) (r : ℕ) (before : List (Place × List ℕ)) (w : Work) → IsNodeSound s
+    → ends_with k (unfetched s at.c r) (here_at k at) (flags_of (node_part s at.c)) before w (serving.settled (env_of k s (here_at k at)).serve w.service)
+    ≡ node_did k s at.c (rests (node_env k s at.c at.epoch.0) (unfetched-part r (node_part s at.c)) before w)
+unfetched-did k s at r before w sound =
+    let c = at.c in
+    let env : NodeEnv = node_env k s c at.epoch.0 in
+    let e : Ending = (serving.settled env.serve w.service).0 in
+    let turn : NodeTurn = turn_by env before w (serving.settled env.serve w.service) in
+    let p : NodePart = node_part (unfetched s c r) c in
+    let q : NodePart = kept_after env (unfetched-part r (node_part s c)) w e in
+    let same : p ≡ unfetched-part r (node_part s c) = λ i. record (node_part s c) { fetches = held_settled s.fetches c Fetch r i } in
+    let over : node_put (unfetched s c r) c q ≡ node_put s c q =
+    put-over s (unfetched s c r) c (held s.kept c) (without Fetch r (held s.fetches c)) q refl refl refl refl (sym (list_got s.kept c (sound.kept c))) (settled_is s.fetches c Fetch r (sound.fetches c)) in
+    (λ i. (told (node_put (unfetched s c r) c (kept_after env (same i) w e)) turn, out_at (here_at k at) (flags_of (node_part s c)) (kept_after env (same i) w e) turn))
+    ∙ (λ i. (told (over i) turn, record (node_out k.n c (node_part s c) q turn) { timers = changes-are k.n c (node_part s c) q i }))
+
+come-here : (k : NodeSetting) (s : NodeState) (at : At) (from r : ℕ) (o : Option (ControlBlock × Stay)) → IsNodeSound s → is_some o ≡ true → lateral.is_awaited s.fetches from at.c at.epoch.0 r ≡ true
+    → acted k (unfetched s at.c r) (here_at k at) (flags_of (node_part s at.c)) (λ env x. goes_on env (came_for (come_progress from) r (work_of x.0 x.1))) o
+    ≡ node_deed k s at.c (come_by (node_env k s at.c at.epoch.0) from r (node_part s at.c) o)
+come-here k s at from r None sound there h = absurd cc
+come-here k s at from r (Some x) sound there h =
     let env : NodeEnv = node_env k s at.c at.epoch.0 in
-    ap (node_deed k s at.c) (sym (cond-false (is_awaited env number nodes (node_part s at.c) x.1) (with_work env (unasked-part (node_part s at.c)) [] (goes_on env (tagged env nodes (work_of x.0 x.1)))) Drops h))
+    let w : Work = goes_on env (came_for (come_progress from) r (work_of x.0 x.1)) in
+    unfetched-did k s at r [] w sound
+    ∙ ap (node_deed k s at.c) (sym (cond-true (lateral.is_awaited s.fetches from at.c at.epoch.0 r) (Does (rests env (unfetched-part r (node_part s at.c)) [] w)) Drops h))
+
+pub come-by : (k : NodeSetting) (s t n : NodeState) (at : At) (was : Flags) (from r : ℕ) (done : Result Out NoMemory)
+    → IfOk done (λ out. IsActed k t at was (λ env x. goes_on env (came_for (come_progress from) r (work_of x.0 x.1))) n out) → t ≡ record s { fetches = after_content s.fetches from at.c at.epoch.0 r } → was ≡ flags_of (node_part s at.c)
+    → at.n ≡ k.n → IsNodeSound s → is_some (here at.epoch.0 (node_part s at.c)) ≡ true → lateral.is_awaited s.fetches from at.c at.epoch.0 r ≡ true
+    → IfOk done (λ out. (n, out) ≡ node_deed k s at.c (node_content (node_env k s at.c at.epoch.0) (node_part s at.c) from r))
+come-by k s t n at was from r (Ok out) done dropped flags node sound there h =
+    let f : NodeEnv → ControlBlock × Stay → Work = λ env x. goes_on env (came_for (come_progress from) r (work_of x.0 x.1)) in
+    let gone : t ≡ unfetched s at.c r = dropped ∙ ap (λ (m : Held). record s { fetches = m }) (cond-true (lateral.is_awaited s.fetches from at.c at.epoch.0 r) (settled s.fetches at.c Fetch r) s.fetches h) in
+    done.does
+    ∙ (λ i. acted k (gone i) (at-node k at node i) (flags i) f (here at.epoch.0 (node_part (gone i) at.c)))
+    ∙ come-here k s at from r (here at.epoch.0 (node_part s at.c)) sound there h
+come-by k s t n at was from r (Err e) done dropped flags node sound there h = tt
+
+pub come-sound : (s t : NodeState) (c from epoch r : ℕ) → t ≡ record s { fetches = after_content s.fetches from c epoch r } → lateral.is_awaited s.fetches from c epoch r ≡ true → IsNodeSound s → IsNodeSound t
+come-sound s t c from epoch r is h sound =
+    subst IsNodeSound (sym (is ∙ ap (λ (m : Held). record s { fetches = m }) (cond-true (lateral.is_awaited s.fetches from c epoch r) (settled s.fetches c Fetch r) s.fetches h))) (unfetched-sound s c r sound)
