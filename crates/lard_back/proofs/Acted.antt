@@ -1,11 +1,10 @@
 -- What was done to a connection in hand is what its rule says, and leaves the state sound.
 use Rattle.std.proofs.Common.{◌≡◌, ℕ, ◌+◌, ◌-◌, ◌≤◌, ◌==◌, nat_lt, Bool, true, false, cond, List, [], length, Option, Some, None, Result, Ok, Err, IfOk, refl, sym, ap, subst, ◌∙◌, arith, inl, inr}
 use Rattle.std.proofs.lemmas.Bool.{cases_eq}
-use Rattle.std.specs.FinMap.{FinMap, get}
-use Rattle.std.specs.FinMap as table
+use Rattle.std.specs.FinMap.{get}
 use Rattle.lard_back.specs.declared.hand.At.{At}
 use Rattle.lard_back.specs.declared.timers.Flags.{Flags}
-use Rattle.lard_back.specs.Hand.{Held, lent, lent_if}
+use Rattle.lard_back.specs.Hand.{Held, lent}
 use Rattle.lard_back.specs.Place.{IsActed, IsGone, acted, ends_with, env_of}
 use Rattle.lard_back.specs.Sound.{EndsSound, IsAtRest, IsNodeSound, IsStaying, NoneEmpty}
 use Rattle.lard_back.proofs.Keeping.{Gains, segment-gains}

@@ -1,5 +1,5 @@
 -- What was done to a connection is the deed of its rule.
-use Rattle.std.proofs.Common.{◌≡◌, ℕ, Bool, true, false, cond, List, [], ◌∷◌, ◌++◌, append_assoc, append-nil, Option, Some, None, is_some, Result, Ok, Err, IfOk, refl, sym, ap, subst, ◌∙◌}
+use Rattle.std.proofs.Common.{◌≡◌, ℕ, true, List, [], ◌++◌, append_assoc, append-nil, Option, Some, None, is_some, Result, Ok, Err, IfOk, refl, sym, ap, subst, ◌∙◌}
 use Rattle.std.proofs.lemmas.Bool.{cond-true}
 use Rattle.lard_back.specs.declared.hand.At.{At}
 use Rattle.lard_back.specs.declared.timers.Flags.{Flags}
@@ -22,9 +22,9 @@ use Rattle.lard_lateral.specs.Lateral as lateral
 use Rattle.lard_node_rules.specs.declared.node.NodeState.{NodeState}
 use Rattle.lard_node_rules.specs.declared.stay.Stay.{Stay}
 use Rattle.lard_node_rules.specs.declared.node.NodeTurn.{NodeTurn}
-use Rattle.lard_node_rules.specs.Node.{Deed, Does, Drops, NodePart, come_by, heard_by, here, is_awaited, kept_after, node_armed, node_content, node_forwarded, node_tagged, rests, tagged_by, turn_by, with_work, work_of}
+use Rattle.lard_node_rules.specs.Node.{Does, Drops, NodePart, come_by, heard_by, here, is_awaited, kept_after, node_armed, node_content, node_forwarded, node_read, node_tagged, read_by, rests, tagged_by, turn_by, work_of}
 use Rattle.lard_node_rules.specs.NodePlace.{NodeSetting, node_deed, node_did, node_env, node_out, node_part, node_put, timers_of, told}
-use Rattle.lard_node_rules.specs.Stay.{NodeEnv, Work, came_for, come_progress, goes_on, tagged}
+use Rattle.lard_node_rules.specs.Stay.{NodeEnv, Work, came_for, come_progress, goes_on, read_progress, tagged}
 use Rattle.lard_resend.specs.declared.kept.Kept.{Kept}
 use Rattle.lard_resend.specs.Kept.{without}
 use Rattle.lard_resend.specs.Pending.{held, put_list, settled}
@@ -33,7 +33,7 @@ use Rattle.lard_resend.proofs.Renewed.{held_settled, settled_is}
 use Rattle.lard_rules.specs.declared.front.Out.{Out}
 use Rattle.lard_rules.specs.declared.places.Ending.{Ending}
 use Rattle.lard_table.specs.Table.{put_or}
-use Rattle.lard_rules.specs.Outs.{kind_change, nothing_done}
+use Rattle.lard_rules.specs.Outs.{kind_change}
 use Rattle.lard_rules.specs.Serving as serving
 use Rattle.lard_segment.specs.declared.fault.SegFault.{SegFault}
 use Rattle.lard_segment.specs.Segment.{Said}
@@ -210,3 +210,21 @@ come-by k s t n at was from r (Err e) done dropped flags node sound there h = tt
 pub come-sound : (s t : NodeState) (c from epoch r : ℕ) → t ≡ record s { fetches = after_content s.fetches from c epoch r } → lateral.is_awaited s.fetches from c epoch r ≡ true → IsNodeSound s → IsNodeSound t
 come-sound s t c from epoch r is h sound =
     subst IsNodeSound (sym (is ∙ ap (λ (m : Held). record s { fetches = m }) (cond-true (lateral.is_awaited s.fetches from c epoch r) (settled s.fetches c Fetch r) s.fetches h))) (unfetched-sound s c r sound)
+
+-- ---- a job of this node's disk was completed
+
+read-here : (k : NodeSetting) (s : NodeState) (at : At) (r : ℕ) (o : Option (ControlBlock × Stay))
+    → acted k s (here_at k at) (flags_of (node_part s at.c)) (λ env x. goes_on env (came_for read_progress r (work_of x.0 x.1))) o
+    ≡ node_deed k s at.c (read_by (node_env k s at.c at.epoch.0) r (node_part s at.c) o)
+read-here k s at r None = refl
+read-here k s at r (Some x) = did-is k s at [] (goes_on (node_env k s at.c at.epoch.0) (came_for read_progress r (work_of x.0 x.1)))
+
+pub read-done : (k : NodeSetting) (s n : NodeState) (at : At) (was : Flags) (r : ℕ) (done : Result Out NoMemory)
+    → IfOk done (λ out. IsActed k s at was (λ env x. goes_on env (came_for read_progress r (work_of x.0 x.1))) n out) → was ≡ flags_of (node_part s at.c) → at.n ≡ k.n
+    → IfOk done (λ out. (n, out) ≡ node_deed k s at.c (node_read (node_env k s at.c at.epoch.0) (node_part s at.c) r))
+read-done k s n at was r (Ok out) done flags node =
+    let f : NodeEnv → ControlBlock × Stay → Work = λ env x. goes_on env (came_for read_progress r (work_of x.0 x.1)) in
+    done.does
+    ∙ (λ i. acted k s (at-node k at node i) (flags i) f (here at.epoch.0 (node_part s at.c)))
+    ∙ read-here k s at r (here at.epoch.0 (node_part s at.c))
+read-done k s n at was r (Err e) done flags node = tt

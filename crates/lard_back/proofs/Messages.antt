@@ -1,5 +1,5 @@
 -- Messages that fit packets, and one more.
-use Rattle.std.proofs.Common.{◌≡◌, ℕ, ◌≤◌, List, [], ◌∷◌, ◌++◌, length, subst, sym}
+use Rattle.std.proofs.Common.{ℕ, ◌≤◌, List, [], ◌∷◌, ◌++◌, length}
 use Rattle.lard_base.specs.declared.limits.TheConstants.{MAX_MESSAGE_BYTES}
 use Rattle.lard_base.specs.declared.place.Place.{Place}
 use Rattle.lard_back.specs.Bounds.{AreMessages}

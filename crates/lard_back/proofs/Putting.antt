@@ -1,15 +1,11 @@
 -- What was in hand and is put back: the tables are set at one connection, as if nothing had been taken out of them.
-use Rattle.std.proofs.Common.{◌≡◌, ℕ, ◌==◌, Bool, true, false, cond, List, [], ◌∷◌, ◌++◌, map, Option, Some, None, refl, sym, ap, subst, ◌∙◌}
+use Rattle.std.proofs.Common.{◌≡◌, ℕ, ◌==◌, Bool, true, false, cond, List, [], ◌∷◌, ◌++◌, Option, Some, None, refl, sym, ap, ◌∙◌}
 use Rattle.std.proofs.lemmas.Bool.{eqb-true}
-use Rattle.std.specs.FinMap.{FinMap, get, insert, remove}
-use Rattle.std.specs.FinMap as table
-use Rattle.std.specs.Ordering.{nat_cmp}
+use Rattle.std.specs.FinMap.{get, insert, remove}
 use Rattle.lard_back.specs.declared.hand.At.{At}
-use Rattle.lard_back.specs.declared.hand.Rested.TheVariants as rested
 use Rattle.lard_back.specs.declared.timers.Flags.{Flags}
-use Rattle.lard_back.specs.Hand.{Held, ask_sent, asked_in, end_sent, ended_at, fetch_at, left, lent, rest_of, rested_in, sat, stage_of, turn_at, wanted}
+use Rattle.lard_back.specs.Hand.{Held, ask_sent, asked_in, ended_at, fetch_at, left, lent, rest_of, rested_in, sat, turn_at, wanted}
 use Rattle.lard_back.specs.Place.{closes, ends_with, env_of, out_at, told_at}
-use Rattle.lard_base.specs.declared.ids.Epoch.{Epoch}
 use Rattle.lard_base.specs.declared.place.Place.{Place}
 use Rattle.lard_endpoint.specs.Control.{ControlBlock}
 use Rattle.lard_handoff_back.specs.declared.row.BackConn.{BackConn}
@@ -21,13 +17,13 @@ use Rattle.lard_node_rules.specs.declared.node.NodeState.{NodeState}
 use Rattle.lard_node_rules.specs.declared.node.NodeTurn.{NodeTurn}
 use Rattle.lard_node_rules.specs.declared.stay.Asked.{Asked}
 use Rattle.lard_node_rules.specs.declared.stay.Want.{Want}
-use Rattle.lard_node_rules.specs.Node.{NodePart, all_sent, ask_kept, asked_kept, asked_sent, ended_sent, fetch_of, kept_after, row_of, stay_after, turn_by, wants_kept, wants_sent}
+use Rattle.lard_node_rules.specs.Node.{NodePart, ask_kept, asked_kept, asked_sent, ended_sent, kept_after, stay_after, turn_by, wants_kept, wants_sent}
 use Rattle.lard_node_rules.specs.NodePlace.{NodeSetting, node_part, node_put, told}
 use Rattle.lard_node_rules.specs.Stay.{NodeEnv, Work}
 use Rattle.lard_resend.specs.declared.kept.Kept.{Kept}
 use Rattle.lard_resend.specs.Kept.{anew}
 use Rattle.lard_resend.specs.Pending.{held, put_list, renewed}
-use Rattle.lard_resend.proofs.Lists.{held_put, list_got, list_insert, list_twice, some_put}
+use Rattle.lard_resend.proofs.Lists.{held_put, list_got, list_twice, some_put}
 use Rattle.lard_resend.proofs.Renewed.{renewed_is}
 use Rattle.lard_rules.specs.declared.places.Ending.{Ending}
 use Rattle.lard_rules.specs.declared.places.Ending.TheVariants as ending

@@ -1,33 +1,27 @@
 -- What a turn leaves is sound, and its end may be told.
-use Rattle.std.proofs.Common.{◌≡◌, ℕ, suc, ◌+◌, ◌≤◌, Bool, true, false, cond, List, [], ◌∷◌, length, Option, Some, None, Result, Ok, Err, IfOk, All, IfSome, refl, sym, ap, subst, ◌∙◌, arith}
+use Rattle.std.proofs.Common.{◌≡◌, ℕ, suc, ◌+◌, ◌≤◌, List, [], ◌∷◌, length, Option, Some, None, Result, Ok, IfOk, All, IfSome, refl, sym, ap, subst, arith}
 use Rattle.std.proofs.lemmas.Bool.{cond_both}
-use Rattle.std.specs.List.{AllByRecursion}
-use Rattle.lard_back.specs.declared.acting.Done.{Done}
-use Rattle.lard_back.specs.declared.hand.Rest.{Rest}
 use Rattle.lard_back.specs.Bounds.{AreWants, MayTell}
 use Rattle.lard_back.specs.Bounds as bounds
 use Rattle.lard_back.specs.Hand.{rest_of, rested_in}
 use Rattle.lard_back.specs.Place.{IsDone}
 use Rattle.lard_back.specs.Sound.{EndsSound, IsWorkSound, stay_in}
-use Rattle.lard_back.proofs.Keeping.{segment-gains, speaks-same}
+use Rattle.lard_back.proofs.Keeping.{speaks-same}
 use Rattle.lard_base.specs.declared.place.Place.{Place}
 use Rattle.lard_base.specs.declared.place.Reason.{Reason}
 use Rattle.lard_base.specs.declared.place.Reason.TheVariants.{Closed, Peer, Limit}
-use Rattle.lard_endpoint.specs.Arriving.{on_segment}
 use Rattle.lard_endpoint.specs.Control.{ControlBlock}
 use Rattle.lard_endpoint.specs.Moving.{end_reason, final_of, may_end}
 use Rattle.lard_message.specs.Message.{IsCount}
 use Rattle.lard_node_rules.specs.declared.stay.Asked.{Asked}
 use Rattle.lard_node_rules.specs.declared.stay.Want.{Want}
-use Rattle.lard_node_rules.specs.Stay.{NodeEnv, Work}
+use Rattle.lard_node_rules.specs.Stay.{Work}
 use Rattle.lard_recv.specs.Recv.{Received}
 use Rattle.lard_rules.specs.declared.places.Ending.{Ending}
 use Rattle.lard_rules.specs.declared.places.Ending.TheVariants.{Here, Over}
 use Rattle.lard_rules.specs.declared.places.Turn.{Turn}
 use Rattle.lard_rules.specs.Serving.{ServeEnv, Service, cut_off, rested, settled, spoken}
 use Rattle.lard_rules.specs.Speaking.{speaks}
-use Rattle.lard_rules.proofs.Totals.{segment-many}
-use Rattle.lard_segment.specs.Segment.{Said}
 use Rattle.lard_serving.specs.Bounds.{IsTurn}
 use Rattle.lard_stay.specs.declared.work.Work.{Work as InHand}
 use Rattle.lard_stay.specs.Work.{IsAsk, IsSound, IsStaySound, IsWant, work_seen}

@@ -3,7 +3,6 @@ use Rattle.std.specs.Prelude.{ℕ, ◌≤◌, ◌^◌, List, [], ◌∷◌, leng
 use Rattle.std.specs.List.{AllByRecursion}
 use Rattle.lard_base.specs.declared.limits.TheConstants.{MAX_MESSAGE_BYTES, MAX_STREAM_BYTES}
 use Rattle.lard_base.specs.declared.place.Place.{Place}
-use Rattle.lard_back.specs.declared.hand.Rest.{Rest}
 use Rattle.lard_back.specs.declared.hand.Rested.{Rested}
 use Rattle.lard_back.specs.declared.hand.Rested.TheVariants.{Here, Over}
 use Rattle.lard_message.specs.declared.message.Body.TheVariants as body

@@ -6,11 +6,11 @@ ghost use Rattle.lard_back.specs.Place.{setting_seen};
 ghost use Rattle.lard_back.specs.Awaiting.{awaits};
 ghost use Rattle.lard_back.specs.Sound.{IsNodeSound};
 ghost use Rattle.lard_base.specs.declared.limits.TheConstants.{MAX_SEGMENT_BYTES, MAX_STREAM_BYTES};
-ghost use Rattle.lard_node_rules.specs.Node.{here, node_content, node_forwarded, node_tagged};
+ghost use Rattle.lard_node_rules.specs.Node.{here, node_content, node_forwarded, node_read, node_tagged};
 ghost use Rattle.lard_node_rules.specs.NodePlace.{node_deed, node_env, node_part};
 ghost use Rattle.lard_segment.specs.Segment.{decoded};
 
-use crate::acting::{Setting, assign, bring, hear};
+use crate::acting::{Setting, assign, bring, hear, read};
 use crate::hand::{At, is_here};
 use crate::timers::running;
 use lard_base::{ConnId, NoMemory, NodeId, TimerKind};
@@ -120,4 +120,24 @@ pub fn content(
         return Ok(nothing(alloc));
     }
     bring(state, alloc, setting, at, was, from, r)
+}
+
+/// A job of this node's disk was completed for a request of its own.
+pub fn completed(
+    state: &mut NodeState,
+    alloc: Global,
+    setting: &Setting<'_>,
+    at: &At,
+    r: u32,
+) -> Result<Out, NoMemory>
+    requires node { at.now.n ≡ setting.now.n }
+    requires sound { IsNodeSound state.old }
+    requires stream { setting.now.stream ≤ MAX_STREAM_BYTES }
+    requires few { length state.old.disk < 2 ^ 31 }
+    ensures ok { IfOk result (λ out. let k = setting_seen setting.now in (state.new, out) ≡ node_deed k state.old at.now.c (node_read (node_env k state.old at.now.c at.now.epoch.0) (node_part state.old at.now.c) r)) }
+    ensures sound { OnOk result (IsNodeSound state.new) }
+    ensures fits { IfOk result IsNodeOut }
+{
+    let was = running(state, at.c);
+    read(state, alloc, setting, at, was, r)
 }

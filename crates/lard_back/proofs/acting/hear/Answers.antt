@@ -1,10 +1,10 @@
 -- The endpoint takes the segment, and its stay goes on.
-use Rattle.std.proofs.Common.{◌≡◌, ℕ, ap, sym, ◌∙◌}
+use Rattle.std.proofs.Common.{ap, sym, ◌∙◌}
 use Rattle.lard_back.proofs.Acted.{acted-by, heard-sound, stay-sound}
 use Rattle.lard_back.specs.Place.{env_of, setting_seen}
 use Rattle.lard_endpoint.specs.Control.{ControlBlock}
 use Rattle.lard_node_rules.specs.Node.{work_of}
-use Rattle.lard_node_rules.specs.Stay.{Work, goes_on}
+use Rattle.lard_node_rules.specs.Stay.{goes_on}
 use Rattle.lard_stay.specs.Work.{work_seen}
 use Rattle.lard_endpoint.specs.Arriving.{on_segment}
 use Rattle.lard_segment.specs.Segment.{said}

@@ -1,10 +1,9 @@
 -- What came makes the request ready, and the stay goes on.
-use Rattle.std.proofs.Common.{◌≡◌, ℕ, ap, sym, ◌∙◌}
+use Rattle.std.proofs.Common.{ap, sym, ◌∙◌}
 use Rattle.lard_back.proofs.Acted.{acted-by, came-few, stay-sound}
 use Rattle.lard_back.specs.Place.{env_of, setting_seen}
-use Rattle.lard_endpoint.specs.Control.{ControlBlock}
 use Rattle.lard_node_rules.specs.Node.{work_of}
-use Rattle.lard_node_rules.specs.Stay.{Work, came_for, goes_on, read_progress}
+use Rattle.lard_node_rules.specs.Stay.{came_for, goes_on, read_progress}
 use Rattle.lard_stay.specs.Work.{work_seen}
 use Rattle.lard_back.proofs.acting.read.Goals as goal
 
