@@ -1,7 +1,9 @@
 -- What was done to a connection in hand is what its rule says, and leaves the state sound.
 use Rattle.std.proofs.Common.{◌≡◌, ℕ, ◌+◌, ◌-◌, ◌≤◌, ◌==◌, nat_lt, Bool, true, false, cond, List, [], length, Option, Some, None, Result, Ok, Err, IfOk, refl, sym, ap, subst, ◌∙◌, arith, inl, inr}
 use Rattle.std.proofs.lemmas.Bool.{cases_eq}
-use Rattle.std.specs.FinMap.{get}
+use Rattle.std.specs.FinMap.{FinMap, get}
+use Rattle.std.specs.FinMap as table
+use Rattle.std.specs.Ordering.{nat_cmp}
 use Rattle.lard_back.specs.declared.hand.At.{At}
 use Rattle.lard_back.specs.declared.timers.Flags.{Flags}
 use Rattle.lard_back.specs.Hand.{Held, lent}
@@ -165,3 +167,18 @@ came-few f r b v w e none =
     let no : w.jobs ≡ [] = ap (λ (u : Work). u.jobs) e ∙ came-jobs f r (work_seen b v) ∙ none in
     let len : length w.jobs ≡ 0 = ap length no in
     omega (arith, len)
+
+-- ---- a state with nothing in it
+
+none-empty : (m : Held) → m ≡ table.empty → NoneEmpty m
+none-empty m e c h = let none : None ≡ Some [] = sym (table.get-empty nat_cmp c) ∙ ap (λ (l : Held). get l c) (sym e) ∙ h in absurd cc
+
+none-found : {V : Type 0} (m : FinMap nat_cmp V) (c : ℕ) → m ≡ table.empty → get m c ≡ None
+none-found m c e = ap (λ l. get l c) e ∙ table.get-empty nat_cmp c
+
+pub none_sound : (s : NodeState) → s.conns ≡ table.empty → s.stays ≡ table.empty → s.kept ≡ table.empty → s.fetches ≡ table.empty → IsNodeSound s
+none_sound s conns stays kept fetches = record {
+  stays = λ c. subst (λ row. IsAtRest row (get s.stays c)) (sym (none-found s.conns c conns)) (subst (IsAtRest None) (sym (none-found s.stays c stays)) tt);
+  kept = none-empty s.kept kept;
+  fetches = none-empty s.fetches fetches;
+}

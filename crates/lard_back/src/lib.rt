@@ -8,9 +8,11 @@
 
 mod acting;
 mod hand;
+pub mod place;
 mod rules;
 mod sends;
 mod stores;
 mod timers;
 
 pub use acting::Setting;
+pub use place::{begin, finish};
