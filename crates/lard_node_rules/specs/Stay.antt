@@ -1,5 +1,5 @@
 -- How the requests of a stay are read, started and served: what a node has in hand of one connection, turn by turn.
-use Rattle.std.specs.Prelude.{ℕ, suc, ◌+◌, ◌-◌, ◌*◌, nat_lt, Bool, true, false, ◌==◌, if◌then◌else◌, List, [], ◌∷◌, ◌++◌, length, Option, Some, None}
+use Rattle.std.specs.Prelude.{ℕ, zero, suc, ◌+◌, ◌-◌, ◌*◌, nat_lt, Bool, true, false, ◌==◌, if◌then◌else◌, List, [], ◌∷◌, ◌++◌, length, Option, Some, None}
 use Rattle.lard_answers.specs.Answers.{FilesAt, good_path}
 use Rattle.lard_base.specs.declared.place.Via.{Via}
 use Rattle.lard_base.specs.declared.place.Via.TheVariants as via
@@ -203,7 +203,7 @@ come_progress from (Ready way) = Ready way
 -- the i-th request of the batch comes so far, if there is one
 abbrev pub come_on : (Progress → Progress) → ℕ → List Entry → List Entry
 come_on f i [] = []
-come_on f 0 (e ∷ es) = record e { progress = f e.progress } ∷ es
+come_on f zero (e ∷ es) = record e { progress = f e.progress } ∷ es
 come_on f (suc i) (e ∷ es) = e ∷ come_on f i es
 
 -- the request of this number, if it is in the batch
