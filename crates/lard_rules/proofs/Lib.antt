@@ -5,6 +5,7 @@ pub mod Packets
 pub mod Reading
 pub mod Saying
 pub mod Seats
+pub mod Serving
 pub mod Sides
 pub mod Sound
 pub mod Totals

@@ -1,53 +1,37 @@
 -- What each rule of the front end keeps of a seat, and the front end's step of all of them.
-use Rattle.std.proofs.Common.{◌≡◌, ◌≢◌, ℕ, ◌+◌, ◌≤◌, Bool, true, false, nat_lt, List, [], ◌∷◌, length, take, drop, Option, Some, None, Result, Ok, Err, refl, sym, ap, ◌∙◌, subst, arith, nat_eq, ⊎_elim, ◌^◌, IsTrue}
+use Rattle.std.proofs.Common.{◌≡◌, ◌≢◌, ℕ, ◌+◌, ◌≤◌, true, false, List, [], ◌∷◌, length, take, drop, Result, Ok, Err, refl, sym, ap, ◌∙◌, subst, arith, nat_eq, ⊎_elim, ◌^◌, IsTrue}
 use Rattle.std.proofs.lemmas.Bool.{cond_both}
 use Rattle.std.proofs.lemmas.Bool.Decides.{eqb_tells, nat_tests}
-use Rattle.lard_answers.specs.Answers.{FilesAt, answer, found}
 use Rattle.lard_base.specs.Config.{is_in_range}
 use Rattle.lard_base.specs.declared.config.Key.TheVariants.{Stream}
 use Rattle.lard_base.specs.declared.place.Place.{Place}
 use Rattle.lard_base.specs.declared.place.Place.TheVariants as place
+use Rattle.lard_base.specs.declared.place.Via.TheVariants.{Own}
 use Rattle.lard_endpoint.specs.Arriving.{on_segment}
-use Rattle.lard_endpoint.specs.Control.{ControlBlock, discarding_on, finishing, listening, queueing}
+use Rattle.lard_endpoint.specs.Control.{ControlBlock, listening}
 use Rattle.lard_endpoint.specs.Leaving.{after_timer, timed}
-use Rattle.lard_endpoint.specs.Moving.{end_reason, final_of, may_end}
-use Rattle.lard_journal.specs.declared.rec.Rec.{Rec}
 use Rattle.lard_journal.specs.declared.rec.Rec.TheVariants as rec
-use Rattle.lard_request.specs.declared.verdict.Code.{Code}
 use Rattle.lard_request.specs.declared.verdict.Code.TheVariants as code
-use Rattle.lard_request.specs.declared.verdict.Verdict.{Verdict}
-use Rattle.lard_request.specs.declared.verdict.Verdict.TheVariants.{Serve, Fault}
-use Rattle.lard_request.specs.Verdict.{closes, verdict}
-use Rattle.lard_response.specs.Response.{response}
+use Rattle.lard_request.specs.declared.verdict.Verdict.TheVariants.{Fault}
+use Rattle.lard_request.specs.Verdict.{verdict}
 use Rattle.lard_rules.specs.declared.front.FrontIn.{FrontIn}
 use Rattle.lard_rules.specs.declared.front.FrontIn.TheVariants.{Segment, Message, Timer}
 use Rattle.lard_rules.specs.declared.front.FrontState.{FrontState}
+use Rattle.lard_rules.specs.declared.places.Ending.{Ending}
+use Rattle.lard_rules.specs.declared.places.Ending.TheVariants as ending
 use Rattle.lard_rules.specs.declared.places.Turn.{Turn}
 use Rattle.lard_rules.specs.Client.{silent}
-use Rattle.lard_rules.specs.Front.{FrontEnv, Service, answered, begun, closed_behind, consumed, cut_off, front_gets, front_hears, front_timer, is_plain_syn, last_words, passed_over, queued, reads, ready_of, rested, settled, spoken, tombstone}
+use Rattle.lard_rules.specs.Front.{FrontEnv, at_front, begun, front_gets, front_hears, front_timer, is_plain_syn, last_words, reads, tombstone}
 use Rattle.lard_rules.specs.FrontPlace.{FrontSetting, IsFrontSound, env_in, front_did, front_seats, front_step, seat_at}
 use Rattle.lard_rules.specs.Seat.{MayFollow, Seat, Nowhere, AtFront, Away, Over, no_connections}
-use Rattle.lard_rules.specs.Speaking.{speaks}
-use Rattle.lard_rules.proofs.Loops.{KeptByReading, reads_keep, speaks_keep}
+use Rattle.lard_rules.specs.Serving.{ServeEnv, Service, consumed, ready_of, serving, settled, spoken}
+use Rattle.lard_rules.proofs.Loops.{KeptByReading, reads_keep}
 use Rattle.lard_rules.proofs.Seats.{may-stay, no-seat, seat-elsewhere, seat-here}
-use Rattle.lard_rules.proofs.Totals.{HasAsMany, emit-many, segment-many, timer-many}
+use Rattle.lard_rules.proofs.Serving.{Counts, EndsCounted, answered-counts, ended-counts, settled-counts, spoken-counts}
+use Rattle.lard_rules.proofs.Totals.{segment-many, timer-many}
 use Rattle.lard_segment.specs.declared.fault.SegFault.{SegFault}
 use Rattle.lard_segment.specs.declared.segment.Dir.TheVariants.{ToCluster}
 use Rattle.lard_segment.specs.Segment.{Said, decoded}
-
--- ---- each response has a byte
-
-response-some : (code : Code) (body : List ℕ) (head close : Bool) → 1 ≤ length (response code body head close)
-unfolding response
-response-some code body head close = omega arith
-
-found-some : (o : Option (List ℕ)) (head close : Bool) → 1 ≤ length (found o head close)
-found-some None head close = response-some code.NotFound [] head close
-found-some (Some body) head close = response-some code.Ok body head close
-
-pub answer-some : (files : FilesAt) (v : Verdict) → 1 ≤ length (answer files v)
-answer-some files (Serve path head close) = found-some (files path) head close
-answer-some files (Fault fault) = response-some fault [] false true
 
 -- ---- one connection
 
@@ -63,64 +47,36 @@ pub record Settles (x : Seat) (given : Seat × Turn) : Type 0 where
   pub follows : MayFollow x given.0
   pub counts : IsCounted x → IsCounted given.0
 
-speaks-many : (c : ℕ) (b : ControlBlock) → HasAsMany b (speaks c b).1
-speaks-many c b = speaks_keep c (λ b ss d. HasAsMany b d) (record { rests = λ b. refl; says = λ b r ss d e later. later ∙ emit-many b }) b
+-- a turn of an endpoint that counts ends at a seat that may follow
+ends-settle : (x : Seat) (e : Ending) (turn : Turn) → (IsCounted x → EndsCounted e) → Settles x (at_front (e, turn))
+ends-settle x (ending.Here b count) turn h = record { follows = tt; counts = h }
+ends-settle x (ending.Over last) turn h = record { follows = tt; counts = h }
 
-rested-follows : (x : Seat) (b : ControlBlock) (count : ℕ) → MayFollow x (rested b count)
-rested-follows x b count = cond_both (may_end b) (Over (final_of b (end_reason b))) (AtFront b count) (MayFollow x) (λ t. tt) (λ t. tt)
+still-settles : (x : Seat) (turn : Turn) → Settles x (x, turn)
+still-settles x turn = record { follows = may-stay x; counts = λ k. k }
 
-rested-counts : (b : ControlBlock) (count : ℕ) → count ≤ b.send.total → IsCounted (rested b count)
-rested-counts b count le = cond_both (may_end b) (Over (final_of b (end_reason b))) (AtFront b count) IsCounted (λ t. tt) (λ t. le)
+reading-counts : (env : ServeEnv) → KeptByReading env Counts
+reading-counts env = record {
+  more = λ w skip may is le. ended-counts (consumed skip w) le;
+  block = λ w skip len may is le. answered-counts env Own (verdict (take len (drop skip w.block.recv.unread))) (consumed (skip + len) w) le;
+  long = λ w skip may is le. answered-counts env Own (Fault code.FieldsTooLarge) (consumed (length w.block.recv.unread) w) le;
+}
 
 module _ (env : FrontEnv) where
-  abbrev Counts : Service → Type 0
-  Counts w = w.count ≤ w.block.send.total
+  spoken-settles : (x : Seat) (w : Service) (before : List (Place × List ℕ)) → (IsCounted x → Counts w) → Settles x (at_front (spoken env.serve w before))
+  spoken-settles x w before h = ends-settle x (spoken env.serve w before).0 (spoken env.serve w before).1 (λ k. spoken-counts env.serve w before (h k))
 
-  closed-many : (v : Verdict) (b : ControlBlock) → (closed_behind v b).send.total ≡ b.send.total
-  closed-many v b = cond_both (closes v) (finishing (discarding_on b)) b (λ d. d.send.total ≡ b.send.total) (λ t. refl) (λ t. refl)
-
-  answered-counts : (v : Verdict) (w : Service) → Counts w → Counts (answered env v w)
-  answered-counts v w le =
-      let bytes : List ℕ = answer env.files v in
-      let total : ℕ = w.block.send.total + length bytes in
-      cond_both (nat_lt env.stream total) (passed_over env total w) (queued env v bytes w) Counts
-      (λ t. le)
-      (λ t. omega (arith, le, answer-some env.files v, closed-many v (queueing w.block bytes)))
-
-  reading-counts : KeptByReading env Counts
-  reading-counts = record {
-    more = λ w skip may is le. cond_both (consumed skip w).block.recv.fin (record (consumed skip w) { block = _ }) (consumed skip w) Counts (λ t. le) (λ t. le);
-    block = λ w skip len may is le. answered-counts (verdict (take len (drop skip w.block.recv.unread))) (consumed (skip + len) w) le;
-    long = λ w skip may is le. answered-counts (Fault code.FieldsTooLarge) (consumed (length w.block.recv.unread) w) le;
-  }
-
-  spoken-settles : (x : Seat) (w : Service) (before : List (Place × List ℕ)) → (IsCounted x → Counts w) → Settles x (spoken env w before)
-  spoken-settles x w before h = record {
-    follows = rested-follows x (speaks env.c w.block).1 w.count;
-    counts = λ k. rested-counts (speaks env.c w.block).1 w.count (omega (arith, h k, speaks-many env.c w.block));
-  }
-
-  settled-settles : (x : Seat) (w : Service) → (IsCounted x → Counts w) → Settles x (settled env w)
-  settled-settles x w h = go w.over where
-    go : (o : Option ℕ) → Settles x (elim o [ None ↦ spoken env w [] | Some total ↦ cut_off env w ])
-    go None = spoken-settles x w [] h
-    go (Some total) = record { follows = tt; counts = λ k. tt }
-
-  still-settles : (x : Seat) (turn : Turn) → Settles x (x, turn)
-  still-settles x turn = record { follows = may-stay x; counts = λ k. k }
-
-  -- nothing was done in the turn yet
-  abbrev serving : ControlBlock → ℕ → List Rec → Service
-  serving b count notes = record { block = b; count = count; notes = notes; answered = 0; over = None }
+  settled-settles : (x : Seat) (w : Service) → (IsCounted x → Counts w) → Settles x (at_front (settled env.serve w))
+  settled-settles x w h = ends-settle x (settled env.serve w).0 (settled env.serve w).1 (λ k. settled-counts env.serve w (h k))
 
   hears-settles : (x : Seat) (s : Said) → Settles x (front_hears env x s)
   hears-settles Nowhere s = cond_both {A = Seat × Turn} (is_plain_syn s) (begun env s) (Nowhere, silent) (Settles Nowhere)
-      (λ t. spoken-settles Nowhere (serving (listening s env.iss) 0 (rec.Took place.Front env.c (record { 0 = 1 }) ∷ [])) [] (λ k. omega arith)) (λ t. still-settles Nowhere silent)
+      (λ t. spoken-settles Nowhere (serving (listening s env.iss) 0 (rec.Took place.Front env.serve.c (record { 0 = 1 }) ∷ [])) [] (λ k. omega arith)) (λ t. still-settles Nowhere silent)
   hears-settles (AtFront b count) s =
       let w : Service = serving (on_segment b s).1 count [] in
-      settled-settles (AtFront b count) (reads env w) (λ k. reads_keep env Counts reading-counts w (omega (arith, k, segment-many b s)))
+      settled-settles (AtFront b count) (reads env.serve w) (λ k. reads_keep env.serve Counts (reading-counts env.serve) w (omega (arith, k, segment-many b s)))
   hears-settles Away s = still-settles Away silent
-  hears-settles (Over last) s = still-settles (Over last) (tombstone env (last_words last.reason last s))
+  hears-settles (Over last) s = still-settles (Over last) (tombstone env.serve (last_words last.reason last s))
 
   pub gets-settles : (x : Seat) (r : Result Said SegFault) → Settles x (front_gets env x r)
   gets-settles x (Err fault) = still-settles x silent
@@ -128,7 +84,8 @@ module _ (env : FrontEnv) where
 
   pub fires-settles : (x : Seat) → Settles x (front_timer env x)
   fires-settles Nowhere = still-settles Nowhere silent
-  fires-settles (AtFront b count) = spoken-settles (AtFront b count) (serving (after_timer b) count []) (ready_of env (after_timer b) (timed b)) (λ k. omega (arith, k, timer-many b))
+  fires-settles (AtFront b count) =
+      spoken-settles (AtFront b count) (serving (after_timer b) count []) (ready_of env.serve (after_timer b) (timed b)) (λ k. omega (arith, k, timer-many b))
   fires-settles Away = still-settles Away silent
   fires-settles (Over last) = still-settles (Over last) silent
 

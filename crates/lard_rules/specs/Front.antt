@@ -1,5 +1,5 @@
 -- The rules of the front end, each over the seat of one connection: the seat after it, and the front end's turn.
-use Rattle.std.specs.Prelude.{ℕ, zero, suc, ◌+◌, nat_lt, ◌&&◌, ◌||◌, not, Bool, true, false, if◌then◌else◌, List, [], ◌∷◌, length, take, drop, Option, Some, None, Result, Ok, Err}
+use Rattle.std.specs.Prelude.{ℕ, zero, suc, ◌+◌, nat_lt, ◌&&◌, ◌||◌, not, Bool, true, false, if◌then◌else◌, [], ◌∷◌, length, take, drop, Option, Some, None, Result, Ok, Err}
 use Rattle.lard_base.specs.declared.limits.TheConstants.{RECEIVE_WINDOW}
 use Rattle.lard_base.specs.declared.place.Place.TheVariants as place
 use Rattle.lard_base.specs.declared.place.Reason.{Reason}

@@ -1,5 +1,5 @@
 -- What the front end keeps of one connection, and the seat: where the connection's endpoint is.
-use Rattle.std.specs.Prelude.{◌≡◌, ℕ, Bool, true, false, not, [], Option, Some, None}
+use Rattle.std.specs.Prelude.{◌≡◌, ℕ, Bool, true, false, [], Option, Some, None}
 use Rattle.std.specs.FinMap as table
 use Rattle.lard_endpoint.specs.declared.control.moving.Final.{Final}
 use Rattle.lard_endpoint.specs.Control.{ControlBlock}
@@ -8,7 +8,8 @@ use Rattle.lard_handoff_front.specs.declared.row.FrontConn.TheVariants.{Held, Wa
 use Rattle.lard_handoff_front.specs.declared.row.FrontRow.{FrontRow}
 use Rattle.lard_rules.specs.declared.front.FrontRest.{FrontRest}
 use Rattle.lard_rules.specs.declared.front.FrontState.{FrontState}
-use Rattle.lard_send.specs.Send.{is_clear}
+use Rattle.lard_rules.specs.declared.places.Ending.TheVariants as ending
+use Rattle.lard_rules.specs.Serving.{is_armed}
 use Rattle.lard_table.specs.Table.{put_or}
 
 -- ---- what is kept of one connection
@@ -90,9 +91,9 @@ MayFollow x (Over last) = Unit {0}
 
 -- ---- timers
 
--- some symbol of the endpoint is not acknowledged
+-- the front end's timer runs
 abbrev pub front_armed : Seat → Bool
 front_armed Nowhere = false
-front_armed (AtFront b count) = not (is_clear b.send)
+front_armed (AtFront b count) = is_armed (ending.Here b count)
 front_armed Away = false
-front_armed (Over last) = false
+front_armed (Over last) = is_armed (ending.Over last)

@@ -20,6 +20,7 @@ use Rattle.lard_request.specs.Verdict.{closes}
 use Rattle.lard_segment.specs.declared.segment.Dir.TheVariants.{ToClient}
 use Rattle.lard_segment.specs.declared.segment.Ready.{Ready}
 use Rattle.lard_segment.specs.Segment.{Said, spelled}
+use Rattle.lard_send.specs.Send.{is_clear}
 
 -- What serving rests on beside the connection's state.
 pub record ServeEnv : Type 0 where
@@ -126,3 +127,10 @@ settled env w = elim w.over [ None ↦ spoken env w [] | Some total ↦ cut_off 
 abbrev pub ready_of : ServeEnv → ControlBlock → Option Ready → List (Place × List ℕ)
 ready_of env b None = []
 ready_of env b (Some r) = to_client env.c b r ∷ []
+
+-- ---- timers
+
+-- the place's timer runs: some symbol of the endpoint is not acknowledged
+abbrev pub is_armed : Ending → Bool
+is_armed (Here b count) = not (is_clear b.send)
+is_armed (Over last) = false

@@ -1,12 +1,11 @@
 -- What a step in which a place acts does to the connection that moves, and to all others.
-use Rattle.std.proofs.Common.{◌≡◌, ◌≢◌, ℕ, ◌+◌, List, [], ◌∷◌, ◌++◌, map, length, Bool, true, false, Some, None, inl, inr, refl, sym, ap, ◌∙◌, append_assoc, append-nil}
+use Rattle.std.proofs.Common.{◌≡◌, ◌≢◌, ℕ, ◌+◌, List, [], ◌∷◌, ◌++◌, map, length, Bool, true, false, Some, inl, inr, refl, sym, ap, ◌∙◌, append_assoc, append-nil}
 use Rattle.std.proofs.lemmas.List.{map-append}
 use Rattle.std.specs.List.{fold}
 use Rattle.lard_base.specs.declared.event.Event.{Event}
 use Rattle.lard_base.specs.declared.place.Place.{Place}
-use Rattle.lard_base.specs.declared.place.Place.TheVariants.{Front, Node, Client}
-use Rattle.lard_history.specs.Own.{Letter, Seen, Row, conn_of, letter_of, letters, net_of, net_step, own, plain, seen_of, seen_on, whose}
-use Rattle.lard_history.specs.Steps.{is_opening}
+use Rattle.lard_base.specs.declared.place.Place.TheVariants.{Front, Client}
+use Rattle.lard_history.specs.Own.{Seen, Row, conn_of, letter_of, letters, net_of, net_step, own, plain, seen_on, whose}
 use Rattle.lard_history.proofs.Each.{Each, Each-weaker}
 use Rattle.lard_history.proofs.Seeing.{AreOf, letters-all, letters-append, letters-none, of-whose, own-append, packet_conn, seen-all, seen-mine, seen-none, seen_on-append}
 use Rattle.lard_journal.specs.declared.rec.Rec.{Rec}
@@ -14,7 +13,7 @@ use Rattle.lard_journal.specs.declared.rec.Rec.TheVariants as rec
 use Rattle.lard_machine.specs.declared.machine.Machine.{Machine}
 use Rattle.lard_machine.specs.Machine.{Act, acted, packets_of, passed, records, sent_records}
 use Rattle.lard_net.specs.Net.{Packet}
-use Rattle.lard_view.specs.View.{Conn, Goes, GoesBetween, Move, Part, armed_at, conn, grown, ignoring, letter, packet_seen, part_of, seen_in, sending, timer_rows}
+use Rattle.lard_view.specs.View.{Conn, Goes, GoesBetween, Move, Part, armed_at, conn, ignoring, letter, packet_seen, part_of, seen_in, sending, timer_rows}
 use Rattle.lard_view.proofs.Turns.{AllBetween, NotedAt}
 use Rattle.lard_rules.specs.Outs.{timer_change}
 

@@ -1,6 +1,6 @@
 -- The shapes of a step: an event names a place, which acts; a packet comes to a place, which acts, or to nobody; a packet is
 -- lost. The forms of a step are told by their shapes here and nowhere else, so what speaks of whole steps has four cases.
-use Rattle.std.proofs.Common.{◌≡◌, ◌≢◌, ℕ, ◌-◌, List, [], ◌∷◌, ◌++◌, map, Bool, false, Option, Some, None, IsSome, Ok, refl, sym, ap, subst, ⊎_elim}
+use Rattle.std.proofs.Common.{◌≡◌, ◌≢◌, ℕ, ◌-◌, List, [], ◌∷◌, ◌++◌, map, Bool, false, Option, Some, IsSome, Ok, refl, sym, ap, subst, ⊎_elim}
 use Rattle.std.specs.FinMap as table
 use Rattle.lard_base.specs.declared.event.Event.{Event}
 use Rattle.lard_base.specs.declared.event.Event.TheVariants as event
@@ -237,11 +237,11 @@ module _ (m : Machine) (sound : (q : ℕ) → IsSound (conn m q)) (P : Conn → 
     client_timer = λ d c x same is. subst (λ (z : ℕ). Q (event.Timer (Client z) c) (client_goes_on m (event.Timer (Client z) c) [] c x (client_timer x.client))) (sym same)
         (event-shape (event.Timer (Client c) c) c x (client_timer x.client) is (record { acts = λ J. refl; of = refl; aside = tt }) (own-alone (event.Timer (Client c) c) [] refl) (G.untouched.client_fires (conn m c) x is));
     front_timer = λ c x is.
-        let turn = front_fires-turn (env_of m c x.iss) (seat m c) in
+        let turn = front_fires-turn (env_of m c x.iss) refl (seat m c) in
         let given = front_timer (env_of m c x.iss) (seat m c) in
         fires-shape c x given is (fires-settles (env_of m c x.iss) (seat m c)).follows (own-front (event.Timer Front c) [] given.1.notes c refl turn.notes) (G.untouched.front_fires (conn m c) x is);
     front_gets = λ k c l x at there from to is.
-        let turn = front_gets-turn (env_of m c x.iss) (seat m c) (decoded l.bytes c ToCluster) in
+        let turn = front_gets-turn (env_of m c x.iss) refl (seat m c) (decoded l.bytes c ToCluster) in
         let given = front_gets (env_of m c x.iss) (seat m c) (decoded l.bytes c ToCluster) in
         let of : conn_of l.from l.to l.bytes ≡ Some c = ap (λ q. conn_of q l.to l.bytes) from in
         front-shape k c l x given is (record { at = at; there = there; to = to; of = of }) (gets-settles (env_of m c x.iss) (seat m c) (decoded l.bytes c ToCluster)).follows (own-front (event.Deliver k) (rec.Got k ∷ []) given.1.notes c refl turn.notes)

@@ -8,13 +8,13 @@ use Rattle.lard_base.specs.declared.event.Event.TheVariants as event
 use Rattle.lard_base.specs.declared.place.Place.{Place}
 use Rattle.lard_base.specs.declared.place.Place.TheVariants.{Front, Client}
 use Rattle.lard_base.specs.declared.place.Reason.TheVariants as reason
+use Rattle.lard_base.specs.declared.place.Via.{Via}
 use Rattle.lard_base.specs.declared.place.Via.TheVariants.{Own}
 use Rattle.lard_client.specs.Arriving.{arrived}
 use Rattle.lard_client.specs.Control.{ClientBlock, aborted, held_on, is_writing, opened, shut_down, taken, written}
 use Rattle.lard_client.specs.Leaving.{abort_ready, after_timer, timed}
-use Rattle.lard_endpoint.specs.declared.control.moving.Final.{Final}
 use Rattle.lard_endpoint.specs.Arriving.{on_segment}
-use Rattle.lard_endpoint.specs.Control.{listening}
+use Rattle.lard_endpoint.specs.Control.{finishing, listening}
 use Rattle.lard_endpoint.specs.Leaving as leaving
 use Rattle.lard_endpoint.specs.Moving.{final_of}
 use Rattle.lard_history.specs.Journal.{answered_step, request}
@@ -22,11 +22,13 @@ use Rattle.lard_history.specs.Own.{Letter, Seen}
 use Rattle.lard_history.proofs.Each.{Each, Each-append, Each-weaker}
 use Rattle.lard_journal.specs.declared.rec.Rec.{Rec}
 use Rattle.lard_journal.specs.declared.rec.Rec.TheVariants as rec
+use Rattle.lard_rules.specs.declared.places.Ending.{Ending}
 use Rattle.lard_rules.specs.declared.places.Station.{Station}
 use Rattle.lard_rules.specs.declared.places.Turn.{Turn}
 use Rattle.lard_rules.specs.Client.{client_aborts, client_gets, client_holds, client_injects, client_opens, client_shuts, client_takes, client_timer, client_writes, ready_of, silent, speaking}
-use Rattle.lard_rules.specs.Front.{FrontEnv, Service, answered, begun, closed_behind, consumed, cut_off, ended_at_fin, front_gets, front_hears, front_timer, is_plain_syn, last_words, limit_said, met, passed_over, queued, reads, rested, settled, spoken, told, tombstone}
-use Rattle.lard_rules.specs.Front as front
+use Rattle.lard_rules.specs.Front.{FrontEnv, begun, front_gets, front_hears, front_timer, is_plain_syn, last_words, reads, tombstone}
+use Rattle.lard_rules.specs.Serving.{ServeEnv, Service, answered, consumed, cut_off, ended_at_fin, limit_said, passed_over, queued, serving, settled, spoken, told}
+use Rattle.lard_rules.specs.Serving as serve
 use Rattle.lard_rules.specs.Speaking.{client_speaks, speaks, speaks_symbols}
 use Rattle.lard_rules.proofs.Loops.{KeptByReading, reads_keep}
 use Rattle.lard_rules.proofs.Seats.{seat-seated}
@@ -136,85 +138,111 @@ module _ (c : ℕ) (x : ClientBlock) (n : x.c ≡ c) where
       let r = arrived x s in
       noted-turn (nat_lt 0 r.0.len) (take r.0.len (drop r.0.from s.payload)) r.0.eof r.1 (ready_of r.1 r.0.reply) ((arrived-hears x s).on.number ∙ n) (ready-to r.1 r.0.reply)
 
--- ---- the front end
+-- ---- a place that serves
 
-pub record IsFrontTurn (c : ℕ) (x : Seat) (given : Seat × Turn) : Type 0 where
-  pub notes : Each (NotedAt Front c) given.1.notes
-  pub to : AllTo (Client c) given.1.segments
-  pub answered : IsCounted given.1
+-- N is so of each note, and the segments go to client c
+pub record IsServingTurn (N : Rec → Type 0) (c : ℕ) (turn : Turn) : Type 0 where
+  pub notes : Each N turn.notes
+  pub to : AllTo (Client c) turn.segments
+  pub answered : IsCounted turn
 
-module _ (env : FrontEnv) where
-  abbrev AreNoted : Service → Type 0
-  AreNoted w = Each (NotedAt Front env.c) w.notes × ((n : ℕ) → fold answered_step n w.notes ≡ n + w.answered)
+-- N is so of what a place notes while it serves
+pub record NotesServing (env : ServeEnv) (N : Rec → Type 0) : Type 0 where
+  pub served : (r code size : ℕ) (via : Via) → N (rec.Served env.place env.c r code size via)
+  pub reset : (total : ℕ) → N (rec.Reset env.place env.c total)
+
+module _ (env : ServeEnv) (N : Rec → Type 0) (noting : NotesServing env N) where
+  abbrev pub AreNoted : Service → Type 0
+  AreNoted w = Each N w.notes × ((n : ℕ) → fold answered_step n w.notes ≡ n + w.answered)
 
   -- one more note
-  one-noted : (w : Service) (r : Rec) (answered : ℕ) → AreNoted w → NotedAt Front env.c r → ((n : ℕ) → answered_step (n + w.answered) r ≡ n + answered)
-      → Each (NotedAt Front env.c) (w.notes ++ r ∷ []) × ((n : ℕ) → fold answered_step n (w.notes ++ r ∷ []) ≡ n + answered)
+  one-noted : (w : Service) (r : Rec) (answered : ℕ) → AreNoted w → N r → ((n : ℕ) → answered_step (n + w.answered) r ≡ n + answered)
+      → Each N (w.notes ++ r ∷ []) × ((n : ℕ) → fold answered_step n (w.notes ++ r ∷ []) ≡ n + answered)
   one-noted w r answered h note sum = (
-    Each-append (NotedAt Front env.c) w.notes (r ∷ []) h.0 (note, tt),
+    Each-append N w.notes (r ∷ []) h.0 (note, tt),
     λ n. fold-append answered_step n w.notes (r ∷ []) ∙ ap (λ k. answered_step k r) (h.1 n) ∙ sum n,
   )
 
-  answered-noted : (v : Verdict) (w : Service) → AreNoted w → AreNoted (answered env v w)
-  answered-noted v w h =
+  pub answered-noted : (via : Via) (v : Verdict) (w : Service) → AreNoted w → AreNoted (answered env via v w)
+  answered-noted via v w h =
       let bytes : List ℕ = answer env.files v in
       let total : ℕ = w.block.send.total + length bytes in
-      cond_both (nat_lt env.stream total) (passed_over env total w) (queued env v bytes w) AreNoted
-      (λ t. one-noted w (rec.Reset Front env.c total) w.answered h refl (λ n. refl))
-      (λ t. one-noted w (rec.Served Front env.c (w.count + 1) (answer_code env.files v) (length bytes) Own) (w.answered + length bytes) h refl (λ n. omega arith))
+      cond_both (nat_lt env.stream total) (passed_over env total w) (queued env via v bytes w) AreNoted
+      (λ t. one-noted w (rec.Reset env.place env.c total) w.answered h (noting.reset total) (λ n. refl))
+      (λ t. one-noted w (rec.Served env.place env.c (w.count + 1) (answer_code env.files v) (length bytes) via) (w.answered + length bytes) h
+      (noting.served (w.count + 1) (answer_code env.files v) (length bytes) via) (λ n. omega arith))
 
-  reading-notes : KeptByReading env AreNoted
-  reading-notes = record {
-    more = λ w skip may is h. cond_both (consumed skip w).block.recv.fin (record (consumed skip w) { block = _ }) (consumed skip w) AreNoted (λ t. h) (λ t. h);
-    block = λ w skip len may is h. answered-noted (verdict (take len (drop skip w.block.recv.unread))) (consumed (skip + len) w) h;
-    long = λ w skip may is h. answered-noted (Fault code.FieldsTooLarge) (consumed (length w.block.recv.unread) w) h;
-  }
+  pub ended-noted : (w : Service) → AreNoted w → AreNoted (ended_at_fin w)
+  ended-noted w h = cond_both w.block.recv.fin (record w { block = finishing w.block }) w AreNoted (λ t. h) (λ t. h)
 
-  spoken-turn : (x : Seat) (w : Service) (before : List (Place × List ℕ)) → AllTo (Client env.c) before → AreNoted w → IsFrontTurn env.c x (spoken env w before)
-  spoken-turn x w before to h = record { notes = h.0; answered = h.1; to = Each-append (λ s. s.0 ≡ Client env.c) before (speaks env.c w.block).0 to (speaks-to env.c w.block).to }
+  pub spoken-turn : (w : Service) (before : List (Place × List ℕ)) → AllTo (Client env.c) before → AreNoted w → IsServingTurn N env.c (spoken env w before).1
+  spoken-turn w before to h = record { notes = h.0; answered = h.1; to = Each-append (λ s. s.0 ≡ Client env.c) before (speaks env.c w.block).0 to (speaks-to env.c w.block).to }
 
-  cut_off-turn : (x : Seat) (w : Service) → AreNoted w → IsFrontTurn env.c x (cut_off env w)
-  cut_off-turn x w h = record {
+  cut_off-turn : (w : Service) → AreNoted w → IsServingTurn N env.c (cut_off env w).1
+  cut_off-turn w h = record {
     notes = h.0;
     answered = h.1;
     to = Each-append (λ s. s.0 ≡ Client env.c) (speaks_symbols env.c w.block).0 (told env (limit_said (final_of (speaks_symbols env.c w.block).1 reason.Limit)) ∷ [])
         (speaks_symbols-to env.c w.block).to (refl, tt);
   }
 
-  settled-turn : (x : Seat) (w : Service) → AreNoted w → IsFrontTurn env.c x (settled env w)
-  settled-turn x w h = go w.over where
-    go : (o : Option ℕ) → IsFrontTurn env.c x (elim o [ None ↦ spoken env w [] | Some total ↦ cut_off env w ])
-    go None = spoken-turn x w [] tt h
-    go (Some total) = cut_off-turn x w h
+  pub settled-turn : (w : Service) → AreNoted w → IsServingTurn N env.c (settled env w).1
+  settled-turn w h = go w.over where
+    go : (o : Option ℕ) → IsServingTurn N env.c (elim o as (λ p. Ending × Turn) [ None ↦ spoken env w [] | Some total ↦ cut_off env w ]).1
+    go None = spoken-turn w [] tt h
+    go (Some total) = cut_off-turn w h
 
-  quiet-turn : (x : Seat) → IsFrontTurn env.c x (x, silent)
-  quiet-turn x = record { notes = tt; to = tt; answered = λ n. omega arith }
+-- ---- the front end
 
-  tombstone-turn : (last : Final) (o : Option Said) → IsFrontTurn env.c (Over last) (Over last, tombstone env o)
-  tombstone-turn last None = quiet-turn (Over last)
-  tombstone-turn last (Some s) = record { notes = tt; to = (refl, tt); answered = λ n. omega arith }
+abbrev pub IsFrontTurn : ℕ → Turn → Type 0
+IsFrontTurn c turn = IsServingTurn (NotedAt Front c) c turn
 
-  pub segment-turn : (x : Seat) (s : Said) → IsFrontTurn env.c x (front_hears env x s)
-  segment-turn Nowhere s = cond_both {A = Seat × Turn} (is_plain_syn s) (begun env s) (Nowhere, silent) (IsFrontTurn env.c Nowhere)
-      (λ t. spoken-turn Nowhere (record { block = listening s env.iss; count = 0; notes = rec.Took Front env.c (record { 0 = 1 }) ∷ []; answered = 0; over = None }) [] tt ((refl, tt), λ n. omega arith))
-      (λ t. quiet-turn Nowhere)
+quiet-turn : (c : ℕ) → IsFrontTurn c silent
+quiet-turn c = record { notes = tt; to = tt; answered = λ n. omega arith }
+
+-- a front end's rule is in its own place
+module _ (env : FrontEnv) (own : env.serve.place ≡ Front) where
+  noting : NotesServing env.serve (NotedAt Front env.serve.c)
+  noting = record {
+    served = λ r code size via. subst (λ p. NotedAt Front env.serve.c (rec.Served p env.serve.c r code size via)) (sym own) refl;
+    reset = λ total. subst (λ p. NotedAt Front env.serve.c (rec.Reset p env.serve.c total)) (sym own) refl;
+  }
+
+  abbrev AreOfFront : Service → Type 0
+  AreOfFront w = AreNoted env.serve (NotedAt Front env.serve.c) noting w
+
+  reading-notes : KeptByReading env.serve AreOfFront
+  reading-notes = record {
+    more = λ w skip may is h. ended-noted env.serve (NotedAt Front env.serve.c) noting (consumed skip w) h;
+    block = λ w skip len may is h. answered-noted env.serve (NotedAt Front env.serve.c) noting Own (verdict (take len (drop skip w.block.recv.unread))) (consumed (skip + len) w) h;
+    long = λ w skip may is h. answered-noted env.serve (NotedAt Front env.serve.c) noting Own (Fault code.FieldsTooLarge) (consumed (length w.block.recv.unread) w) h;
+  }
+
+  tombstone-turn : (o : Option Said) → IsFrontTurn env.serve.c (tombstone env.serve o)
+  tombstone-turn None = quiet-turn env.serve.c
+  tombstone-turn (Some s) = record { notes = tt; to = (refl, tt); answered = λ n. omega arith }
+
+  pub segment-turn : (x : Seat) (s : Said) → IsFrontTurn env.serve.c (front_hears env x s).1
+  segment-turn Nowhere s = cond_both {A = Seat × Turn} (is_plain_syn s) (begun env s) (Nowhere, silent) (λ given. IsFrontTurn env.serve.c given.1)
+      (λ t. spoken-turn env.serve (NotedAt Front env.serve.c) noting (serving (listening s env.iss) 0 (rec.Took Front env.serve.c (record { 0 = 1 }) ∷ [])) [] tt ((refl, tt), λ n. omega arith))
+      (λ t. quiet-turn env.serve.c)
   segment-turn (AtFront b count) s =
-      let w : Service = record { block = (on_segment b s).1; count = count; notes = []; answered = 0; over = None } in
-      settled-turn (AtFront b count) (reads env w) (reads_keep env AreNoted reading-notes w (tt, λ n. omega arith))
-  segment-turn Away s = quiet-turn Away
-  segment-turn (Over last) s = tombstone-turn last (last_words last.reason last s)
+      let w : Service = serving (on_segment b s).1 count [] in
+      settled-turn env.serve (NotedAt Front env.serve.c) noting (reads env.serve w) (reads_keep env.serve AreOfFront reading-notes w (tt, λ n. omega arith))
+  segment-turn Away s = quiet-turn env.serve.c
+  segment-turn (Over last) s = tombstone-turn (last_words last.reason last s)
 
-  pub front_gets-turn : (x : Seat) (r : Result Said SegFault) → IsFrontTurn env.c x (front_gets env x r)
-  front_gets-turn x (Err fault) = quiet-turn x
+  pub front_gets-turn : (x : Seat) (r : Result Said SegFault) → IsFrontTurn env.serve.c (front_gets env x r).1
+  front_gets-turn x (Err fault) = quiet-turn env.serve.c
   front_gets-turn x (Ok s) = segment-turn x s
 
-  pub front_fires-turn : (x : Seat) → IsFrontTurn env.c x (front_timer env x)
-  front_fires-turn Nowhere = quiet-turn Nowhere
+  pub front_fires-turn : (x : Seat) → IsFrontTurn env.serve.c (front_timer env x).1
+  front_fires-turn Nowhere = quiet-turn env.serve.c
   front_fires-turn (AtFront b count) =
-      spoken-turn (AtFront b count) (record { block = leaving.after_timer b; count = count; notes = []; answered = 0; over = None }) (front.ready_of env (leaving.after_timer b) (leaving.timed b))
-      (ends.ready-to env (leaving.after_timer b) (leaving.timed b)) (tt, λ n. omega arith)
-  front_fires-turn Away = quiet-turn Away
-  front_fires-turn (Over last) = quiet-turn (Over last)
+      spoken-turn env.serve (NotedAt Front env.serve.c) noting (serving (leaving.after_timer b) count []) (serve.ready_of env.serve (leaving.after_timer b) (leaving.timed b))
+      (ends.ready-to env.serve (leaving.after_timer b) (leaving.timed b)) (tt, λ n. omega arith)
+  front_fires-turn Away = quiet-turn env.serve.c
+  front_fires-turn (Over last) = quiet-turn env.serve.c
 
 -- ---- a move keeps what is sound
 
@@ -259,7 +287,7 @@ client-fine x s heads given turn h =
       },
     )
 
-front-fine : (x : Conn) (heads : List Seen) (given : Seat × Turn) → Settles x.part.seat given → IsFrontTurn x.c x.part.seat given → IsFine x (front_does x heads given)
+front-fine : (x : Conn) (heads : List Seen) (given : Seat × Turn) → Settles x.part.seat given → IsFrontTurn x.c given.1 → IsFine x (front_does x heads given)
 front-fine x heads given settles t h =
     let fine : IsTurn Front x.c given.1 = record { notes = t.notes; segments = to-client x.c given.1.segments t.to; answered = t.answered } in
     let may : MayFollow (seat_of x.part.front) given.0 = subst (λ (y : Seat). MayFollow y given.0) (sym h.seat) settles.follows in
@@ -292,9 +320,9 @@ fine k = record {
     client_fires = λ x s there. client-fine x s (event_seen (event.Timer (Client x.c) x.c)) (client_timer s.client) (λ h. fires-turn x.c s.client (h.number s there));
     client_hears = λ x s bytes there was. client-fine x s (packet_seen Front (Client x.c) bytes) (client_gets s.client (decoded bytes x.c ToClient))
         (λ h. hears-turn x.c s.client (h.number s there) (decoded bytes x.c ToClient));
-    front_fires = λ x s there. front-fine x (event_seen (event.Timer Front x.c)) (front_timer (env_at k x s) x.part.seat) (fires-settles (env_at k x s) x.part.seat) (front_fires-turn (env_at k x s) x.part.seat);
+    front_fires = λ x s there. front-fine x (event_seen (event.Timer Front x.c)) (front_timer (env_at k x s) x.part.seat) (fires-settles (env_at k x s) x.part.seat) (front_fires-turn (env_at k x s) refl x.part.seat);
     front_hears = λ x s bytes there was. front-fine x (packet_seen (Client x.c) Front bytes) (front_gets (env_at k x s) x.part.seat (decoded bytes x.c ToCluster))
-        (gets-settles (env_at k x s) x.part.seat (decoded bytes x.c ToCluster)) (front_gets-turn (env_at k x s) x.part.seat (decoded bytes x.c ToCluster));
+        (gets-settles (env_at k x s) x.part.seat (decoded bytes x.c ToCluster)) (front_gets-turn (env_at k x s) refl x.part.seat (decoded bytes x.c ToCluster));
     ignores = λ x from to bytes was h.
         let fine : IsTurn to x.c silent = record { notes = tt; segments = tt; answered = λ n. omega arith } in
         (fine, record { between = between-grown x (ignoring x from to bytes) h fine; number = h.number; seat = h.seat });
