@@ -13,7 +13,7 @@ use Rattle.lard_dispatch.specs.declared.dispatch.First.{First}
 use Rattle.lard_dispatch.specs.declared.dispatch.First.TheVariants as first
 use Rattle.lard_dispatch.specs.declared.dispatch.Later.{Later}
 use Rattle.lard_dispatch.specs.Laws.{Call}
-use Rattle.lard_dispatch.specs.Laws.Call as call
+use Rattle.lard_dispatch.specs.Laws as call
 use Rattle.lard_endpoint.specs.declared.control.moving.Final.{Final}
 use Rattle.lard_endpoint.specs.Arriving.{on_segment}
 use Rattle.lard_endpoint.specs.Control.{ControlBlock, listening}
@@ -201,7 +201,7 @@ front_gets env p bytes (Ok s) = front_hears env p bytes s p.row
 
 -- A node took the connection: the Offer is not told again.
 abbrev pub taken_by : FrontPart → ℕ → Option FrontRow → Option ℕ → Deed
-taken_by p epoch None node = Drops
+taken_by p epoch None asked = Drops
 taken_by p epoch (Some row) None = Drops
 taken_by p epoch (Some row) (Some node) =
     Does (record { part = record p { row = Some (record row { stage = stage.Moved node (record { 0 = epoch }) }); kept = without kind.Offer 0 p.kept }; turn = saying []; calls = [] })

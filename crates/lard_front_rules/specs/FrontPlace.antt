@@ -11,7 +11,7 @@ use Rattle.lard_dispatch.specs.Books as books
 use Rattle.lard_dispatch.specs.Books.{Dispatcher}
 use Rattle.lard_dispatch.specs.Calls.{ended_answer, first_answer, later_answer}
 use Rattle.lard_dispatch.specs.Laws.{Call, after_calls}
-use Rattle.lard_dispatch.specs.Laws.Call as call
+use Rattle.lard_dispatch.specs.Laws as call
 use Rattle.lard_endpoint.specs.declared.control.moving.Final.{Final}
 use Rattle.lard_front_rules.specs.declared.front.FrontState.{FrontState}
 use Rattle.lard_front_rules.specs.declared.front.FrontTurn.{FrontTurn}
