@@ -1,6 +1,6 @@
 -- The machine: one step of the whole, as a function of its state and the event. It looks up what the event is about, does the
 -- step of the place that acts, and appends what the place did, kind by kind.
-use Rattle.std.specs.Prelude.{◌≡◌, ℕ, zero, suc, ◌+◌, ◌-◌, ◌||◌, ◌==◌, nat_lt, Bool, false, if◌then◌else◌, List, [], ◌∷◌, ◌++◌, length, replicate, slice_get, slice_set, Option, Some, None, Result, Ok, Err, Vec}
+use Rattle.std.specs.Prelude.{◌≡◌, ℕ, zero, suc, ◌+◌, ◌-◌, ◌||◌, ◌==◌, nat_lt, Bool, false, if◌then◌else◌, List, [], ◌∷◌, ◌++◌, length, replicate, slice_get, slice_set, Option, Some, None, Result, Ok, Err}
 use Rattle.std.specs.FinMap as table
 use Rattle.lard_base.specs.declared.config.Config.{Config}
 use Rattle.lard_base.specs.declared.event.Event.{Event}
@@ -13,8 +13,8 @@ use Rattle.lard_cluster.specs.declared.fault.StepFault.TheVariants.{NoClient, Us
 use Rattle.lard_cluster.specs.declared.machine.Machine.{Machine}
 use Rattle.lard_cluster.specs.Bounds.{HasRule}
 use Rattle.lard_files.specs.Files.{file_at}
-use Rattle.lard_front_rules.specs.FrontPlace as front
-use Rattle.lard_front_rules.specs.FrontPlace.{FrontSetting, front_step}
+use Rattle.lard_front_rules.specs.declared.FrontState.{FrontState}
+use Rattle.lard_front_rules.specs.FrontPlace.{FrontSetting, front_step, no_connections}
 use Rattle.lard_history.specs.Journal.{request}
 use Rattle.lard_journal.specs.declared.rec.Rec.{Rec}
 use Rattle.lard_journal.specs.declared.rec.Rec.TheVariants as rec
@@ -42,7 +42,7 @@ start config files = record {
   config = config;
   files = files;
   clients = table.empty;
-  front = front.no_connections config;
+  front = no_connections config;
   nodes = replicate config.nodes (no_stays config.cache);
   net = [];
   now = 0;
@@ -113,7 +113,7 @@ client_does m e own c rule (Some x) = Ok (client_goes_on m e own c x (rule x.cli
 abbrev pub front_setting : Machine → FrontSetting
 front_setting m = record { files = file_at m.files; stream = m.config.stream; now = record { 0 = m.now } }
 
-abbrev pub front_gave : Machine → Event → List Rec → front.FrontState × Out → Machine
+abbrev pub front_gave : Machine → Event → List Rec → FrontState × Out → Machine
 front_gave m e own given = told (record m { front = given.0 }) e own place.Front given.1
 
 abbrev pub front_acts : Machine → Event → List Rec → FrontIn → Machine

@@ -6,6 +6,8 @@
 
 pub mod fault;
 pub mod machine;
+pub mod nodes;
 
 pub use fault::StepFault;
 pub use machine::Machine;
+pub use nodes::NodeList;

@@ -1,11 +1,11 @@
 //! The state of the whole.
 
+use crate::nodes::NodeList;
 use lard_base::Config;
 use lard_files::Files;
 use lard_front_rules::FrontState;
 use lard_journal::Journal;
 use lard_net::Net;
-use lard_node_rules::NodeState;
 use lard_rules::Station;
 use lard_table::Table;
 
@@ -20,7 +20,7 @@ pub struct Machine {
     /// What the front end keeps.
     pub front: FrontState,
     /// What each node keeps; node n is the n-th.
-    pub nodes: Vec<NodeState>,
+    pub nodes: NodeList,
     /// Every packet that was ever sent, lost or not.
     pub net: Net,
     /// The time, in milliseconds.
