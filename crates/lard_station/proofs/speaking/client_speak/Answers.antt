@@ -6,7 +6,7 @@ use Rattle.lard_rules.specs.Speaking.{AreShort, client_speaks, to_front}
 use Rattle.lard_rules.proofs.Packets.{short_push}
 use Rattle.lard_rules.proofs.Saying.{client-more, client-done}
 use Rattle.lard_serving.proofs.Loops.{sent_more, sent_all}
-use Rattle.lard_world.proofs.speaking.client_speak.Goals as goal
+use Rattle.lard_station.proofs.speaking.client_speak.Goals as goal
 
 pub loop-ready-preserved : goal.loop-ready-preserved
 loop-ready-preserved c =

@@ -2,7 +2,7 @@ use Rattle.std.proofs.Common.{◌≡◌, ◌+◌, ◌≤◌, ◌^◌, ◌++◌, 
 use Rattle.lard_client.specs.Leaving.{unsaid}
 use Rattle.lard_rules.specs.Speaking.{AreShort, client_speaks}
 use Rattle.lard_send.specs.Send.{IsSending}
-use Rattle.lard_world.proofs.speaking.client_speak.Given as goal
+use Rattle.lard_station.proofs.speaking.client_speak.Given as goal
 
 -- what was said and what is left to say are all that there was
 abbrev pub invariant-loop-ready : goal.invariant-loop-ready

@@ -4,16 +4,17 @@ ghost use Rattle.std.specs.Prelude.{◌≡◌, ◌+◌, ◌^◌, ◌≤◌, ◌+
 ghost use Rattle.lard_base.specs.declared.limits.TheConstants.{MAX_SEGMENT_BYTES, MAX_STREAM_BYTES};
 ghost use Rattle.lard_client.specs.Control.{written_len};
 ghost use Rattle.lard_client.specs.Leaving.{IsHeld, IsWritable};
+ghost use Rattle.lard_history.specs.Journal.{request};
 ghost use Rattle.lard_rules.specs.Client.{accepted_note, client_aborts, client_gets, client_heard, client_holds, client_injects, client_shuts, client_takes, client_timer, client_writes, eof_note, ready_of, speaking};
 ghost use Rattle.lard_rules.specs.Speaking.{AreShort};
 ghost use Rattle.lard_segment.specs.Segment.{decoded};
 ghost use Rattle.lard_serving.specs.Bounds.{IsTurn};
 
 use crate::speaking::{client_speak, to_front};
-use lard_base::{Bytes, ConnId, NoMemory, Place, Sends};
+use lard_base::{Bytes, ConnId, NoMemory, Path, Place, Sends};
 use lard_client::{Client, Heard};
 use lard_journal::{Rec, Recs};
-use lard_machine::Turn;
+use lard_rules::Turn;
 use lard_segment::{Dir, Ready, decode};
 use lard_serving::silent;
 use std::alloc::Global;
@@ -215,4 +216,24 @@ fn note_eof(notes: &mut Recs, c: ConnId, heard: Heard) -> Result<(), NoMemory>
         return notes.push(Rec::Eof(c));
     }
     Ok(())
+}
+
+// ---- what it writes
+
+/// What a plain request for a path says (RFC 9112, 3).
+pub fn request(alloc: Global, path: &Path) -> Result<Bytes, NoMemory>
+    ensures { IfOk result (λ bytes. bytes ≡ request path.now) }
+{
+    let mut text = Vec::from_slice(alloc, b"GET ")?;
+    text.extend_from_slice(path.as_slice())?;
+    text.extend_from_slice(b" HTTP/1.1\r\nHost: lard\r\n\r\n")?;
+    Ok(Bytes::from_vec(text))
+}
+
+/// A client's bytes in all, once it wrote these.
+pub fn written_len(client: &Client, bytes: &[u8]) -> u64
+    ensures { result ≡ written_len client.now bytes.now }
+{
+    let more = if client.writes() { bytes.len() } else { 0 };
+    u64::from(client.written()) + more as u64
 }

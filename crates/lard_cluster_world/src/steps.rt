@@ -1,0 +1,78 @@
+//! One step: no limit was reached, and the event has its rule.
+
+ghost use Rattle.std.specs.Prelude.{◌≡◌, None};
+ghost use Rattle.lard_cluster.specs.Bounds.{HasRule};
+ghost use Rattle.lard_cluster.specs.Machine.{Steps, happens, limit_reached, machine_step};
+ghost use Rattle.lard_cluster_world.specs.Hand.{HasRoom};
+ghost use Rattle.lard_cluster_world.specs.Sound.{IsSound};
+
+use crate::stations::Deed;
+use crate::{packets, stations};
+use lard_base::Event;
+use lard_cluster::{Machine, StepFault};
+use lard_journal::Rec;
+use lard_machine::{What, first_limit};
+use std::alloc::Global;
+
+/// Does the step of an event. After a fault everything is as it was; if memory ran out, only the journal is.
+#[tactic(auto, unfolding(lard_cluster::specs::Machine::machine_step))]
+pub fn step(machine: &mut Machine, alloc: Global, event: Event) -> Result<(), StepFault>
+    requires ruled { HasRule event }
+    requires sound { IsSound machine.old }
+    ensures { Steps (machine_step machine.old event) machine.old machine.new result }
+{
+    if let Some(what) = limit_reached(machine) {
+        return Err(StepFault::Limit(what));
+    }
+    happen(machine, alloc, event)
+}
+
+/// The first limit that was reached.
+fn limit_reached(machine: &Machine) -> Option<What>
+    ensures { result ≡ limit_reached machine.now }
+{
+    first_limit(
+        machine.net.sent(),
+        machine.net.bytes(),
+        machine.journal.len(),
+        machine.answered,
+    )
+}
+
+/// Follows the rule of the event.
+fn happen(machine: &mut Machine, alloc: Global, event: Event) -> Result<(), StepFault>
+    requires ruled { HasRule event }
+    requires room { HasRoom machine.old }
+    requires sound { IsSound machine.old }
+    ensures { Steps (happens machine.old event) machine.old machine.new result }
+{
+    match event {
+        Event::Open {
+            c,
+            isn,
+            iss,
+            wnd,
+            mss,
+        } => return stations::open(machine, alloc, c, isn, iss, wnd, mss),
+        Event::Get { c, path } => return stations::write_request(machine, alloc, c, path),
+        Event::Write { c, bytes } => return stations::write_bytes(machine, alloc, c, bytes),
+        Event::Shut(c) => return stations::act(machine, alloc, Event::Shut(c), None, c, Deed::Shut),
+        Event::Abort(c) => {
+            return stations::act(machine, alloc, Event::Abort(c), None, c, Deed::Abort);
+        }
+        Event::Hold(c) => return stations::act(machine, alloc, Event::Hold(c), None, c, Deed::Hold),
+        Event::Take(c) => return stations::act(machine, alloc, Event::Take(c), None, c, Deed::Take),
+        Event::Inject { c, bytes } => {
+            let copy = bytes.copy(alloc)?;
+            let own = Some(Rec::Injected(c));
+            let event = Event::Inject { c, bytes };
+            return stations::act(machine, alloc, event, own, c, Deed::Inject(copy));
+        }
+        Event::Deliver(k) => return packets::deliver(machine, alloc, k),
+        Event::Lose(k) => return packets::lose(machine, alloc, k),
+        Event::Timer { place, c } => return packets::fire(machine, alloc, place, c),
+        Event::Disk { n, j } => return packets::complete(machine, alloc, n, j),
+        Event::Clock(ms) => return packets::clock(machine, alloc, ms),
+        Event::Settle(_) => unreachable!(),
+    }
+}
