@@ -138,14 +138,14 @@ node_acts m e own n i (Some s) = node_gave m e own n (node_step (node_setting m 
 
 -- ---- timers
 
-abbrev pub is_no_node : Machine → ℕ → Bool
-is_no_node m n = n == 0 || nat_lt m.config.nodes n
+abbrev pub is_no_node : ℕ → ℕ → Bool
+is_no_node nodes n = n == 0 || nat_lt nodes n
 
 abbrev pub timer_at : Machine → Place → ℕ → Station → Result Machine StepFault
 timer_at m place.Front c x = Ok (front_acts m (event.Timer place.Front c) [] (input.Timer c))
 timer_at m (place.Client d) c x = Ok (client_goes_on m (event.Timer (place.Client d) c) [] c x (client_timer x.client))
 timer_at m (place.Node n) c x =
-    if is_no_node m n then Err (NoNode n m.config.nodes) else Ok (node_acts m (event.Timer (place.Node n) c) [] n (back.Timer c) (node_at m.nodes n))
+    if is_no_node m.config.nodes n then Err (NoNode n m.config.nodes) else Ok (node_acts m (event.Timer (place.Node n) c) [] n (back.Timer c) (node_at m.nodes n))
 
 unfoldable pub timer : Machine → Place → ℕ → Option Station → Result Machine StepFault
 timer m p c None = Err (NoClient c)
@@ -194,7 +194,7 @@ disk_at m n j (Some s) =
     if is_no_job s j then Err (NoJob n j (length s.disk)) else Ok (node_gave m (event.Disk n j) [] n (node_step (node_setting m n) s (back.Disk j)))
 
 unfoldable pub completes : Machine → ℕ → ℕ → Result Machine StepFault
-completes m n j = if is_no_node m n then Err (NoNode n m.config.nodes) else disk_at m n j (node_at m.nodes n)
+completes m n j = if is_no_node m.config.nodes n then Err (NoNode n m.config.nodes) else disk_at m n j (node_at m.nodes n)
 
 -- the time moves on
 unfoldable pub clocked : Machine → ℕ → Machine

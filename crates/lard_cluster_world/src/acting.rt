@@ -27,6 +27,7 @@ pub struct Act {
 }
 
 /// Ends a step in which a client acted. Without memory the journal is as it was.
+#[tactic(auto, using(crate::proofs::Sized::short_sized))]
 pub fn conclude(
     machine: &mut Machine,
     alloc: Global,

@@ -1,6 +1,6 @@
 //! The steps of clients: each takes its station out, lets its client act, and puts it back.
 
-ghost use Rattle.std.specs.Prelude.{◌≡◌, ◌≤◌, [], ◌∷◌, length, None, Some, IfNone, IfSome, IfOk, IsSome, OnOk, OnErr};
+ghost use Rattle.std.specs.Prelude.{◌≡◌, ◌≤◌, false, [], ◌∷◌, length, None, Some, IfNone, IfSome, IfOk, IsSome, OnOk, OnErr};
 ghost use Rattle.std.specs.FinMap as table;
 ghost use Rattle.lard_base.specs.declared.limits.TheConstants.{MAX_SEGMENT_BYTES, MAX_SEGMENT_DATA, MAX_STREAM_BYTES};
 ghost use Rattle.lard_client.specs.Control.{is_armed};
