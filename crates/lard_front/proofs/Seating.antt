@@ -1,6 +1,5 @@
 -- A connection that is taken out for its rule, and what is put back.
-use Rattle.std.proofs.Common.{◌≡◌, ℕ, true, false, is_some, IsSome, Option, Some, None, refl, sym, ap, ◌∙◌, subst}
-use Rattle.std.proofs.lemmas.Bool.{both_ways}
+use Rattle.std.proofs.Common.{◌≡◌, ℕ, true, is_some, IsSome, Option, Some, None, refl, sym, ap, ◌∙◌, subst}
 use Rattle.std.specs.FinMap as table
 use Rattle.std.specs.FinMap.{FinMap}
 use Rattle.std.specs.Ordering.{nat_cmp}

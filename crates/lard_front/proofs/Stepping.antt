@@ -11,7 +11,7 @@ use Rattle.lard_front.proofs.Seating.{back_from, there_at}
 use Rattle.lard_endpoint.specs.Control.{ControlBlock}
 use Rattle.lard_rules.specs.declared.front.FrontIn.{FrontIn}
 use Rattle.lard_rules.specs.FrontPlace.{FrontSetting, IsFrontSound, front_did, front_seats, front_step, seat_at}
-use Rattle.lard_rules.specs.Outs.{nothing_done, out_of, timer_change}
+use Rattle.lard_rules.specs.Outs.{nothing_done, out_of}
 use Rattle.lard_rules.specs.Seat.{Seat, AtFront, front_armed}
 use Rattle.lard_rules.proofs.Seats.{seats-still}
 use Rattle.lard_rules.proofs.Sound.{step-sound}

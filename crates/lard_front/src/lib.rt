@@ -1,7 +1,7 @@
-//! The front end's place: it keeps each connection that it took, and does the rule of what comes to it.
+//! The front end's place: it keeps each connection that it took, reads the requests on it block by block, and does the rule
+//! of what comes to it.
 //!
-//! It reads requests block by block. It stands above the table of its connections and what any place does with an endpoint,
-//! and follows `front_step` of
+//! It stands above the table of its connections and what any place does with an endpoint, and follows `front_step` of
 //! `lard_rules`. The world keeps a `FrontState` and takes its steps; who wants the front end alone takes a `FrontEnd`.
 #![tactic(auto)]
 

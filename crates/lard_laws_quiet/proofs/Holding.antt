@@ -8,7 +8,7 @@ use Rattle.lard_history.proofs.Each.{Each, Each-append, Each-weaker}
 use Rattle.lard_laws_quiet.proofs.Acked.{Acks, ClientHolds, FrontHolds, RepliesMay, ReplyMay, WordMay, WordsMay, heard_of, taken_by}
 use Rattle.lard_laws_quiet.proofs.Story.{Story, story_at, unheard}
 use Rattle.lard_rules.specs.declared.places.Station.{Station}
-use Rattle.lard_rules.specs.Seat.{Seat, front_armed}
+use Rattle.lard_rules.specs.Seat.{Seat}
 use Rattle.lard_segment.proofs.Again.{again}
 use Rattle.lard_segment.specs.declared.fault.SegFault.{SegFault}
 use Rattle.lard_segment.specs.declared.segment.Dir.TheVariants.{ToClient, ToCluster}

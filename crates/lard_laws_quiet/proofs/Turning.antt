@@ -16,7 +16,7 @@ use Rattle.lard_laws_quiet.proofs.Holding.{AcksWhatWasTaken, Bounds, ConnHolds, 
 use Rattle.lard_laws_quiet.proofs.Story.{Story, Tells, client-tells, ends-told, front-tells, grown-story, or-either, story_at, story_on, story_seen, unheard}
 use Rattle.lard_rules.specs.declared.places.Station.{Station}
 use Rattle.lard_rules.specs.declared.places.Turn.{Turn}
-use Rattle.lard_rules.specs.Seat.{Seat, Nowhere, AtFront, Away, Over, front_armed}
+use Rattle.lard_rules.specs.Seat.{Seat, Nowhere, AtFront, Away, Over}
 use Rattle.lard_truth.specs.Truth.{Stream}
 use Rattle.lard_view.specs.Carry.{tale_at}
 use Rattle.lard_view.specs.View.{Conn, Move, client_does, front_does, grown, letter, with_station}

@@ -14,9 +14,7 @@ use Rattle.lard_base.specs.declared.place.Via.TheVariants.{Own}
 use Rattle.lard_client.specs.Control.{ClientBlock}
 use Rattle.lard_endpoint.specs.declared.control.moving.Final.{Final}
 use Rattle.lard_endpoint.specs.Arriving.{on_segment}
-use Rattle.lard_endpoint.specs.Control.{ControlBlock, finishing, listening}
-use Rattle.lard_endpoint.specs.Leaving.{after_timer}
-use Rattle.lard_endpoint.specs.Moving.{end_reason, final_of, may_end}
+use Rattle.lard_endpoint.specs.Control.{finishing}
 use Rattle.lard_history.specs.Journal.{request}
 use Rattle.lard_history.specs.Own.{Has, Seen, Row}
 use Rattle.lard_history.proofs.Each.{Each, Each-append, Each-weaker}
@@ -33,9 +31,8 @@ use Rattle.lard_rules.specs.declared.places.Ending.TheVariants as ending
 use Rattle.lard_rules.specs.declared.places.Station.{Station}
 use Rattle.lard_rules.specs.declared.places.Turn.{Turn}
 use Rattle.lard_rules.specs.Client.{client_aborts, client_gets, client_holds, client_injects, client_opens, client_shuts, client_takes, client_timer, client_writes, silent}
-use Rattle.lard_rules.specs.Front.{FrontEnv, at_front, begun, front_gets, front_hears, front_timer, is_plain_syn, last_words, reads, seat_after, tombstone}
+use Rattle.lard_rules.specs.Front.{FrontEnv, begun, front_gets, front_hears, front_timer, is_plain_syn, last_words, reads, seat_after, tombstone}
 use Rattle.lard_rules.specs.Serving.{ServeEnv, Service, answered, consumed, cut_off, ended_at_fin, passed_over, queued, serving, settled, spoken}
-use Rattle.lard_rules.specs.Speaking.{speaks}
 use Rattle.lard_rules.proofs.Loops.{KeptByReading, reads_keep}
 use Rattle.lard_rules.specs.Outs.{timer_change}
 use Rattle.lard_rules.specs.Seat.{Seat, Nowhere, AtFront, Away, Over, is_begun}

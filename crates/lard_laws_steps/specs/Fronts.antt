@@ -4,7 +4,7 @@ use Rattle.std.specs.List.{list_any}
 use Rattle.lard_base.specs.declared.config.Config.{Config}
 use Rattle.lard_base.specs.declared.place.Place.{Place}
 use Rattle.lard_base.specs.declared.place.Place.TheVariants.{Front, Node, Client}
-use Rattle.lard_history.specs.Own.{Letter, Seen, Row, Came, net_of, own, seen_on}
+use Rattle.lard_history.specs.Own.{Seen, Row, Came, net_of, own, seen_on}
 use Rattle.lard_history.specs.Steps.{EachStep, steps}
 use Rattle.lard_journal.specs.declared.rec.Rec.{Rec}
 use Rattle.lard_journal.specs.declared.rec.Rec.TheVariants as rec

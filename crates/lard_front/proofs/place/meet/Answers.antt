@@ -1,5 +1,5 @@
 -- A connection that began is here, and rests where its first turn ended.
-use Rattle.std.proofs.Common.{◌≡◌, ℕ, false, cond, [], ◌∷◌, ◌++◌, None, sym, ap, ◌∙◌, subst, IfOk}
+use Rattle.std.proofs.Common.{◌≡◌, ℕ, false, cond, [], ◌∷◌, ◌++◌, sym, ap, ◌∙◌, subst, IfOk}
 use Rattle.lard_base.specs.declared.place.Place.TheVariants.{Front}
 use Rattle.lard_endpoint.specs.Control.{ControlBlock, listening}
 use Rattle.lard_front.specs.declared.seats.Spot.TheVariants.{Here}

@@ -1,5 +1,5 @@
 -- What does not decode changes nothing.
-use Rattle.std.proofs.Common.{refl, ap, ◌∙◌}
+use Rattle.std.proofs.Common.{refl, ap}
 use Rattle.lard_front.proofs.Stepping.{did_nothing}
 use Rattle.lard_rules.specs.Front.{front_gets}
 use Rattle.lard_rules.specs.FrontPlace.{seat_at}

@@ -1,10 +1,10 @@
 -- The connection rests where its rule led it, or stays where it is.
-use Rattle.std.proofs.Common.{◌≡◌, cond, false, not, refl, sym, ap, ◌∙◌, subst, IfOk}
+use Rattle.std.proofs.Common.{◌≡◌, cond, false, not, refl, sym, ap, subst, IfOk}
 use Rattle.lard_base.specs.declared.place.Place.TheVariants.{Front}
 use Rattle.lard_front.proofs.Seating.{away_at, nowhere_at, over_at}
 use Rattle.lard_front.proofs.Stepping.{acted, did_nothing, stayed, where_ok}
 use Rattle.lard_rules.specs.Client.{silent}
-use Rattle.lard_rules.specs.Front.{begun, front_hears, last_words, seat_after, tombstone}
+use Rattle.lard_rules.specs.Front.{begun, front_hears, seat_after}
 use Rattle.lard_rules.specs.FrontPlace.{front_did, seat_at}
 use Rattle.lard_rules.specs.Outs.{out_of}
 use Rattle.lard_rules.specs.Seat.{Nowhere, AtFront, Away, Over}
