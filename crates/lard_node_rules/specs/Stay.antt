@@ -1,5 +1,6 @@
 -- How the requests of a stay are read, started and served: what a node has in hand of one connection, turn by turn.
 use Rattle.std.specs.Prelude.{ℕ, zero, suc, ◌+◌, ◌-◌, ◌*◌, nat_lt, Bool, true, false, ◌==◌, if◌then◌else◌, List, [], ◌∷◌, ◌++◌, length, Option, Some, None}
+use Rattle.std.specs.List.{slice_get}
 use Rattle.lard_answers.specs.Answers.{FilesAt, good_path}
 use Rattle.lard_base.specs.declared.place.Via.TheVariants as via
 use Rattle.lard_disk.specs.declared.disk.Job.{Job}
@@ -69,15 +70,20 @@ progress_of (Some path) = Named
 abbrev pub read_entry : FilesAt → Verdict → Entry
 read_entry files v = record { verdict = v; progress = progress_of (good_path files v) }
 
--- The requests of a batch are entered, the first with number r. The first one for a file is started here where it was assigned
--- to this node with the connection.
+-- A request is entered: the first one for a file is started here, where it was assigned to this node with the connection (`here`).
+-- The answer is whether that one is still awaited.
+abbrev pub enters_first : NodeEnv → ℕ → Verdict → Work → Option (List ℕ) → Bool × Work
+enters_first env r v w None = (true, entered (read_entry env.serve.files v) w)
+enters_first env r v w (Some path) = (false, started_here env r path v w)
+
+abbrev pub enters_one : NodeEnv → Bool → ℕ → Verdict → Work → Bool × Work
+enters_one env false r v w = (false, entered (read_entry env.serve.files v) w)
+enters_one env true r v w = enters_first env r v w (good_path env.serve.files v)
+
+-- The requests of a batch are entered in order, the first with number r.
 unfoldable pub enters : NodeEnv → Bool → ℕ → List Verdict → Work → Work
 enters env here r [] w = w
-enters env false r (v ∷ vs) w = enters env false (r + 1) vs (entered (read_entry env.serve.files v) w)
-enters env true r (v ∷ vs) w = elim (good_path env.serve.files v) [
-  | None ↦ enters env true (r + 1) vs (entered (read_entry env.serve.files v) w)
-  | Some path ↦ enters env false (r + 1) vs (started_here env r path v w)
-]
+enters env here r (v ∷ vs) w = enters env (enters_one env here r v w).0 (r + 1) vs (enters_one env here r v w).1
 
 -- the path that an Ask names for a request, if it does
 abbrev pub path_in : FilesAt → Entry → Progress → Option (List ℕ)
@@ -165,26 +171,39 @@ turned env w Stop = Done w
 abbrev pub turn : NodeEnv → Work → Step Work
 turn env w = turned env w (next_of w)
 
--- what falls with each turn: a request that is read uses a byte at least
+-- what falls with each turn: a request that is read uses a byte at least, and a response that would pass the stream limit is the last
+abbrev pub left_over : Option ℕ → ℕ
+left_over None = 1
+left_over (Some total) = 0
+
 abbrev pub left : Work → ℕ
-left w = 2 * length w.service.block.recv.unread + length w.batch
+left w = 2 * length w.service.block.recv.unread + length w.batch + left_over w.service.over
 
 abbrev pub goes_on : NodeEnv → Work → Work
 goes_on env w = runs (turn env) left w
 
 -- ---- what came for requests of the batch
 
--- Each request that the Ask names starts at its node, in order. What is no longer for a file, or has no node, stays as it is.
-unfoldable pub starts_at : NodeEnv → ℕ → List ℕ → List Entry → Work → Work
-starts_at env r nodes [] w = w
-starts_at env r [] (e ∷ es) w = starts_at env (r + 1) [] es (entered e w)
-starts_at env r (node ∷ nodes) (e ∷ es) w = elim (named_path env.serve.files e) [
-  | None ↦ starts_at env (r + 1) (node ∷ nodes) es (entered e w)
-  | Some path ↦ starts_at env (r + 1) nodes es (started env node r path e.verdict w)
+-- A request that the Ask names starts at its node. What is not for a file, or has no node, stays as it is. The answer is whether it
+-- started.
+abbrev pub starts_named : NodeEnv → ℕ → ℕ → Entry → Work → Option (List ℕ) → Bool × Work
+starts_named env node r e w None = (false, entered e w)
+starts_named env node r e w (Some path) = (true, started env node r path e.verdict w)
+
+abbrev pub starts_one : NodeEnv → Option ℕ → ℕ → Entry → Work → Bool × Work
+starts_one env None r e w = (false, entered e w)
+starts_one env (Some node) r e w = starts_named env node r e w (named_path env.serve.files e)
+
+-- Each takes the next of the nodes, from this place on; the first of the requests has number r.
+unfoldable pub starts_at : NodeEnv → List ℕ → ℕ → ℕ → List Entry → Work → Work
+starts_at env nodes at r [] w = w
+starts_at env nodes at r (e ∷ es) w = elim (starts_one env (slice_get nodes at) r e w).0 [
+  | true ↦ starts_at env nodes (at + 1) (r + 1) es (starts_one env (slice_get nodes at) r e w).1
+  | false ↦ starts_at env nodes at (r + 1) es (starts_one env (slice_get nodes at) r e w).1
 ]
 
 abbrev pub tagged : NodeEnv → List ℕ → Work → Work
-tagged env nodes w = starts_at env (w.service.count + 1) nodes w.batch (record w { batch = [] })
+tagged env nodes w = starts_at env nodes 0 (w.service.count + 1) w.batch (record w { batch = [] })
 
 -- A job of this node's disk was completed, or a content came: a request that awaits it is ready.
 abbrev pub read_progress : Progress → Progress

@@ -32,7 +32,7 @@ pub put_here : (k x : Kept) (xs : List Kept) → comes_before k.kind k.r x ≡ f
 put_here k x xs h = ap (λ (n : ℕ). insert (x ∷ xs) n k) (cond-false (comes_before k.kind k.r x) _ _ h)
 
 -- what holds of each, and of one more
-put_all : (P : Kept → Type 0) (k : Kept) (ks : List Kept) → P k → AllByRecursion P ks → AllByRecursion P (put_in k ks)
+pub put_all : (P : Kept → Type 0) (k : Kept) (ks : List Kept) → P k → AllByRecursion P ks → AllByRecursion P (put_in k ks)
 put_all P k [] p h = (p, tt)
 put_all P k (x ∷ xs) p h = go (comes_before k.kind k.r x) refl (put_all P k xs p h.1) where
   go : (t : Bool) → comes_before k.kind k.r x ≡ t → AllByRecursion P (put_in k xs) → AllByRecursion P (put_in k (x ∷ xs))
@@ -94,7 +94,7 @@ leaves kind r k ks n = (put_others kind r k ks n, drop_others kind r k ks n)
 
 -- ---- both keep the order
 
-drop_all : (P : Kept → Type 0) (kind : TimerKind) (r : ℕ) (ks : List Kept) → AllByRecursion P ks → AllByRecursion P (without kind r ks)
+pub drop_all : (P : Kept → Type 0) (kind : TimerKind) (r : ℕ) (ks : List Kept) → AllByRecursion P ks → AllByRecursion P (without kind r ks)
 drop_all P kind r [] h = tt
 drop_all P kind r (x ∷ xs) h = go (is_under kind r x) (drop_all P kind r xs h.1) where
   go : (t : Bool) → AllByRecursion P (without kind r xs) → AllByRecursion P (cond (not t) (x ∷ without kind r xs) (without kind r xs))

@@ -1,9 +1,10 @@
 -- What is held of each connection.
-use Rattle.std.specs.Prelude.{◌≡◌, ℕ, List, [], ◌∷◌, Option, Some, None, is_some, if◌then◌else◌}
+use Rattle.std.specs.Prelude.{◌≡◌, ℕ, ◌≤◌, List, [], ◌∷◌, length, Option, Some, None, is_some, if◌then◌else◌}
 use Rattle.std.specs.FinMap.{FinMap, get, insert}
 use Rattle.std.specs.FinMap as map
-use Rattle.std.specs.List.{find}
+use Rattle.std.specs.List.{AllByRecursion, find}
 use Rattle.std.specs.Ordering.{nat_cmp}
+use Rattle.lard_base.specs.declared.limits.TheConstants.{MAX_MESSAGE_BYTES}
 use Rattle.lard_base.specs.declared.place.Place.{Place}
 use Rattle.lard_base.specs.declared.place.TimerKind.{TimerKind}
 use Rattle.lard_resend.specs.declared.kept.Kept.{Kept}
@@ -16,9 +17,14 @@ list_of (Some ks) = ks
 abbrev pub held : FinMap nat_cmp (List Kept) → ℕ → List Kept
 held m c = list_of (get m c)
 
--- what holds of all that is held: each connection's messages stand in order, and there is one
+-- messages that fit packets
+abbrev pub AreFit : List Kept → Type 0
+AreFit ks = AllByRecursion (λ k. length k.bytes ≤ MAX_MESSAGE_BYTES) ks
+
+-- what holds of all that is held: each connection's messages stand in order and fit packets, and there is one
 pub record AreHeld (m : FinMap nat_cmp (List Kept)) : Type 0 where
   pub ordered : (c : ℕ) → AreInOrder (held m c)
+  pub fit : (c : ℕ) → AreFit (held m c)
   pub some : (c : ℕ) → get m c ≡ Some [] → ⊥
 
 -- what is held of a connection under a kind and a number

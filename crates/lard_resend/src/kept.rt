@@ -26,7 +26,7 @@ pub struct Kept {
 }
 
 /// The place of a kind in the order of kinds.
-fn rank(kind: TimerKind) -> u8
+pub fn rank(kind: TimerKind) -> u8
     ensures { result ≡ rank kind }
 {
     match kind {

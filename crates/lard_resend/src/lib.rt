@@ -10,5 +10,5 @@ mod pending;
 #[cfg(test)]
 mod tests;
 
-pub use kept::{Kept, PendingKey};
+pub use kept::{Kept, PendingKey, rank};
 pub use pending::Pending;

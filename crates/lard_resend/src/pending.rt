@@ -1,10 +1,11 @@
 //! What awaits an answer, by connection.
 
-ghost use Rattle.std.specs.Prelude.{◌≡◌, Some, None, false, is_some, IsSome, [], ◌∷◌, OnOk, OnErr, option_copied, option_map};
+ghost use Rattle.std.specs.Prelude.{◌≡◌, Some, None, false, is_some, IsSome, [], ◌∷◌, ◌≤◌, length, OnOk, OnErr, option_copied, option_map};
 ghost use Rattle.std.specs.FinMap as map;
 ghost use Rattle.std.specs.List.{find};
+ghost use Rattle.lard_base.specs.declared.limits.TheConstants.{MAX_MESSAGE_BYTES};
 ghost use Rattle.lard_resend.specs.Kept.{is_under, put_in, without, AreInOrder};
-ghost use Rattle.lard_resend.specs.Pending.{held, holding, put_list, renewed, sent_of, settled, under};
+ghost use Rattle.lard_resend.specs.Pending.{AreFit, held, holding, put_list, renewed, sent_of, settled, under};
 
 use crate::kept::{Kept, PendingKey, found, is_under, place_of};
 use lard_base::{Bytes, ConnId, Items, NoMemory, Place, TimerKind};
@@ -50,9 +51,11 @@ impl Pending {
         }
     }
 
-    /// Holds a message that was sent to this place. Without memory nothing changes. Nothing is held under the key.
+    /// Holds a message that was sent to this place. Without memory nothing changes. Nothing is held under the key, and the
+    /// message fits a packet.
     pub fn hold(&mut self, key: PendingKey, to: Place, bytes: Bytes) -> Result<(), NoMemory>
-        requires { is_some (under self.old key.c key.kind key.r) ≡ false }
+        requires fresh { is_some (under self.old key.c key.kind key.r) ≡ false }
+        requires fits { length bytes ≤ MAX_MESSAGE_BYTES }
         ensures ok { OnOk result (self.new ≡ holding self.old key.c (record { kind = key.kind; r = key.r; to = to; bytes = bytes })) }
         ensures err { OnErr result (self.new ≡ self.old) }
     {
@@ -65,10 +68,11 @@ impl Pending {
         add(&mut self.all, self.alloc, key.c.number(), kept)
     }
 
-    /// Holds a message that was sent to this place, in place of what is held under the key. Without memory nothing is held
-    /// under it any longer.
+    /// Holds a message that was sent to this place, in place of what is held under the key. It fits a packet. Without
+    /// memory nothing is held under the key any longer.
     #[tactic(auto, using(crate::proofs::Renewed::none_left))]
     pub fn renew(&mut self, key: PendingKey, to: Place, bytes: Bytes) -> Result<(), NoMemory>
+        requires { length bytes ≤ MAX_MESSAGE_BYTES }
         ensures ok { OnOk result (self.new ≡ renewed self.old key.c (record { kind = key.kind; r = key.r; to = to; bytes = bytes })) }
         ensures err { OnErr result (self.new ≡ settled self.old key.c key.kind key.r) }
     {
@@ -117,6 +121,7 @@ impl Pending {
     pub fn of(&self, c: ConnId) -> &[Kept]
         ensures value { result.now ≡ held self.now c }
         ensures order { AreInOrder result.now }
+        ensures fit { AreFit result.now }
     {
         match self.all.get(c.number()) {
             Some(list) => list.as_slice(),

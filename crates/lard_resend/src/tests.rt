@@ -1,6 +1,7 @@
 //! Each call once, with ample memory.
 
 use super::*;
+use lard_base::limits::MAX_MESSAGE_BYTES;
 use lard_base::{Bytes, ConnId, NodeId, Place, TimerKind};
 use std::process::Abort;
 use std::test::Fail;
@@ -24,10 +25,18 @@ fn sole(c: ConnId, kind: TimerKind) -> PendingKey {
 
 /// Holds a message, where nothing is held under its key, and answers whether there was memory for it.
 fn hold(pending: &mut Pending, key: PendingKey, to: Place, bytes: Bytes) -> bool {
-    if pending.holds(&key) {
+    if pending.holds(&key) || bytes.len() > MAX_MESSAGE_BYTES {
         return false;
     }
     pending.hold(key, to, bytes).is_ok()
+}
+
+/// Holds a message in place of what is held under its key, and answers whether there was memory for it.
+fn renew(pending: &mut Pending, key: PendingKey, to: Place, bytes: Bytes) -> bool {
+    if bytes.len() > MAX_MESSAGE_BYTES {
+        return false;
+    }
+    pending.renew(key, to, bytes).is_ok()
 }
 
 /// The numbers of what is held of a connection, in order.
@@ -51,6 +60,9 @@ fn what_is_held_is_found_in_order(rt: HostRuntime) -> Result<(), Fail> {
     let three = Bytes::from_slice(rt.alloc(), b"three")
         .ok()
         .ok_or("memory")?;
+    let older = Bytes::from_slice(rt.alloc(), b"older")
+        .ok()
+        .ok_or("memory")?;
     let asked = Bytes::from_slice(rt.alloc(), b"asked")
         .ok()
         .ok_or("memory")?;
@@ -59,7 +71,8 @@ fn what_is_held_is_found_in_order(rt: HostRuntime) -> Result<(), Fail> {
         .ok_or("memory")?;
     let mut pending = Pending::new(rt.alloc());
     let kept = hold(&mut pending, fetch(one, 7), node, seven)
-        && hold(&mut pending, fetch(one, 3), node, three)
+        && hold(&mut pending, fetch(one, 3), Place::Front, older)
+        && renew(&mut pending, fetch(one, 3), node, three)
         && hold(&mut pending, sole(one, TimerKind::Ask), Place::Front, asked)
         && hold(&mut pending, sole(two, TimerKind::Offer), node, offered);
     let order = numbers(&pending, one);

@@ -1,6 +1,6 @@
 //! How a place answers the requests of a connection.
 
-ghost use Rattle.std.specs.Prelude.{◌≡◌, ◌+◌, ◌^◌, ◌≤◌, ◌<◌, false, [], ◌∷◌, ◌++◌, length, IfOk, IfSome, IsTrue, OnOk, Some, true, if◌then◌else◌};
+ghost use Rattle.std.specs.Prelude.{◌≡◌, ◌+◌, ◌-◌, ◌^◌, ◌≤◌, ◌<◌, false, [], ◌∷◌, ◌++◌, length, IfOk, IfSome, IsTrue, OnOk, Some, true, if◌then◌else◌};
 ghost use Rattle.std.specs.Option.{option_copied};
 ghost use Rattle.lard_answers.specs.Answers.{answer, answer_code, found};
 ghost use Rattle.lard_base.specs.declared.limits.TheConstants.{MAX_STREAM_BYTES};
@@ -127,7 +127,7 @@ fn note(
     length: u32,
     via: Via,
 ) -> Result<(), NoMemory>
-    requires count { service.old.count < 2 ^ 31 }
+    requires count { service.old.count < 2 ^ 32 - 1 }
     requires answered { service.old.answered + length < 2 ^ 32 }
     ensures { OnOk result (service.new ≡ record service.old {
       count = service.old.count + 1;

@@ -9,4 +9,4 @@ invariant_of-self c =
     held_or_same c.self.inside.all c.add.new.all c.number.result (record { kind = c.args.key.kind; r = c.args.key.r; to = c.args.to; bytes = c.args.bytes })
     c.add.result c.add.ensures.ok c.add.ensures.err c.self.invariant
     (subst (λ (m : Held). is_some (under m c.number.result c.args.key.kind c.args.key.r) ≡ false) (sym c.self.view_is)
-    (subst (λ (n : ℕ). is_some (under c.args.self.now n c.args.key.kind c.args.key.r) ≡ false) (sym c.number.ensures.value) c.requires))
+    (subst (λ (n : ℕ). is_some (under c.args.self.now n c.args.key.kind c.args.key.r) ≡ false) (sym c.number.ensures.value) c.requires.fresh)) c.requires.fits

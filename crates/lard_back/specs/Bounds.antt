@@ -1,0 +1,41 @@
+-- What bounds that which a node sends.
+use Rattle.std.specs.Prelude.{ℕ, ◌≤◌, ◌^◌, List, [], ◌∷◌, length, Option, Some, None}
+use Rattle.std.specs.List.{AllByRecursion}
+use Rattle.lard_base.specs.declared.limits.TheConstants.{MAX_MESSAGE_BYTES, MAX_STREAM_BYTES}
+use Rattle.lard_base.specs.declared.place.Place.{Place}
+use Rattle.lard_back.specs.declared.hand.Rest.{Rest}
+use Rattle.lard_back.specs.declared.hand.Rested.{Rested}
+use Rattle.lard_back.specs.declared.hand.Rested.TheVariants.{Here, Over}
+use Rattle.lard_message.specs.declared.message.Body.TheVariants as body
+use Rattle.lard_message.specs.Message.{IsCount, IsOfTable, IsPath}
+use Rattle.lard_node_rules.specs.declared.stay.Asked.{Asked}
+use Rattle.lard_node_rules.specs.declared.stay.Want.{Want}
+use Rattle.lard_node_rules.specs.Node.{count_of}
+use Rattle.lard_rules.specs.declared.front.Out.{Out}
+use Rattle.lard_rules.specs.Speaking.{AreShort}
+
+-- messages that fit packets
+abbrev pub AreMessages : List (Place × List ℕ) → Type 0
+AreMessages [] = Unit {0}
+AreMessages (m ∷ ms) = (length m.1 ≤ MAX_MESSAGE_BYTES) × AreMessages ms
+
+-- an Ask that has a spelling
+abbrev pub IsAsk : Option Asked → Type 0
+IsAsk None = Unit {0}
+IsAsk (Some a) = IsOfTable (body.Ask a.number a.queue a.size a.paths)
+
+abbrev pub AreWants : List Want → Type 0
+AreWants ws = AllByRecursion (λ w. IsPath w.path) ws
+
+-- so many bytes may be told of the end
+abbrev pub MayTell : Rested → Option ℕ → Type 0
+MayTell (Here count) over = Unit {0}
+MayTell (Over last) over = IsCount last.reason (count_of over)
+
+-- what a node does in a step: its segments fit packets between it and a client and can be numbered, its messages fit those between
+-- machines, and its responses can be counted
+pub record IsNodeOut (o : Out) : Type 0 where
+  pub short : AreShort o.segments
+  pub few : length o.segments ≤ 2 ^ 31
+  pub counted : o.answered ≤ MAX_STREAM_BYTES
+  pub messages : AreMessages o.messages
