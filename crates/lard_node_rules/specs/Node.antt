@@ -1,13 +1,11 @@
 -- The rules of a node, each over what it keeps of one connection.
-use Rattle.std.specs.Prelude.{ℕ, ◌+◌, Bool, true, false, ◌==◌, ◌&&◌, not, if◌then◌else◌, List, [], ◌∷◌, ◌++◌, length, map, Option, Some, None, is_some, Result, Ok, Err}
+use Rattle.std.specs.Prelude.{ℕ, Bool, true, false, ◌==◌, ◌&&◌, not, if◌then◌else◌, List, [], ◌∷◌, ◌++◌, length, map, Option, Some, None, is_some, Result, Ok, Err}
 use Rattle.std.specs.List.{find, list_any}
 use Rattle.lard_base.specs.declared.parts.EndpointParts.{EndpointParts}
 use Rattle.lard_base.specs.declared.place.Place.{Place}
 use Rattle.lard_base.specs.declared.place.Place.TheVariants as place
-use Rattle.lard_base.specs.declared.place.Reason.TheVariants.{Limit}
 use Rattle.lard_base.specs.declared.place.TimerKind.{TimerKind}
 use Rattle.lard_base.specs.declared.place.TimerKind.TheVariants as kind
-use Rattle.lard_disk.specs.declared.disk.Job.{Job}
 use Rattle.lard_endpoint.specs.declared.control.moving.Final.{Final}
 use Rattle.lard_endpoint.specs.Arriving.{on_segment}
 use Rattle.lard_endpoint.specs.Control.{ControlBlock}
@@ -17,13 +15,12 @@ use Rattle.lard_handoff_back.specs.declared.row.BackConn.TheVariants as stage
 use Rattle.lard_handoff_back.specs.declared.row.BackRow.{BackRow}
 use Rattle.lard_handoff_back.specs.declared.table.Adopt.{Adopt}
 use Rattle.lard_handoff_back.specs.declared.table.Adopt.TheVariants.{New, Again, Stale}
-use Rattle.lard_handoff_back.specs.Back.{awaits_ack, endpoint_of, offer_answer, stay_of, staying}
+use Rattle.lard_handoff_back.specs.Back.{awaits_ack, endpoint_of, offer_answer, staying}
 use Rattle.lard_journal.specs.declared.rec.Rec.{Rec}
 use Rattle.lard_journal.specs.declared.rec.Rec.TheVariants as rec
 use Rattle.lard_lateral.specs.Lateral.{fetch_kept, is_from}
 use Rattle.lard_message.specs.declared.message.Body.{Body}
 use Rattle.lard_message.specs.declared.message.Body.TheVariants as body
-use Rattle.lard_message.specs.declared.message.Message.{Message}
 use Rattle.lard_message.specs.Message.{spelled_message}
 use Rattle.lard_node_rules.specs.declared.node.NodeTurn.{NodeTurn}
 use Rattle.lard_node_rules.specs.declared.stay.Asked.{Asked}

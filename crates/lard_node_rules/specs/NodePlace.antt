@@ -1,6 +1,6 @@
 -- A node's step: it looks up what it keeps of the connection, does the rule of what came, puts it back, and tells its cache and its
 -- disk what the rule did.
-use Rattle.std.specs.Prelude.{ℕ, Bool, true, false, ◌==◌, if◌then◌else◌, List, [], ◌∷◌, ◌++◌, length, Option, Some, None, Result, Ok, Err}
+use Rattle.std.specs.Prelude.{ℕ, ◌==◌, if◌then◌else◌, List, [], ◌∷◌, ◌++◌, length, Option, Some, None, Result, Ok, Err}
 use Rattle.std.specs.FinMap as table
 use Rattle.std.specs.List.{flat_map, fold, list_any}
 use Rattle.lard_answers.specs.Answers.{FilesAt}

@@ -1,7 +1,6 @@
 -- How the requests of a stay are read, started and served: what a node has in hand of one connection, turn by turn.
-use Rattle.std.specs.Prelude.{ℕ, suc, ◌+◌, ◌-◌, ◌*◌, nat_lt, Bool, true, false, ◌==◌, if◌then◌else◌, List, [], ◌∷◌, ◌++◌, length, Option, Some, None}
+use Rattle.std.specs.Prelude.{ℕ, zero, suc, ◌+◌, ◌-◌, ◌*◌, nat_lt, Bool, true, false, ◌==◌, if◌then◌else◌, List, [], ◌∷◌, ◌++◌, length, Option, Some, None}
 use Rattle.lard_answers.specs.Answers.{FilesAt, good_path}
-use Rattle.lard_base.specs.declared.place.Via.{Via}
 use Rattle.lard_base.specs.declared.place.Via.TheVariants as via
 use Rattle.lard_disk.specs.declared.disk.Job.{Job}
 use Rattle.lard_journal.specs.declared.rec.Rec.{Rec}
@@ -51,7 +50,7 @@ started_here env r path v w =
     if env.cached path
     then entered (record { verdict = v; progress = Ready via.Cache }) (record w { service = noted (rec.Hit env.n path ∷ []) w.service })
     else entered (record { verdict = v; progress = Reading })
-        (record w { service = noted (rec.Queued env.n env.n env.serve.c r path ∷ []) w.service; jobs = w.jobs ++ record { origin = env.n; c = env.serve.c; epoch = record { 0 = env.epoch }; r = r; path = path } ∷ [] })
+    (record w { service = noted (rec.Queued env.n env.n env.serve.c r path ∷ []) w.service; jobs = w.jobs ++ record { origin = env.n; c = env.serve.c; epoch = record { 0 = env.epoch }; r = r; path = path } ∷ [] })
 
 -- At another node: its content is to be fetched from there.
 abbrev pub started_there : ℕ → ℕ → List ℕ → Verdict → Work → Work
@@ -203,7 +202,7 @@ come_progress from (Ready way) = Ready way
 -- the i-th request of the batch comes so far, if there is one
 abbrev pub come_on : (Progress → Progress) → ℕ → List Entry → List Entry
 come_on f i [] = []
-come_on f 0 (e ∷ es) = record e { progress = f e.progress } ∷ es
+come_on f zero (e ∷ es) = record e { progress = f e.progress } ∷ es
 come_on f (suc i) (e ∷ es) = e ∷ come_on f i es
 
 -- the request of this number, if it is in the batch

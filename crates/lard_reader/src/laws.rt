@@ -1,6 +1,6 @@
 //! What holds of each batch.
 
-ghost use Rattle.std.specs.Prelude.{◌≡◌, ◌<◌, ℕ, false, true, List, ◌++◌, map, length, take, drop};
+ghost use Rattle.std.specs.Prelude.{◌≡◌, ◌<◌, ◌≤◌, ℕ, false, true, List, ◌++◌, map, length, take, drop};
 ghost use Rattle.lard_block.specs.Blocks.{cut_of, Cuts};
 ghost use Rattle.lard_answers.specs.Answers.{FilesAt, answer, answers, verdicts_on, verdicts, closes_any};
 ghost use Rattle.lard_reader.specs.Batches.{batch_of, bytes_used, batch_pieces, has_long};
@@ -22,3 +22,9 @@ pub fn what_a_batch_uses_is_cut()
 {
     what_is_taken_is_cut();
 }
+
+/// A batch uses a byte at least for each of its verdicts, and no more bytes than there are.
+pub fn each_verdict_uses_a_byte()
+    ensures each { (n : ℕ) (q : List ℕ) → length (batch_of n q) ≤ bytes_used n q }
+    ensures within { (n : ℕ) (q : List ℕ) → bytes_used n q ≤ length q }
+{}

@@ -3,6 +3,7 @@ pub mod Halves
 pub mod Loops
 pub mod Packets
 pub mod Reading
+pub mod Runs
 pub mod Saying
 pub mod Seats
 pub mod Serving
