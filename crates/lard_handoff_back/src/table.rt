@@ -1,6 +1,6 @@
 //! The table of a node's connections.
 
-ghost use Rattle.std.specs.Prelude.{◌≡◌, Some, None, true, is_some, IsSome, IfOk, OnOk, OnErr, OnSome, option_map};
+ghost use Rattle.std.specs.Prelude.{◌≡◌, Some, None, true, is_some, IsSome, IfOk, OnOk, OnErr, OnSome, option_copied, option_map};
 ghost use Rattle.std.specs.FinMap as map;
 ghost use Rattle.lard_base.specs.Parts.{IsValidParts};
 ghost use Rattle.lard_base.specs.declared.place.Reason.TheVariants.{Limit};
@@ -104,6 +104,21 @@ impl BackTable {
         ensures { self.new ≡ with_stage self.old c (stage.Here endpoint) (map.get self.old c) }
     {
         set_stage(&mut self.conns, c.number(), BackConn::Here(endpoint)).spend();
+    }
+
+    /// Ends a connection that is out, whose endpoint has ended. EndedAck is awaited then.
+    pub fn close(&mut self, c: ConnId)
+        requires { may_put (map.get self.old c) ≡ true }
+        ensures { self.new ≡ with_stage self.old c stage.Ended (map.get self.old c) }
+    {
+        set_stage(&mut self.conns, c.number(), BackConn::Ended).spend();
+    }
+
+    /// What is kept of a connection, lent, where something is.
+    pub fn row(&self, c: ConnId) -> Option<&BackRow>
+        ensures { option_copied result ≡ map.get self.now c }
+    {
+        self.conns.get(c.number())
     }
 
     /// The epoch of an endpoint that is here.

@@ -65,6 +65,20 @@ fn reset(table: &mut BackTable, c: &ConnId, epoch: Epoch) -> bool {
     true
 }
 
+/// Resets the connection that is here with this epoch, ends its endpoint, and answers whether none is kept then.
+fn close(table: &mut BackTable, c: &ConnId, epoch: Epoch) -> bool {
+    let Some(mut endpoint) = table.take(*c, epoch) else {
+        return false;
+    };
+    let _arrival = endpoint.arrive(&RESET);
+    let _last = endpoint.kill();
+    table.close(*c);
+    match table.row(*c) {
+        Some(row) => row.epoch == epoch && row.stage.is_ended(),
+        None => false,
+    }
+}
+
 /// Ends the connection that is here, since it passed the limit, and answers its last numbers.
 fn kill(table: &mut BackTable, c: &ConnId) -> Option<Final> {
     if table.epoch(*c).is_none() {
@@ -101,6 +115,12 @@ fn a_connection_stays_once_for_each_epoch(rt: HostRuntime) -> Result<(), Fail> {
         reset(&mut table, &c, Epoch(4)),
         table.give(c),
         table.give(c),
+    );
+    let closed = (
+        table.on_ended_ack(c, Epoch(4)),
+        offered(&mut table, alloc, &c, Epoch(6), &parts),
+        close(&mut table, &c, Epoch(6)),
+        table.on_ended_ack(c, Epoch(6)),
     );
     table.finish();
     assert_eq!(rt;
@@ -146,5 +166,6 @@ fn a_connection_stays_once_for_each_epoch(rt: HostRuntime) -> Result<(), Fail> {
             None
         )
     );
+    assert_eq!(rt; closed, (true, Some(Adopt::New), true, true));
     Ok(())
 }

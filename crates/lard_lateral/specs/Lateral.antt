@@ -9,7 +9,7 @@ use Rattle.lard_message.specs.declared.message.Body.TheVariants as body
 use Rattle.lard_message.specs.declared.message.Message.{Message}
 use Rattle.lard_message.specs.Message.{spelled_message}
 use Rattle.lard_resend.specs.declared.kept.Kept.{Kept}
-use Rattle.lard_resend.specs.Pending.{holding, settled, under}
+use Rattle.lard_resend.specs.Pending.{renewed, settled, under}
 
 -- the Fetch of a request
 abbrev pub fetching : ℕ → ℕ → ℕ → List ℕ → Message
@@ -19,9 +19,9 @@ fetching c epoch r path = record { c = c; epoch = record { 0 = epoch }; body = b
 abbrev pub fetch_kept : ℕ → ℕ → ℕ → ℕ → List ℕ → Kept
 fetch_kept c epoch r node path = record { kind = kind.Fetch; r = r; to = Node node; bytes = spelled_message (fetching c epoch r path) }
 
--- one content more is awaited
+-- the content of a request is awaited from this node, and from no other
 abbrev pub wanting : FinMap nat_cmp (List Kept) → ℕ → ℕ → ℕ → ℕ → List ℕ → FinMap nat_cmp (List Kept)
-wanting m c epoch r node path = holding m c (fetch_kept c epoch r node path)
+wanting m c epoch r node path = renewed m c (fetch_kept c epoch r node path)
 
 abbrev pub is_node : Place → ℕ → Bool
 is_node (Node n) from = n == from

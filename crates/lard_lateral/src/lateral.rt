@@ -1,11 +1,11 @@
 //! Which contents are awaited.
 
-ghost use Rattle.std.specs.Prelude.{◌≡◌, ◌≤◌, length, Some, false, is_some, IfOk, OnOk, OnErr};
+ghost use Rattle.std.specs.Prelude.{◌≡◌, ◌≤◌, length, Some, is_some, IfOk, OnOk, OnErr};
 ghost use Rattle.std.specs.FinMap as map;
-ghost use Rattle.lard_base.specs.declared.limits.TheConstants.{MAX_PATH_BYTES};
+ghost use Rattle.lard_base.specs.declared.limits.TheConstants.{MAX_MESSAGE_BYTES, MAX_PATH_BYTES};
 ghost use Rattle.lard_base.specs.declared.place.TimerKind.TheVariants as kind;
 ghost use Rattle.lard_message.specs.Message.{spelled_message};
-ghost use Rattle.lard_resend.specs.Pending.{held, under};
+ghost use Rattle.lard_resend.specs.Pending.{held, settled, under};
 ghost use Rattle.lard_lateral.specs.Lateral.{fetching, wanting, is_awaited, is_from, is_node, names_epoch, after_content};
 
 use lard_base::{Bytes, ConnId, Epoch, NoMemory, NodeId, Path, Place, TimerKind};
@@ -45,8 +45,9 @@ impl Lateral {
         }
     }
 
-    /// Awaits the content of request `r` from the node, and answers the Fetch that asks for it. Without memory nothing
-    /// changes. The path has 1 to 1,024 bytes, and no content of that request is awaited yet.
+    /// Awaits the content of request `r` from the node, and from no other any longer, and answers the Fetch that asks for it.
+    /// Without memory no content of that request is awaited any longer. The path has 1 to 1,024 bytes.
+    #[tactic(auto, using(lard_resend::proofs::Renewed::none_left))]
     pub fn want(
         &mut self,
         alloc: Global,
@@ -58,19 +59,17 @@ impl Lateral {
     ) -> Result<Bytes, NoMemory>
         requires some_path { 1 ≤ length path.now }
         requires short_path { length path.now ≤ MAX_PATH_BYTES }
-        requires fresh { is_some (under self.old c kind.Fetch r) ≡ false }
         ensures bytes { IfOk result (λ bytes. bytes ≡ spelled_message (fetching c epoch.0 r path.now)) }
         ensures ok { OnOk result (self.new ≡ wanting self.old c epoch.0 r node path.now) }
-        ensures err { OnErr result (self.new ≡ self.old) }
+        ensures size { IfOk result (λ bytes. length bytes ≤ MAX_MESSAGE_BYTES) }
+        ensures err { OnErr result (self.new ≡ settled self.old c kind.Fetch r) }
     {
+        let kind = TimerKind::Fetch;
+        let _ = self.fetches.settle(PendingKey { c, kind, r });
         let bytes = fetch(alloc, &c, epoch, r, path)?;
         let kept = bytes.copy(alloc)?;
-        let key = PendingKey {
-            c,
-            kind: TimerKind::Fetch,
-            r,
-        };
-        self.fetches.hold(key, Place::Node(node), kept)?;
+        self.fetches
+            .hold(PendingKey { c, kind, r }, Place::Node(node), kept)?;
         Ok(bytes)
     }
 
@@ -164,7 +163,8 @@ fn names_epoch(bytes: &[u8], epoch: u16) -> bool
 fn fetch(alloc: Global, c: &ConnId, epoch: Epoch, r: u32, path: &Path) -> Result<Bytes, NoMemory>
     requires some_path { 1 ≤ length path.now }
     requires short_path { length path.now ≤ MAX_PATH_BYTES }
-    ensures { IfOk result (λ bytes. bytes ≡ spelled_message (fetching c.now epoch.0 r path.now)) }
+    ensures bytes { IfOk result (λ bytes. bytes ≡ spelled_message (fetching c.now epoch.0 r path.now)) }
+    ensures size { IfOk result (λ bytes. length bytes ≤ MAX_MESSAGE_BYTES) }
 {
     let path = path.copy(alloc)?;
     let message = Message {

@@ -10,20 +10,20 @@ fn node(rt: &impl Abort, number: u32) -> NodeId {
     NodeId::new(number).expect(rt, "the number of a node")
 }
 
-/// Wants the content of request `r` of a connection from node 2, in epoch 2, where it is not awaited yet.
+/// Wants the content of request `r` of a connection from this node, in epoch 2.
 fn want(
     lateral: &mut Lateral,
     alloc: Global,
     c: &ConnId,
     r: u32,
-    two: &NodeId,
+    node: &NodeId,
     path: &Path,
 ) -> Result<Bytes, NoMemory> {
     let len = path.as_slice().len();
-    if lateral.wants(*c, r) || len == 0 || len > 1024 {
+    if len == 0 || len > 1024 {
         return Err(NoMemory);
     }
-    lateral.want(alloc, *c, Epoch(2), r, *two, path)
+    lateral.want(alloc, *c, Epoch(2), r, *node, path)
 }
 
 #[test]
@@ -34,6 +34,7 @@ fn awaited_contents_alone_settle(rt: HostRuntime) -> Result<(), Fail> {
     let three = node(&rt, 3);
     let path = Path::from_slice(alloc, b"/b").ok().ok_or("memory")?;
     let mut lateral = Lateral::new(alloc);
+    let elsewhere = want(&mut lateral, alloc, &c, 2, &three, &path);
     let first = want(&mut lateral, alloc, &c, 2, &two, &path);
     let second = want(&mut lateral, alloc, &c, 7, &two, &path);
     let again = match lateral.of(c) {
@@ -57,6 +58,7 @@ fn awaited_contents_alone_settle(rt: HostRuntime) -> Result<(), Fail> {
         first.as_slice(),
         b"\x01\x07\x00\x03\x00\x02\x00\x00\x00\x08\x00\x00\x00\x02\x00\x02/b".as_slice()
     );
+    assert!(rt; elsewhere.is_ok());
     assert!(rt; second.is_ok());
     assert!(rt; again);
     assert_eq!(rt; came, (false, false, false, true, false));

@@ -14,16 +14,19 @@ use Rattle.lard_endpoint.specs.Control.{ControlBlock, listening}
 use Rattle.lard_endpoint.specs.Leaving.{emits_left, timed, after_timer, filled}
 use Rattle.lard_endpoint.specs.Moving.{is_closed, may_end, end_reason, final_of}
 use Rattle.lard_journal.specs.declared.rec.Rec.TheVariants as rec
-use Rattle.lard_laws_bytes.specs.Agreement.{AreReplies, EndedAs, EndedIt, FrontAgrees, HasRead, HasStopped, HoldsIt, IsReply, SaysAnswers}
-use Rattle.lard_laws_bytes.specs.Keeping.{FrontTurned, FrontHearsTruth, FrontTimerIsTrue, IsEnv, resets}
+use Rattle.lard_laws_bytes.specs.Agreement.{AreReplies, EndAgrees, EndedAs, EndedIt, FrontAgrees, HasRead, HasStopped, HoldsIt, IsReply, SaysAnswers}
+use Rattle.lard_laws_bytes.specs.Keeping.{FrontTurned, FrontHearsTruth, FrontTimerIsTrue, IsEnv, ServingTurned, resets}
 use Rattle.lard_laws_bytes.proofs.FrontEndpoint.{IsBetween, between-sound, between-timed, between-arrived, between-begun, read-same, read-arrived, reset-leaves, same-finished}
 use Rattle.lard_laws_bytes.proofs.FrontSpeaking.{Spoke, awaits-within, emits-spoke, emits_symbols-spoke, timed-reply}
 use Rattle.lard_laws_bytes.proofs.Notes.{or-false}
 use Rattle.lard_laws_bytes.proofs.Reading.{Goes, IsReading, Serves, or-last, reads-goes}
 use Rattle.lard_laws_bytes.proofs.Serving.{noted-nothing}
 use Rattle.lard_laws_bytes.proofs.Stopping.{Stops, reads-stops, stopped-alike, stopped-arrived, stopped-begun}
+use Rattle.lard_rules.specs.declared.places.Ending.{Ending}
+use Rattle.lard_rules.specs.declared.places.Ending.TheVariants as ending
 use Rattle.lard_rules.specs.declared.places.Turn.{Turn}
-use Rattle.lard_rules.specs.Front.{FrontEnv, Service, begun, cut_off, front_gets, front_timer, heard, is_plain_syn, is_telling, last_ack, last_words, limit_said, met, ready_of, reads, refusal, settled, spoken, told, tombstone}
+use Rattle.lard_rules.specs.Front.{FrontEnv, at_front, begun, front_gets, front_timer, heard, is_plain_syn, is_telling, last_ack, last_words, met, reads, refusal, tombstone}
+use Rattle.lard_rules.specs.Serving.{ServeEnv, Service, cut_off, limit_said, ready_of, serving, settled, spoken, told}
 use Rattle.lard_rules.specs.Client.{silent}
 use Rattle.lard_rules.specs.Speaking.{speaks, speaks_symbols}
 use Rattle.lard_rules.specs.Seat.{Seat, Nowhere, AtFront, Away, Over}
@@ -67,11 +70,12 @@ stopped-heard b s calm same h n = go (on_segment b s).1.reset refl (on_segment b
   go false e true g m = stopped-arrived b s same h g
   go false e false g m = absurd (cc)
 
-module _ (env : FrontEnv) (w out : Stream) (vs : List Verdict) (was_reset : Bool) where
-  abbrev Turned : Seat × Turn → Type 0
-  Turned given = FrontTurned env.files env.c w out vs was_reset given
+-- a place that serves the connection
+module _ (env : ServeEnv) (w out : Stream) (vs : List Verdict) (was_reset : Bool) where
+  abbrev pub Ends : Ending × Turn → Type 0
+  Ends given = ServingTurned env.files env.c w out vs was_reset given
 
-  abbrev reset_in : Service → Bool
+  abbrev pub reset_in : Service → Bool
   reset_in s = was_reset || list_any resets s.notes
 
   between-unreset : (now : Stream) (b : ControlBlock) → IsBetween w now b → IsBetween w now (unreset b)
@@ -102,20 +106,20 @@ module _ (env : FrontEnv) (w out : Stream) (vs : List Verdict) (was_reset : Bool
       record { block = unreset b; count = count; held = holds; both = λ why. sym (ap (λ r. r || is_closed b) (closed-open b why)) ∙ may; is = refl }
 
   -- what goes out at the end of a turn, and how the connection is left
-  spoken-turned : (s : Service) (g : Serves env w out vs s) (before : List (Place × List ℕ)) → HasRead w s.block g.vs_now → HasStopped s.block
-      → AreReplies env.c w g.out_now (reset_in s) before → Turned (spoken env s before)
+  pub spoken-turned : (s : Service) (g : Serves env w out vs s) (before : List (Place × List ℕ)) → HasRead w s.block g.vs_now → HasStopped s.block
+      → AreReplies env.c w g.out_now (reset_in s) before → Ends (spoken env s before)
   spoken-turned s g before read stops replies =
       let r = reset_in s in
       let said = speaks env.c s.block in
       let talk : Spoke env.c w g.out_now r s.block said = emits-spoke env.c w g.out_now r (emits_left s.block) s.block g.between in
       let holds = still-holds s g r said talk read stops in
-      let P : Seat → Type 0 = λ f. FrontAgrees w g.out_now g.vs_now r f in
+      let P : Ending → Type 0 = λ e. EndAgrees w g.out_now g.vs_now r e in
       record {
         out_after = g.out_now;
         vs_after = g.vs_now;
         longer = g.longer;
         says = g.says;
-        agrees = cond_both (may_end said.1) (Over (final_of said.1 (end_reason said.1))) (AtFront said.1 s.count) P
+        agrees = cond_both (may_end said.1) (ending.Over (final_of said.1 (end_reason said.1))) (ending.Here said.1 s.count) P
             (λ may. ended-it g.out_now g.vs_now said.1 (end_reason said.1) r talk.between (λ e. absurd (not_limit said.1 e))
             (λ _. ended-as g.out_now g.vs_now said.1 s.count holds may))
             (λ e. subst (λ (d : ControlBlock). HoldsIt w g.out_now g.vs_now d s.count) (sym (unreset-same said.1 (or_parts said.1.reset (is_closed said.1) e).0)) holds);
@@ -132,7 +136,7 @@ module _ (env : FrontEnv) (w out : Stream) (vs : List Verdict) (was_reset : Bool
     resets = λ _. e;
   }
 
-  cut_off-turned : (s : Service) → Serves env w out vs s → list_any resets s.notes ≡ true → Turned (cut_off env s)
+  cut_off-turned : (s : Service) → Serves env w out vs s → list_any resets s.notes ≡ true → Ends (cut_off env s)
   cut_off-turned s g e =
       let r = reset_in s in
       let was : r ≡ true = or-last was_reset (list_any resets s.notes) e in
@@ -150,32 +154,14 @@ module _ (env : FrontEnv) (w out : Stream) (vs : List Verdict) (was_reset : Bool
       }
 
   -- the end of a turn that read until it stopped
-  settled-turned : (s : Service) → Goes env w out vs s → Stops s → Turned (settled env s)
+  pub settled-turned : (s : Service) → Goes env w out vs s → Stops s → Ends (settled env s)
   settled-turned s g stops = go s.over refl g.1 where
-    go : (o : Option ℕ) → s.over ≡ o → IsReading w g.0.vs_now s.block s.notes o → Turned (elim o [ None ↦ spoken env s [] | Some total ↦ cut_off env s ])
+    go : (o : Option ℕ) → s.over ≡ o → IsReading w g.0.vs_now s.block s.notes o → Ends (elim o [ None ↦ spoken env s [] | Some total ↦ cut_off env s ])
     go None e read = spoken-turned s g.0 [] read (stops e) tt
     go (Some total) e reset = cut_off-turned s g.0 reset
 
-  -- nothing is noted, and the streams stay
-  still-turned : (f : Seat) (segments : List (Place × List ℕ)) → SaysAnswers env.files w out vs → FrontAgrees w out vs was_reset f
-      → AreReplies env.c w out (was_reset || false) segments → Turned (f, record { notes = []; segments = segments; answered = 0 })
-  still-turned f segments says agrees sent = record {
-    out_after = out;
-    vs_after = vs;
-    longer = goes_on-same out;
-    says = says;
-    agrees = subst (λ (r : Bool). FrontAgrees w out vs r f) (or-false was_reset) agrees;
-    noted = noted-nothing env.files env.c w out vs;
-    sent = sent;
-  }
-
-  -- ---- an open connection
-
   -- the beginning of its turn
-  abbrev opening : ControlBlock → ℕ → Service
-  opening b count = record { block = b; count = count; notes = []; answered = 0; over = None }
-
-  turn-begins : (b : ControlBlock) (count : ℕ) → SaysAnswers env.files w out vs → count ≡ length vs → IsBetween w out b → HasRead w b vs → Goes env w out vs (opening b count)
+  pub turn-begins : (b : ControlBlock) (count : ℕ) → SaysAnswers env.files w out vs → count ≡ length vs → IsBetween w out b → HasRead w b vs → Goes env w out vs (serving b count [])
   turn-begins b count says counted between read = (
     record {
       out_now = out;
@@ -189,49 +175,79 @@ module _ (env : FrontEnv) (w out : Stream) (vs : List Verdict) (was_reset : Bool
     read,
   )
 
-  held-between : (b : ControlBlock) (count : ℕ) → HoldsIt w out vs b count → IsBetween w out b
+  pub held-between : (b : ControlBlock) (count : ℕ) → HoldsIt w out vs b count → IsBetween w out b
   held-between b count h = record { same_irs = h.sound.same_irs; speaks = h.speaks; out_is = h.out_is; hears = h.hears }
 
-  heard-turned : env.stream ≤ 2 ^ 30 → (b : ControlBlock) (count : ℕ) (s : Said) → IsStream w → SaysAnswers env.files w out vs → HoldsIt w out vs b count
-      → IsTrueOf w s → Turned (heard env (on_segment b s).1 count)
-  heard-turned most b count s is says h t =
-      let before = held-between b count h in
-      let after = between-arrived w out b before s is t in
-      let start = opening (on_segment b s).1 count in
-      let first = turn-begins (on_segment b s).1 count says h.counted after (read-arrived w out b vs s before after h.has_read) in
-      let stops = reads-stops env start (λ _ n. stopped-heard b s h.not_reset (same-finished w out b (on_segment b s).1 before after) h.stopped n) in
-      settled-turned (reads env start) (reads-goes env w out vs most (length (on_segment b s).1.recv.unread + 1) start first) stops
+-- ---- the front end
 
-  timer-turned : (b : ControlBlock) (count : ℕ) → SaysAnswers env.files w out vs → HoldsIt w out vs b count → Turned (front_timer env (AtFront b count))
+module _ (env : FrontEnv) (w out : Stream) (vs : List Verdict) (was_reset : Bool) where
+  abbrev Leaves : Seat × Turn → Type 0
+  Leaves given = FrontTurned env.serve.files env.serve.c w out vs was_reset given
+
+  -- where a turn leaves the connection, the front end has it
+  ends-leave : (given : Ending × Turn) → Ends env.serve w out vs was_reset given → Leaves (at_front given)
+  ends-leave given h = go given.0 h where
+    go : (e : Ending) → Ends env.serve w out vs was_reset (e, given.1) → Leaves (at_front (e, given.1))
+    go (ending.Here b count) h = h
+    go (ending.Over last) h = h
+
+  -- nothing is noted, and the streams stay
+  still-turned : (f : Seat) (segments : List (Place × List ℕ)) → SaysAnswers env.serve.files w out vs → FrontAgrees w out vs was_reset f
+      → AreReplies env.serve.c w out (was_reset || false) segments → Leaves (f, record { notes = []; segments = segments; answered = 0 })
+  still-turned f segments says agrees sent = record {
+    out_after = out;
+    vs_after = vs;
+    longer = goes_on-same out;
+    says = says;
+    agrees = subst (λ (r : Bool). FrontAgrees w out vs r f) (or-false was_reset) agrees;
+    noted = noted-nothing env.serve.files env.serve.c w out vs;
+    sent = sent;
+  }
+
+  -- ---- an open connection
+
+  heard-turned : env.serve.stream ≤ 2 ^ 30 → (b : ControlBlock) (count : ℕ) (s : Said) → IsStream w → SaysAnswers env.serve.files w out vs → HoldsIt w out vs b count
+      → IsTrueOf w s → Leaves (heard env.serve (on_segment b s).1 count)
+  heard-turned most b count s is says h t =
+      let before = held-between env.serve w out vs was_reset b count h in
+      let after = between-arrived w out b before s is t in
+      let start : Service = serving (on_segment b s).1 count [] in
+      let first = turn-begins env.serve w out vs was_reset (on_segment b s).1 count says h.counted after (read-arrived w out b vs s before after h.has_read) in
+      let stops = reads-stops env.serve start (λ _ n. stopped-heard b s h.not_reset (same-finished w out b (on_segment b s).1 before after) h.stopped n) in
+      ends-leave (settled env.serve (reads env.serve start)) (settled-turned env.serve w out vs was_reset (reads env.serve start) (reads-goes env.serve w out vs most (length (on_segment b s).1.recv.unread + 1) start first) stops)
+
+  timer-turned : (b : ControlBlock) (count : ℕ) → SaysAnswers env.serve.files w out vs → HoldsIt w out vs b count → Leaves (front_timer env (AtFront b count))
   unfolding turn-begins
   timer-turned b count says h =
-      let before = held-between b count h in
+      let before = held-between env.serve w out vs was_reset b count h in
       let after = between-timed w out b before in
       let read = read-same w out b (after_timer b) vs before after (timer-left b out.bytes h.speaks).2 h.has_read in
-      let first = turn-begins (after_timer b) count says h.counted after read in
+      let first = turn-begins env.serve w out vs was_reset (after_timer b) count says h.counted after read in
       let stopped = stopped-alike b (after_timer b) (timer-left b out.bytes h.speaks).2 (same-finished w out b (after_timer b) before after) h.stopped in
-      spoken-turned (opening (after_timer b) count) first.0 (ready_of env (after_timer b) (timed b)) first.1 stopped (replies (timed b) refl)
+      ends-leave (spoken env.serve (serving (after_timer b) count []) (ready_of env.serve (after_timer b) (timed b)))
+      (spoken-turned env.serve w out vs was_reset (serving (after_timer b) count []) first.0 (ready_of env.serve (after_timer b) (timed b)) first.1 stopped (replies (timed b) refl))
     where
-      replies : (o : Option Ready) → timed b ≡ o → AreReplies env.c w out (was_reset || false) (ready_of env (after_timer b) o)
+      replies : (o : Option Ready) → timed b ≡ o → AreReplies env.serve.c w out (was_reset || false) (ready_of env.serve (after_timer b) o)
       replies None e = tt
-      replies (Some q) e = (refl, (filled (after_timer b) q, refl, timed-reply env.c w out (was_reset || false) b q (held-between b count h) e), tt)
+      replies (Some q) e = (refl, (filled (after_timer b) q, refl, timed-reply env.serve.c w out (was_reset || false) b q (held-between env.serve w out vs was_reset b count h) e), tt)
 
   -- ---- a connection that begins
 
   -- nothing was said
-  nothing-said : SaysAnswers env.files w out vs → vs ≡ [] → out.bytes ≡ []
-  nothing-said says e = says.spoken ∙ ap (λ us. concat (map (answer env.files) us)) e
+  nothing-said : SaysAnswers env.serve.files w out vs → vs ≡ [] → out.bytes ≡ []
+  nothing-said says e = says.spoken ∙ ap (λ us. concat (map (answer env.serve.files) us)) e
 
   nothing-read : (s : Said) (iss : ℕ) → vs ≡ [] → HasRead w (listening s iss) vs
   nothing-read s iss e =
       let P : List Verdict → Type 0 = λ us. HasRead w (listening s iss) us in
       subst P (sym e) (record { cut = λ _ z. refl; goes_on = λ _. refl; stops = λ f. absurd (cc) })
 
-  begun-turned : (s : Said) → env.iss ≡ out.first → SaysAnswers env.files w out vs → vs ≡ [] → out.ended ≡ false → s.seq ≡ w.first → Turned (begun env s)
+  begun-turned : (s : Said) → env.iss ≡ out.first → SaysAnswers env.serve.files w out vs → vs ≡ [] → out.ended ≡ false → s.seq ≡ w.first → Leaves (begun env s)
   begun-turned s begins says none open_ first =
       let P : ℕ → Type 0 = λ n. IsBetween w out (listening s n) in
       let between = subst P (sym begins) (between-begun w out s says.number (nothing-said says none) open_ first) in
-      spoken-turned (record { block = listening s env.iss; count = 0; notes = rec.Took place_.Front env.c (record { 0 = 1 }) ∷ []; answered = 0; over = None })
+      let start : Service = serving (listening s env.iss) 0 (rec.Took place_.Front env.serve.c (record { 0 = 1 }) ∷ []) in
+      ends-leave (spoken env.serve start []) (spoken-turned env.serve w out vs was_reset start
       (record {
         out_now = out;
         vs_now = vs;
@@ -240,10 +256,10 @@ module _ (env : FrontEnv) (w out : Stream) (vs : List Verdict) (was_reset : Bool
         counted = sym (ap length none);
         between = between;
         noted = record { front = (refl, tt); served = omega arith; size = omega arith; unless_ended = inr refl; serve = λ t told. ((λ J e. tt), tt) };
-      }) [] (nothing-read s env.iss none) (stopped-begun s env.iss) tt
+      }) [] (nothing-read s env.iss none) (stopped-begun s env.iss) tt)
 
-  met-turned : (s : Said) → env.iss ≡ out.first → SaysAnswers env.files w out vs → (vs ≡ []) × (out.ended ≡ false) → IsTrueOf w s → Turned (met env s)
-  met-turned s begins says h t = cond_both (is_plain_syn s) (begun env s) (Nowhere, silent) Turned
+  met-turned : (s : Said) → env.iss ≡ out.first → SaysAnswers env.serve.files w out vs → (vs ≡ []) × (out.ended ≡ false) → IsTrueOf w s → Leaves (met env s)
+  met-turned s begins says h t = cond_both (is_plain_syn s) (begun env s) (Nowhere, silent) Leaves
       (λ syn. begun-turned s begins says h.0 h.1 (t.greets (and_parts s.flags.syn _ syn).0))
       (λ _. still-turned Nowhere [] says h tt)
 
@@ -275,21 +291,21 @@ module _ (env : FrontEnv) (w out : Stream) (vs : List Verdict) (was_reset : Bool
       })
       (λ _. tt)
 
-  tombstone-turned : (last : Final) (o : Option Said) → SaysAnswers env.files w out vs → EndedIt w out vs was_reset last → IfSome o (IsReply w out (was_reset || false))
-      → Turned (Over last, tombstone env o)
+  tombstone-turned : (last : Final) (o : Option Said) → SaysAnswers env.serve.files w out vs → EndedIt w out vs was_reset last → IfSome o (IsReply w out (was_reset || false))
+      → Leaves (Over last, tombstone env.serve o)
   tombstone-turned last None says h k = still-turned (Over last) [] says h tt
-  tombstone-turned last (Some s) says h k = still-turned (Over last) (told env s ∷ []) says h ((refl, (s, refl, k), tt))
+  tombstone-turned last (Some s) says h k = still-turned (Over last) (told env.serve s ∷ []) says h ((refl, (s, refl, k), tt))
 
   -- ---- the two rules
 
-  gets-turned : env.stream ≤ 2 ^ 30 → env.iss ≡ out.first → (f : Seat) (s : Said) → IsStream w → SaysAnswers env.files w out vs
-      → FrontAgrees w out vs was_reset f → s.ack < 2 ^ 32 → IsTrueOf w s → Turned (front_gets env f (Ok s))
+  gets-turned : env.serve.stream ≤ 2 ^ 30 → env.iss ≡ out.first → (f : Seat) (s : Said) → IsStream w → SaysAnswers env.serve.files w out vs
+      → FrontAgrees w out vs was_reset f → s.ack < 2 ^ 32 → IsTrueOf w s → Leaves (front_gets env f (Ok s))
   gets-turned most begins Nowhere s is says h fits t = met-turned s begins says h t
   gets-turned most begins (AtFront b count) s is says h fits t = heard-turned most b count s is says h t
   gets-turned most begins Away s is says h fits t = absurd h
   gets-turned most begins (Over last) s is says h fits t = tombstone-turned last (last_words last.reason last s) says h (words-reply last.reason last s fits refl h)
 
-  fires-turned : (f : Seat) → SaysAnswers env.files w out vs → FrontAgrees w out vs was_reset f → Turned (front_timer env f)
+  fires-turned : (f : Seat) → SaysAnswers env.serve.files w out vs → FrontAgrees w out vs was_reset f → Leaves (front_timer env f)
   fires-turned Nowhere says h = still-turned Nowhere [] says h tt
   fires-turned (AtFront b count) says h = timer-turned b count says h
   fires-turned Away says h = absurd h
@@ -299,11 +315,11 @@ module _ (env : FrontEnv) (w out : Stream) (vs : List Verdict) (was_reset : Bool
 
 -- the surroundings have the connection's own number and files
 for-its-own : (files : FilesAt) (c : ℕ) (w out : Stream) (vs : List Verdict) (was_reset : Bool) (env : FrontEnv) (given : Seat × Turn) → IsEnv files c out env
-    → (SaysAnswers env.files w out vs → FrontTurned env.files env.c w out vs was_reset given) → SaysAnswers files w out vs → FrontTurned files c w out vs was_reset given
+    → (SaysAnswers env.serve.files w out vs → FrontTurned env.serve.files env.serve.c w out vs was_reset given) → SaysAnswers files w out vs → FrontTurned files c w out vs was_reset given
 for-its-own files c w out vs was_reset env given i turned says =
     let Says : FilesAt → Type 0 = λ fs. SaysAnswers fs w out vs in
     let Turns : FilesAt → Type 0 = λ fs. FrontTurned fs c w out vs was_reset given in
-    let Numbered : ℕ → Type 0 = λ n. FrontTurned env.files n w out vs was_reset given in
+    let Numbered : ℕ → Type 0 = λ n. FrontTurned env.serve.files n w out vs was_reset given in
     subst Turns i.files_are (subst Numbered i.number (turned (subst Says (sym i.files_are) says)))
 
 pub hears-truth : FrontHearsTruth

@@ -5,7 +5,7 @@ use Rattle.std.proofs.lemmas.Bool.{cond_both, and_parts, not-true, ltb-false}
 use Rattle.std.proofs.lemmas.List.{map-append}
 use Rattle.std.proofs.lemmas.List.Folds.{concat-append, list_any-append}
 use Rattle.lard_answers.specs.Answers.{FilesAt, IsPrefix, answer, closes_any, verdicts}
-use Rattle.lard_base.specs.declared.place.Place.TheVariants as place_
+use Rattle.lard_base.specs.declared.place.Via.TheVariants.{Own}
 use Rattle.lard_block.specs.declared.block.Found.{Found}
 use Rattle.lard_block.specs.declared.block.Found.TheVariants.{Block, More, TooLong}
 use Rattle.lard_block.specs.Blocks.{cut_of, Head, Cuts}
@@ -18,7 +18,8 @@ use Rattle.lard_laws_bytes.specs.Keeping.{AreNoted, resets}
 use Rattle.lard_laws_bytes.proofs.FrontEndpoint.{IsBetween, Onward, between-consumed, between-discarded, onward-queued, onward-finished}
 use Rattle.lard_laws_bytes.proofs.ReadingBytes.{IsJudged, place, cuts-more, begins-block, begins-long, next-verdict, read-judged}
 use Rattle.lard_laws_bytes.proofs.Serving.{noted-reset, noted-served}
-use Rattle.lard_rules.specs.Front.{FrontEnv, Service, closed_behind, queued, passed_over, answered, consumed, ended_at_fin, may_read, read_found, reads_on}
+use Rattle.lard_rules.specs.Front.{read_found, reads_on}
+use Rattle.lard_rules.specs.Serving.{ServeEnv, Service, closed_behind, queued, passed_over, answered, consumed, ended_at_fin, may_read}
 use Rattle.lard_request.specs.declared.verdict.Code.TheVariants as code
 use Rattle.lard_request.specs.declared.verdict.Verdict.{Verdict}
 use Rattle.lard_request.specs.declared.verdict.Verdict.TheVariants.{Fault}
@@ -72,7 +73,7 @@ says-same files w out next vs h g e = record {
 }
 
 -- ---- a turn so far: the cluster's stream went on by the answers to more verdicts
-pub record Serves (env : FrontEnv) (w out : Stream) (vs : List Verdict) (s : Service) : Type 0 where
+pub record Serves (env : ServeEnv) (w out : Stream) (vs : List Verdict) (s : Service) : Type 0 where
   pub out_now : Stream
   pub vs_now : List Verdict
   pub longer : GoesOn out out_now
@@ -86,7 +87,7 @@ abbrev pub IsReading : Stream → List Verdict → ControlBlock → List Rec →
 IsReading w vs b notes None = HasRead w b vs
 IsReading w vs b notes (Some total) = list_any resets notes ≡ true
 
-abbrev pub Goes : FrontEnv → Stream → Stream → List Verdict → Service → Type 0
+abbrev pub Goes : ServeEnv → Stream → Stream → List Verdict → Service → Type 0
 Goes env w out vs s = (h : Serves env w out vs s) × IsReading w h.vs_now s.block s.notes s.over
 
 -- The verdict that comes next of all that is answered. Where it does not close, what was read with it is cut.
@@ -144,7 +145,7 @@ closed-read w vs v b n = cond_both (closes v) (finishing (discarding_on b)) b (�
     (λ f. record { cut = λ _. n.cut f; goes_on = λ _. open-more vs v n.open_ f; stops = λ e. absurd (let kept = n.keeps in cc) })
 
 -- ---- a verdict is answered
-module _ (env : FrontEnv) (w out : Stream) (vs : List Verdict) where
+module _ (env : ServeEnv) (w out : Stream) (vs : List Verdict) where
   -- what comes next of all on what the client wrote so far
   next-now : (us : List Verdict) (v : Verdict) (b : ControlBlock) → IsNext w us v b → IsPrefix (us ++ v ∷ []) (verdicts w.bytes)
   next-now us v b n = subst (λ (q : List ℕ). IsPrefix (us ++ v ∷ []) (verdicts q)) (append-nil w.bytes) (n.fronts [])
@@ -161,14 +162,14 @@ module _ (env : FrontEnv) (w out : Stream) (vs : List Verdict) where
           says = h.says;
           counted = h.counted;
           between = h.between;
-          noted = noted-reset env.files env.c w out vs h.vs_now h.out_now.bytes s.notes h.noted place_.Front total v (next-now h.vs_now v s.block n) (omega (arith, count));
+          noted = noted-reset env.files env.c w out vs h.vs_now h.out_now.bytes s.notes h.noted env.place total v (next-now h.vs_now v s.block n) (omega (arith, count));
         },
-        list_any-append resets s.notes (rec.Reset place_.Front env.c total ∷ []) ∙ or-last (list_any resets s.notes) true refl,
+        list_any-append resets s.notes (rec.Reset env.place env.c total ∷ []) ∙ or-last (list_any resets s.notes) true refl,
       )
 
   -- a response is queued
   queued-goes : (v : Verdict) (s : Service) (h : Serves env w out vs s) → IsNext w h.vs_now v s.block → s.block.send.total + length (answer env.files v) ≤ 2 ^ 30
-      → Goes env w out vs (queued env v (answer env.files v) s)
+      → Goes env w out vs (queued env Own v (answer env.files v) s)
   queued-goes v s h n le =
       let bytes = answer env.files v in
       let size : length (h.vs_now ++ v ∷ []) ≡ length h.vs_now + 1 = length-append h.vs_now (v ∷ []) in
@@ -186,16 +187,16 @@ module _ (env : FrontEnv) (w out : Stream) (vs : List Verdict) where
           says = says-more env.files w h.out_now second.next h.vs_now v h.says longer said (omega arith) n.fronts;
           counted = omega arith;
           between = second.between;
-          noted = noted-served env.files env.c w out vs h.vs_now h.out_now.bytes s.notes h.noted place_.Front (s.count + 1) v second.next.bytes (next-now h.vs_now v s.block n)
+          noted = noted-served env.files env.c w out vs h.vs_now h.out_now.bytes s.notes h.noted env.place (s.count + 1) v second.next.bytes (next-now h.vs_now v s.block n)
               (ap (λ (k : ℕ). k + 1) counted) open_ said;
         },
         closed-read w h.vs_now v (queueing s.block bytes) (record { fronts = n.fronts; cut = n.cut; open_ = n.open_; unfinished = n.unfinished; keeps = n.keeps }),
       )
 
-  answered-goes : env.stream ≤ 2 ^ 30 → (v : Verdict) (s : Service) (h : Serves env w out vs s) → IsNext w h.vs_now v s.block → Goes env w out vs (answered env v s)
+  answered-goes : env.stream ≤ 2 ^ 30 → (v : Verdict) (s : Service) (h : Serves env w out vs s) → IsNext w h.vs_now v s.block → Goes env w out vs (answered env Own v s)
   answered-goes most v s h n =
       let total = s.block.send.total + length (answer env.files v) in
-      cond_both (nat_lt env.stream total) (passed_over env total s) (queued env v (answer env.files v) s) (Goes env w out vs)
+      cond_both (nat_lt env.stream total) (passed_over env total s) (queued env Own v (answer env.files v) s) (Goes env w out vs)
       (λ _. passed-goes v s h n)
       (λ t. let le : total ≤ env.stream = ltb-false env.stream total t in queued-goes v s h n (omega arith))
 
@@ -278,10 +279,10 @@ module _ (env : FrontEnv) (w out : Stream) (vs : List Verdict) where
         ended-goes (consumed skip s) (consumed-serves skip s h) can.within_limit (more-read s h can skip (cuts-more s.block.recv.unread skip e))
     found-goes later goes s h can (Block skip len) e =
         let v = verdict (take len (drop skip s.block.recv.unread)) in
-        goes (answered env v (consumed (skip + len) s)) (answered-goes most v (consumed (skip + len) s) (consumed-serves (skip + len) s h) (block-next s h can skip len e))
+        goes (answered env Own v (consumed (skip + len) s)) (answered-goes most v (consumed (skip + len) s) (consumed-serves (skip + len) s h) (block-next s h can skip len e))
     found-goes later goes s h can (TooLong skip) e =
         let all = length s.block.recv.unread in
-        goes (answered env (Fault code.FieldsTooLarge) (consumed all s))
+        goes (answered env Own (Fault code.FieldsTooLarge) (consumed all s))
         (answered-goes most (Fault code.FieldsTooLarge) (consumed all s) (consumed-serves all s h) (long-next s h can skip all e))
 
     pub reads-goes : (n : ℕ) (s : Service) → Goes env w out vs s → Goes env w out vs (reads_on n env s)

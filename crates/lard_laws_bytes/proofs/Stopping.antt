@@ -4,6 +4,8 @@ use Rattle.std.proofs.lemmas.Bool.{cond_both, and_parts, not-true}
 use Rattle.std.proofs.lemmas.List.{take-append-drop}
 use Rattle.lard_answers.specs.Answers.{answer}
 use Rattle.lard_answers.proofs.Growing.{blocks-nothing}
+use Rattle.lard_base.specs.declared.place.Via.{Via}
+use Rattle.lard_base.specs.declared.place.Via.TheVariants.{Own}
 use Rattle.lard_block.specs.declared.block.Found.{Found}
 use Rattle.lard_block.specs.declared.block.Found.TheVariants.{Block, More, TooLong}
 use Rattle.lard_block.specs.Blocks.{cut_of, moved, blocks, IsWithin}
@@ -14,7 +16,8 @@ use Rattle.lard_endpoint.specs.Control.{ControlBlock, listening, queueing, finis
 use Rattle.lard_laws_bytes.specs.Agreement.{HasStopped}
 use Rattle.lard_laws_bytes.proofs.FrontEndpoint.{segment-takes}
 use Rattle.lard_laws_bytes.proofs.ReadingBytes.{cuts-more}
-use Rattle.lard_rules.specs.Front.{FrontEnv, Service, queued, passed_over, answered, consumed, ended_at_fin, may_read, read_found, reads_on, reads}
+use Rattle.lard_rules.specs.Front.{read_found, reads_on, reads}
+use Rattle.lard_rules.specs.Serving.{ServeEnv, Service, queued, passed_over, answered, consumed, ended_at_fin, may_read}
 use Rattle.lard_rules.proofs.Reading.{unread, answered-unread}
 use Rattle.lard_recv.specs.Recv.{Received, awaited, begins_after, fresh, ends, taken}
 use Rattle.lard_request.specs.declared.verdict.Code.TheVariants as code
@@ -104,12 +107,12 @@ unfinished-there s may =
     not-true s.block.send.finished (and_parts (not s.block.send.finished) limit rest).0
 
 -- an answer that closes discards what comes, and no other finishes
-answered-may : (env : FrontEnv) (v : Verdict) (s : Service) → s.block.reset ≡ false → s.block.send.finished ≡ false → MayStop (answered env v s)
-answered-may env v s calm open_ =
+answered-may : (env : ServeEnv) (via : Via) (v : Verdict) (s : Service) → s.block.reset ≡ false → s.block.send.finished ≡ false → MayStop (answered env via v s)
+answered-may env via v s calm open_ =
     let bytes = answer env.files v in
     let total = s.block.send.total + length bytes in
     let more = queueing s.block bytes in
-    cond_both (nat_lt env.stream total) (passed_over env total s) (queued env v bytes s) MayStop
+    cond_both (nat_lt env.stream total) (passed_over env total s) (queued env via v bytes s) MayStop
     (λ _ e f. absurd (cc))
     (λ _ e. cond_both (closes v) (finishing (discarding_on more)) more (λ (d : ControlBlock). (not d.reset && (not d.send.finished && true)) ≡ false → HasStopped d)
     (λ _ f. stopped-discarding (finishing (discarding_on more)) refl) (λ _ f. absurd (reads-there s.block.reset s.block.send.finished calm open_ f)))
@@ -120,7 +123,7 @@ ended-stops s open_ none = cond_both s.block.recv.fin (record s { block = finish
     (λ fin _. record { none = λ _. none; finishes = λ _ _. refl; only_then = λ _ _. fin })
     (λ fin _. record { none = λ _. none; finishes = λ _ i. absurd (cc); only_then = λ _ i. absurd (cc) })
 
-module _ (env : FrontEnv) where
+module _ (env : ServeEnv) where
   -- what is found is read, where the rest is read that way
   found-stops : (later : Service → Service) (s : Service) → ((u : Service) → length (unread u) < length (unread s) → MayStop u → Stops (later u)) → s.block.reset ≡ false → s.block.send.finished ≡ false
       → (x : Found) → IsWithin x (length (unread s)) → cut_of (unread s) ≡ x → Stops (read_found env later s x)
@@ -128,11 +131,11 @@ module _ (env : FrontEnv) where
   found-stops later s rest calm open_ (Block skip len) h e =
       let v = verdict (take len (drop skip (unread s))) in
       let next = consumed (skip + len) s in
-      rest (answered env v next) (omega (arith, answered-unread env v next, length-drop (skip + len) (unread s), h.0, h.2)) (answered-may env v next calm open_)
+      rest (answered env Own v next) (omega (arith, answered-unread env Own v next, length-drop (skip + len) (unread s), h.0, h.2)) (answered-may env Own v next calm open_)
   found-stops later s rest calm open_ (TooLong skip) h e =
       let v : Verdict = Fault code.FieldsTooLarge in
       let next = consumed (length (unread s)) s in
-      rest (answered env v next) (omega (arith, answered-unread env v next, length-drop (length (unread s)) (unread s), h)) (answered-may env v next calm open_)
+      rest (answered env Own v next) (omega (arith, answered-unread env Own v next, length-drop (length (unread s)) (unread s), h)) (answered-may env Own v next calm open_)
 
   -- as many turns as there are unread bytes are enough
   turns-stop : (n : ℕ) (s : Service) → length (unread s) < n → MayStop s → Stops (reads_on n env s)

@@ -1,6 +1,6 @@
 -- What holds of one connection between any two steps: what its client and the front end keep, what the journal says of
 -- it, and what every segment that was ever sent says, agree.
-use Rattle.std.specs.Prelude.{◌≡◌, ◌≢◌, ℕ, ◌+◌, ◌-◌, ◌^◌, ◌<◌, ◌≤◌, Bool, true, false, List, [], ◌∷◌, ◌++◌, map, length, take, Option, Some, None}
+use Rattle.std.specs.Prelude.{◌≡◌, ◌≢◌, ℕ, ◌+◌, ◌-◌, ◌^◌, ◌<◌, ◌≤◌, Bool, true, false, List, [], ◌∷◌, ◌++◌, map, length, take, Some}
 use Rattle.std.specs.List.{concat}
 use Rattle.lard_answers.specs.Answers.{FilesAt, IsPrefix, answer, closes_any, verdicts, verdicts_on}
 use Rattle.lard_base.specs.declared.limits.TheConstants.{MAX_STREAM_BYTES}
@@ -13,6 +13,8 @@ use Rattle.lard_endpoint.specs.Control.{ControlBlock, IsControlBlock}
 use Rattle.lard_endpoint.specs.declared.control.moving.Final.{Final}
 use Rattle.lard_endpoint.specs.Moving.{is_closed, final_of}
 use Rattle.lard_history.specs.Journal.{Tale}
+use Rattle.lard_rules.specs.declared.places.Ending.{Ending}
+use Rattle.lard_rules.specs.declared.places.Ending.TheVariants as ending
 use Rattle.lard_rules.specs.declared.places.Station.{Station}
 use Rattle.lard_rules.specs.Seat.{Seat, Nowhere, AtFront, Away, Over}
 use Rattle.lard_request.specs.declared.verdict.Verdict.{Verdict}
@@ -90,11 +92,16 @@ pub record EndedIt (w out : Stream) (vs : List Verdict) (was_reset : Bool) (last
   pub limit : last.reason ≡ reason.Limit → was_reset ≡ true
   pub ended : last.reason ≢ reason.Limit → EndedAs w out vs last
 
+-- Of a connection at the end of a turn of the place that held it.
+abbrev pub EndAgrees : Stream → Stream → List Verdict → Bool → Ending → Type 0
+EndAgrees w out vs was_reset (ending.Here b count) = HoldsIt w out vs b count
+EndAgrees w out vs was_reset (ending.Over last) = EndedIt w out vs was_reset last
+
 abbrev pub FrontAgrees : Stream → Stream → List Verdict → Bool → Seat → Type 0
 FrontAgrees w out vs was_reset Nowhere = (vs ≡ []) × (out.ended ≡ false)
-FrontAgrees w out vs was_reset (AtFront b count) = HoldsIt w out vs b count
+FrontAgrees w out vs was_reset (AtFront b count) = EndAgrees w out vs was_reset (ending.Here b count)
 FrontAgrees w out vs was_reset Away = ⊥
-FrontAgrees w out vs was_reset (Over last) = EndedIt w out vs was_reset last
+FrontAgrees w out vs was_reset (Over last) = EndAgrees w out vs was_reset (ending.Over last)
 
 -- What was said to the client are the answers to these verdicts, which are the first on what the client wrote, however
 -- that goes on.

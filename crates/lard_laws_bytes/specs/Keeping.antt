@@ -1,5 +1,5 @@
 -- What a turn of a place keeps of the agreement of its connection.
-use Rattle.std.specs.Prelude.{◌≡◌, ◌⊎◌, ℕ, ◌+◌, ◌^◌, ◌≤◌, ◌<◌, ◌||◌, Bool, true, false, List, [], ◌∷◌, ◌++◌, length, take, Option, Ok}
+use Rattle.std.specs.Prelude.{◌≡◌, ◌⊎◌, ℕ, ◌+◌, ◌^◌, ◌≤◌, ◌<◌, ◌||◌, Bool, true, false, List, [], ◌∷◌, ◌++◌, length, take, Ok}
 use Rattle.std.specs.List.{list_any}
 use Rattle.lard_answers.specs.Answers.{FilesAt}
 use Rattle.lard_base.specs.declared.limits.TheConstants.{MAX_SEGMENT_DATA, MAX_STREAM_BYTES}
@@ -8,6 +8,7 @@ use Rattle.lard_history.specs.Journal.{Tale, tale}
 use Rattle.lard_history.specs.Laws.{MayServe}
 use Rattle.lard_journal.specs.declared.rec.Rec.{Rec}
 use Rattle.lard_journal.specs.declared.rec.Rec.TheVariants as rec
+use Rattle.lard_rules.specs.declared.places.Ending.{Ending}
 use Rattle.lard_rules.specs.declared.places.Turn.{Turn}
 use Rattle.lard_rules.specs.Client.{client_gets, client_opens, client_writes}
 use Rattle.lard_rules.specs.Front.{FrontEnv, front_gets, front_timer}
@@ -16,7 +17,7 @@ use Rattle.lard_request.specs.declared.verdict.Verdict.{Verdict}
 use Rattle.lard_segment.specs.Segment.{Said}
 use Rattle.lard_truth.specs.Truth.{Stream, IsStream, GoesOn, IsTrueOf}
 use Rattle.lard_view.specs.Carry.{TellsBy}
-use Rattle.lard_laws_bytes.specs.Agreement.{AreReplies, AreWords, ClientAgrees, FrontAgrees, SaysAnswers}
+use Rattle.lard_laws_bytes.specs.Agreement.{AreReplies, AreWords, ClientAgrees, EndAgrees, FrontAgrees, SaysAnswers}
 
 -- ---- the front end's turn
 
@@ -67,23 +68,32 @@ pub record AreNoted (files : FilesAt) (c : ℕ) (w out : Stream) (vs vs_after : 
   pub unless_ended : (out.ended ≡ false) ⊎ (served_in notes ≡ 0)
   pub serve : (t : Tale) → TellsOf w.bytes out.bytes vs t → TellsBy (ServesAfter files c) c t notes
 
--- Between the front end's states before and after a turn: the cluster's stream goes on by the answers to more verdicts,
--- as its notes say, and all that was sent is true of it.
-pub record FrontTurned (files : FilesAt) (c : ℕ) (w out : Stream) (vs : List Verdict) (was_reset : Bool) (given : Seat × Turn) : Type 0 where
+-- A turn of a place that serves: the cluster's stream goes on by the answers to more verdicts, as its notes say, and all
+-- that was sent is true of it. `Agrees` is so of the connection behind it, by the stream and the verdicts then, and whether
+-- the connection was reset.
+pub record Turned (files : FilesAt) (c : ℕ) (w out : Stream) (vs : List Verdict) (was_reset : Bool) (Agrees : Stream → List Verdict → Bool → Type 0) (turn : Turn) : Type 0 where
   pub out_after : Stream
   pub vs_after : List Verdict
   pub longer : GoesOn out out_after
   pub says : SaysAnswers files w out_after vs_after
-  pub agrees : FrontAgrees w out_after vs_after (was_reset || list_any resets given.1.notes) given.0
-  pub noted : AreNoted files c w out vs vs_after out_after.bytes given.1.notes
-  pub sent : AreReplies c w out_after (was_reset || list_any resets given.1.notes) given.1.segments
+  pub agrees : Agrees out_after vs_after (was_reset || list_any resets turn.notes)
+  pub noted : AreNoted files c w out vs vs_after out_after.bytes turn.notes
+  pub sent : AreReplies c w out_after (was_reset || list_any resets turn.notes) turn.segments
+
+-- of a place, by where the connection is at the end of its turn
+abbrev pub ServingTurned : FilesAt → ℕ → Stream → Stream → List Verdict → Bool → Ending × Turn → Type 0
+ServingTurned files c w out vs was_reset given = Turned files c w out vs was_reset (λ out_after vs_after r. EndAgrees w out_after vs_after r given.0) given.1
+
+-- of the front end, by the connection's seat
+abbrev pub FrontTurned : FilesAt → ℕ → Stream → Stream → List Verdict → Bool → Seat × Turn → Type 0
+FrontTurned files c w out vs was_reset given = Turned files c w out vs was_reset (λ out_after vs_after r. FrontAgrees w out_after vs_after r given.0) given.1
 
 -- the connection's own numbers and limits in the rules' surroundings
 pub record IsEnv (files : FilesAt) (c : ℕ) (out : Stream) (env : FrontEnv) : Type 0 where
-  pub number : env.c ≡ c
+  pub number : env.serve.c ≡ c
   pub begins : env.iss ≡ out.first
-  pub files_are : env.files ≡ files
-  pub most : env.stream ≤ MAX_STREAM_BYTES
+  pub files_are : env.serve.files ≡ files
+  pub most : env.serve.stream ≤ MAX_STREAM_BYTES
 
 abbrev pub FrontHearsTruth : Type 0
 FrontHearsTruth = (files : FilesAt) (c : ℕ) (w out : Stream) (vs : List Verdict) (was_reset : Bool) (env : FrontEnv) (f : Seat) (s : Said)

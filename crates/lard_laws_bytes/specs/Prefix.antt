@@ -1,5 +1,5 @@
 -- What follows from the agreement of one connection, for its client.
-use Rattle.std.specs.Prelude.{◌≡◌, ℕ, List, take, Option}
+use Rattle.std.specs.Prelude.{◌≡◌, ℕ, List, take}
 use Rattle.std.specs.List.{concat}
 use Rattle.lard_answers.specs.Answers.{FilesAt, IsPrefix, answer_bytes, answers}
 use Rattle.lard_history.specs.Journal.{Tale}

@@ -190,11 +190,11 @@ module _ (k : Setting) (x : Conn) (h : StandsLawful k x) where
 
     front_fires-owes : Owes k x (front_does x (event_seen (event.Timer Front x.c)) (front_timer (env_at k x s) x.part.seat))
     front_fires-owes = front-owes (event_seen (event.Timer Front x.c)) (front_timer (env_at k x s) x.part.seat) (tt, tt) (event-tale x.c (tale_at x) (event.Timer Front x.c) refl)
-        (front.timer-says (env_at k x s) (tale_at x) x.part.seat h.stands.front)
+        (front.timer-says (env_at k x s) refl (tale_at x) x.part.seat h.stands.front)
 
     front_hears-owes : (bytes : List ℕ) → Owes k x (front_does x (packet_seen (Client x.c) Front bytes) (front_gets (env_at k x s) x.part.seat (decoded bytes x.c ToCluster)))
     front_hears-owes bytes = front-owes (packet_seen (Client x.c) Front bytes) (front_gets (env_at k x s) x.part.seat (decoded bytes x.c ToCluster)) tt refl
-        (front.gets-says (env_at k x s) (tale_at x) x.part.seat (decoded bytes x.c ToCluster) h.stands.front)
+        (front.gets-says (env_at k x s) refl (tale_at x) x.part.seat (decoded bytes x.c ToCluster) h.stands.front)
 
   ignores-owes : (from to : Place) (bytes : List ℕ) → Owes k x (ignoring x from to bytes)
   ignores-owes from to bytes = record { heads = tt; notes = tt; segments = tt; same = record { client = refl; front = refl }; stands = h.stands; fresh = inr (refl, refl) }

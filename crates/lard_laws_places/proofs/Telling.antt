@@ -1,15 +1,14 @@
 -- Laws told of one connection: records that are all about it may stand where its tale lets them.
-use Rattle.std.proofs.Common.{◌≡◌, ℕ, ◌+◌, ◌<◌, ◌≤◌, List, [], ◌∷◌, ◌++◌, Bool, true, false, Some, None, refl, sym, subst, nat_eq, arith}
-use Rattle.std.proofs.lemmas.Bool.Decides.{nat_tests}
+use Rattle.std.proofs.Common.{◌≡◌, ℕ, ◌+◌, ◌<◌, ◌≤◌, List, Bool, true, false, Some, None, sym, subst}
 use Rattle.lard_base.specs.declared.event.Event.{Event}
 use Rattle.lard_base.specs.declared.event.Event.TheVariants as event
 use Rattle.lard_base.specs.declared.place.Place.{Place}
 use Rattle.lard_base.specs.declared.place.Place.TheVariants.{Front, Node, Client}
-use Rattle.lard_history.specs.Journal.{Tale, about, event_shuts, goes_to, has_closed, is_cluster, last_epoch, owner, served_bytes, tale, tale_step, told_on, was_reset}
+use Rattle.lard_history.specs.Journal.{Tale, has_closed, last_epoch, owner, served_bytes, tale, was_reset}
 use Rattle.lard_history.specs.Own.{conn_of, plain, whose}
 use Rattle.lard_history.specs.Laws.{MayOwn, MayReset, MaySend, MayWrite, OwnerSends}
 use Rattle.lard_history.proofs.Lifting.{IsLocal, tale-own}
-use Rattle.lard_history.proofs.Tales.{closed-tale, epoch-tale, owner-tale, reset-tale, served_bytes-tale, tale-append}
+use Rattle.lard_history.proofs.Tales.{closed-tale, epoch-tale, owner-tale, reset-tale, served_bytes-tale}
 use Rattle.lard_journal.specs.declared.rec.Rec.{Rec}
 use Rattle.lard_journal.specs.declared.rec.Rec.TheVariants as rec
 use Rattle.lard_view.proofs.Rows.{MayBeSeen, TellsBy}

@@ -1,8 +1,7 @@
 -- What holds of each connection in every state: what its client and the front end keep fits what is told of it.
-use Rattle.std.specs.Prelude.{◌≡◌, ◌⊎◌, ℕ, ◌-◌, ◌≤◌, Bool, true, false, List, [], ◌∷◌, ◌++◌, length, Option, Some, None, IsSome}
+use Rattle.std.specs.Prelude.{◌≡◌, ◌⊎◌, ℕ, ◌≤◌, Bool, true, false, List, [], length, Option, Some, None, IsSome}
 use Rattle.std.specs.FinMap as table
 use Rattle.std.specs.FinMap.{FinMap}
-use Rattle.std.specs.List.{fold}
 use Rattle.std.specs.Ordering.{nat_cmp}
 use Rattle.lard_base.specs.declared.place.Place.{Place}
 use Rattle.lard_base.specs.declared.place.Place.TheVariants.{Client, Front}
@@ -11,7 +10,6 @@ use Rattle.lard_client.specs.Control.{is_writing}
 use Rattle.lard_history.specs.Journal.{Numbers, Tale, goal_of, is_lost, packet_bytes, sent_count}
 use Rattle.lard_history.specs.Own.{net_of}
 use Rattle.lard_journal.specs.declared.rec.Rec.{Rec}
-use Rattle.lard_journal.specs.declared.rec.Rec.TheVariants as rec
 use Rattle.lard_rules.specs.declared.places.Station.{Station}
 use Rattle.lard_rules.specs.Seat.{Seat, Nowhere, AtFront, Away, Over, is_begun}
 use Rattle.lard_net.specs.Net.{Packet, bytes_in, packet_at}
@@ -68,25 +66,26 @@ pub record IsUntaken (t : FrontTale) : Type 0 where
   pub bytes : t.served_bytes ≡ 0
   pub reset : t.was_reset ≡ false
 
--- the front end took it, in epoch 1, and gave it up never
-pub record IsFronts (t : FrontTale) : Type 0 where
-  pub owner : t.owner ≡ Some Front
-  pub epoch : t.epoch ≡ 1
+-- a place took it in this epoch, and did not give it up
+pub record IsTaken (p : Place) (since : ℕ) (t : FrontTale) : Type 0 where
+  pub owner : t.owner ≡ Some p
+  pub epoch : t.epoch ≡ since
 
--- the front end queued so many responses, with so many bytes, on a connection that it holds
-pub record IsServing (stream count total : ℕ) (t : FrontTale) : Type 0 where
-  pub taken : IsFronts t
+-- so many responses were queued, with so many bytes, on a connection that a place holds
+pub record IsServing (p : Place) (since stream count total : ℕ) (t : FrontTale) : Type 0 where
+  pub taken : IsTaken p since t
   pub served : t.served ≡ count
   pub bytes : t.served_bytes ≡ total
   pub within : total ≤ stream
   pub some : count ≤ total
   pub reset : t.was_reset ≡ false
 
+-- the front end takes a connection in epoch 1, and gives none up
 abbrev pub FrontStands : ℕ → Seat → FrontTale → Type 0
 FrontStands stream Nowhere t = IsUntaken t
-FrontStands stream (AtFront b count) t = IsServing stream count b.send.total t
+FrontStands stream (AtFront b count) t = IsServing Front 1 stream count b.send.total t
 FrontStands stream Away t = ⊥
-FrontStands stream (Over last) t = IsFronts t × (last.reason ≡ Limit → t.was_reset ≡ true)
+FrontStands stream (Over last) t = IsTaken Front 1 t × (last.reason ≡ Limit → t.was_reset ≡ true)
 
 -- ---- both
 

@@ -36,7 +36,7 @@ put_held m c o all order some = record {
 }
 
 -- one more leaves one
-put_some : (k : Kept) (ks : List Kept) → put_in k ks ≡ [] → ⊥
+pub put_some : (k : Kept) (ks : List Kept) → put_in k ks ≡ [] → ⊥
 put_some k [] h = let none : k ∷ [] ≡ [] = h in absurd cc
 put_some k (x ∷ xs) h = go (comes_before k.kind k.r x) refl where
   go : (t : Bool) → comes_before k.kind k.r x ≡ t → ⊥

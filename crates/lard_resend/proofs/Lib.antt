@@ -1,3 +1,5 @@
 pub mod Maps
 pub mod Ordered
 pub mod Held
+pub mod Lists
+pub mod Renewed

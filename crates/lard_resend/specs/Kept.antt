@@ -31,6 +31,10 @@ put_in k ks = insert ks (place_of k.kind k.r ks) k
 abbrev pub without : TimerKind → ℕ → List Kept → List Kept
 without kind r ks = filter (λ k. not (is_under kind r k)) ks
 
+-- a message takes the place of one of its kind and number
+abbrev pub anew : Kept → List Kept → List Kept
+anew k ks = put_in k (without k.kind k.r ks)
+
 -- each stands before those behind it
 abbrev pub AreInOrder : List Kept → Type 0
 AreInOrder [] = Unit {0}

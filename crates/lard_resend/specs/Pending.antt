@@ -7,7 +7,7 @@ use Rattle.std.specs.Ordering.{nat_cmp}
 use Rattle.lard_base.specs.declared.place.Place.{Place}
 use Rattle.lard_base.specs.declared.place.TimerKind.{TimerKind}
 use Rattle.lard_resend.specs.declared.kept.Kept.{Kept}
-use Rattle.lard_resend.specs.Kept.{is_under, put_in, without, AreInOrder}
+use Rattle.lard_resend.specs.Kept.{anew, is_under, put_in, without, AreInOrder}
 
 abbrev pub list_of : Option (List Kept) → List Kept
 list_of None = []
@@ -28,6 +28,10 @@ under m c kind r = find (is_under kind r) (held m c)
 -- one message more
 abbrev pub holding : FinMap nat_cmp (List Kept) → ℕ → Kept → FinMap nat_cmp (List Kept)
 holding m c k = insert m c (put_in k (held m c))
+
+-- a message takes the place of what is held under its kind and number
+abbrev pub renewed : FinMap nat_cmp (List Kept) → ℕ → Kept → FinMap nat_cmp (List Kept)
+renewed m c k = insert m c (anew k (held m c))
 
 -- a connection of which nothing is held is not in the map
 abbrev pub put_list : FinMap nat_cmp (List Kept) → ℕ → List Kept → FinMap nat_cmp (List Kept)

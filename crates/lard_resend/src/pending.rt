@@ -4,7 +4,7 @@ ghost use Rattle.std.specs.Prelude.{◌≡◌, Some, None, false, is_some, IsSom
 ghost use Rattle.std.specs.FinMap as map;
 ghost use Rattle.std.specs.List.{find};
 ghost use Rattle.lard_resend.specs.Kept.{is_under, put_in, without, AreInOrder};
-ghost use Rattle.lard_resend.specs.Pending.{held, holding, put_list, sent_of, settled, under};
+ghost use Rattle.lard_resend.specs.Pending.{held, holding, put_list, renewed, sent_of, settled, under};
 
 use crate::kept::{Kept, PendingKey, found, is_under, place_of};
 use lard_base::{Bytes, ConnId, Items, NoMemory, Place, TimerKind};
@@ -63,6 +63,18 @@ impl Pending {
             bytes,
         };
         add(&mut self.all, self.alloc, key.c.number(), kept)
+    }
+
+    /// Holds a message that was sent to this place, in place of what is held under the key. Without memory nothing is held
+    /// under it any longer.
+    #[tactic(auto, using(crate::proofs::Renewed::none_left))]
+    pub fn renew(&mut self, key: PendingKey, to: Place, bytes: Bytes) -> Result<(), NoMemory>
+        ensures ok { OnOk result (self.new ≡ renewed self.old key.c (record { kind = key.kind; r = key.r; to = to; bytes = bytes })) }
+        ensures err { OnErr result (self.new ≡ settled self.old key.c key.kind key.r) }
+    {
+        let PendingKey { c, kind, r } = key;
+        let _ = self.settle(PendingKey { c, kind, r });
+        self.hold(PendingKey { c, kind, r }, to, bytes)
     }
 
     /// Drops what is held under the key, and answers whether something was.
