@@ -1,2 +1,3 @@
+mod Found
 mod Seating
 mod Stepping

@@ -18,9 +18,9 @@ use Rattle.lard_rules.specs.declared.front.FrontState.{FrontState}
 use Rattle.lard_rules.specs.FrontPlace.{front_seats, seat_at}
 use Rattle.lard_rules.specs.Seat.{FrontPart, Seat, Nowhere, AtFront, Away, Over, counted, front_part, front_put, seat_by, seat_in, seat_of, seated, staged}
 use Rattle.lard_rules.proofs.Seats.{seats-put}
-use Rattle.lard_serving.specs.declared.ending.Ending.{Ending}
-use Rattle.lard_serving.specs.declared.ending.Ending.TheVariants as ending
-use Rattle.lard_serving.specs.Serving.{seat_seen}
+use Rattle.lard_rules.specs.declared.places.Ending.{Ending}
+use Rattle.lard_rules.specs.declared.places.Ending.TheVariants as ending
+use Rattle.lard_rules.specs.Front.{seat_after}
 use Rattle.lard_table.specs.Table.{put_or}
 use Rattle.lard_table.proofs.Map.{get_inserted, insert_twice, put_got}
 
@@ -172,23 +172,23 @@ module _ (s : FrontState) (c : ℕ) (may : may_put (table.get s.conns c) ≡ tru
 abbrev lent : FrontPart → FrontRow → FrontPart
 lent p row = record p { row = Some (record row { stage = Lent }) }
 
-lent-seats : (p : FrontPart) (row : FrontRow) (e : Ending) → p.row ≡ Some row → seated (lent p row) (seat_seen e) ≡ seated p (seat_seen e)
+lent-seats : (p : FrontPart) (row : FrontRow) (e : Ending) → p.row ≡ Some row → seated (lent p row) (seat_after e) ≡ seated p (seat_after e)
 unfolding seated
 lent-seats p row (ending.Here b count) is = λ i. record { row = Some (staged (sym is i) (Held b)); rest = Some (counted p.rest count) }
 lent-seats p row (ending.Over last) is = λ i. record { row = Some (staged (sym is i) (Closed last)); rest = None }
 
-pub back_from : (s : FrontState) (c : ℕ) (e : Ending) → IsSome (endpoint_of (table.get s.conns c)) → front_seats (lent_at s c) c (seat_seen e) ≡ front_seats s c (seat_seen e)
+pub back_from : (s : FrontState) (c : ℕ) (e : Ending) → IsSome (endpoint_of (table.get s.conns c)) → front_seats (lent_at s c) c (seat_after e) ≡ front_seats s c (seat_after e)
 unfolding front_seats
 back_from s c e there = go (table.get s.conns c) refl there where
-  go : (o : Option FrontRow) → table.get s.conns c ≡ o → IsSome (endpoint_of o) → front_seats (lent_at s c) c (seat_seen e) ≡ front_put s c (seated (front_part s c) (seat_seen e))
+  go : (o : Option FrontRow) → table.get s.conns c ≡ o → IsSome (endpoint_of o) → front_seats (lent_at s c) c (seat_after e) ≡ front_put s c (seated (front_part s c) (seat_after e))
   go None is some = absurd cc
   go (Some row) is some =
       let p : FrontPart = front_part s c in
       let taken : lent_at s c ≡ front_put s c (lent p row) = λ i. record s { conns = with_stage s.conns c Lent (is i); rests = sym (put_got s.rests c) i } in
-      ap (λ (n : FrontState). front_seats n c (seat_seen e)) taken ∙ seats-put s c (lent p row) (seat_seen e) ∙ ap (front_put s c) (lent-seats p row e is)
+      ap (λ (n : FrontState). front_seats n c (seat_after e)) taken ∙ seats-put s c (lent p row) (seat_after e) ∙ ap (front_put s c) (lent-seats p row e is)
 
 -- the second seat counts
-seated-twice : (p : FrontPart) (b : ControlBlock) (count : ℕ) (e : Ending) → seated (seated p (AtFront b count)) (seat_seen e) ≡ seated p (seat_seen e)
+seated-twice : (p : FrontPart) (b : ControlBlock) (count : ℕ) (e : Ending) → seated (seated p (AtFront b count)) (seat_after e) ≡ seated p (seat_after e)
 unfolding seated
 seated-twice p b count (ending.Here d n) = go p.row p.rest where
   go : (row : Option FrontRow) (rest : Option FrontRest)
@@ -202,8 +202,8 @@ seated-twice p b count (ending.Over last) = go p.row where
   go None = refl
   go (Some row) = refl
 
-pub begun_from : (s : FrontState) (c : ℕ) (b : ControlBlock) (count : ℕ) (e : Ending) → front_seats (front_seats s c (AtFront b count)) c (seat_seen e) ≡ front_seats s c (seat_seen e)
+pub begun_from : (s : FrontState) (c : ℕ) (b : ControlBlock) (count : ℕ) (e : Ending) → front_seats (front_seats s c (AtFront b count)) c (seat_after e) ≡ front_seats s c (seat_after e)
 unfolding front_seats
 begun_from s c b count e =
     let p : FrontPart = front_part s c in
-    seats-put s c (seated p (AtFront b count)) (seat_seen e) ∙ ap (front_put s c) (seated-twice p b count e)
+    seats-put s c (seated p (AtFront b count)) (seat_after e) ∙ ap (front_put s c) (seated-twice p b count e)

@@ -15,23 +15,30 @@ use Rattle.lard_rules.specs.Outs.{nothing_done, out_of, timer_change}
 use Rattle.lard_rules.specs.Seat.{Seat, AtFront, front_armed}
 use Rattle.lard_rules.proofs.Seats.{seats-still}
 use Rattle.lard_rules.proofs.Sound.{step-sound}
-use Rattle.lard_serving.specs.declared.ending.Ending.{Ending}
-use Rattle.lard_serving.specs.Serving.{seat_seen}
+use Rattle.lard_rules.specs.declared.places.Ending.{Ending}
+use Rattle.lard_rules.specs.declared.places.Ending.TheVariants as ending
+use Rattle.lard_rules.specs.Serving.{is_armed}
+use Rattle.lard_rules.specs.Front.{seat_after}
+
+-- the front end's timer runs where that of the endpoint does
+pub armed-after : (e : Ending) → is_armed e ≡ front_armed (seat_after e)
+armed-after (ending.Here b count) = refl
+armed-after (ending.Over last) = refl
 
 -- the connection rests where its rule led it
-pub did : (rule : Seat → Seat × Turn) (s n : FrontState) (c : ℕ) (x : Seat) (e : Ending) (turn : Turn) (out : Out) → seat_at s c ≡ x → n ≡ front_seats s c (seat_seen e) → (seat_seen e, turn) ≡ rule x
-    → out ≡ out_of place.Front c (front_armed x) (front_armed (seat_seen e)) turn → (n, out) ≡ front_did s c (rule (seat_at s c))
+pub did : (rule : Seat → Seat × Turn) (s n : FrontState) (c : ℕ) (x : Seat) (e : Ending) (turn : Turn) (out : Out) → seat_at s c ≡ x → n ≡ front_seats s c (seat_after e) → (seat_after e, turn) ≡ rule x
+    → out ≡ out_of place.Front c (front_armed x) (front_armed (seat_after e)) turn → (n, out) ≡ front_did s c (rule (seat_at s c))
 did rule s n c x e turn out at is ruled told =
     (λ i. (is i, told i)) ∙ ap (λ (given : Seat × Turn). (front_seats s c given.0, out_of place.Front c (front_armed x) (front_armed given.0) given.1)) ruled
     ∙ (λ i. (front_seats s c (rule (sym at i)).0, out_of place.Front c (front_armed (sym at i)) (front_armed (rule (sym at i)).0) (rule (sym at i)).1))
 
 -- it was taken out where it was here, and put back where its turn ended
 pub acted : (rule : Seat → Seat × Turn) (s taken n : FrontState) (c count : ℕ) (b : ControlBlock) (e : Ending) (turn : Turn) (was is : Bool) (out : Out) → spot_of (seat_at s c) ≡ Here count → seat_at s c ≡ AtFront b count
-    → taken ≡ lent_at s c → n ≡ front_seats taken c (seat_seen e) → (seat_seen e, turn) ≡ rule (AtFront b count) → was ≡ front_armed (AtFront b count) → is ≡ front_armed (seat_seen e)
+    → taken ≡ lent_at s c → n ≡ front_seats taken c (seat_after e) → (seat_after e, turn) ≡ rule (AtFront b count) → was ≡ front_armed (AtFront b count) → is ≡ is_armed e
     → out ≡ out_of place.Front c was is turn → (n, out) ≡ front_did s c (rule (seat_at s c))
 acted rule s taken n c count b e turn was is out spot at lent back ruled before after told =
-    did rule s n c (AtFront b count) e turn out at (back ∙ ap (λ t. front_seats t c (seat_seen e)) lent ∙ back_from s c e (there_at s c count spot)) ruled
-    (told ∙ (λ i. out_of place.Front c (before i) (after i) turn))
+    did rule s n c (AtFront b count) e turn out at (back ∙ ap (λ t. front_seats t c (seat_after e)) lent ∙ back_from s c e (there_at s c count spot)) ruled
+    (told ∙ (λ i. out_of place.Front c (before i) ((after ∙ armed-after e) i) turn))
 
 -- it stays where it is
 pub stayed : (rule : Seat → Seat × Turn) (s : FrontState) (c : ℕ) (x : Seat) (turn : Turn) (out : Out) → seat_at s c ≡ x → rule x ≡ (x, turn) → out ≡ out_of place.Front c (front_armed x) (front_armed x) turn

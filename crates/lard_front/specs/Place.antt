@@ -12,11 +12,21 @@ use Rattle.lard_rules.specs.declared.front.FrontIn.{FrontIn}
 use Rattle.lard_rules.specs.declared.front.FrontIn.TheVariants.{Segment, Message, Timer}
 use Rattle.lard_rules.specs.declared.front.FrontRest.{FrontRest}
 use Rattle.lard_rules.specs.declared.front.FrontState.{FrontState}
-use Rattle.lard_rules.specs.FrontPlace.{FrontSetting}
+use Rattle.lard_rules.specs.Front.{FrontEnv}
+use Rattle.lard_rules.specs.FrontPlace.{FrontSetting, env_in}
 use Rattle.lard_rules.specs.Seat.{Seat, Nowhere, AtFront, Away, Over}
+use Rattle.lard_rules.specs.Serving.{ServeEnv}
 
 abbrev pub setting_seen : Setting → FrontSetting
 setting_seen k = record { files = file_at k.files.now; stream = k.stream }
+
+-- what serving a connection rests on, at the front end
+abbrev pub serve_in : FrontSetting → ℕ → ServeEnv
+serve_in k c = (env_in k c 0).serve
+
+-- what the front end's rules rest on, where the cluster begins with this number
+abbrev pub front_env : ServeEnv → ℕ → FrontEnv
+front_env serve iss = record { serve = serve; iss = iss }
 
 -- where a connection is, without its endpoint
 abbrev pub spot_of : Seat → Spot

@@ -1,21 +1,21 @@
-//! What comes to an endpoint that is held: a segment, or its timer.
+//! What comes to an endpoint that the front end holds: a segment, or its timer.
 
-ghost use Rattle.std.specs.Prelude.{◌≡◌, ◌≤◌, length, IfOk, IfSome};
+ghost use Rattle.std.specs.Prelude.{◌≡◌, ◌≤◌, IfOk};
 ghost use Rattle.lard_base.specs.declared.limits.TheConstants.{MAX_STREAM_BYTES};
-ghost use Rattle.lard_endpoint.specs.Leaving.{IsReady};
-ghost use Rattle.lard_rules.specs.Front.{front_hears, front_timer, heard, ready_of};
+ghost use Rattle.lard_endpoint.specs.Arriving.{on_segment};
+ghost use Rattle.lard_front.specs.Place.{front_env};
+ghost use Rattle.lard_rules.specs.Front.{at_front, front_timer, heard};
 ghost use Rattle.lard_rules.specs.Seat.{AtFront};
-ghost use Rattle.lard_rules.specs.Speaking.{AreShort};
 ghost use Rattle.lard_segment.specs.Segment.{said};
-ghost use Rattle.lard_serving.specs.Serving.{env_seen, seat_seen};
+ghost use Rattle.lard_serving.specs.Serving.{env_seen};
 ghost use Rattle.lard_serving.specs.Bounds.{IsTurn};
 
-use crate::ending::{Ending, Ends, settled, spoken};
-use crate::reading::{Env, Service, read};
-use crate::speaking::to_client;
-use lard_base::{NoMemory, Sends};
+use crate::reading::read;
+use lard_base::NoMemory;
 use lard_endpoint::Endpoint;
-use lard_segment::{Ready, Segment};
+use lard_rules::Ending;
+use lard_segment::Segment;
+use lard_serving::{Ends, Env, Service, ready_of, settled, spoken};
 use std::alloc::Global;
 
 /// A segment comes. What was read of it is answered, and what may be said goes out.
@@ -28,7 +28,7 @@ pub fn hear(
 ) -> Ends
     requires stream { env.now.stream ≤ MAX_STREAM_BYTES }
     requires counted { count ≤ endpoint.send.total }
-    ensures turn { IfOk result.1 (λ turn. (seat_seen result.0, turn) ≡ front_hears (env_seen env.now) (AtFront endpoint count) (said segment.now)) }
+    ensures turn { IfOk result.1 (λ turn. at_front (result.0, turn) ≡ heard (env_seen env.now) (on_segment endpoint (said segment.now)).1 count) }
     ensures fits { IfOk result.1 IsTurn }
 {
     let _arrival = endpoint.arrive(segment);
@@ -39,7 +39,7 @@ pub fn hear(
 fn read_on(alloc: Global, env: &Env<'_>, mut endpoint: Endpoint, count: u32) -> Ends
     requires stream { env.now.stream ≤ MAX_STREAM_BYTES }
     requires counted { count ≤ endpoint.send.total }
-    ensures turn { IfOk result.1 (λ turn. (seat_seen result.0, turn) ≡ heard (env_seen env.now) endpoint count) }
+    ensures turn { IfOk result.1 (λ turn. at_front (result.0, turn) ≡ heard (env_seen env.now) endpoint count) }
     ensures fits { IfOk result.1 IsTurn }
 {
     let mut service = Service::new(alloc, count);
@@ -52,36 +52,14 @@ fn read_on(alloc: Global, env: &Env<'_>, mut endpoint: Endpoint, count: u32) -> 
 /// The timer fires (RFC 9293, 3.10.8).
 pub fn fire(alloc: Global, env: &Env<'_>, mut endpoint: Endpoint, count: u32) -> Ends
     requires { count ≤ endpoint.send.total }
-    ensures turn { IfOk result.1 (λ turn. (seat_seen result.0, turn) ≡ front_timer (env_seen env.now) (AtFront endpoint count)) }
+    ensures turn { IfOk result.1 (λ turn. at_front (result.0, turn) ≡ front_timer (front_env (env_seen env.now) 0) (AtFront endpoint count)) }
     ensures fits { IfOk result.1 IsTurn }
 {
     let ready = endpoint.timer();
-    match packets_of(alloc, env, &endpoint, ready) {
+    match ready_of(alloc, env, &endpoint, ready) {
         Ok(before) => {
             return spoken(alloc, env, endpoint, Service::new(alloc, count), before);
         }
         Err(NoMemory) => return (Ending::Here { endpoint, count }, Err(NoMemory)),
-    }
-}
-
-/// The packet of the segment that is ready, where there is one.
-fn packets_of(
-    alloc: Global,
-    env: &Env<'_>,
-    endpoint: &Endpoint,
-    ready: Option<Ready>,
-) -> Result<Sends, NoMemory>
-    requires { IfSome ready (λ ready. IsReady endpoint.now ready) }
-    ensures packets { IfOk result (λ sends. sends ≡ ready_of (env_seen env.now) endpoint.now ready) }
-    ensures short { IfOk result AreShort }
-    ensures few { IfOk result (λ sends. length sends ≤ 1) }
-{
-    let mut sends = Sends::new(alloc);
-    match ready {
-        None => return Ok(sends),
-        Some(ready) => {
-            sends.push(to_client(alloc, env.c, endpoint, ready)?)?;
-            return Ok(sends);
-        }
     }
 }

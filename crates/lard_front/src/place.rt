@@ -2,15 +2,16 @@
 
 ghost use Rattle.std.specs.Prelude.{◌≡◌, ◌≤◌, true, IfOk, length};
 ghost use Rattle.lard_base.specs.declared.limits.TheConstants.{MAX_SEGMENT_BYTES, MAX_STREAM_BYTES};
-ghost use Rattle.lard_front.specs.Place.{IsShort, setting_seen};
+ghost use Rattle.lard_front.specs.Place.{IsShort, front_env, serve_in, setting_seen};
 ghost use Rattle.lard_rules.specs.Front.{front_gets, front_hears, front_timer, is_plain_syn};
-ghost use Rattle.lard_rules.specs.FrontPlace.{IsFrontSound, env_in, front_did, front_step, seat_at};
+ghost use Rattle.lard_rules.specs.FrontPlace.{IsFrontSound, front_did, front_step, seat_at};
 ghost use Rattle.lard_rules.specs.Seat.{Nowhere, no_connections};
 ghost use Rattle.lard_segment.specs.Segment.{decoded, said};
 ghost use Rattle.lard_serving.specs.Serving.{env_seen};
 ghost use Rattle.lard_serving.specs.Bounds.{IsOut};
 
 use crate::ended::tombstone;
+use crate::holding::{fire, hear};
 use crate::seats::{Spot, listen, look, put_back, take_out};
 use lard_base::{ConnId, Epoch, NoMemory, Place, Sends};
 use lard_files::Files;
@@ -19,7 +20,7 @@ use lard_journal::Rec;
 use lard_rules::{FrontIn, FrontState, Out};
 use lard_segment::{Dir, Segment, decode};
 use lard_seq::Seq;
-use lard_serving::{Env, Service, fire, hear, nothing, out_of, spoken};
+use lard_serving::{Env, Service, is_armed, nothing, out_of, spoken};
 use lard_table::Table;
 use std::alloc::Global;
 
@@ -56,20 +57,20 @@ pub fn step(
 {
     match input {
         FrontIn::Segment { c, iss, bytes } => {
-            return receive(state, alloc, &env(setting, c, iss), bytes.as_slice());
+            return receive(state, alloc, &env(setting, c), iss, bytes.as_slice());
         }
         FrontIn::Message { .. } => return Ok(nothing(alloc)),
-        FrontIn::Timer(c) => return time_out(state, alloc, &env(setting, c, Seq(0))),
+        FrontIn::Timer(c) => return time_out(state, alloc, &env(setting, c)),
     }
 }
 
-fn env<'a>(setting: &Setting<'a>, c: ConnId, iss: Seq) -> Env<'a>
-    ensures env { env_seen result ≡ env_in (setting_seen setting.now) c iss.0 }
+fn env<'a>(setting: &Setting<'a>, c: ConnId) -> Env<'a>
+    ensures env { env_seen result ≡ serve_in (setting_seen setting.now) c }
     ensures same { (result.c ≡ c) × (result.stream ≡ setting.now.stream) }
 {
     Env {
+        place: Place::Front,
         c,
-        iss: iss.0,
         files: setting.files,
         stream: setting.stream,
     }
@@ -82,16 +83,17 @@ fn receive(
     state: &mut FrontState,
     alloc: Global,
     env: &Env<'_>,
+    iss: Seq,
     bytes: &[u8],
 ) -> Result<Out, NoMemory>
     requires sound { IsFrontSound state.old }
     requires stream { env.now.stream ≤ MAX_STREAM_BYTES }
     requires short { length bytes.now ≤ MAX_SEGMENT_BYTES }
-    ensures ok { IfOk result (λ out. (state.new, out) ≡ front_did state.old env.now.c (front_gets (env_seen env.now) (seat_at state.old env.now.c) (decoded bytes.now env.now.c Dir.ToCluster))) }
+    ensures ok { IfOk result (λ out. (state.new, out) ≡ front_did state.old env.now.c (front_gets (front_env (env_seen env.now) iss.0) (seat_at state.old env.now.c) (decoded bytes.now env.now.c Dir.ToCluster))) }
     ensures fits { IfOk result IsOut }
 {
     match decode(bytes, env.c, Dir::ToCluster) {
-        Ok(segment) => return take(state, alloc, env, &segment),
+        Ok(segment) => return take(state, alloc, env, iss, &segment),
         Err(_) => return Ok(nothing(alloc)),
     }
 }
@@ -101,17 +103,18 @@ fn take(
     state: &mut FrontState,
     alloc: Global,
     env: &Env<'_>,
+    iss: Seq,
     segment: &Segment<'_>,
 ) -> Result<Out, NoMemory>
     requires sound { IsFrontSound state.old }
     requires stream { env.now.stream ≤ MAX_STREAM_BYTES }
-    ensures ok { IfOk result (λ out. (state.new, out) ≡ front_did state.old env.now.c (front_hears (env_seen env.now) (seat_at state.old env.now.c) (said segment.now))) }
+    ensures ok { IfOk result (λ out. (state.new, out) ≡ front_did state.old env.now.c (front_hears (front_env (env_seen env.now) iss.0) (seat_at state.old env.now.c) (said segment.now))) }
     ensures fits { IfOk result IsOut }
 {
     match look(state, env.c) {
         Spot::Nowhere => {
             if is_plain_syn(segment) {
-                return meet(state, alloc, env, segment);
+                return meet(state, alloc, env, iss, segment);
             }
             return Ok(nothing(alloc));
         }
@@ -120,7 +123,7 @@ fn take(
             let endpoint = take_out(state, c, count);
             let was = !endpoint.clear();
             let (ending, turn) = hear(alloc, env, endpoint, count, segment);
-            let is = ending.is_armed();
+            let is = is_armed(&ending);
             put_back(state, alloc, c, count, ending);
             return out_of(alloc, Place::Front, c, was, is, turn?);
         }
@@ -145,21 +148,22 @@ fn meet(
     state: &mut FrontState,
     alloc: Global,
     env: &Env<'_>,
+    iss: Seq,
     segment: &Segment<'_>,
 ) -> Result<Out, NoMemory>
     requires unknown { seat_at state.old env.now.c ≡ Nowhere }
     requires plain { is_plain_syn (said segment.now) ≡ true }
-    ensures ok { IfOk result (λ out. (state.new, out) ≡ front_did state.old env.now.c (front_hears (env_seen env.now) Nowhere (said segment.now))) }
+    ensures ok { IfOk result (λ out. (state.new, out) ≡ front_did state.old env.now.c (front_hears (front_env (env_seen env.now) iss.0) Nowhere (said segment.now))) }
     ensures fits { IfOk result IsOut }
 {
     let c = env.c;
-    listen(state, alloc, c, segment, Seq(env.iss))?;
+    listen(state, alloc, c, segment, iss)?;
     let mut service = Service::new(alloc, 0);
     let (place, epoch) = (Place::Front, Epoch(1));
     service.notes.push(Rec::Took { place, c, epoch })?;
     let endpoint = take_out(state, c, 0);
     let (ending, turn) = spoken(alloc, env, endpoint, service, Sends::new(alloc));
-    let is = ending.is_armed();
+    let is = is_armed(&ending);
     put_back(state, alloc, c, 0, ending);
     out_of(alloc, Place::Front, c, false, is, turn?)
 }
@@ -169,7 +173,7 @@ fn meet(
 /// The timers of a connection fire.
 fn time_out(state: &mut FrontState, alloc: Global, env: &Env<'_>) -> Result<Out, NoMemory>
     requires sound { IsFrontSound state.old }
-    ensures ok { IfOk result (λ out. (state.new, out) ≡ front_did state.old env.now.c (front_timer (env_seen env.now) (seat_at state.old env.now.c))) }
+    ensures ok { IfOk result (λ out. (state.new, out) ≡ front_did state.old env.now.c (front_timer (front_env (env_seen env.now) 0) (seat_at state.old env.now.c))) }
     ensures fits { IfOk result IsOut }
 {
     match look(state, env.c) {
@@ -178,7 +182,7 @@ fn time_out(state: &mut FrontState, alloc: Global, env: &Env<'_>) -> Result<Out,
             let endpoint = take_out(state, c, count);
             let was = !endpoint.clear();
             let (ending, turn) = fire(alloc, env, endpoint, count);
-            let is = ending.is_armed();
+            let is = is_armed(&ending);
             put_back(state, alloc, c, count, ending);
             return out_of(alloc, Place::Front, c, was, is, turn?);
         }

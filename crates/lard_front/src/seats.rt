@@ -5,19 +5,17 @@ ghost use Rattle.std.specs.FinMap as table;
 ghost use Rattle.lard_endpoint.specs.Control.{listening};
 ghost use Rattle.lard_front.specs.Place.{IsCountOf, lent_at, spot_of};
 ghost use Rattle.lard_handoff_front.specs.Front.{may_put};
-ghost use Rattle.lard_rules.specs.Front.{is_plain_syn};
+ghost use Rattle.lard_rules.specs.Front.{is_plain_syn, seat_after};
 ghost use Rattle.lard_rules.specs.FrontPlace.{front_seats, seat_at};
 ghost use Rattle.lard_rules.specs.Seat.{AtFront, Nowhere, counted};
 ghost use Rattle.lard_segment.specs.Segment.{said};
-ghost use Rattle.lard_serving.specs.Serving.{seat_seen};
 
 use lard_base::{ConnId, NoMemory, Nodes};
 use lard_endpoint::{Endpoint, Final};
 use lard_handoff_front::FrontConn;
-use lard_rules::{FrontRest, FrontState};
+use lard_rules::{Ending, FrontRest, FrontState};
 use lard_segment::Segment;
 use lard_seq::Seq;
-use lard_serving::Ending;
 use lard_table::Table;
 use std::alloc::Global;
 
@@ -65,7 +63,7 @@ pub fn take_out(state: &mut FrontState, c: ConnId, count: u32) -> Endpoint
 pub fn put_back(state: &mut FrontState, alloc: Global, c: ConnId, before: u32, ending: Ending)
     requires lent { may_put (table.get state.old.conns c) ≡ true }
     requires rest { IsCountOf before (table.get state.old.rests c) }
-    ensures { state.new ≡ front_seats state.old c (seat_seen ending) }
+    ensures { state.new ≡ front_seats state.old c (seat_after ending) }
 {
     match ending {
         Ending::Here { endpoint, count } => {

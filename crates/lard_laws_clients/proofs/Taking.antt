@@ -194,8 +194,8 @@ owing k = record {
     client_fires = λ x s there sound given. inl tt;
     client_hears = λ x s bytes there was sound given.
         inr (record { from = Front; to = Client x.c; bytes = bytes }, refl, hears k.files x s there given bytes was (sound.number s there) (decoded bytes x.c ToClient) refl);
-    front_fires = λ x s there sound given. inl (fronts-pass x.c _ (front_fires-turn (env_at k x s) x.part.seat).notes);
-    front_hears = λ x s bytes there was sound given. inl (fronts-pass x.c _ (front_gets-turn (env_at k x s) x.part.seat (decoded bytes x.c ToCluster)).notes);
+    front_fires = λ x s there sound given. inl (fronts-pass x.c _ (front_fires-turn (env_at k x s) refl x.part.seat).notes);
+    front_hears = λ x s bytes there was sound given. inl (fronts-pass x.c _ (front_gets-turn (env_at k x s) refl x.part.seat (decoded bytes x.c ToCluster)).notes);
     ignores = λ x from to bytes was sound given. inl tt;
   };
   injects = λ x s bytes there rule sound given. inl tt;

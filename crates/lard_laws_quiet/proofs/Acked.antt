@@ -11,6 +11,8 @@ use Rattle.lard_journal.specs.declared.rec.Rec.{Rec}
 use Rattle.lard_journal.specs.declared.rec.Rec.TheVariants as rec
 use Rattle.lard_laws_bytes.specs.Agreement.{ClientAgrees, FrontAgrees, SaysAnswers}
 use Rattle.lard_laws_bytes.specs.Keeping.{IsEnv}
+use Rattle.lard_rules.specs.declared.places.Ending.{Ending}
+use Rattle.lard_rules.specs.declared.places.Ending.TheVariants as ending
 use Rattle.lard_rules.specs.declared.places.Turn.{Turn}
 use Rattle.lard_rules.specs.Client.{client_aborts, client_gets, client_holds, client_opens, client_shuts, client_takes, client_timer, client_writes}
 use Rattle.lard_rules.specs.Front.{FrontEnv, front_gets, front_timer}
@@ -32,12 +34,17 @@ taken_by x = if is_established x then 1 + x.accepted + one_if x.eof else 0
 abbrev pub heard_by : Received → ℕ
 heard_by r = 1 + r.got + one_if r.fin
 
--- and how many the front end did, by the client's first number
+-- and how many the cluster did, by the client's first number, where a turn left the connection
+abbrev pub heard_at : ℕ → Ending → ℕ
+heard_at isn (ending.Here b count) = heard_by b.recv
+heard_at isn (ending.Over last) = seq_offset last.rcv.0 isn
+
+-- and how many the front end did
 abbrev pub heard_of : ℕ → Seat → ℕ
 heard_of isn Nowhere = 0
-heard_of isn (AtFront b count) = heard_by b.recv
+heard_of isn (AtFront b count) = heard_at isn (ending.Here b count)
 heard_of isn Away = 0
-heard_of isn (Over last) = seq_offset last.rcv.0 isn
+heard_of isn (Over last) = heard_at isn (ending.Over last)
 
 -- ---- segments
 
@@ -63,15 +70,25 @@ abbrev pub RepliesMay : ℕ → ℕ → ℕ → List (Place × List ℕ) → Typ
 RepliesMay c isn heard [] = Unit {0}
 RepliesMay c isn heard (p ∷ ps) = ((p.0 ≡ place.Client c) × ((s : Said) × (p.1 ≡ spelled c ToClient s) × IsSendable s × ReplyMay isn heard s)) × RepliesMay c isn heard ps
 
--- ---- the front end
+-- ---- a place that serves, and the front end
 
 -- Of a client that took so many symbols, and aborted or not: no more of them are acknowledged; only a client that aborted
 -- resets; and where both sides closed, all that was sent is acknowledged.
+abbrev pub EndHolds : ℕ → ℕ → Bool → Ending → Type 0
+EndHolds iss taken aborted (ending.Here b count) = (b.send.una ≤ taken) × (b.reset ≡ true → aborted ≡ true)
+EndHolds iss taken aborted (ending.Over last) = (last.reason ≡ reason.Closed → Acks iss taken last.snd.0) × (last.reason ≡ reason.Peer → aborted ≡ true)
+
 abbrev pub FrontHolds : ℕ → ℕ → Bool → Seat → Type 0
 FrontHolds iss taken aborted Nowhere = Unit {0}
-FrontHolds iss taken aborted (AtFront b count) = (b.send.una ≤ taken) × (b.reset ≡ true → aborted ≡ true)
+FrontHolds iss taken aborted (AtFront b count) = EndHolds iss taken aborted (ending.Here b count)
 FrontHolds iss taken aborted Away = Unit {0}
-FrontHolds iss taken aborted (Over last) = (last.reason ≡ reason.Closed → Acks iss taken last.snd.0) × (last.reason ≡ reason.Peer → aborted ≡ true)
+FrontHolds iss taken aborted (Over last) = EndHolds iss taken aborted (ending.Over last)
+
+-- a turn of a place that serves takes no less than so much, which was taken before, and acknowledges no more than is taken
+pub record ServingActed (c isn iss taken : ℕ) (aborted : Bool) (before : ℕ) (given : Ending × Turn) : Type 0 where
+  pub grows : before ≤ heard_at isn given.0
+  pub holds : EndHolds iss taken aborted given.0
+  pub sent : RepliesMay c isn (heard_at isn given.0) given.1.segments
 
 -- a turn of the front end takes no less than was taken, and acknowledges no more
 pub record FrontActed (c isn iss taken : ℕ) (aborted : Bool) (f : Seat) (given : Seat × Turn) : Type 0 where

@@ -3,13 +3,16 @@
 use Rattle.std.proofs.Common.{◌≡◌, ◌≤◌, ◌+◌, ◌^◌, ℕ, zero, suc, false, nat_lt, List, length, take, drop, arith, ◌∙◌}
 use Rattle.std.proofs.lemmas.Bool.{cond_both, ltb-false}
 use Rattle.lard_answers.specs.Answers.{answer}
+use Rattle.lard_base.specs.declared.place.Via.{Via}
+use Rattle.lard_base.specs.declared.place.Via.TheVariants.{Own}
 use Rattle.lard_block.specs.declared.block.Found.{Found}
 use Rattle.lard_block.specs.declared.block.Found.TheVariants.{Block, More, TooLong}
 use Rattle.lard_block.specs.Blocks.{cut_of}
 use Rattle.lard_endpoint.specs.Control.{ControlBlock, consuming, discarding_on, finishing, queueing}
 use Rattle.lard_laws_bytes.proofs.FrontEndpoint.{IsBetween, Onward, between-consumed, between-discarded, onward-finished, onward-queued}
 use Rattle.lard_laws_bytes.proofs.Stopping.{unfinished-there}
-use Rattle.lard_rules.specs.Front.{FrontEnv, Service, answered, closed_behind, consumed, ended_at_fin, may_read, passed_over, queued, read_found, reads_on}
+use Rattle.lard_rules.specs.Front.{read_found, reads_on}
+use Rattle.lard_rules.specs.Serving.{ServeEnv, Service, answered, closed_behind, consumed, ended_at_fin, may_read, passed_over, queued}
 use Rattle.lard_request.specs.declared.verdict.Code.TheVariants as code
 use Rattle.lard_request.specs.declared.verdict.Verdict.{Verdict}
 use Rattle.lard_request.specs.declared.verdict.Verdict.TheVariants.{Fault}
@@ -54,13 +57,13 @@ module _ (w : Stream) (first : ℕ) (b : ControlBlock) where
       let next = onward-queued w h.1.0 d h.1.2 bytes open_ (omega arith) in
       (h.0, (next.next, next.longer.first ∙ h.1.1, next.between))
 
-  module _ (env : FrontEnv) (most : env.stream ≤ 2 ^ 30) where
+  module _ (env : ServeEnv) (most : env.stream ≤ 2 ^ 30) where
     -- a verdict is answered
-    answered-reads : (v : Verdict) (s : Service) → s.block.send.finished ≡ false → Reads s.block → Reads (answered env v s).block
-    answered-reads v s open_ h =
+    pub answered-reads : (via : Via) (v : Verdict) (s : Service) → s.block.send.finished ≡ false → Reads s.block → Reads (answered env via v s).block
+    answered-reads via v s open_ h =
         let bytes = answer env.files v in
         let total = s.block.send.total + length bytes in
-        cond_both (nat_lt env.stream total) (passed_over env total s) (queued env v bytes s) (λ (z : Service). Reads z.block)
+        cond_both (nat_lt env.stream total) (passed_over env total s) (queued env via v bytes s) (λ (z : Service). Reads z.block)
         (λ _. h)
         (λ t. let le : total ≤ env.stream = ltb-false env.stream total t in closed-reads v (queueing s.block bytes) (queued-reads bytes s.block open_ (omega arith) h))
 
@@ -77,11 +80,11 @@ module _ (w : Stream) (first : ℕ) (b : ControlBlock) where
     found-reads later goes s open_ h (Block skip len) =
         let v = verdict (take len (drop skip s.block.recv.unread)) in
         let rest : Service = consumed (skip + len) s in
-        goes (answered env v rest) (answered-reads v rest open_ (consumed-reads (skip + len) s.block h))
+        goes (answered env Own v rest) (answered-reads Own v rest open_ (consumed-reads (skip + len) s.block h))
     found-reads later goes s open_ h (TooLong skip) =
         let all = length s.block.recv.unread in
         let rest : Service = consumed all s in
-        goes (answered env (Fault code.FieldsTooLarge) rest) (answered-reads (Fault code.FieldsTooLarge) rest open_ (consumed-reads all s.block h))
+        goes (answered env Own (Fault code.FieldsTooLarge) rest) (answered-reads Own (Fault code.FieldsTooLarge) rest open_ (consumed-reads all s.block h))
 
     -- and so is all that may be
     pub reads-reads : (n : ℕ) (s : Service) → Reads s.block → Reads (reads_on n env s).block

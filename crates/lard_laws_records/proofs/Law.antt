@@ -1,6 +1,6 @@
 -- The law of one connection: what its places keep, and what is on the way, is bytes. And what each of its moves notes and
 -- sends is in range.
-use Rattle.std.proofs.Common.{◌≡◌, ℕ, ◌≤◌, ◌^◌, List, [], ◌∷◌, map, Bool, true, false, nat_lt, Option, Some, None, Ok, sym, subst, arith}
+use Rattle.std.proofs.Common.{◌≡◌, ℕ, ◌≤◌, ◌^◌, List, [], ◌∷◌, map, Bool, true, false, nat_lt, Option, Some, None, Ok, refl, sym, subst, arith}
 use Rattle.std.proofs.lemmas.Bool.{ltb-false}
 use Rattle.lard_base.specs.declared.event.Event.TheVariants as event
 use Rattle.lard_base.specs.declared.place.Place.{Place}
@@ -129,9 +129,9 @@ module _ (k : Setting) (small : k.stream ≤ 2 ^ 30) (are : AreFiles k.files) wh
       client_hears = λ x s bytes there was sound h g. client-moves x s there sound h (packet_seen Front (Client x.c) bytes) (client_gets s.client (decoded bytes x.c ToClient))
           (λ n keeps. gets-fits s.client n keeps (decoded bytes x.c ToClient) (heard x h Front (Client x.c) ToClient bytes was));
       front_fires = λ x s there sound h g. front-moves x s there sound h (event_seen (event.Timer Front x.c)) (front_timer (env_at k x s) x.part.seat)
-          (λ n. front.fires-fits (env_at k x s) n small are x.part.seat h.front);
+          (λ n. front.fires-fits (env_at k x s) refl n small are x.part.seat h.front);
       front_hears = λ x s bytes there was sound h g. front-moves x s there sound h (packet_seen (Client x.c) Front bytes) (front_gets (env_at k x s) x.part.seat (decoded bytes x.c ToCluster))
-          (λ n. front.gets-fits (env_at k x s) n small are x.part.seat (decoded bytes x.c ToCluster) (heard x h (Client x.c) Front ToCluster bytes was) h.front);
+          (λ n. front.gets-fits (env_at k x s) refl n small are x.part.seat (decoded bytes x.c ToCluster) (heard x h (Client x.c) Front ToCluster bytes was) h.front);
       ignores = λ x from to bytes was sound h g. record {
         station = h.station;
         front = h.front;

@@ -9,11 +9,12 @@ use Rattle.lard_base.specs.declared.event.Event.{Event}
 use Rattle.lard_base.specs.declared.event.Event.TheVariants as event
 use Rattle.lard_base.specs.declared.place.Place.{Place}
 use Rattle.lard_base.specs.declared.place.Place.TheVariants.{Front, Node, Client}
+use Rattle.lard_base.specs.declared.place.Via.{Via}
 use Rattle.lard_base.specs.declared.place.Via.TheVariants.{Own}
 use Rattle.lard_client.specs.Control.{ClientBlock}
 use Rattle.lard_endpoint.specs.declared.control.moving.Final.{Final}
 use Rattle.lard_endpoint.specs.Arriving.{on_segment}
-use Rattle.lard_endpoint.specs.Control.{ControlBlock, listening}
+use Rattle.lard_endpoint.specs.Control.{ControlBlock, finishing, listening}
 use Rattle.lard_endpoint.specs.Leaving.{after_timer}
 use Rattle.lard_endpoint.specs.Moving.{end_reason, final_of, may_end}
 use Rattle.lard_history.specs.Journal.{request}
@@ -27,10 +28,13 @@ use Rattle.lard_request.specs.declared.verdict.Code.TheVariants as code
 use Rattle.lard_request.specs.declared.verdict.Verdict.{Verdict}
 use Rattle.lard_request.specs.declared.verdict.Verdict.TheVariants.{Fault}
 use Rattle.lard_request.specs.Verdict.{verdict}
+use Rattle.lard_rules.specs.declared.places.Ending.{Ending}
+use Rattle.lard_rules.specs.declared.places.Ending.TheVariants as ending
 use Rattle.lard_rules.specs.declared.places.Station.{Station}
 use Rattle.lard_rules.specs.declared.places.Turn.{Turn}
 use Rattle.lard_rules.specs.Client.{client_aborts, client_gets, client_holds, client_injects, client_opens, client_shuts, client_takes, client_timer, client_writes, silent}
-use Rattle.lard_rules.specs.Front.{FrontEnv, Service, answered, begun, consumed, cut_off, front_gets, front_hears, front_timer, is_plain_syn, last_words, passed_over, queued, reads, rested, settled, spoken, tombstone}
+use Rattle.lard_rules.specs.Front.{FrontEnv, at_front, begun, front_gets, front_hears, front_timer, is_plain_syn, last_words, reads, seat_after, tombstone}
+use Rattle.lard_rules.specs.Serving.{ServeEnv, Service, answered, consumed, cut_off, ended_at_fin, passed_over, queued, serving, settled, spoken}
 use Rattle.lard_rules.specs.Speaking.{speaks}
 use Rattle.lard_rules.proofs.Loops.{KeptByReading, reads_keep}
 use Rattle.lard_rules.specs.Outs.{timer_change}
@@ -98,50 +102,58 @@ client-takes-not c (rec.Eof d) h = refl
 client-takes-not c (rec.Aborted d) h = refl
 client-takes-not c _ h = absurd h
 
--- ---- the front end's rules
+-- ---- a place that serves takes nothing
 
-module _ (env : FrontEnv) where
-  abbrev Untaken : Service → Type 0
+module _ (env : ServeEnv) where
+  abbrev pub Untaken : Service → Type 0
   Untaken w = NoneTakes w.notes
 
-  answered-takes : (v : Verdict) (w : Service) → Untaken w → Untaken (answered env v w)
-  answered-takes v w h =
+  pub answered-takes : (via : Via) (v : Verdict) (w : Service) → Untaken w → Untaken (answered env via v w)
+  answered-takes via v w h =
       let bytes : List ℕ = answer env.files v in
       let total : ℕ = w.block.send.total + length bytes in
-      cond_both (nat_lt env.stream total) (passed_over env total w) (queued env v bytes w) Untaken
-      (λ t. Each-append (λ r. takes_row r ≡ false) w.notes (rec.Reset Front env.c total ∷ []) h (refl, tt))
-      (λ t. Each-append (λ r. takes_row r ≡ false) w.notes (rec.Served Front env.c (w.count + 1) (answer_code env.files v) (length bytes) Own ∷ []) h (refl, tt))
+      cond_both (nat_lt env.stream total) (passed_over env total w) (queued env via v bytes w) Untaken
+      (λ t. Each-append (λ r. takes_row r ≡ false) w.notes (rec.Reset env.place env.c total ∷ []) h (refl, tt))
+      (λ t. Each-append (λ r. takes_row r ≡ false) w.notes (rec.Served env.place env.c (w.count + 1) (answer_code env.files v) (length bytes) via ∷ []) h (refl, tt))
+
+  pub ended-takes : (w : Service) → Untaken w → Untaken (ended_at_fin w)
+  ended-takes w h = cond_both w.block.recv.fin (record w { block = finishing w.block }) w Untaken (λ t. h) (λ t. h)
+
+  pub settled-takes : (w : Service) → Untaken w → NoneTakes (settled env w).1.notes
+  settled-takes w h = go w.over where
+    go : (o : Option ℕ) → NoneTakes (elim o as (λ p. Ending × Turn) [ None ↦ spoken env w [] | Some total ↦ cut_off env w ]).1.notes
+    go None = h
+    go (Some total) = h
 
   reading-takes : KeptByReading env Untaken
   reading-takes = record {
-    more = λ w skip may is h. cond_both (consumed skip w).block.recv.fin (record (consumed skip w) { block = _ }) (consumed skip w) Untaken (λ t. h) (λ t. h);
-    block = λ w skip len may is h. answered-takes (verdict (take len (drop skip w.block.recv.unread))) (consumed (skip + len) w) h;
-    long = λ w skip may is h. answered-takes (Fault code.FieldsTooLarge) (consumed (length w.block.recv.unread) w) h;
+    more = λ w skip may is h. ended-takes (consumed skip w) h;
+    block = λ w skip len may is h. answered-takes Own (verdict (take len (drop skip w.block.recv.unread))) (consumed (skip + len) w) h;
+    long = λ w skip may is h. answered-takes Own (Fault code.FieldsTooLarge) (consumed (length w.block.recv.unread) w) h;
   }
 
-  -- a connection that it took goes on
-  record GoesOn (given : Seat × Turn) : Type 0 where
-    there : is_begun given.0 ≡ true
-    notes : NoneTakes given.1.notes
+-- ---- the front end's rules
 
-  rested-begun : (b : ControlBlock) (count : ℕ) → is_begun (rested b count) ≡ true
-  rested-begun b count = cond_both (may_end b) (Over (final_of b (end_reason b))) (AtFront b count) (λ f. is_begun f ≡ true) (λ t. refl) (λ t. refl)
+-- a connection that the front end took goes on
+record GoesOn (given : Seat × Turn) : Type 0 where
+  there : is_begun given.0 ≡ true
+  notes : NoneTakes given.1.notes
 
-  settled-goes : (w : Service) → Untaken w → GoesOn (settled env w)
-  settled-goes w h = go w.over where
-    go : (o : Option ℕ) → GoesOn (elim o [ None ↦ spoken env w [] | Some total ↦ cut_off env w ])
-    go None = record { there = rested-begun (speaks env.c w.block).1 w.count; notes = h }
-    go (Some total) = record { there = refl; notes = h }
+after-begun : (e : Ending) → is_begun (seat_after e) ≡ true
+after-begun (ending.Here b count) = refl
+after-begun (ending.Over last) = refl
 
-  tombstone-goes : (last : Final) (o : Option Said) → GoesOn (Over last, tombstone env o)
+module _ (env : FrontEnv) where
+  tombstone-goes : (last : Final) (o : Option Said) → GoesOn (Over last, tombstone env.serve o)
   tombstone-goes last None = record { there = refl; notes = tt }
   tombstone-goes last (Some s) = record { there = refl; notes = tt }
 
   hears-goes : (f : Seat) (s : Said) → is_begun f ≡ true → GoesOn (front_hears env f s)
   hears-goes Nowhere s is = absurd cc
   hears-goes (AtFront b count) s is =
-      let w : Service = record { block = (on_segment b s).1; count = count; notes = []; answered = 0; over = None } in
-      settled-goes (reads env w) (reads_keep env Untaken reading-takes w tt)
+      let w : Service = serving (on_segment b s).1 count [] in
+      let done : Service = reads env.serve w in
+      record { there = after-begun (settled env.serve done).0; notes = settled-takes env.serve done (reads_keep env.serve (Untaken env.serve) (reading-takes env.serve) w tt) }
   hears-goes Away s is = record { there = refl; notes = tt }
   hears-goes (Over last) s is = tombstone-goes last (last_words last.reason last s)
 
@@ -167,7 +179,7 @@ module _ (env : FrontEnv) where
   gets-taking Nowhere (Err fault) = record { there = refl; takes = λ rest n. none-taken rest n; epoch = λ rest n. epochs-none rest n }
   gets-taking Nowhere (Ok s) = go (is_plain_syn s) where
     begins : IsTaking Nowhere true (begun env s)
-    begins = record { there = rested-begun (speaks env.c (listening s env.iss)).1 0; takes = λ rest n. refl; epoch = λ rest n. (refl, epochs-none rest n) }
+    begins = record { there = after-begun _; takes = λ rest n. refl; epoch = λ rest n. (refl, epochs-none rest n) }
 
     go : (b : Bool) → IsTaking Nowhere b (cond {A = Seat × Turn} b (begun env s) (Nowhere, silent))
     go false = record { there = refl; takes = λ rest n. none-taken rest n; epoch = λ rest n. epochs-none rest n }
@@ -178,7 +190,7 @@ module _ (env : FrontEnv) where
 
   fires-goes : (f : Seat) → (is_begun (front_timer env f).0 ≡ is_begun f) × NoneTakes (front_timer env f).1.notes
   fires-goes Nowhere = (refl, tt)
-  fires-goes (AtFront b count) = (rested-begun (speaks env.c (after_timer b)).1 count, tt)
+  fires-goes (AtFront b count) = (after-begun _, tt)
   fires-goes Away = (refl, tt)
   fires-goes (Over last) = (refl, tt)
 

@@ -1,3 +1,2 @@
 pub mod Loops
 mod Responses
-mod Found

@@ -2,17 +2,13 @@
 use Rattle.std.specs.Prelude.{◌≤◌}
 use Rattle.lard_endpoint.specs.Control.{ControlBlock}
 use Rattle.lard_files.specs.Files.{file_at}
-use Rattle.lard_rules.specs.Front.{FrontEnv, Service}
-use Rattle.lard_rules.specs.Seat.{Seat, AtFront}
-use Rattle.lard_rules.specs.Seat as seat
-use Rattle.lard_serving.specs.declared.ending.Ending.{Ending}
-use Rattle.lard_serving.specs.declared.ending.Ending.TheVariants.{Here, Over}
-use Rattle.lard_serving.specs.declared.reading.Env.{Env}
-use Rattle.lard_serving.specs.declared.reading.Service.{Service as Served}
+use Rattle.lard_rules.specs.Serving.{ServeEnv, Service}
+use Rattle.lard_serving.specs.declared.answering.Env.{Env}
+use Rattle.lard_serving.specs.declared.answering.Service.{Service as Served}
 
--- what the rules rest on
-abbrev pub env_seen : Env → FrontEnv
-env_seen env = record { c = env.c; iss = env.iss; files = file_at env.files.now; stream = env.stream }
+-- what serving rests on
+abbrev pub env_seen : Env → ServeEnv
+env_seen env = record { place = env.place; c = env.c; files = file_at env.files.now; stream = env.stream }
 
 -- an endpoint and what was served of it
 abbrev pub service_of : ControlBlock → Served → Service
@@ -22,8 +18,3 @@ service_of b w = record { block = b; count = w.count; notes = w.notes; answered 
 pub record IsCounted (b : ControlBlock) (w : Served) : Type 0 where
   pub responses : w.count ≤ b.send.total
   pub bytes : w.answered ≤ b.send.total
-
--- how a turn ends, as a seat of the front end
-abbrev pub seat_seen : Ending → Seat
-seat_seen (Here b count) = AtFront b count
-seat_seen (Over last) = seat.Over last

@@ -1,4 +1,4 @@
-//! How a place reads the requests of a connection, and answers them.
+//! How a place answers the requests of a connection.
 
 ghost use Rattle.std.specs.Prelude.{◌≡◌, ◌+◌, ◌^◌, ◌≤◌, ◌<◌, false, [], ◌∷◌, ◌++◌, length, IfOk, IfSome, IsTrue, OnOk, Some, true, if◌then◌else◌};
 ghost use Rattle.std.specs.Option.{option_copied};
@@ -6,26 +6,25 @@ ghost use Rattle.lard_answers.specs.Answers.{answer, answer_code, found};
 ghost use Rattle.lard_base.specs.declared.limits.TheConstants.{MAX_STREAM_BYTES};
 ghost use Rattle.lard_files.specs.Files.{IsContent, file_at};
 ghost use Rattle.lard_endpoint.specs.Control.{finishing};
-ghost use Rattle.lard_rules.specs.Front.{answered, closed_behind, may_read, reads};
+ghost use Rattle.lard_rules.specs.Serving.{answered, closed_behind, may_read};
 ghost use Rattle.lard_response.specs.Response.{number, response};
 ghost use Rattle.lard_serving.specs.Serving.{IsCounted, env_seen, service_of};
 
 use lard_base::{Bytes, ConnId, NoMemory, Place, Via};
-use lard_block::{Found, cut};
 use lard_endpoint::Endpoint;
 use lard_files::Files;
 use lard_journal::{Rec, Recs};
-use lard_request::{Code, Verdict, judge};
+use lard_request::{Code, Verdict};
 use lard_response::write;
 use std::alloc::Global;
 
-/// What the rules rest on beside a connection's state.
+/// What serving rests on beside a connection's state.
 #[derive(Clone, Copy)]
 pub struct Env<'a> {
+    /// The place that serves.
+    pub place: Place,
     /// The connection's number.
     pub c: ConnId,
-    /// The sequence number with which the cluster begins.
-    pub iss: u32,
     pub files: &'a Files,
     /// The most bytes of responses on one connection.
     pub stream: u32,
@@ -58,43 +57,8 @@ impl Service {
     }
 }
 
-/// Reads block by block, and answers, until no whole block is left.
-pub fn read(
-    alloc: Global,
-    env: &Env<'_>,
-    endpoint: &mut Endpoint,
-    service: &mut Service,
-) -> Result<(), NoMemory>
-    requires stream { env.now.stream ≤ MAX_STREAM_BYTES }
-    requires counted { IsCounted endpoint.old service.old }
-    ensures read { OnOk result (service_of endpoint.new service.new ≡ reads (env_seen env.now) (service_of endpoint.old service.old)) }
-    ensures counted { OnOk result (IsCounted endpoint.new service.new) }
-{
-    'reading: while may_read(endpoint, service) {
-        match cut(endpoint.unread()) {
-            Found::More { skip } => {
-                endpoint.consume(skip);
-                end_at_fin(endpoint);
-                return Ok(());
-            }
-            Found::Block { skip, len } => {
-                let verdict = judge(alloc, &endpoint.unread()[skip..skip + len])?;
-                endpoint.consume(skip + len);
-                answer(alloc, env, endpoint, service, &verdict)?;
-            }
-            Found::TooLong { skip: _ } => {
-                let all = endpoint.unread().len();
-                endpoint.consume(all);
-                let verdict = Verdict::Fault(Code::FieldsTooLarge);
-                answer(alloc, env, endpoint, service, &verdict)?;
-            }
-        }
-    }
-    Ok(())
-}
-
 /// Whether it is read on: the client did not reset the connection, and the cluster neither closed it nor is to reset it.
-fn may_read(endpoint: &Endpoint, service: &Service) -> bool
+pub fn may_read(endpoint: &Endpoint, service: &Service) -> bool
     ensures test { result ≡ may_read (service_of endpoint.now service.now) }
     ensures open { IsTrue result → endpoint.now.send.finished ≡ false }
     ensures within { IsTrue result → service.now.over ≡ None }
@@ -103,7 +67,7 @@ fn may_read(endpoint: &Endpoint, service: &Service) -> bool
 }
 
 /// Behind the client's FIN the cluster's follows.
-fn end_at_fin(endpoint: &mut Endpoint)
+pub fn end_at_fin(endpoint: &mut Endpoint)
     ensures { endpoint.new ≡ (if endpoint.old.recv.fin then finishing endpoint.old else endpoint.old) }
 {
     if endpoint.peer_done() {
@@ -111,19 +75,20 @@ fn end_at_fin(endpoint: &mut Endpoint)
     }
 }
 
-/// Answers a verdict.
-fn answer(
+/// Answers a verdict, where its content came by this way.
+pub fn answer(
     alloc: Global,
     env: &Env<'_>,
     endpoint: &mut Endpoint,
     service: &mut Service,
+    via: Via,
     verdict: &Verdict,
 ) -> Result<(), NoMemory>
     requires stream { env.now.stream ≤ MAX_STREAM_BYTES }
     requires counted { IsCounted endpoint.old service.old }
     requires open { endpoint.old.send.finished ≡ false }
     requires within { service.old.over ≡ None }
-    ensures answered { OnOk result (service_of endpoint.new service.new ≡ answered (env_seen env.now) verdict.now (service_of endpoint.old service.old)) }
+    ensures answered { OnOk result (service_of endpoint.new service.new ≡ answered (env_seen env.now) via verdict.now (service_of endpoint.old service.old)) }
     ensures counted { OnOk result (IsCounted endpoint.new service.new) }
 {
     let code = code_of(env.files, verdict);
@@ -135,18 +100,18 @@ fn answer(
     }
     endpoint.queue(bytes.as_slice())?;
     close_behind(endpoint, verdict);
-    note(env, service, code, length)
+    note(env, service, code, length, via)
 }
 
 /// The response would pass the stream limit: the connection is to be reset in its place.
 fn pass_over(env: &Env<'_>, service: &mut Service, total: u32) -> Result<(), NoMemory>
     ensures { OnOk result (service.new ≡ record service.old {
-      notes = service.old.notes ++ Rec.Reset Place.Front env.now.c total ∷ [];
+      notes = service.old.notes ++ Rec.Reset env.now.place env.now.c total ∷ [];
       over = Some total;
     }) }
 {
     service.notes.push(Rec::Reset {
-        place: Place::Front,
+        place: env.place,
         c: env.c,
         count: total,
     })?;
@@ -155,24 +120,30 @@ fn pass_over(env: &Env<'_>, service: &mut Service, total: u32) -> Result<(), NoM
 }
 
 /// Notes a response that was queued.
-fn note(env: &Env<'_>, service: &mut Service, code: u16, length: u32) -> Result<(), NoMemory>
+fn note(
+    env: &Env<'_>,
+    service: &mut Service,
+    code: u16,
+    length: u32,
+    via: Via,
+) -> Result<(), NoMemory>
     requires count { service.old.count < 2 ^ 31 }
     requires answered { service.old.answered + length < 2 ^ 32 }
     ensures { OnOk result (service.new ≡ record service.old {
       count = service.old.count + 1;
-      notes = service.old.notes ++ Rec.Served Place.Front env.now.c (service.old.count + 1) code length Via.Own ∷ [];
+      notes = service.old.notes ++ Rec.Served env.now.place env.now.c (service.old.count + 1) code length via ∷ [];
       answered = service.old.answered + length;
     }) }
 {
     service.count += 1;
     service.answered += length;
     service.notes.push(Rec::Served {
-        place: Place::Front,
+        place: env.place,
         c: env.c,
         r: service.count,
         code,
         length,
-        via: Via::Own,
+        via,
     })
 }
 

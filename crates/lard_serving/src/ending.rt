@@ -3,57 +3,36 @@
 
 ghost use Rattle.std.specs.Prelude.{◌≡◌, ◌+◌, ◌^◌, ◌≤◌, false, [], ◌∷◌, ◌++◌, length, None, IfOk};
 ghost use Rattle.lard_base.specs.declared.limits.TheConstants.{MAX_SEGMENT_BYTES, MAX_SEGMENT_DATA, MAX_STREAM_BYTES};
-ghost use Rattle.lard_rules.specs.Front.{cut_off, limit_said, rested, settled, spoken, told};
-ghost use Rattle.lard_rules.specs.Seat.{front_armed};
+ghost use Rattle.lard_rules.specs.Serving.{cut_off, is_armed, limit_said, rested, settled, spoken, told};
 ghost use Rattle.lard_rules.specs.Speaking.{AreShort};
 ghost use Rattle.lard_segment.specs.Segment.{said};
-ghost use Rattle.lard_serving.specs.Serving.{IsCounted, env_seen, seat_seen, service_of};
+ghost use Rattle.lard_serving.specs.Serving.{IsCounted, env_seen, service_of};
 ghost use Rattle.lard_serving.specs.Bounds.{IsTurn};
 
-use crate::reading::{Env, Service};
+use crate::answering::{Env, Service};
 use crate::speaking::{packet, speak, speak_symbols};
 use lard_base::{Bytes, NoMemory, Place, Sends};
 use lard_endpoint::{Endpoint, Final};
-use lard_rules::Turn;
+use lard_rules::{Ending, Turn};
 use lard_segment::{Dir, Flags, Segment};
 use std::alloc::Global;
-
-/// Where a connection is at the end of a turn. It may hold an endpoint, and so has to be spent.
-pub enum Ending {
-    /// Still here: its endpoint, and how many responses were queued on it.
-    Here { endpoint: Endpoint, count: u32 },
-    /// It ended, with these numbers.
-    Over(Final),
-}
 
 /// Where the connection is, and the place's turn, where memory sufficed for it.
 pub type Ends = (Ending, Result<Turn, NoMemory>);
 
-impl Ending {
-    /// Whether some symbol of the endpoint is not acknowledged.
-    pub fn is_armed(&self) -> bool
-        ensures { result ≡ front_armed (seat_seen self.now) }
-    {
-        match self {
-            Ending::Here { endpoint, .. } => !endpoint.clear(),
-            Ending::Over(_) => false,
-        }
-    }
-
-    /// Lets a connection go that is of no use any more.
-    pub fn spend(self) {
-        match self {
-            Ending::Here { endpoint, count: _ } => {
-                let _last = endpoint.kill();
-            }
-            Ending::Over(_) => {}
-        }
+/// Whether some symbol of the endpoint is not acknowledged.
+pub fn is_armed(ending: &Ending) -> bool
+    ensures { result ≡ is_armed ending.now }
+{
+    match ending {
+        Ending::Here { endpoint, .. } => !endpoint.clear(),
+        Ending::Over(_) => false,
     }
 }
 
 /// The endpoint, ended where it may end.
 fn rested(endpoint: Endpoint, count: u32) -> Ending
-    ensures { seat_seen result ≡ rested endpoint count }
+    ensures { result ≡ rested endpoint count }
 {
     match endpoint.end() {
         Ok(last) => Ending::Over(last),
@@ -72,7 +51,7 @@ pub fn spoken(
     requires short { AreShort before }
     requires few { length before ≤ 1 }
     requires counted { IsCounted endpoint service }
-    ensures turn { IfOk result.1 (λ turn. (seat_seen result.0, turn) ≡ spoken (env_seen env.now) (service_of endpoint service) before) }
+    ensures turn { IfOk result.1 (λ turn. (result.0, turn) ≡ spoken (env_seen env.now) (service_of endpoint service) before) }
     ensures fits { IfOk result.1 IsTurn }
 {
     let Service {
@@ -97,7 +76,7 @@ pub fn spoken(
 /// At the stream limit what has a symbol is still sent, then the RST ends the connection.
 fn cut_off(alloc: Global, env: &Env<'_>, mut endpoint: Endpoint, service: Service) -> Ends
     requires counted { IsCounted endpoint service }
-    ensures turn { IfOk result.1 (λ turn. (seat_seen result.0, turn) ≡ cut_off (env_seen env.now) (service_of endpoint service)) }
+    ensures turn { IfOk result.1 (λ turn. (result.0, turn) ≡ cut_off (env_seen env.now) (service_of endpoint service)) }
     ensures fits { IfOk result.1 IsTurn }
 {
     let sends = speak_symbols(alloc, env.c, &mut endpoint);
@@ -156,7 +135,7 @@ fn limit_segment(last: Final) -> Segment<'static>
 /// The end of a turn in which requests were read: the stream limit ends the connection, else it goes on.
 pub fn settled(alloc: Global, env: &Env<'_>, endpoint: Endpoint, service: Service) -> Ends
     requires counted { IsCounted endpoint service }
-    ensures turn { IfOk result.1 (λ turn. (seat_seen result.0, turn) ≡ settled (env_seen env.now) (service_of endpoint service)) }
+    ensures turn { IfOk result.1 (λ turn. (result.0, turn) ≡ settled (env_seen env.now) (service_of endpoint service)) }
     ensures fits { IfOk result.1 IsTurn }
 {
     match service.over {

@@ -3,9 +3,12 @@
 ghost use Rattle.std.specs.Prelude.{◌≡◌, ◌+◌, ◌^◌, ◌≤◌, false, ◌++◌, length, IfOk, IfSome, OnOk};
 ghost use Rattle.lard_base.specs.declared.limits.TheConstants.{MAX_STREAM_BYTES};
 ghost use Rattle.lard_endpoint.specs.Leaving.{IsReady};
+ghost use Rattle.lard_rules.specs.Serving.{ready_of};
 ghost use Rattle.lard_rules.specs.Speaking.{AreShort, has_symbol, speaks, speaks_symbols, to_client};
 ghost use Rattle.lard_segment.specs.Segment.{said, spelled};
+ghost use Rattle.lard_serving.specs.Serving.{env_seen};
 
+use crate::answering::Env;
 use lard_base::limits::{MAX_SEGMENT_BYTES, MAX_SEGMENT_DATA};
 use lard_base::{Bytes, ConnId, NoMemory, Place, Sends};
 use lard_endpoint::Endpoint;
@@ -44,6 +47,28 @@ pub fn to_client(
     let segment = endpoint.segment(ready, &mut data);
     let bytes = packet(alloc, &segment, c, Dir::ToClient)?;
     Ok((Place::Client(c), bytes))
+}
+
+/// The packet of the segment that is ready, where there is one.
+pub fn ready_of(
+    alloc: Global,
+    env: &Env<'_>,
+    endpoint: &Endpoint,
+    ready: Option<Ready>,
+) -> Result<Sends, NoMemory>
+    requires { IfSome ready (λ ready. IsReady endpoint.now ready) }
+    ensures packets { IfOk result (λ sends. sends ≡ ready_of (env_seen env.now) endpoint.now ready) }
+    ensures short { IfOk result AreShort }
+    ensures few { IfOk result (λ sends. length sends ≤ 1) }
+{
+    let mut sends = Sends::new(alloc);
+    match ready {
+        None => return Ok(sends),
+        Some(ready) => {
+            sends.push(to_client(alloc, env.c, endpoint, ready)?)?;
+            return Ok(sends);
+        }
+    }
 }
 
 /// Sends what the endpoint may send, behind these packets.

@@ -4,7 +4,7 @@ use Rattle.lard_endpoint.specs.declared.control.arriving.Arrival.{Arrival}
 use Rattle.lard_endpoint.specs.Control.{ControlBlock}
 use Rattle.lard_rules.proofs.Totals.{segment-many}
 use Rattle.lard_segment.specs.Segment.{said}
-use Rattle.lard_serving.proofs.holding.hear.Goals as goal
+use Rattle.lard_front.proofs.holding.hear.Goals as goal
 
 pub read_on-requires-clause-counted : goal.read_on-requires-clause-counted
 read_on-requires-clause-counted c =

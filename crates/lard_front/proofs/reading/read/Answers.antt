@@ -2,8 +2,8 @@
 use Rattle.std.proofs.Common.{length, sym, ap, ◌∙◌}
 use Rattle.lard_rules.proofs.Reading.{reads-stop}
 use Rattle.lard_serving.specs.Serving.{env_seen, service_of}
-use Rattle.lard_serving.proofs.Found.{block_read, long_read, more_read}
-use Rattle.lard_serving.proofs.reading.read.Goals as goal
+use Rattle.lard_front.proofs.Found.{block_read, long_read, more_read}
+use Rattle.lard_front.proofs.reading.read.Goals as goal
 
 pub returns-in-More-clause-read : goal.returns-in-More-clause-read
 returns-in-More-clause-read c =

@@ -1,7 +1,7 @@
 use Rattle.std.proofs.Common.{◌≡◌, length}
 use Rattle.lard_rules.specs.Front.{reads}
 use Rattle.lard_serving.specs.Serving.{IsCounted, env_seen, service_of}
-use Rattle.lard_serving.proofs.reading.read.Given as goal
+use Rattle.lard_front.proofs.reading.read.Given as goal
 
 -- reading on from here ends as it did from the start
 abbrev pub invariant-reading : goal.invariant-reading
