@@ -6,4 +6,9 @@
 //! proved, and nothing stands on it.
 #![tactic(auto)]
 
+pub mod handing;
+pub mod passing;
+pub mod placing;
 pub mod reading;
+pub mod seats;
+pub mod turns;

@@ -7,7 +7,7 @@ ghost use Rattle.lard_base.specs.declared.limits.TheConstants.{MAX_STREAM_BYTES}
 ghost use Rattle.lard_block.specs.Blocks.{cut_of};
 ghost use Rattle.lard_files.specs.Files.{file_at};
 ghost use Rattle.lard_front_rules.specs.Reading.{block_at, reads, reads_block, reads_found};
-ghost use Rattle.lard_front_whole.specs.Hand.{reading_of, step_seen};
+ghost use Rattle.lard_front_whole.specs.Hand.{MayGo, MayMove, reading_of, step_seen};
 ghost use Rattle.lard_request.specs.Verdict.{verdict};
 ghost use Rattle.lard_serving.specs.Serving.{IsCounted, env_seen, service_of};
 
@@ -40,6 +40,7 @@ pub fn read(
     requires counted { IsCounted endpoint.old service.old }
     ensures read { IfOk result (λ target. reading_of endpoint.new service.new target ≡ reads (env_seen env.now) (reading_of endpoint.old service.old None)) }
     ensures counted { OnOk result (IsCounted endpoint.new service.new) }
+    ensures may { IfOk result (λ target. MayMove endpoint.new target) }
 {
     'reading: while may_read(endpoint, service) {
         match turn(alloc, env, endpoint, service)? {
@@ -63,6 +64,7 @@ fn turn(
     requires within { service.old.over ≡ None }
     ensures turn { IfOk result (λ going. step_seen endpoint.new service.new going ≡ reads_found (env_seen env.now) (reading_of endpoint.old service.old None) (cut_of endpoint.old.recv.unread)) }
     ensures counted { OnOk result (IsCounted endpoint.new service.new) }
+    ensures may { IfOk result (λ going. MayGo endpoint.new going) }
 {
     match cut(endpoint.unread()) {
         Found::More { skip } => {
@@ -101,6 +103,7 @@ fn read_block(
     ensures turn { IfOk result (λ going. step_seen endpoint.new service.new going ≡ reads_block (env_seen env.now) (reading_of endpoint.old service.old None) (skip + len)
         (block_at (reading_of endpoint.old service.old None) skip len) (good_path (file_at env.now.files.now) (block_at (reading_of endpoint.old service.old None) skip len))) }
     ensures counted { OnOk result (IsCounted endpoint.new service.new) }
+    ensures may { IfOk result (λ going. MayGo endpoint.new going) }
 {
     let verdict = verdict_at(alloc, endpoint.unread(), skip, len)?;
     match good(env.files, verdict) {
