@@ -1,3 +1,5 @@
 pub mod Steps
 pub mod Offered
 pub mod Seated
+pub mod Lent
+pub mod Heard

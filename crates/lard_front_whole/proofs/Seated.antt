@@ -59,3 +59,8 @@ waited_is s c lends path m d set row found e =
       kept = put_list s.kept c (held s.kept c);
       dispatch = d;
     })
+
+-- a turn that was given is that of what it comes to
+pub then_is : {S T E : Type 0} (new : S) (x y : S × T) → x ≡ y → (r : Result T E) → IfOk r (λ t. (new, t) ≡ x) → IfOk r (λ t. (new, t) ≡ y)
+then_is new x y e (Ok t) h = h ∙ e
+then_is new x y e (Err f) h = tt

@@ -14,7 +14,7 @@ use Rattle.lard_endpoint.specs.Moving.{may_freeze}
 use Rattle.lard_front_rules.specs.declared.front.FrontRest.{FrontRest}
 use Rattle.lard_front_rules.specs.declared.front.FrontState.{FrontState}
 use Rattle.lard_front_rules.specs.declared.front.FrontTurn.{FrontTurn}
-use Rattle.lard_front_rules.specs.Front.{Deed, Drops, Says, Does, FrontEnv, FrontPart, front_armed, handed_off, heard, leaves_by, rest_of, rests, saying, settled_by, turn_here}
+use Rattle.lard_front_rules.specs.Front.{Deed, Drops, Says, Does, FrontEnv, FrontPart, fired, front_armed, handed_off, heard, holds, leaves_by, rest_of, rests, saying, settled_by, turn_here, waits_on}
 use Rattle.lard_front_rules.specs.FrontPlace.{front_part, front_put, out_of, put_back}
 use Rattle.lard_front_rules.specs.Reading.{Reading}
 use Rattle.lard_front_rules.specs.Sound.{IsHere}
@@ -38,7 +38,7 @@ use Rattle.lard_rules.specs.declared.places.Turn.{Turn}
 use Rattle.lard_rules.specs.Loop.{Step}
 use Rattle.lard_rules.specs.Loop as loop
 use Rattle.lard_rules.specs.Outs.{kind_change}
-use Rattle.lard_rules.specs.Serving.{Service, spoken}
+use Rattle.lard_rules.specs.Serving.{Service, serving, spoken}
 use Rattle.lard_segment.specs.Segment.{Said}
 use Rattle.lard_serving.specs.declared.answering.Service.{Service as Served}
 use Rattle.lard_serving.specs.Serving.{env_seen, service_of}
@@ -188,3 +188,29 @@ heard_by env p s row (Some b) = heard env p row (rest_of p.rest) (on_segment b s
 abbrev pub heard_at : FrontEnv → FrontPart → Said → Option FrontRow → Deed
 heard_at env p s None = Drops
 heard_at env p s (Some row) = heard_by env p s row (held_in row.stage)
+
+abbrev pub waits_heard_by : FrontEnv → FrontPart → Said → FrontRow → Option ControlBlock → Deed
+waits_heard_by env p s row None = Drops
+waits_heard_by env p s row (Some b) = waits_on env p row (rest_of p.rest) (spoken env.serve (serving (on_segment b s).1 (rest_of p.rest).count []) [])
+
+-- it waits: the endpoint takes the segment, and nothing is read
+abbrev pub waits_heard : FrontEnv → FrontPart → Said → Option FrontRow → Deed
+waits_heard env p s None = Drops
+waits_heard env p s (Some row) = waits_heard_by env p s row (held_in row.stage)
+
+-- its timer fires
+abbrev pub fires_held_by : FrontEnv → FrontPart → FrontRow → Option ControlBlock → Deed
+fires_held_by env p row None = Drops
+fires_held_by env p row (Some b) = holds p row (rest_of p.rest) (fired env (rest_of p.rest) b)
+
+abbrev pub fires_held : FrontEnv → FrontPart → Option FrontRow → Deed
+fires_held env p None = Drops
+fires_held env p (Some row) = fires_held_by env p row (held_in row.stage)
+
+abbrev pub fires_waiting_by : FrontEnv → FrontPart → FrontRow → Option ControlBlock → Deed
+fires_waiting_by env p row None = Drops
+fires_waiting_by env p row (Some b) = waits_on env p row (rest_of p.rest) (fired env (rest_of p.rest) b)
+
+abbrev pub fires_waiting : FrontEnv → FrontPart → Option FrontRow → Deed
+fires_waiting env p None = Drops
+fires_waiting env p (Some row) = fires_waiting_by env p row (held_in row.stage)

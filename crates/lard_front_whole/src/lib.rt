@@ -7,6 +7,7 @@
 #![tactic(auto)]
 
 pub mod handing;
+pub mod hearing;
 pub mod passing;
 pub mod placing;
 pub mod reading;
