@@ -3,3 +3,5 @@ pub mod Offered
 pub mod Seated
 pub mod Lent
 pub mod Heard
+pub mod Soundly
+pub mod Beginning

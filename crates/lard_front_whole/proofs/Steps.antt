@@ -1,5 +1,5 @@
 -- What the code did in a step, as the rules have it.
-use Rattle.std.proofs.Common.{◌≡◌, ℕ, Bool, true, false, List, [], ◌++◌, Option, Some, None, is_some, refl, sym, ap, ◌∙◌}
+use Rattle.std.proofs.Common.{◌≡◌, ℕ, Bool, true, false, List, [], ◌++◌, Option, Some, None, is_some, Result, Ok, Err, IfOk, refl, sym, ap, ◌∙◌}
 use Rattle.std.specs.FinMap as table
 use Rattle.lard_base.specs.declared.ids.Epoch.{Epoch}
 use Rattle.lard_base.specs.declared.place.Place.TheVariants as place
@@ -9,6 +9,7 @@ use Rattle.lard_front_rules.specs.declared.front.FrontTurn.{FrontTurn}
 use Rattle.lard_front_rules.specs.Front.{Deed, Drops, Says, Does, Did, FrontPart, front_armed, front_taken, taken_by}
 use Rattle.lard_front_rules.specs.FrontPlace.{front_deed, front_did, front_part, out_of, put_back, timers_of}
 use Rattle.lard_front_rules.proofs.Parts.{part_put, unchanged}
+use Rattle.lard_front_whole.specs.declared.turns.Armed.{Armed}
 use Rattle.lard_front_whole.specs.Hand.{armed_of, changes, deed_turn, out_by, silent}
 use Rattle.lard_handoff_front.specs.declared.row.FrontRow.{FrontRow}
 use Rattle.lard_handoff_front.specs.Front.{Fronts, asked_node, moved}
@@ -72,3 +73,9 @@ module _ (s : FrontState) (c : ℕ) (epoch : Epoch) (n : Fronts) (after : n ≡ 
     go None (Some node) h e = λ i. (record s { conns = e i }, silent)
     go (Some row) None h e = λ i. (record s { conns = e i }, silent)
     go (Some row) (Some node) h e = absurd cc
+
+-- what a turn comes to, where memory sufficed for it
+pub out_is : {E : Type 0} (s n : FrontState) (c : ℕ) (deed : Deed) (turn : FrontTurn) (was : Armed) → (n, turn) ≡ deed_turn s c deed → was ≡ armed_of (front_part s c)
+    → (r : Result Out E) → IfOk r (λ out. out ≡ out_by c was (armed_of (front_part n c)) turn) → IfOk r (λ out. (n, out) ≡ front_deed s c deed)
+out_is s n c deed turn was ruled before (Ok out) told = deed_is s n c deed turn out ruled (told ∙ ap (λ (a : Armed). out_by c a (armed_of (front_part n c)) turn) before)
+out_is s n c deed turn was ruled before (Err e) told = tt

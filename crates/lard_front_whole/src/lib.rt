@@ -6,10 +6,12 @@
 //! proved, and nothing stands on it.
 #![tactic(auto)]
 
+mod ended;
 pub mod handing;
 pub mod hearing;
 pub mod passing;
 pub mod placing;
 pub mod reading;
+pub mod receiving;
 pub mod seats;
 pub mod turns;
