@@ -5,3 +5,4 @@ pub mod Lent
 pub mod Heard
 pub mod Soundly
 pub mod Beginning
+pub mod Ends

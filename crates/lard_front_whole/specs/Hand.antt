@@ -1,10 +1,11 @@
 -- What the code of the front end has in hand, as the rules have it.
 use Rattle.std.specs.Prelude.{◌≡◌, ℕ, ◌++◌, Bool, List, [], true, false, ◌∷◌, Option, Some, None}
 use Rattle.std.specs.FinMap as table
+use Rattle.lard_base.specs.declared.ids.Millis.{Millis}
 use Rattle.lard_base.specs.declared.place.Place.TheVariants as place
 use Rattle.lard_base.specs.declared.place.TimerKind.TheVariants as kind
 use Rattle.lard_dispatch.specs.Books.{Dispatcher}
-use Rattle.lard_dispatch.specs.Calls.{first_answer, later_answer}
+use Rattle.lard_dispatch.specs.Calls.{ended_answer, first_answer, later_answer}
 use Rattle.lard_dispatch.specs.Laws.{after_calls}
 use Rattle.lard_dispatch.specs.Line.{waits}
 use Rattle.lard_dispatch.specs.Sound.{AreBefore}
@@ -214,3 +215,11 @@ fires_waiting_by env p row (Some b) = waits_on env p row (rest_of p.rest) (fired
 abbrev pub fires_waiting : FrontEnv → FrontPart → Option FrontRow → Deed
 fires_waiting env p None = Drops
 fires_waiting env p (Some row) = fires_waiting_by env p row (held_in row.stage)
+
+-- ---- an end
+
+-- who is admitted in the place of one that ended
+abbrev pub next_by : Dispatcher → ℕ → Millis → Deed → Option (ℕ × FirstChoice)
+next_by d c time Drops = None
+next_by d c time (Says turn) = None
+next_by d c time (Does x) = ended_answer d c time

@@ -13,5 +13,6 @@ pub mod passing;
 pub mod placing;
 pub mod reading;
 pub mod receiving;
+pub mod releasing;
 pub mod seats;
 pub mod turns;
