@@ -6,3 +6,4 @@ pub mod Heard
 pub mod Soundly
 pub mod Beginning
 pub mod Ends
+pub mod Starting

@@ -10,9 +10,12 @@ mod ended;
 pub mod handing;
 pub mod hearing;
 pub mod passing;
+pub mod place;
 pub mod placing;
 pub mod reading;
 pub mod receiving;
 pub mod releasing;
 pub mod seats;
+#[cfg(test)]
+mod tests;
 pub mod turns;
