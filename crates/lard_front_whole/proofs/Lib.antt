@@ -7,3 +7,4 @@ pub mod Soundly
 pub mod Beginning
 pub mod Ends
 pub mod Starting
+pub mod Admitted

@@ -223,3 +223,7 @@ abbrev pub next_by : Dispatcher → ℕ → Millis → Deed → Option (ℕ × F
 next_by d c time Drops = None
 next_by d c time (Says turn) = None
 next_by d c time (Does x) = ended_answer d c time
+
+-- the path with which a connection waits
+abbrev pub target_of : Option FrontRest → Option (List ℕ)
+target_of rest = (rest_of rest).target

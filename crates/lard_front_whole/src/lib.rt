@@ -6,6 +6,7 @@
 //! proved, and nothing stands on it.
 #![tactic(auto)]
 
+pub mod admitting;
 mod ended;
 pub mod handing;
 pub mod hearing;
