@@ -1,17 +1,14 @@
 -- One connection's part of the state, over what is put back of it.
-use Rattle.std.proofs.Common.{◌≡◌, ℕ, Bool, true, false, List, [], ◌∷◌, ◌++◌, Option, Some, None, refl, sym, ap, ◌∙◌}
-use Rattle.std.specs.FinMap as table
-use Rattle.std.specs.List.{flat_map}
+use Rattle.std.proofs.Common.{◌≡◌, ℕ, Bool, true, false, [], refl}
 use Rattle.lard_base.specs.declared.place.Place.{Place}
 use Rattle.lard_base.specs.declared.place.TimerKind.{TimerKind}
 use Rattle.lard_front_rules.specs.declared.front.FrontState.{FrontState}
-use Rattle.lard_front_rules.specs.Front.{Did, FrontPart}
-use Rattle.lard_front_rules.specs.FrontPlace.{front_part, front_put, put_back, timers_of}
-use Rattle.lard_journal.specs.declared.rec.Rec.{Rec}
-use Rattle.lard_resend.proofs.Lists.{found_other, held_put, list_got, list_twice}
+use Rattle.lard_front_rules.specs.Front.{FrontPart}
+use Rattle.lard_front_rules.specs.FrontPlace.{front_part, front_put}
+use Rattle.lard_resend.proofs.Lists.{found_other, held_put}
 use Rattle.lard_resend.specs.Pending.{list_of}
 use Rattle.lard_rules.specs.Outs.{kind_change}
-use Rattle.lard_table.proofs.Map.{get_put_other, get_put_same, put_got, put_twice}
+use Rattle.lard_table.proofs.Map.{get_put_other, get_put_same}
 
 -- what was put back is found
 pub part_put : (s : FrontState) (c : ℕ) (p : FrontPart) → front_part (front_put s c p) c ≡ p

@@ -1,5 +1,5 @@
 -- The turns of reading: each but the last takes unread bytes, and a request that is to be placed finds an endpoint that may move.
-use Rattle.std.proofs.Common.{◌≡◌, ℕ, ◌+◌, ◌≤◌, ◌<◌, Bool, true, false, List, length, take, drop, cond, nat_lt, Option, Some, None, OnSome, refl, sym, ap, subst, ◌∙◌, arith, length-drop}
+use Rattle.std.proofs.Common.{◌≡◌, ℕ, ◌+◌, ◌≤◌, ◌<◌, true, false, List, length, cond, nat_lt, Option, Some, None, refl, sym, ap, subst, ◌∙◌, arith, length-drop}
 use Rattle.std.proofs.lemmas.Bool.{cond_both}
 use Rattle.lard_answers.specs.Answers.{answer, good_path}
 use Rattle.lard_base.specs.declared.place.Via.{Via}
@@ -15,11 +15,11 @@ use Rattle.lard_request.specs.declared.verdict.Verdict.{Verdict}
 use Rattle.lard_request.specs.declared.verdict.Verdict.TheVariants.{Fault}
 use Rattle.lard_request.specs.Verdict.{closes}
 use Rattle.lard_rules.proofs.Reading.{answered-unread}
-use Rattle.lard_rules.proofs.Runs.{Falls, KeptByTurns, goes_done, goes_more, runs_keep}
+use Rattle.lard_rules.proofs.Runs.{Falls, goes_done, goes_more, runs_keep}
 use Rattle.lard_rules.specs.Loop.{Step}
 use Rattle.lard_rules.specs.Loop as loop
 use Rattle.lard_rules.specs.Serving.{ServeEnv, Service, answered, closed_behind, consumed, ended_at_fin, may_read, passed_over, queued}
-use Rattle.lard_front_rules.specs.Reading.{Reading, block_at, left, reads, reads_block, reads_found, targeted, turn, with_service}
+use Rattle.lard_front_rules.specs.Reading.{Reading, block_at, left, reads, reads_block, reads_found, targeted, turn}
 
 -- ---- each turn but the last takes unread bytes
 

@@ -1,5 +1,5 @@
 -- The first of the line is handed off with the path that it waits with.
-use Rattle.std.proofs.Common.{◌≡◌, ℕ, true, List, [], Option, Some, None, option_map, sym, ap, ◌∙◌}
+use Rattle.std.proofs.Common.{◌≡◌, ℕ, true, List, Option, Some, option_map, sym, ap, ◌∙◌}
 use Rattle.std.specs.FinMap as table
 use Rattle.lard_endpoint.specs.Control.{ControlBlock}
 use Rattle.lard_front_rules.specs.declared.front.FrontState.{FrontState}
@@ -9,13 +9,11 @@ use Rattle.lard_front_rules.specs.FrontPlace.{front_part}
 use Rattle.lard_front_whole.specs.declared.turns.Around.{Around}
 use Rattle.lard_front_whole.specs.Hand.{Holds, count_of, env_of, gives, handed_at, handed_by, target_of}
 use Rattle.lard_front_whole.proofs.Heard.{IsNew, begins}
-use Rattle.lard_handoff_front.specs.declared.row.FrontConn.TheVariants as stage
 use Rattle.lard_handoff_front.specs.declared.row.FrontRow.{FrontRow}
 use Rattle.lard_handoff_front.specs.Row.{held_in}
 use Rattle.lard_policy.specs.declared.first.FirstChoice.{FirstChoice}
-use Rattle.lard_rules.specs.Serving.{Service, serving}
+use Rattle.lard_rules.specs.Serving.{Service}
 use Rattle.lard_serving.specs.declared.answering.Service.{Service as Served}
-use Rattle.lard_serving.specs.Serving.{service_of}
 use Rattle.std.proofs.Common.{refl}
 
 pub admitted_is : (around : Around) (s : FrontState) (h : Holds s around.serve.c true) (w : Served) (n : ℕ) (path : List ℕ) (choice : FirstChoice) (new : FrontState) (t : FrontTurn) → IsNew w n

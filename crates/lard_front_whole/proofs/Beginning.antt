@@ -1,12 +1,12 @@
 -- A connection that begins.
-use Rattle.std.proofs.Common.{◌≡◌, ℕ, ◌+◌, ◌-◌, ◌≤◌, Bool, true, false, List, [], Option, Some, None, refl, sym, ap, ◌∙◌, arith}
+use Rattle.std.proofs.Common.{◌≡◌, ℕ, false, [], Some, None, refl, ap, ◌∙◌, arith}
 use Rattle.std.specs.FinMap as table
 use Rattle.std.specs.FinMap.{FinMap}
 use Rattle.std.specs.Ordering.{nat_cmp}
 use Rattle.lard_endpoint.specs.Control.{ControlBlock}
 use Rattle.lard_front_rules.specs.declared.front.FrontRest.{FrontRest}
 use Rattle.lard_front_rules.specs.declared.front.FrontState.{FrontState}
-use Rattle.lard_front_rules.specs.Front.{holds, rest_of, rests, rest_after, stage_after, turn_here}
+use Rattle.lard_front_rules.specs.Front.{holds, rest_of, rests, rest_after, turn_here}
 use Rattle.lard_front_rules.specs.FrontPlace.{front_part}
 use Rattle.lard_front_whole.specs.Hand.{Holds, deed_turn}
 use Rattle.lard_handoff_front.specs.declared.row.FrontConn.TheVariants as stage
@@ -49,8 +49,11 @@ module _ (s : FrontState) (c : ℕ) (b : ControlBlock) (m : Fronts) (r : FinMap 
   pub met_is : (x : Ending × Turn) → deed_turn met c (holds (front_part met c) (begun b) (rest_of (table.get r c)) x) ≡ deed_turn s c (holds (front_part s c) first_row (rest_of None) x)
   met_is x =
       ap (λ o. deed_turn met c (holds (front_part met c) (begun b) (rest_of o) x)) found_rest
-      ∙ (λ i. (record s {
-        conns = (ap (λ u. put_or u c (rests (front_part s c) first_row (rest_of None) stage.Held x.0).row) kept ∙ put_twice s.conns c (Some (begun b)) (rests (front_part s c) first_row (rest_of None) stage.Held x.0).row) i;
-        rests = (ap (λ u. put_or u c (rest_after (rest_of None) x.0)) set ∙ put_twice s.rests c (Some (rest_of None)) (rest_after (rest_of None) x.0)) i;
-        kept = put_list s.kept c (held s.kept c);
-      }, turn_here x.1))
+      ∙ (λ i. (
+        record s {
+          conns = (ap (λ u. put_or u c (rests (front_part s c) first_row (rest_of None) stage.Held x.0).row) kept ∙ put_twice s.conns c (Some (begun b)) (rests (front_part s c) first_row (rest_of None) stage.Held x.0).row) i;
+          rests = (ap (λ u. put_or u c (rest_after (rest_of None) x.0)) set ∙ put_twice s.rests c (Some (rest_of None)) (rest_after (rest_of None) x.0)) i;
+          kept = put_list s.kept c (held s.kept c);
+        },
+        turn_here x.1,
+      ))

@@ -1,5 +1,5 @@
 -- What the end of a connection comes to.
-use Rattle.std.proofs.Common.{◌≡◌, ℕ, Bool, true, false, cond, List, [], ◌∷◌, Option, Some, None, Result, Ok, Err, IfOk, sym, ap, ◌∙◌}
+use Rattle.std.proofs.Common.{◌≡◌, ℕ, Bool, true, false, cond, List, [], ◌∷◌, Option, Some, None, Result, Ok, Err, IfOk, ap, ◌∙◌}
 use Rattle.std.specs.FinMap as table
 use Rattle.std.specs.FinMap.{FinMap}
 use Rattle.std.specs.Ordering.{nat_cmp}
@@ -13,11 +13,8 @@ use Rattle.lard_front_rules.specs.declared.front.FrontState.{FrontState}
 use Rattle.lard_front_rules.specs.declared.front.FrontTurn.{FrontTurn}
 use Rattle.lard_front_rules.specs.Front.{FrontEnv, ack_sent, ended_by, front_ended, saying}
 use Rattle.lard_front_rules.specs.FrontPlace.{front_part}
-use Rattle.lard_front_rules.specs.Sound.{IsFrontSound, IsRowSound, Standing, standing}
 use Rattle.lard_front_whole.specs.declared.releasing.Released.{Released}
 use Rattle.lard_front_whole.specs.Hand.{deed_turn}
-use Rattle.lard_handoff_front.specs.declared.row.FrontConn.{FrontConn}
-use Rattle.lard_handoff_front.specs.declared.row.FrontConn.TheVariants as stage
 use Rattle.lard_handoff_front.specs.declared.row.FrontRow.{FrontRow}
 use Rattle.lard_handoff_front.specs.declared.table.OnEnded.{OnEnded}
 use Rattle.lard_handoff_front.specs.declared.table.OnEnded.TheVariants.{New, Again, Stale}
@@ -25,10 +22,9 @@ use Rattle.lard_handoff_front.specs.Front.{Fronts, end_answer, ended_with, next_
 use Rattle.lard_handoff_front.specs.Front as fronts
 use Rattle.lard_handoff_front.specs.Row.{is_away}
 use Rattle.lard_journal.specs.declared.rec.Rec.TheVariants as rec
-use Rattle.lard_loads.specs.Tally.{home}
 use Rattle.lard_resend.proofs.Renewed.{settled_is}
 use Rattle.lard_resend.specs.declared.kept.Kept.{Kept}
-use Rattle.lard_resend.specs.Pending.{held, settled}
+use Rattle.lard_resend.specs.Pending.{settled}
 
 -- a turn that was given, with the state that it leaves
 pub both_are : {E : Type 0} (r : Result Released E) (new st : FrontState) (t : FrontTurn) (y : FrontState × FrontTurn) → IfOk r (λ x. new ≡ st) → IfOk r (λ x. x.turn ≡ t) → (st, t) ≡ y → IfOk r (λ x. (new, x.turn) ≡ y)
@@ -55,8 +51,10 @@ module _ (env : FrontEnv) (s : FrontState) (from : ℕ) (epoch : Epoch) (last : 
         → Comes (Some row) (cond a (New (next_epoch row)) (cond w Again Stale))
     by row true w new after =
         let same : next ≡ next_epoch row = cc in
-        λ i. (record s { conns = after i; rests = table.remove s.rests k; kept = (drops ∙ settled_is s.kept k kind.Offer 0 some) i; dispatch = left i },
-        (told ∙ ap (λ (e : Epoch). record (saying (ack_sent env from epoch.0)) { notes = rec.Took place.Front k e ∷ rec.Released k ∷ [] }) same) i)
+        λ i. (
+          record s { conns = after i; rests = table.remove s.rests k; kept = (drops ∙ settled_is s.kept k kind.Offer 0 some) i; dispatch = left i },
+          (told ∙ ap (λ (e : Epoch). record (saying (ack_sent env from epoch.0)) { notes = rec.Took place.Front k e ∷ rec.Released k ∷ [] }) same) i,
+        )
     by row false true new after = let no : New next ≡ Again = new in absurd cc
     by row false false new after = let no : New next ≡ Stale = new in absurd cc
 

@@ -14,10 +14,9 @@ use Rattle.lard_front_whole.specs.declared.turns.Around.{Around}
 use Rattle.lard_front_whole.specs.Hand.{Holds, Lends, deed_turn, env_of, lent, read_deed, rested_in}
 use Rattle.lard_front_whole.proofs.Seated.{rested_is}
 use Rattle.lard_dispatch.specs.Laws.{after_calls}
-use Rattle.lard_handoff_front.specs.declared.row.FrontConn.{FrontConn}
 use Rattle.lard_handoff_front.specs.declared.row.FrontConn.TheVariants as stage
 use Rattle.lard_handoff_front.specs.declared.row.FrontRow.{FrontRow}
-use Rattle.lard_handoff_front.specs.Front.{endpoint_of, in_stage, may_put, with_stage}
+use Rattle.lard_handoff_front.specs.Front.{endpoint_of, in_stage, with_stage}
 use Rattle.lard_handoff_front.specs.Row.{held_in}
 use Rattle.lard_rules.specs.declared.places.Ending.{Ending}
 use Rattle.lard_rules.specs.declared.places.Turn.{Turn}

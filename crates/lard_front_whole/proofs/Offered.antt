@@ -1,5 +1,5 @@
 -- A hand-off, as the rules have it.
-use Rattle.std.proofs.Common.{◌≡◌, ℕ, ◌+◌, List, [], ◌∷◌, ◌++◌, false, Option, Some, None, option_map, Result, Ok, Err, IfOk, refl, sym, ap, ◌∙◌}
+use Rattle.std.proofs.Common.{◌≡◌, ℕ, ◌+◌, List, [], ◌∷◌, ◌++◌, false, Option, Some, None, option_map, Result, Ok, Err, IfOk, sym, ap, ◌∙◌}
 use Rattle.std.specs.FinMap as table
 use Rattle.std.specs.FinMap.{FinMap}
 use Rattle.std.specs.Ordering.{nat_cmp}
@@ -22,7 +22,6 @@ use Rattle.lard_handoff_front.specs.declared.row.FrontConn.TheVariants as stage
 use Rattle.lard_handoff_front.specs.declared.row.FrontRow.{FrontRow}
 use Rattle.lard_handoff_front.specs.Front.{Fronts, MayBeOffered, MayLeave, in_stage, next_epoch, offer_in, offer_of, offered, with_stage}
 use Rattle.lard_handoff_front.specs.Row.{held_in}
-use Rattle.lard_journal.specs.declared.rec.Rec.{Rec}
 use Rattle.lard_journal.specs.declared.rec.Rec.TheVariants as rec
 use Rattle.lard_message.specs.Message.{spelled_message}
 use Rattle.lard_policy.specs.declared.first.FirstChoice.{FirstChoice}
@@ -69,11 +68,14 @@ module _ (env : FrontEnv) (s : FrontState) (w : Served) (path : List ℕ) (choic
     by row (Some b) may own spelled after =
         let same : spelled_message (offer_in c (next_epoch row) b w.count) ≡ bytes = cc in
         let epochs : row.epoch ≡ epoch = cc in
-        (λ i. Some (record s {
-          conns = table.insert s.conns c (record { stage = stage.Offering choice.node (next_epoch row); epoch = next_epoch row; ended_by = None });
-          rests = table.insert s.rests c rest;
-          kept = table.insert s.kept c (offer (same i) ∷ []);
-        }, turn (epochs i) (same i)))
+        (λ i. Some (
+          record s {
+            conns = table.insert s.conns c (record { stage = stage.Offering choice.node (next_epoch row); epoch = next_epoch row; ended_by = None });
+            rests = table.insert s.rests c rest;
+            kept = table.insert s.kept c (offer (same i) ∷ []);
+          },
+          turn (epochs i) (same i),
+        ))
         ∙ (λ i. Some (record s { conns = sym after i; rests = table.insert s.rests c rest; kept = sym one i }, sym told i))
 
     go : (o : Option FrontRow) → MayBeOffered o w.count → option_map (λ (row : FrontRow). row.epoch) o ≡ Some epoch → option_map spelled_message (offer_of c o w.count) ≡ Some bytes
@@ -110,12 +112,15 @@ module _ (around : Around) (s : FrontState) (b : ControlBlock) (w : Served) (pat
       let part = offering (env_of around s) row (service_of b w) path choice.node in
       let there = sym handed ∙ ap (handed_at (env_of around (record s { conns = m; dispatch = d })) (record s { conns = m; dispatch = d }) w path choice) (back_found m put) in
       some_is _ _ there
-      ∙ (λ i. (record s {
-        conns = (ap (λ u. put_or u k part.row) (back_is m put) ∙ put_twice s.conns k (Some back) part.row) i;
-        rests = put_or s.rests k part.rest;
-        kept = put_list s.kept k part.kept;
-        dispatch = after i;
-      }, (handed_off (env_of around s) row (service_of b w) path choice).1))
+      ∙ (λ i. (
+        record s {
+          conns = (ap (λ u. put_or u k part.row) (back_is m put) ∙ put_twice s.conns k (Some back) part.row) i;
+          rests = put_or s.rests k part.rest;
+          kept = put_list s.kept k part.kept;
+          dispatch = after i;
+        },
+        (handed_off (env_of around s) row (service_of b w) path choice).1,
+      ))
       ∙ ap (λ (f : First). deed_turn s k (Does (placed (env_of around s) (front_part s k) row (rest_of (table.get s.rests k)) (service_of b w) path f))) answer
       ∙ sym (ap (λ (o : Option FrontRow). deed_turn s k (read_deed (env_of around s) (front_part s k) (service_of b w) (Some path) o)) found) where
         some_is : (x y : FrontState × FrontTurn) → Some x ≡ Some y → x ≡ y

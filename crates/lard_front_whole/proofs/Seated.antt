@@ -1,5 +1,5 @@
 -- A connection that was in hand and is put back, as the rules have it.
-use Rattle.std.proofs.Common.{◌≡◌, ℕ, Bool, true, false, List, [], Option, Some, None, IsSome, IfOk, OnOk, Result, Ok, Err, is_err, refl, sym, ap, ◌∙◌, rules}
+use Rattle.std.proofs.Common.{◌≡◌, ℕ, Bool, true, false, List, [], Some, IsSome, IfOk, OnOk, Result, Ok, Err, is_err, sym, ap, ◌∙◌, rules}
 use Rattle.std.specs.FinMap as table
 use Rattle.std.specs.FinMap.{FinMap}
 use Rattle.std.specs.Ordering.{nat_cmp}

@@ -1,5 +1,5 @@
 -- What the soundness of the state says of a connection that is looked up.
-use Rattle.std.proofs.Common.{◌≡◌, ℕ, Bool, true, false, List, [], Option, Some, None, refl, sym, ap, ◌∙◌, subst}
+use Rattle.std.proofs.Common.{◌≡◌, ℕ, true, false, [], Option, Some, None, refl, ap, subst}
 use Rattle.std.specs.FinMap as table
 use Rattle.lard_dispatch.specs.Sound.{AreBefore}
 use Rattle.lard_endpoint.specs.Control.{ControlBlock}

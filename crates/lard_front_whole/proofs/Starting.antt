@@ -1,5 +1,5 @@
 -- The state at its beginning is sound.
-use Rattle.std.proofs.Common.{◌≡◌, ℕ, false, List, [], Option, Some, None, refl, sym, ap, ◌∙◌, subst}
+use Rattle.std.proofs.Common.{◌≡◌, false, [], Some, None, sym, ap, ◌∙◌, subst}
 use Rattle.std.specs.FinMap as table
 use Rattle.std.specs.FinMap.{get-empty}
 use Rattle.std.specs.Ordering.{nat_cmp}
@@ -7,7 +7,7 @@ use Rattle.lard_base.specs.declared.config.Config.{Config}
 use Rattle.lard_dispatch.specs.Books as books
 use Rattle.lard_front_rules.specs.declared.front.FrontState.{FrontState}
 use Rattle.lard_front_rules.specs.FrontPlace.{no_connections}
-use Rattle.lard_front_rules.specs.Sound.{IsFrontSound, IsRowSound, nowhere, standing}
+use Rattle.lard_front_rules.specs.Sound.{IsFrontSound, IsRowSound, standing}
 use Rattle.lard_loads.specs.Tally.{home_of}
 use Rattle.lard_resend.specs.Pending.{held, list_of}
 

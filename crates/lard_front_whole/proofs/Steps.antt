@@ -1,13 +1,13 @@
 -- What the code did in a step, as the rules have it.
-use Rattle.std.proofs.Common.{◌≡◌, ℕ, Bool, true, false, List, [], ◌++◌, Option, Some, None, is_some, Result, Ok, Err, IfOk, refl, sym, ap, ◌∙◌}
+use Rattle.std.proofs.Common.{◌≡◌, ℕ, true, false, List, [], ◌++◌, Option, Some, None, is_some, Result, Ok, Err, IfOk, refl, sym, ap, ◌∙◌}
 use Rattle.std.specs.FinMap as table
 use Rattle.lard_base.specs.declared.ids.Epoch.{Epoch}
 use Rattle.lard_base.specs.declared.place.Place.TheVariants as place
 use Rattle.lard_base.specs.declared.place.TimerKind.TheVariants as kind
 use Rattle.lard_front_rules.specs.declared.front.FrontState.{FrontState}
 use Rattle.lard_front_rules.specs.declared.front.FrontTurn.{FrontTurn}
-use Rattle.lard_front_rules.specs.Front.{Deed, Drops, Says, Does, Did, FrontPart, front_armed, front_taken, taken_by}
-use Rattle.lard_front_rules.specs.FrontPlace.{front_deed, front_did, front_part, out_of, put_back, timers_of}
+use Rattle.lard_front_rules.specs.Front.{Deed, Drops, Says, Does, FrontPart, front_armed, front_taken, taken_by}
+use Rattle.lard_front_rules.specs.FrontPlace.{front_deed, front_part, out_of, put_back, timers_of}
 use Rattle.lard_front_rules.proofs.Parts.{part_put, unchanged}
 use Rattle.lard_front_whole.specs.declared.turns.Armed.{Armed}
 use Rattle.lard_front_whole.specs.Hand.{armed_of, changes, deed_turn, out_by, silent}

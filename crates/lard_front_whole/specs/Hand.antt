@@ -43,7 +43,6 @@ use Rattle.lard_rules.specs.Serving.{Service, serving, spoken}
 use Rattle.lard_segment.specs.Segment.{Said}
 use Rattle.lard_serving.specs.declared.answering.Service.{Service as Served}
 use Rattle.lard_serving.specs.Serving.{env_seen, service_of}
-use Rattle.lard_table.specs.Table.{put_or}
 
 -- ---- reading
 

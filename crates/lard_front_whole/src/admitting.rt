@@ -45,9 +45,12 @@ fn target(rests: &Table<FrontRest>, alloc: Global, c: ConnId) -> Result<Path, No
     ensures { IfOk result (λ path. target_of (table.get rests.now c) ≡ Some path) }
 {
     match rests.get(c.number()) {
-        Some(FrontRest {
-            target: Some(path), ..
-        }) => path.copy(alloc),
+        Some(
+            FrontRest {
+                target: Some(path),
+                ..
+            },
+        ) => path.copy(alloc),
         _ => unreachable!(),
     }
 }

@@ -36,12 +36,7 @@ pub fn begin(alloc: Global, config: Config) -> Result<FrontState, NoMemory>
 }
 
 /// A Taken comes.
-pub fn take(
-    state: &mut FrontState,
-    alloc: Global,
-    c: ConnId,
-    epoch: Epoch,
-) -> Result<Out, NoMemory>
+pub fn take(state: &mut FrontState, alloc: Global, c: ConnId, epoch: Epoch) -> Result<Out, NoMemory>
     requires { IsFrontSound state.old }
     ensures { IfOk result (λ out. (state.new, out) ≡ front_deed state.old c (front_taken (front_part state.old c) epoch.0)) }
 {

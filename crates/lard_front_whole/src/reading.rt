@@ -122,12 +122,7 @@ fn read_block(
 }
 
 /// The verdict on a block.
-fn verdict_at(
-    alloc: Global,
-    bytes: &[u8],
-    skip: usize,
-    len: usize,
-) -> Result<Verdict, NoMemory>
+fn verdict_at(alloc: Global, bytes: &[u8], skip: usize, len: usize) -> Result<Verdict, NoMemory>
     requires { skip + len ≤ length bytes.now }
     ensures { IfOk result (λ v. v ≡ verdict (take len (drop skip bytes.now))) }
 {

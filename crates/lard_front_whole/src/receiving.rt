@@ -139,11 +139,7 @@ fn meet(
 // ---- timers
 
 /// The timers of a connection fire.
-pub fn time_out(
-    state: &mut FrontState,
-    alloc: Global,
-    around: &Around<'_>,
-) -> Result<Out, NoMemory>
+pub fn time_out(state: &mut FrontState, alloc: Global, around: &Around<'_>) -> Result<Out, NoMemory>
     requires sound { IsFrontSound state.old }
     ensures { IfOk result (λ out. (state.new, out) ≡ front_deed state.old around.now.serve.c (front_timer (env_of around.now state.old) (front_part state.old around.now.serve.c))) }
 {
@@ -154,11 +150,7 @@ pub fn time_out(
 }
 
 /// The endpoint's timer fires, or the Offer that awaits an answer is told again.
-fn fire(
-    state: &mut FrontState,
-    alloc: Global,
-    around: &Around<'_>,
-) -> Result<FrontTurn, NoMemory>
+fn fire(state: &mut FrontState, alloc: Global, around: &Around<'_>) -> Result<FrontTurn, NoMemory>
     requires sound { IsFrontSound state.old }
     ensures { IfOk result (λ turn. (state.new, turn) ≡ deed_turn state.old around.now.serve.c (front_timer (env_of around.now state.old) (front_part state.old around.now.serve.c))) }
 {

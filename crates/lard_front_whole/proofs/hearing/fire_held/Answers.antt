@@ -1,9 +1,8 @@
 -- It is held on, or ends.
-use Rattle.std.proofs.Common.{◌≡◌, false, [], IfOk, sym, ap, ◌∙◌, subst}
-use Rattle.std.specs.FinMap as table
+use Rattle.std.proofs.Common.{◌≡◌, false, [], IfOk, ap, ◌∙◌, subst}
 use Rattle.lard_endpoint.specs.Leaving.{after_timer, timed}
 use Rattle.lard_front_rules.specs.declared.front.FrontState.{FrontState}
-use Rattle.lard_front_whole.specs.Hand.{env_of, rested_in}
+use Rattle.lard_front_whole.specs.Hand.{rested_in}
 use Rattle.lard_front_whole.proofs.Heard.{fires_held_is}
 use Rattle.lard_front_whole.proofs.Lent.{held_on, same_endpoint}
 use Rattle.lard_rules.specs.declared.places.Turn.{Turn}

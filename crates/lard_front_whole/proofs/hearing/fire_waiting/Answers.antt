@@ -1,6 +1,5 @@
 -- It waits on, or ends.
-use Rattle.std.proofs.Common.{◌≡◌, true, [], IfOk, sym, ap, ◌∙◌, subst}
-use Rattle.std.specs.FinMap as table
+use Rattle.std.proofs.Common.{◌≡◌, true, [], IfOk, ap, ◌∙◌, subst}
 use Rattle.lard_dispatch.specs.Laws.{after_calls}
 use Rattle.lard_endpoint.specs.Leaving.{after_timer, timed}
 use Rattle.lard_front_rules.specs.declared.front.FrontState.{FrontState}

@@ -1,5 +1,5 @@
 -- The endpoint takes the segment, and what may be read is read.
-use Rattle.std.proofs.Common.{◌≡◌, ◌≤◌, false, None, arith, length, sym, ap, ◌∙◌, subst}
+use Rattle.std.proofs.Common.{◌≤◌, false, None, arith, length, sym, ap, ◌∙◌, subst}
 use Rattle.std.specs.FinMap as table
 use Rattle.lard_endpoint.specs.Arriving.{on_segment}
 use Rattle.lard_endpoint.specs.Control.{ControlBlock}

@@ -1,12 +1,12 @@
 -- The endpoint takes the segment, and says what it may.
-use Rattle.std.proofs.Common.{◌≡◌, ◌≤◌, true, [], IfOk, arith, sym, ap, ◌∙◌, subst}
+use Rattle.std.proofs.Common.{◌≡◌, ◌≤◌, true, IfOk, arith, sym, ap, ◌∙◌, subst}
 use Rattle.std.specs.FinMap as table
 use Rattle.lard_dispatch.specs.Laws.{after_calls}
 use Rattle.lard_endpoint.specs.Arriving.{on_segment}
 use Rattle.lard_endpoint.specs.Control.{ControlBlock}
 use Rattle.lard_front_rules.specs.declared.front.FrontState.{FrontState}
 use Rattle.lard_front_rules.specs.Front.{leaves_by}
-use Rattle.lard_front_whole.specs.Hand.{count_of, env_of, lent, rested_in}
+use Rattle.lard_front_whole.specs.Hand.{count_of, env_of, rested_in}
 use Rattle.lard_front_whole.proofs.Heard.{begins, count_is, counted_first, still_counted, took, waits_heard_is}
 use Rattle.lard_front_whole.proofs.Lent.{same_endpoint, waited_on}
 use Rattle.lard_rules.specs.declared.places.Turn.{Turn}

@@ -1,5 +1,5 @@
 -- What was read is said, and it is put back.
-use Rattle.std.proofs.Common.{◌≡◌, false, None, List, [], IfOk, refl, sym, ap, ◌∙◌, subst}
+use Rattle.std.proofs.Common.{◌≡◌, false, None, IfOk, sym, ap, ◌∙◌, subst}
 use Rattle.lard_front_rules.specs.declared.front.FrontState.{FrontState}
 use Rattle.lard_front_rules.specs.Front.{rest_of, rests, turn_here}
 use Rattle.lard_front_rules.specs.FrontPlace.{front_part, front_put}

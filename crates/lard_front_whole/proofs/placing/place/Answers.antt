@@ -1,5 +1,5 @@
 -- It is put back before it is handed off.
-use Rattle.std.proofs.Common.{arith, sym, ap, ◌∙◌, subst}
+use Rattle.std.proofs.Common.{arith, sym, ◌∙◌, subst}
 use Rattle.lard_handoff_front.specs.Front.{MayBeOffered}
 use Rattle.lard_front_whole.proofs.Offered.{back_found, placed_is, where_ok}
 use Rattle.lard_front_whole.proofs.placing.place.Goals as goal

@@ -1,16 +1,12 @@
 -- It is put back to wait, where it did not end.
-use Rattle.std.proofs.Common.{◌≡◌, [], ◌∷◌, ◌++◌, List, ℕ, Some, Result, IfOk, refl, sym, ap, ◌∙◌, subst}
+use Rattle.std.proofs.Common.{◌≡◌, [], ◌∷◌, ◌++◌, Some, IfOk, sym, ap, ◌∙◌, subst}
 use Rattle.std.specs.FinMap as table
-use Rattle.lard_base.specs.declared.place.Place.{Place}
 use Rattle.lard_front_rules.specs.declared.front.FrontState.{FrontState}
-use Rattle.lard_front_rules.specs.declared.front.FrontTurn.{FrontTurn}
-use Rattle.lard_front_rules.specs.Front.{leaves_by, rest_of, rests, turn_here}
+use Rattle.lard_front_rules.specs.Front.{rest_of, rests, turn_here}
 use Rattle.lard_front_rules.specs.FrontPlace.{front_part, front_put}
 use Rattle.lard_front_whole.specs.Hand.{env_of, waits_at, waits_with}
-use Rattle.lard_front_whole.proofs.Seated.{did_it, is_there, there_after, waited_is}
-use Rattle.lard_dispatch.specs.Laws.{after_calls}
+use Rattle.lard_front_whole.proofs.Seated.{did_it, there_after, waited_is}
 use Rattle.lard_handoff_front.specs.declared.row.FrontConn.TheVariants as stage
-use Rattle.lard_journal.specs.declared.rec.Rec.{Rec}
 use Rattle.lard_journal.specs.declared.rec.Rec.TheVariants as rec
 use Rattle.lard_rules.specs.declared.places.Ending.{Ending}
 use Rattle.lard_rules.specs.declared.places.Turn.{Turn}
@@ -35,7 +31,7 @@ returns c =
     let notes : c.push.new.self ≡ c.args.service.notes ++ rec.Waits n ∷ [] = did_it c.push.result c.is_err.result c.is_err.ensures.value c.if-is_err.false c.push.ensures.ok in
     let told = subst (λ r. IfOk r (λ (t : Turn). (e, t) ≡ spoken (env_seen c.args.around.now.serve) (service_of c.args.endpoint (record c.args.service { notes = c.push.new.self })) c.new.result)) c.in_ok-turn.was c.spoken-ending.ensures.turn in
     let ruled : (e, turn) ≡ spoken env.serve (record w { notes = w.notes ++ rec.Waits n ∷ [] }) [] =
-        told ∙ (λ i. spoken (env_seen c.args.around.now.serve) (service_of c.args.endpoint (record c.args.service { notes = notes i })) (c.new.ensures i)) in
+    told ∙ (λ i. spoken (env_seen c.args.around.now.serve) (service_of c.args.endpoint (record c.args.service { notes = notes i })) (c.new.ensures i)) in
     (λ i. (c.put_back-2.ensures i, c.turn_here.ensures i))
     ∙ ap (λ (t : FrontState). (t, turn_here turn)) (waited_is s n c.requires.lends c.args.path c.set_target.new.rests c.leave_by.new.dispatch c.set_target.ensures c.requires.lends.row c.requires.lends.found e)
     ∙ ap (λ d. (record (front_put s n (rests (front_part s n) c.requires.lends.row (record (rest_of (table.get s.rests n)) { target = Some c.args.path }) stage.Waiting e)) { dispatch = d }, turn_here turn)) c.leave_by.ensures

@@ -1,9 +1,8 @@
 -- The front end is the first owner, and says what it may.
-use Rattle.std.proofs.Common.{◌≡◌, ℕ, false, [], ◌∷◌, ◌++◌, None, is_some, IfOk, sym, ap, ◌∙◌, subst}
+use Rattle.std.proofs.Common.{◌≡◌, false, [], ◌∷◌, ◌++◌, None, IfOk, ap, ◌∙◌, subst}
 use Rattle.std.specs.FinMap as table
 use Rattle.lard_base.specs.declared.place.Place.TheVariants as place
-use Rattle.lard_endpoint.specs.Control.{ControlBlock, listening}
-use Rattle.lard_front_rules.specs.declared.front.FrontRest.{FrontRest}
+use Rattle.lard_endpoint.specs.Control.{listening}
 use Rattle.lard_front_rules.specs.declared.front.FrontState.{FrontState}
 use Rattle.lard_front_rules.specs.Front.{holds, rest_of}
 use Rattle.lard_front_rules.specs.FrontPlace.{front_part}
