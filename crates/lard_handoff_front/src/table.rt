@@ -67,6 +67,13 @@ impl FrontTable {
         }
     }
 
+    /// What is kept of a connection, lent, where something is.
+    pub fn row(&self, c: ConnId) -> Option<&FrontRow>
+        ensures { option_copied result ≡ map.get self.now c }
+    {
+        self.conns.get(c.number())
+    }
+
     /// The state of a connection, lent, where it has one.
     pub fn state(&self, c: ConnId) -> Option<&FrontConn>
         ensures { option_copied result ≡ option_map (λ row. row.stage) (map.get self.now c) }
