@@ -8,3 +8,4 @@ pub mod Beginning
 pub mod Ends
 pub mod Starting
 pub mod Admitted
+pub mod Assigning

@@ -7,6 +7,7 @@
 #![tactic(auto)]
 
 pub mod admitting;
+pub mod asking;
 mod ended;
 pub mod handing;
 pub mod hearing;

@@ -8,4 +8,6 @@ pub mod speaking;
 pub mod turns;
 
 pub use speaking::{client_speak, to_front};
-pub use turns::{abort, fire, hold, inject, open, receive, request, shut, take, write, written_len};
+pub use turns::{
+    abort, fire, hold, inject, open, receive, request, shut, take, write, written_len,
+};
