@@ -7,8 +7,6 @@
 pub mod fault;
 pub mod machine;
 pub mod nodes;
-#[cfg(test)]
-mod tests;
 
 pub use fault::StepFault;
 pub use machine::Machine;

@@ -1,7 +1,8 @@
 //! The hand-off of a connection to a node.
 
-ghost use Rattle.std.specs.Prelude.{◌≡◌, ◌+◌, ◌^◌, ◌<◌, ◌≤◌, [], ◌∷◌, ◌++◌, IfOk, OnOk, None, Some, option_map};
+ghost use Rattle.std.specs.Prelude.{◌≡◌, ◌+◌, ◌^◌, ◌<◌, ◌≤◌, [], ◌∷◌, ◌++◌, IfOk, OnOk, None, Some, length, option_map};
 ghost use Rattle.std.specs.FinMap as table;
+ghost use Rattle.lard_base.specs.declared.limits.TheConstants.{MAX_MESSAGE_BYTES};
 ghost use Rattle.lard_front_whole.specs.Hand.{env_of, handed_at};
 ghost use Rattle.lard_handoff_front.specs.Front.{MayBeOffered};
 ghost use Rattle.lard_resend.specs.Pending.{held, renewed};
@@ -59,6 +60,7 @@ fn keep_offer(
     node: NodeId,
     bytes: &Bytes,
 ) -> Result<(), NoMemory>
+    requires { length bytes.now ≤ MAX_MESSAGE_BYTES }
     ensures { OnOk result (kept.new ≡ renewed kept.old c (record { kind = TimerKind.Offer; r = 0; to = Place.Node node; bytes = bytes.now })) }
 {
     let key = PendingKey {

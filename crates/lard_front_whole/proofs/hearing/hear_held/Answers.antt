@@ -38,6 +38,10 @@ go_on-requires-clause-asked c =
     (c.in-Ok.ensures.read ∙ ap (λ x. reads (env_seen c.args.around.now.serve) (record { service = x; target = None }))
     (begins c.arrive-arrival.new.self (on_segment h.block (said c.args.segment.now)).1 c.new-service.result c.count_of-count.result h.rest.count c.new-service.ensures many new))
 
+-- a response was asked for by bytes, of which a connection has at most so many
+pub go_on-requires-clause-few : goal.go_on-requires-clause-few
+go_on-requires-clause-few c = omega (arith, go_on-requires-clause-asked c, c.law-in-Ok.ensures.received.received)
+
 pub returns-in-Ok : goal.returns-in-Ok
 returns-in-Ok c =
     let s : FrontState = c.args.state.now in
