@@ -15,7 +15,7 @@ use Rattle.lard_dispatch.specs.Calls.{after_later, all_choices, batch_over, late
 use Rattle.lard_front_rules.specs.declared.front.FrontRest.{FrontRest}
 use Rattle.lard_front_rules.specs.declared.front.FrontState.{FrontState}
 use Rattle.lard_front_rules.specs.declared.front.FrontTurn.{FrontTurn}
-use Rattle.lard_front_rules.specs.Front.{Deed, Drops, Says, Does, FrontEnv, FrontPart, asked_by, assigned_notes, assigns, front_asked, is_at, over_note, rest_of, saying, tag_sent}
+use Rattle.lard_front_rules.specs.Front.{Drops, Says, Does, FrontEnv, FrontPart, asked_by, assigned_notes, assigns, front_asked, is_at, over_note, rest_of, saying, tag_sent}
 use Rattle.lard_front_rules.specs.FrontPlace.{front_part, put_back}
 use Rattle.lard_front_whole.specs.Asking.{assigned_by, assigned_with, kept_rests}
 use Rattle.lard_front_whole.specs.Hand.{deed_turn}
@@ -44,10 +44,10 @@ pub assigned-with : (env : FrontEnv) (s : FrontState) (epoch : ℕ) (ask : Ask) 
     → turn ≡ telling ask.c epoch ask.home (body.Tag ask.number nodes) → (record s { rests = rests; dispatch = d }, record turn { notes = notes }) ≡ assigned_with env s epoch ask assigned l
 assigned-with env s epoch ask assigned l rests d notes nodes tag last turn number are copied chosen ends after noted told =
     let state : record s { rests = rests; dispatch = d } ≡ record s { rests = kept_rests s.rests ask (map (λ (x : LaterChoice). x.node) l.choices) (assigned + length l.choices); dispatch = after_later s.dispatch ask env.now } =
-      (λ j. record s { rests = (are ∙ (λ i. kept_rests s.rests ask ((copied ∙ chosen) i) (ends i))) j; dispatch = after j }) in
+    (λ j. record s { rests = (are ∙ (λ i. kept_rests s.rests ask ((copied ∙ chosen) i) (ends i))) j; dispatch = after j }) in
     let says : record turn { notes = notes } ≡ record (saying (tag_sent env ask.home epoch ask.number (map (λ (x : LaterChoice). x.node) l.choices))) { notes = over_note env.serve.c l.over ++ assigned_notes env.serve.c ask assigned ask.paths l.choices } =
-      (λ j. record (told j) { notes = noted j })
-      ∙ (λ j. record (telling (sym number j) epoch ask.home (body.Tag ask.number (chosen j))) { notes = over_note (sym number j) l.over ++ assigned_notes (sym number j) ask assigned ask.paths l.choices }) in
+    (λ j. record (told j) { notes = noted j })
+    ∙ (λ j. record (telling (sym number j) epoch ask.home (body.Tag ask.number (chosen j))) { notes = over_note (sym number j) l.over ++ assigned_notes (sym number j) ask assigned ask.paths l.choices }) in
     (λ j. (state j, says j))
 
 module _ (c : ℕ) (ask : Ask) where

@@ -155,13 +155,7 @@ fn notes(
 }
 
 /// The record of the i-th assignment, counted from 0, behind `r` others of the connection.
-fn note(
-    alloc: Global,
-    ask: &Ask,
-    r: u32,
-    i: usize,
-    choice: &LaterChoice,
-) -> Result<Rec, NoMemory>
+fn note(alloc: Global, ask: &Ask, r: u32, i: usize, choice: &LaterChoice) -> Result<Rec, NoMemory>
     requires there { i < length ask.now.paths }
     requires room { r < 2 ^ 32 - 1 }
     ensures { IfOk result (λ rec. (path : List ℕ) → slice_get ask.now.paths i ≡ Some path → rec ≡ Rec.AssignedLater ask.now.c (r + 1) path choice.now.node choice.now.add ask.now.size ask.now.queue) }

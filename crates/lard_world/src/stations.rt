@@ -195,7 +195,9 @@ fn write(
     let Some(station) = machine.clients.get(c.number()) else {
         return Err(StepFault::NoClient(c.number()));
     };
-    if u64::from(machine.config.stream) < lard_station::written_len(&station.client, bytes.as_slice()) {
+    if u64::from(machine.config.stream)
+        < lard_station::written_len(&station.client, bytes.as_slice())
+    {
         return Err(StepFault::Limit(What::Stream));
     }
     let Some(mut acting) = take_out(machine, alloc, c) else {

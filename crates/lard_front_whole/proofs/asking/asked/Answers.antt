@@ -1,5 +1,5 @@
 -- A new Ask is assigned as the rules say.
-use Rattle.std.proofs.Common.{◌≡◌, sym, ap, ◌∙◌}
+use Rattle.std.proofs.Common.{sym, ap, ◌∙◌}
 use Rattle.lard_front_whole.proofs.Assigning.{asked-new}
 use Rattle.lard_front_whole.proofs.asking.asked.Goals as goal
 use Rattle.lard_front_rules.specs.Front.{is_at}
