@@ -13,7 +13,7 @@ use Rattle.lard_dispatch.specs.declared.dispatch.First.{First}
 use Rattle.lard_dispatch.specs.declared.dispatch.First.TheVariants as first
 use Rattle.lard_dispatch.specs.declared.dispatch.Later.{Later}
 use Rattle.lard_dispatch.specs.Laws.{Call}
-use Rattle.lard_dispatch.specs.Laws.Call as call
+use Rattle.lard_dispatch.specs.Laws as call
 use Rattle.lard_endpoint.specs.declared.control.moving.Final.{Final}
 use Rattle.lard_endpoint.specs.Arriving.{on_segment}
 use Rattle.lard_endpoint.specs.Control.{ControlBlock, listening}
@@ -32,7 +32,6 @@ use Rattle.lard_journal.specs.declared.rec.Rec.{Rec}
 use Rattle.lard_journal.specs.declared.rec.Rec.TheVariants as rec
 use Rattle.lard_message.specs.declared.message.Body.{Body}
 use Rattle.lard_message.specs.declared.message.Body.TheVariants as body
-use Rattle.lard_message.specs.declared.message.Message.{Message}
 use Rattle.lard_message.specs.Message.{spelled_message}
 use Rattle.lard_policy.specs.declared.first.FirstChoice.{FirstChoice}
 use Rattle.lard_resend.specs.declared.kept.Kept.{Kept}
@@ -134,13 +133,16 @@ offering env row w path node = record {
 -- The endpoint is frozen as it is, with its unread bytes: nothing is sent of it any more, also no ACK that is owed, since the
 -- one that goes on from it owes one. The front end gives the connection up, and offers it until the node answers.
 abbrev pub handed_off : FrontEnv → FrontRow → Service → List ℕ → FirstChoice → FrontPart × FrontTurn
-handed_off env row w path choice = (offering env row w path choice.node, record {
-  notes = w.notes ++ rec.Admitted env.serve.c ∷ rec.AssignedFirst env.serve.c (w.count + 1) path choice.node choice.add choice.remove ∷ [];
-  segments = [];
-  gave = rec.Gave place.Front env.serve.c row.epoch ∷ [];
-  messages = sent_of (offer_kept env.serve.c row w.block w.count choice.node) ∷ [];
-  answered = w.answered;
-})
+handed_off env row w path choice = (
+  offering env row w path choice.node,
+  record {
+    notes = w.notes ++ rec.Admitted env.serve.c ∷ rec.AssignedFirst env.serve.c (w.count + 1) path choice.node choice.add choice.remove ∷ [];
+    segments = [];
+    gave = rec.Gave place.Front env.serve.c row.epoch ∷ [];
+    messages = sent_of (offer_kept env.serve.c row w.block w.count choice.node) ∷ [];
+    answered = w.answered;
+  },
+)
 
 -- The dispatcher admits it to a node, or it waits, last of the line, and says what it may.
 abbrev pub placed : FrontEnv → FrontPart → FrontRow → FrontRest → Service → List ℕ → First → Did
@@ -201,7 +203,7 @@ front_gets env p bytes (Ok s) = front_hears env p bytes s p.row
 
 -- A node took the connection: the Offer is not told again.
 abbrev pub taken_by : FrontPart → ℕ → Option FrontRow → Option ℕ → Deed
-taken_by p epoch None node = Drops
+taken_by p epoch None asked = Drops
 taken_by p epoch (Some row) None = Drops
 taken_by p epoch (Some row) (Some node) =
     Does (record { part = record p { row = Some (record row { stage = stage.Moved node (record { 0 = epoch }) }); kept = without kind.Offer 0 p.kept }; turn = saying []; calls = [] })

@@ -1,6 +1,6 @@
 -- The front end's step: it looks up what it keeps of the connection, does the rule of what came, puts it back, and tells the
 -- dispatcher; where a connection ended, the first of the line is admitted behind it.
-use Rattle.std.specs.Prelude.{ℕ, ◌==◌, nat_lt, if◌then◌else◌, List, [], ◌∷◌, ◌++◌, Option, Some, None, Result, Ok, Err}
+use Rattle.std.specs.Prelude.{ℕ, nat_lt, if◌then◌else◌, List, [], ◌++◌, Option, Some, None, Result, Ok, Err}
 use Rattle.std.specs.FinMap as table
 use Rattle.std.specs.List.{flat_map}
 use Rattle.lard_answers.specs.Answers.{FilesAt}
@@ -10,9 +10,7 @@ use Rattle.lard_base.specs.declared.place.Place.TheVariants as place
 use Rattle.lard_dispatch.specs.Books as books
 use Rattle.lard_dispatch.specs.Books.{Dispatcher}
 use Rattle.lard_dispatch.specs.Calls.{ended_answer, first_answer, later_answer}
-use Rattle.lard_dispatch.specs.Laws.{Call, after_calls}
-use Rattle.lard_dispatch.specs.Laws.Call as call
-use Rattle.lard_endpoint.specs.declared.control.moving.Final.{Final}
+use Rattle.lard_dispatch.specs.Laws.{after_calls}
 use Rattle.lard_front_rules.specs.declared.front.FrontState.{FrontState}
 use Rattle.lard_front_rules.specs.declared.front.FrontTurn.{FrontTurn}
 use Rattle.lard_front_rules.specs.Front.{Deed, Drops, Says, Does, Did, FrontEnv, FrontPart, ask_of, front_admitted, front_armed, front_asked, front_ended, front_gets, front_taken, front_timer}

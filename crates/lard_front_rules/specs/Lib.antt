@@ -1,3 +1,4 @@
 pub mod Reading
 pub mod Front
 pub mod FrontPlace
+pub mod Sound

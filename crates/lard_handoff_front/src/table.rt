@@ -2,6 +2,7 @@
 
 ghost use Rattle.std.specs.Prelude.{◌≡◌, ◌↔◌, ◌-◌, ◌≤◌, IsTrue, length, Some, None, true, false, is_some, IsSome, IfOk, OnOk, OnErr, OnSome, option_copied, option_map};
 ghost use Rattle.std.specs.FinMap as map;
+ghost use Rattle.lard_base.specs.declared.limits.TheConstants.{MAX_MESSAGE_BYTES};
 ghost use Rattle.lard_endpoint.specs.Control.{ControlBlock, listening};
 ghost use Rattle.lard_message.specs.Message.{spelled_message};
 ghost use Rattle.lard_segment.specs.Segment.{said};
@@ -65,6 +66,13 @@ impl FrontTable {
         FrontTable {
             conns: Table::new(alloc),
         }
+    }
+
+    /// What is kept of a connection, lent, where something is.
+    pub fn row(&self, c: ConnId) -> Option<&FrontRow>
+        ensures { option_copied result ≡ map.get self.now c }
+    {
+        self.conns.get(c.number())
     }
 
     /// The state of a connection, lent, where it has one.
@@ -182,6 +190,7 @@ impl FrontTable {
     ) -> Result<Bytes, NoMemory>
         requires { MayBeOffered (map.get self.old c) served }
         ensures bytes { IfOk result (λ bytes. option_map spelled_message (offer_of c (map.get self.old c) served) ≡ Some bytes) }
+        ensures size { IfOk result (λ bytes. length bytes ≤ MAX_MESSAGE_BYTES) }
         ensures ok { OnOk result (self.new ≡ offered self.old c node (map.get self.old c)) }
         ensures err { OnErr result (self.new ≡ self.old) }
     {
@@ -298,7 +307,8 @@ fn write_offer(
     served: u32,
 ) -> Result<Bytes, NoMemory>
     requires { served ≤ frozen.now.recv.got - length frozen.now.recv.unread }
-    ensures { IfOk result (λ bytes. bytes ≡ spelled_message (offer_in c epoch frozen.now served)) }
+    ensures bytes { IfOk result (λ bytes. bytes ≡ spelled_message (offer_in c epoch frozen.now served)) }
+    ensures size { IfOk result (λ bytes. length bytes ≤ MAX_MESSAGE_BYTES) }
 {
     let parts = frozen.parts(alloc, served)?;
     let message = Message {

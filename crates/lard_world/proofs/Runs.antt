@@ -1,11 +1,10 @@
 -- A step leads from run to run, and what every run's journal obeys holds after each step, done or not.
-use Rattle.std.proofs.Common.{◌≡◌, ℕ, ◌≤◌, ◌^◌, List, [], IsTrue, true, false, arith, Result, Ok, Err, refl, sym, ap, subst}
+use Rattle.std.proofs.Common.{◌≡◌, ℕ, ◌≤◌, ◌^◌, List, [], true, false, Result, Ok, Err, refl, sym, ap, subst}
 use Rattle.std.proofs.lemmas.Bool.{both_ways}
-use Rattle.std.proofs.lemmas.Bool.Decides.{nat_tests}
 use Rattle.std.specs.FinMap as table
 use Rattle.std.specs.FinMap.{FinMap}
 use Rattle.std.specs.Ordering.{nat_cmp}
-use Rattle.lard_base.specs.Config.{IsInRange, is_in_range}
+use Rattle.lard_base.specs.Config.{IsInRange}
 use Rattle.lard_base.specs.declared.config.Config.{Config}
 use Rattle.lard_base.specs.declared.config.Key.TheVariants.{Stream}
 use Rattle.lard_base.specs.declared.event.Event.{Event}

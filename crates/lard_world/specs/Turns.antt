@@ -1,5 +1,5 @@
 -- What bounds the state before a step.
-use Rattle.std.specs.Prelude.{ℕ, ◌<◌, length}
+use Rattle.std.specs.Prelude.{◌<◌, length}
 use Rattle.lard_base.specs.declared.limits.TheConstants.{MAX_PACKETS, MAX_RECORDS, MAX_RESPONSE_BYTES}
 use Rattle.lard_machine.specs.declared.machine.Machine.{Machine}
 

@@ -5,9 +5,7 @@
 #![tactic(auto)]
 
 mod acting;
-mod clients;
 mod packets;
-mod speaking;
 mod stations;
 mod steps;
 #[cfg(test)]

@@ -10,7 +10,6 @@ ghost use Rattle.lard_rules.specs.FrontPlace.{IsFrontSound};
 ghost use Rattle.lard_world.specs.Turns.{HasRoom};
 
 use crate::acting::{follow, pass};
-use crate::clients;
 use crate::stations::{put_back, take_out};
 use lard_base::{Bytes, ConnId, Event, NoMemory, Place};
 use lard_journal::Rec;
@@ -104,7 +103,7 @@ fn to_client(
     let Some(mut acting) = take_out(machine, alloc, c) else {
         return pass(machine, alloc, Event::Deliver(k), Rec::Got(k));
     };
-    let turn = clients::receive(alloc, c, &mut acting.station.client, bytes)?;
+    let turn = lard_station::receive(alloc, c, &mut acting.station.client, bytes)?;
     put_back(
         machine,
         alloc,
@@ -175,7 +174,7 @@ fn fire_client(machine: &mut Machine, alloc: Global, c: ConnId) -> Result<(), St
     let Some(mut acting) = take_out(machine, alloc, c) else {
         return Err(StepFault::NoClient(c.number()));
     };
-    let turn = clients::fire(alloc, &mut acting.station.client)?;
+    let turn = lard_station::fire(alloc, &mut acting.station.client)?;
     let place = Place::Client(c);
     put_back(
         machine,

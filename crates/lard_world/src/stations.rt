@@ -13,7 +13,6 @@ ghost use Rattle.lard_serving.specs.Bounds.{IsTurn};
 ghost use Rattle.lard_world.specs.Turns.{HasRoom};
 
 use crate::acting::{Act, conclude};
-use crate::clients;
 use lard_base::{Bytes, ConnId, Event, NoMemory, Path, Place};
 use lard_client::Client;
 use lard_journal::Rec;
@@ -138,7 +137,7 @@ fn begin(
     ensures ok { OnOk result (machine.new ≡ client_acted machine.old event (own ∷ []) c station.iss false (speaking [] [] station.client)) }
     ensures err { OnErr result (machine.new.journal ≡ machine.old.journal) }
 {
-    let turn = clients::open(alloc, &mut station.client)?;
+    let turn = lard_station::open(alloc, &mut station.client)?;
     let is_armed = station.client.armed();
     machine.clients.insert(c.number(), station)?;
     let done = Act {
@@ -161,18 +160,8 @@ pub fn write_request(
     requires stream { machine.old.config.stream ≤ MAX_STREAM_BYTES }
     ensures { Steps (wrote machine.old (Event.Get c path) c (request path) (table.get machine.old.clients c)) machine.old machine.new result }
 {
-    let bytes = request(alloc, &path)?;
+    let bytes = lard_station::request(alloc, &path)?;
     write(machine, alloc, Event::Get { c, path }, c, bytes)
-}
-
-/// What a plain request for a path says (RFC 9112, 3).
-fn request(alloc: Global, path: &Path) -> Result<Bytes, NoMemory>
-    ensures { IfOk result (λ bytes. bytes ≡ request path.now) }
-{
-    let mut text = Vec::from_slice(alloc, b"GET ")?;
-    text.extend_from_slice(path.as_slice())?;
-    text.extend_from_slice(b" HTTP/1.1\r\nHost: lard\r\n\r\n")?;
-    Ok(Bytes::from_vec(text))
 }
 
 /// The client writes these bytes.
@@ -206,23 +195,17 @@ fn write(
     let Some(station) = machine.clients.get(c.number()) else {
         return Err(StepFault::NoClient(c.number()));
     };
-    if u64::from(machine.config.stream) < written_len(&station.client, bytes.as_slice()) {
+    if u64::from(machine.config.stream)
+        < lard_station::written_len(&station.client, bytes.as_slice())
+    {
         return Err(StepFault::Limit(What::Stream));
     }
     let Some(mut acting) = take_out(machine, alloc, c) else {
         unreachable!()
     };
-    let turn = clients::write(alloc, &mut acting.station.client, bytes)?;
+    let turn = lard_station::write(alloc, &mut acting.station.client, bytes)?;
     put_back(machine, alloc, event, None, acting, turn)?;
     Ok(())
-}
-
-/// A client's bytes in all, once it wrote these.
-fn written_len(client: &Client, bytes: &[u8]) -> u64
-    ensures { result ≡ written_len client.now bytes.now }
-{
-    let more = if client.writes() { bytes.len() } else { 0 };
-    u64::from(client.written()) + more as u64
 }
 
 /// The client closes its side.
@@ -234,7 +217,7 @@ pub fn shut(machine: &mut Machine, alloc: Global, c: ConnId) -> Result<(), StepF
     let Some(mut acting) = take_out(machine, alloc, c) else {
         return Err(StepFault::NoClient(c.number()));
     };
-    let turn = clients::shut(alloc, &mut acting.station.client)?;
+    let turn = lard_station::shut(alloc, &mut acting.station.client)?;
     put_back(machine, alloc, Event::Shut(c), None, acting, turn)?;
     Ok(())
 }
@@ -248,7 +231,7 @@ pub fn abort(machine: &mut Machine, alloc: Global, c: ConnId) -> Result<(), Step
     let Some(mut acting) = take_out(machine, alloc, c) else {
         return Err(StepFault::NoClient(c.number()));
     };
-    let turn = clients::abort(alloc, &mut acting.station.client)?;
+    let turn = lard_station::abort(alloc, &mut acting.station.client)?;
     put_back(machine, alloc, Event::Abort(c), None, acting, turn)?;
     Ok(())
 }
@@ -269,7 +252,7 @@ pub fn inject(
         return Err(StepFault::NoClient(c.number()));
     };
     let copy = bytes.copy(alloc)?;
-    let turn = clients::inject(alloc, &acting.station.client, copy)?;
+    let turn = lard_station::inject(alloc, &acting.station.client, copy)?;
     let event = Event::Inject { c, bytes };
     put_back(machine, alloc, event, Some(Rec::Injected(c)), acting, turn)?;
     Ok(())
@@ -284,7 +267,7 @@ pub fn hold(machine: &mut Machine, alloc: Global, c: ConnId) -> Result<(), StepF
     let Some(mut acting) = take_out(machine, alloc, c) else {
         return Err(StepFault::NoClient(c.number()));
     };
-    let turn = clients::hold(alloc, &mut acting.station.client)?;
+    let turn = lard_station::hold(alloc, &mut acting.station.client)?;
     put_back(machine, alloc, Event::Hold(c), None, acting, turn)?;
     Ok(())
 }
@@ -298,7 +281,7 @@ pub fn take(machine: &mut Machine, alloc: Global, c: ConnId) -> Result<(), StepF
     let Some(mut acting) = take_out(machine, alloc, c) else {
         return Err(StepFault::NoClient(c.number()));
     };
-    let turn = clients::take(alloc, &mut acting.station.client)?;
+    let turn = lard_station::take(alloc, &mut acting.station.client)?;
     put_back(machine, alloc, Event::Take(c), None, acting, turn)?;
     Ok(())
 }

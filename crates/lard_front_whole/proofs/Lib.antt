@@ -1,0 +1,10 @@
+pub mod Steps
+pub mod Offered
+pub mod Seated
+pub mod Lent
+pub mod Heard
+pub mod Beginning
+pub mod Ends
+pub mod Starting
+pub mod Admitted
+pub mod Assigning

@@ -1,0 +1,13 @@
+//! A client's place: what its client does at each event of the schedule, and at each packet that comes.
+//!
+//! It stands above the client's end of a connection, and follows the rules of clients of `lard_rules`. The worlds keep a client's
+//! station, lend it for its turn, and tell what it did.
+#![tactic(auto)]
+
+pub mod speaking;
+pub mod turns;
+
+pub use speaking::{client_speak, to_front};
+pub use turns::{
+    abort, fire, hold, inject, open, receive, request, shut, take, write, written_len,
+};
