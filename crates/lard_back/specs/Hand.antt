@@ -1,0 +1,112 @@
+-- The state while a connection is in hand, and once it is put back.
+use Rattle.std.specs.Prelude.{ℕ, List, [], ◌∷◌, ◌++◌, map, Option, Some, None}
+use Rattle.std.specs.FinMap as table
+use Rattle.std.specs.FinMap.{FinMap}
+use Rattle.std.specs.Ordering.{nat_cmp}
+use Rattle.lard_back.specs.declared.hand.At.{At}
+use Rattle.lard_back.specs.declared.hand.Rest.{Rest}
+use Rattle.lard_back.specs.declared.hand.Rested.{Rested}
+use Rattle.lard_back.specs.declared.hand.Rested.TheVariants as rested
+use Rattle.lard_base.specs.declared.place.Place.{Place}
+use Rattle.lard_base.specs.declared.place.Place.TheVariants.{Node}
+use Rattle.lard_endpoint.specs.declared.control.moving.Final.{Final}
+use Rattle.lard_handoff_back.specs.declared.row.BackConn.{BackConn}
+use Rattle.lard_handoff_back.specs.declared.row.BackConn.TheVariants as stage
+use Rattle.lard_handoff_back.specs.Back.{with_stage}
+use Rattle.lard_journal.specs.declared.rec.Rec.{Rec}
+use Rattle.lard_journal.specs.declared.rec.Rec.TheVariants as rec
+use Rattle.lard_lateral.specs.Lateral.{fetch_kept}
+use Rattle.lard_node_rules.specs.declared.node.NodeState.{NodeState}
+use Rattle.lard_node_rules.specs.declared.node.NodeTurn.{NodeTurn}
+use Rattle.lard_node_rules.specs.declared.stay.Asked.{Asked}
+use Rattle.lard_node_rules.specs.declared.stay.Want.{Want}
+use Rattle.lard_node_rules.specs.Node.{ask_kept, count_of, ended_kept}
+use Rattle.lard_node_rules.specs.Stay.{Work}
+use Rattle.lard_resend.specs.declared.kept.Kept.{Kept}
+use Rattle.lard_resend.specs.Pending.{renewed, sent_of}
+use Rattle.lard_rules.specs.declared.places.Ending.{Ending}
+use Rattle.lard_rules.specs.declared.places.Ending.TheVariants as ending
+use Rattle.lard_rules.specs.declared.places.Turn.{Turn}
+
+-- ---- in hand
+
+abbrev pub lent : NodeState → ℕ → NodeState
+lent s c = record s { conns = with_stage s.conns c stage.Out (table.get s.conns c); stays = table.remove s.stays c }
+
+abbrev pub lent_if : {A : Type 0} → NodeState → ℕ → Option A → NodeState
+lent_if s c None = s
+lent_if s c (Some x) = lent s c
+
+-- what is left of a turn beside its endpoint and what was served
+abbrev pub rest_of : Work → Rest
+rest_of w = record { batch = w.batch; asks = w.asks; jobs = w.jobs; wants = w.wants; asked = w.asked; over = w.service.over }
+
+-- ---- the endpoint is put back
+
+abbrev pub rested_in : Ending → Rested
+rested_in (ending.Here b count) = rested.Here count
+rested_in (ending.Over last) = rested.Over last
+
+abbrev pub stage_of : Ending → BackConn
+stage_of (ending.Here b count) = stage.Here b
+stage_of (ending.Over last) = stage.Ended
+
+abbrev pub sat : NodeState → ℕ → Ending → NodeState
+sat s c e = record s { conns = with_stage s.conns c (stage_of e) (table.get s.conns c) }
+
+-- ---- what the turn asks for
+
+abbrev pub Held : Type 0
+Held = FinMap nat_cmp (List Kept)
+
+abbrev pub asked_in : At → Option Asked → Held → Held
+asked_in at None m = m
+asked_in at (Some a) m = renewed m at.c (ask_kept at.c at.epoch.0 a)
+
+abbrev pub ask_sent : At → Option Asked → List (Place × List ℕ)
+ask_sent at None = []
+ask_sent at (Some a) = sent_of (ask_kept at.c at.epoch.0 a) ∷ []
+
+abbrev pub fetch_at : At → Want → Kept
+fetch_at at w = fetch_kept at.c at.epoch.0 w.r w.node w.path
+
+abbrev pub wanted : At → List Want → Held → Held
+wanted at [] m = m
+wanted at (w ∷ ws) m = wanted at ws (renewed m at.c (fetch_at at w))
+
+abbrev pub fetches_sent : At → List Want → List (Place × List ℕ)
+fetches_sent at ws = map (λ w. sent_of (fetch_at at w)) ws
+
+-- ---- the stay goes on, or ends
+
+abbrev pub ended_at : At → Final → Option ℕ → Kept
+ended_at at last over = ended_kept at.c at.epoch.0 last (count_of over)
+
+abbrev pub left : NodeState → At → Rest → Rested → NodeState
+left s at rest (rested.Here count) = record s {
+  stays = table.insert s.stays at.c (record { served = count; batch = rest.batch; asks = rest.asks });
+  kept = asked_in at rest.asked s.kept;
+  fetches = wanted at rest.wants s.fetches;
+}
+left s at rest (rested.Over last) = record s {
+  kept = renewed (table.remove (asked_in at rest.asked s.kept) at.c) at.c (ended_at at last rest.over);
+  fetches = table.remove (wanted at rest.wants s.fetches) at.c;
+}
+
+abbrev pub gave_at : At → Rested → List Rec
+gave_at at (rested.Here count) = []
+gave_at at (rested.Over last) = rec.Gave (Node at.n) at.c at.epoch ∷ []
+
+abbrev pub end_sent : At → Option ℕ → Rested → List (Place × List ℕ)
+end_sent at over (rested.Here count) = []
+end_sent at over (rested.Over last) = sent_of (ended_at at last over) ∷ []
+
+abbrev pub turn_at : At → List (Place × List ℕ) → Rest → Rested → Turn → NodeTurn
+turn_at at before rest r turn = record {
+  notes = turn.notes;
+  segments = turn.segments;
+  gave = gave_at at r;
+  messages = before ++ ask_sent at rest.asked ++ fetches_sent at rest.wants ++ end_sent at rest.over r;
+  jobs = rest.jobs;
+  answered = turn.answered;
+}

@@ -1,0 +1,165 @@
+//! The messages that a node sends of a connection, and those that it holds until they are answered.
+
+ghost use Rattle.std.specs.Prelude.{◌≡◌, ◌++◌, [], ◌∷◌, ◌≤◌, length, IfOk, OnOk};
+ghost use Rattle.std.specs.FinMap as table;
+ghost use Rattle.lard_back.specs.Bounds.{AreMessages, AreWants, IsAsk};
+ghost use Rattle.lard_back.specs.Hand.{ask_sent, asked_in, ended_at, fetch_at, fetches_sent, wanted};
+ghost use Rattle.lard_base.specs.declared.limits.TheConstants.{MAX_MESSAGE_BYTES};
+ghost use Rattle.lard_message.specs.Message.{IsCount, IsOfTable, IsPath};
+ghost use Rattle.lard_node_rules.specs.Node.{count_of, message};
+ghost use Rattle.lard_resend.specs.Pending.{renewed, sent_of};
+
+use crate::hand::At;
+use lard_base::{Bytes, NoMemory, Place, Sends, TimerKind};
+use lard_endpoint::Final;
+use lard_lateral::Lateral;
+use lard_message::{Body, Message, encode};
+use lard_node_rules::{Asked, Want};
+use lard_resend::{Pending, PendingKey};
+use std::alloc::Global;
+
+/// The bytes of a message of this stay.
+pub fn message(alloc: Global, at: &At, body: Body) -> Result<Bytes, NoMemory>
+    requires { IsOfTable body }
+    ensures bytes { IfOk result (λ bytes. bytes ≡ message at.now.c at.now.epoch.0 body) }
+    ensures size { IfOk result (λ bytes. length bytes ≤ MAX_MESSAGE_BYTES) }
+{
+    let message = Message {
+        c: at.c,
+        epoch: at.epoch,
+        body,
+    };
+    encode(alloc, &message)
+}
+
+/// A message goes out behind the others.
+#[tactic(auto, using(crate::proofs::Messages::fit_behind))]
+fn send(messages: &mut Sends, to: Place, bytes: Bytes) -> Result<(), NoMemory>
+    requires fit { AreMessages messages.old }
+    requires fits { length bytes ≤ MAX_MESSAGE_BYTES }
+    ensures sends { OnOk result (messages.new ≡ messages.old ++ (to, bytes) ∷ []) }
+    ensures fit { OnOk result (AreMessages messages.new) }
+{
+    messages.push((to, bytes))
+}
+
+/// A message goes to the front end, and is held until it is answered.
+fn tell_front(
+    kept: &mut Pending,
+    alloc: Global,
+    at: &At,
+    kind: TimerKind,
+    bytes: Bytes,
+    messages: &mut Sends,
+) -> Result<(), NoMemory>
+    requires fit { AreMessages messages.old }
+    requires fits { length bytes ≤ MAX_MESSAGE_BYTES }
+    ensures kept { OnOk result (kept.new ≡ renewed kept.old at.now.c (record { kind = kind; r = 0; to = Place.Front; bytes = bytes })) }
+    ensures sends { OnOk result (messages.new ≡ messages.old ++ (Place.Front, bytes) ∷ []) }
+    ensures fit { OnOk result (AreMessages messages.new) }
+{
+    let key = PendingKey {
+        c: at.c,
+        kind,
+        r: 0,
+    };
+    kept.renew(key, Place::Front, bytes.copy(alloc)?)?;
+    send(messages, Place::Front, bytes)
+}
+
+/// The Ask of a turn goes out, and is held until its Tag comes.
+pub fn ask(
+    kept: &mut Pending,
+    alloc: Global,
+    at: &At,
+    asked: Option<Asked>,
+    messages: &mut Sends,
+) -> Result<(), NoMemory>
+    requires fit { AreMessages messages.old }
+    requires asked { IsAsk asked }
+    ensures kept { OnOk result (kept.new ≡ asked_in at.now asked kept.old) }
+    ensures sends { OnOk result (messages.new ≡ messages.old ++ ask_sent at.now asked) }
+    ensures fit { OnOk result (AreMessages messages.new) }
+{
+    let Some(asked) = asked else {
+        return Ok(());
+    };
+    let Asked {
+        number,
+        queue,
+        size,
+        paths,
+    } = asked;
+    let body = Body::Ask {
+        number,
+        queue,
+        size,
+        paths,
+    };
+    let bytes = message(alloc, at, body)?;
+    tell_front(kept, alloc, at, TimerKind::Ask, bytes, messages)
+}
+
+/// The contents that a turn wants are asked for, and each Fetch is held until its content comes.
+pub fn want_all(
+    fetches: &mut Lateral,
+    alloc: Global,
+    at: &At,
+    wants: &[Want],
+    messages: &mut Sends,
+) -> Result<(), NoMemory>
+    requires fit { AreMessages messages.old }
+    requires paths { AreWants wants.now }
+    ensures fetches { OnOk result (fetches.new ≡ wanted at.now wants.now fetches.old) }
+    ensures sends { OnOk result (messages.new ≡ messages.old ++ fetches_sent at.now wants.now) }
+    ensures fit { OnOk result (AreMessages messages.new) }
+{
+    for want in wants {
+        want_one(fetches, alloc, at, want, messages)?;
+    }
+    Ok(())
+}
+
+/// The content of a request is asked for.
+fn want_one(
+    fetches: &mut Lateral,
+    alloc: Global,
+    at: &At,
+    want: &Want,
+    messages: &mut Sends,
+) -> Result<(), NoMemory>
+    requires fit { AreMessages messages.old }
+    requires path { IsPath want.now.path }
+    ensures fetches { OnOk result (fetches.new ≡ renewed fetches.old at.now.c (fetch_at at.now want.now)) }
+    ensures sends { OnOk result (messages.new ≡ messages.old ++ sent_of (fetch_at at.now want.now) ∷ []) }
+    ensures fit { OnOk result (AreMessages messages.new) }
+{
+    let bytes = fetches.want(alloc, at.c, at.epoch, want.r, want.node, &want.path)?;
+    send(messages, Place::Node(want.node), bytes)
+}
+
+/// The stay ended: nothing of the connection is awaited any longer but the answer to this.
+pub fn end(
+    kept: &mut Pending,
+    alloc: Global,
+    at: &At,
+    last: Final,
+    over: Option<u32>,
+    messages: &mut Sends,
+) -> Result<(), NoMemory>
+    requires fit { AreMessages messages.old }
+    requires count { IsCount last.reason (count_of over) }
+    ensures kept { OnOk result (kept.new ≡ renewed (table.remove kept.old at.now.c) at.now.c (ended_at at.now last over)) }
+    ensures sends { OnOk result (messages.new ≡ messages.old ++ sent_of (ended_at at.now last over) ∷ []) }
+    ensures fit { OnOk result (AreMessages messages.new) }
+{
+    let body = Body::Ended {
+        reason: last.reason,
+        snd: last.snd.0,
+        rcv: last.rcv.0,
+        count: over.unwrap_or(0),
+    };
+    let bytes = message(alloc, at, body)?;
+    kept.forget(at.c);
+    tell_front(kept, alloc, at, TimerKind::Ended, bytes, messages)
+}

@@ -1,0 +1,5 @@
+//! The steps of clients.
+#![tactic(auto)]
+
+pub mod acting;
+pub mod stations;
