@@ -1,5 +1,0 @@
-//! The steps of clients.
-#![tactic(auto)]
-
-pub mod acting;
-pub mod stations;
