@@ -1,1 +1,2 @@
+pub mod Carry
 pub mod View
