@@ -83,7 +83,7 @@ node_said-grows o r e kind.Taken g h = decided-grows e o r g h
 node_said-grows o r e kind.Ended g h = over-grows e o r g h
 node_said-grows o r e _ g h = tt
 
-may_say-grows : (p q : Part) (from to : Place) (h : Option Head) → Grows p q → MaySay p from to h → MaySay q from to h
+pub may_say-grows : (p q : Part) (from to : Place) (h : Option Head) → Grows p q → MaySay p from to h → MaySay q from to h
 may_say-grows p q Front (Node n) (Some h) g m = front_said-grows p q n h.epoch h.kind g m
 may_say-grows p q (Node n) Front (Some h) g m = node_said-grows (p.nodes n).row (q.nodes n).row h.epoch h.kind (g.nodes n) m
 may_say-grows p q _ _ _ g m = tt

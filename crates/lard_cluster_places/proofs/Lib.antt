@@ -4,5 +4,7 @@ pub mod FrontRules
 pub mod Growing
 pub mod Heads
 pub mod Loops
+pub mod Node
+pub mod NodeRules
 pub mod Rows
 pub mod Turns

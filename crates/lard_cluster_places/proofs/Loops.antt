@@ -31,7 +31,7 @@ use Rattle.lard_request.specs.declared.verdict.Verdict.{Verdict}
 use Rattle.lard_request.specs.declared.verdict.Verdict.TheVariants.{Fault}
 use Rattle.lard_rules.specs.declared.places.Ending.{Ending}
 use Rattle.lard_rules.specs.declared.places.Turn.{Turn}
-use Rattle.lard_rules.specs.Loop.{Step, More, Done}
+use Rattle.lard_rules.specs.Loop.{Step, More, Done, state_of}
 use Rattle.lard_rules.specs.Serving.{ServeEnv, Service, answered, consumed, cut_off, ended_at_fin, limit_said, may_read, passed_over, queued, settled, spoken, told}
 use Rattle.lard_rules.specs.Speaking.{speaks, speaks_symbols}
 use Rattle.lard_rules.proofs.Runs.{runs_keep}
@@ -148,8 +148,16 @@ module _ (P : List Rec → Type 0) (more : (ns rs : List Rec) → Each IsPlain r
       let u : Work = enters env here (w.service.count + 1) (v ∷ vs) (record w { service = consumed used w.service }) in
       asks-notes env (length (v ∷ vs)) (named_paths env.serve.files u.batch) u (enters-notes env here (w.service.count + 1) (v ∷ vs) (record w { service = consumed used w.service }) h)
 
-  pub batch-notes : (env : NodeEnv) (here : Bool) (w : Work) → WorksSo w → StepsSo (reads_batch env here w)
+  state-notes : (s : Step Work) → StepsSo s → WorksSo (state_of s)
+  state-notes (More w) h = h
+  state-notes (Done w) h = h
+
+  batch-notes : (env : NodeEnv) (here : Bool) (w : Work) → WorksSo w → StepsSo (reads_batch env here w)
   batch-notes env here w h = these-notes env here (bytes_used 8 w.service.block.recv.unread) w (batch_of 8 w.service.block.recv.unread) h
+
+  -- the state behind a batch
+  pub batch-state : (env : NodeEnv) (here : Bool) (w : Work) → WorksSo w → WorksSo (state_of (reads_batch env here w))
+  batch-state env here w h = state-notes (reads_batch env here w) (batch-notes env here w h)
 
   serves_by-notes : (env : NodeEnv) (e : Entry) (rest : List Entry) (w : Work) (p : Progress) → WorksSo w → WorksSo (serves_by env e rest w p)
   serves_by-notes env e rest w (progress.Ready way) h = answered-notes env.serve way e.verdict w.service h
