@@ -76,7 +76,7 @@ message-letters q place (m ∷ ms) h = (h.0, message-letters q place ms h.1)
 pub turn-letters : (q : Part) (place : Place) (c : ℕ) (w v : Owning) (s : Said) → Turned c place w s v → Each (Tells q place) s.messages
     → Each (LetterMay q) (map (letter place) s.segments ++ map (letter place) s.messages)
 turn-letters q place c w v s t m = Each-append (LetterMay q) (map (letter place) s.segments) (map (letter place) s.messages)
-    (⊎_elim (λ (mine : AllTo (Client c) s.segments × ((after_all w s.notes).owner ≡ Some place)). segment-letters q place c s.segments mine.0)
+    (⊎_elim (λ (mine : AllTo (Client c) s.segments × ((after_all w s.notes).owner ≡ Some place) × IsMachine place). segment-letters q place c s.segments mine.0)
     (λ (none : s.segments ≡ []). none-letters q place s.segments none) t.segments)
     (message-letters q place s.messages m)
 
@@ -94,8 +94,8 @@ module _ (x : Conn) (heads : List Seen) (quiet : IsQuiet x heads) where
       record {
         heads = quiet.may;
         same = quiet.same;
-        rows = turned-owns x.c Front tt w v s _ t timers;
-        sits = subst (λ (u : Owning). Sits u x.part.nodes part.row) (sym (turned-after x.c Front tt w v s _ t timers)) sits;
+        rows = turned-owns x.c Front w v s _ t timers;
+        sits = subst (λ (u : Owning). Sits u x.part.nodes part.row) (sym (turned-after x.c Front w v s _ t timers)) sits;
         grows = record { nodes = λ n. back-still (x.part.nodes n).row; front = grows };
         letters = turn-letters q Front x.c w v s t tells;
       }
@@ -123,7 +123,7 @@ module _ (x : Conn) (heads : List Seen) (quiet : IsQuiet x heads) where
       → OwnsBy x.c w given.1.notes → after_all w given.1.notes ≡ v → AllTo (Client x.c) given.1.segments
       → Owes x (front_does x heads (Does (record { part = rests x.part.front row rest stays given.0; turn = turn_here given.1; calls = calls })))
   ends-owe row rest stays given calls v stay small ended home grows notes then to = front-owes (by_front (turn_here given.1)) (rests x.part.front row rest stays given.0) v
-      (record { notes = notes; segments = inl (to, ap (λ (u : Owning). u.owner) (then ∙ home.0)); gave = tt; messages = tt; then = then })
+      (record { notes = notes; segments = inl (to, ap (λ (u : Owning). u.owner) (then ∙ home.0), tt); gave = tt; messages = tt; then = then })
       (go given.0, ended) (grows (stage_after stays given.0)) tt where
         go : (e : Ending) → StageSits row.epoch.0 v x.part.nodes (stage_after stays e)
         go (ending.Here b count) = stay b home

@@ -151,7 +151,7 @@ module _ (k : Setting) (x : Conn) (heads : List Seen) (quiet : IsQuiet x heads) 
   tombstone-owes row last (Some s) home = front-owes x heads quiet (by_front (turn_here (tombstone env.serve (Some s)))) p w
       (record {
         notes = tt;
-        segments = inl ((ap Client is.number, tt), ap (λ (u : Owning). u.owner) home.0);
+        segments = inl ((ap Client is.number, tt), ap (λ (u : Owning). u.owner) home.0, tt);
         gave = tt;
         messages = tt;
         then = refl;

@@ -5,6 +5,7 @@ pub mod Growing
 pub mod Heads
 pub mod Loops
 pub mod Node
+pub mod NodeEnds
 pub mod NodeRules
 pub mod Rows
 pub mod Turns

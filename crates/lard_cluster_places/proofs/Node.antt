@@ -35,14 +35,14 @@ module _ (x : Conn) (heads : List Seen) (quiet : IsQuiet x heads) where
 
   -- ---- nothing that is kept changes
 
-  pub stands-owes : (placed : IsPlaced x) (place : Place) → IsMachine place → (s : Said) → Turned x.c place w s w → Each (Tells x.part place) s.messages → Owes x (stands x place heads s)
-  stands-owes placed place at s t tells =
+  pub stands-owes : (placed : IsPlaced x) (place : Place) (s : Said) → Turned x.c place w s w → Each (Tells x.part place) s.messages → Owes x (stands x place heads s)
+  stands-owes placed place s t tells =
       let timers = timers-plain place x.c x.part x.part in
       record {
         heads = quiet.may;
         same = quiet.same;
-        rows = turned-owns x.c place at w w s _ t timers;
-        sits = subst (λ (u : Owning). Sits u x.part.nodes x.part.front.row) (sym (turned-after x.c place at w w s _ t timers)) placed.sits;
+        rows = turned-owns x.c place w w s _ t timers;
+        sits = subst (λ (u : Owning). Sits u x.part.nodes x.part.front.row) (sym (turned-after x.c place w w s _ t timers)) placed.sits;
         grows = grows-still x.part;
         letters = turn-letters x.part place x.c w w s t tells;
       }
@@ -53,10 +53,10 @@ module _ (x : Conn) (heads : List Seen) (quiet : IsQuiet x heads) where
   plain-turned place notes ms plain machines = record { notes = plain-owns x.c w notes plain; segments = inr refl; gave = tt; messages = machines; then = plain-after w notes plain }
 
   pub node-drops : (placed : IsPlaced x) (n : ℕ) → Owes x (node_does x n heads Drops)
-  node-drops placed n = stands-owes placed (Node n) tt nothing_said (plain-turned (Node n) [] [] tt tt) tt
+  node-drops placed n = stands-owes placed (Node n) nothing_said (plain-turned (Node n) [] [] tt tt) tt
 
   pub node-says : (placed : IsPlaced x) (n : ℕ) (ms : List (Place × List ℕ)) → Each (λ m. IsMachine m.0) ms → Each (Tells x.part (Node n)) ms → Owes x (node_does x n heads (Says ms))
-  node-says placed n ms machines tells = stands-owes placed (Node n) tt (record nothing_said { messages = ms }) (plain-turned (Node n) [] ms tt machines) tells
+  node-says placed n ms machines tells = stands-owes placed (Node n) (record nothing_said { messages = ms }) (plain-turned (Node n) [] ms tt machines) tells
 
   -- ---- one node's part changes
 
@@ -68,8 +68,8 @@ module _ (x : Conn) (heads : List Seen) (quiet : IsQuiet x heads) where
       record {
         heads = quiet.may;
         same = quiet.same;
-        rows = turned-owns x.c (Node n) tt w v s _ t timers;
-        sits = subst (λ (u : Owning). Sits u p.nodes x.part.front.row) (sym (turned-after x.c (Node n) tt w v s _ t timers)) sits;
+        rows = turned-owns x.c (Node n) w v s _ t timers;
+        sits = subst (λ (u : Owning). Sits u p.nodes x.part.front.row) (sym (turned-after x.c (Node n) w v s _ t timers)) sits;
         grows = record {
           nodes = put-each x.part.nodes n q (λ m r. BackGrows (x.part.nodes m).row r.row) grows (λ m other. back-still (x.part.nodes m).row);
           front = front-still p.nodes x.part.front.row;
@@ -128,7 +128,7 @@ module _ (x : Conn) (heads : List Seen) (quiet : IsQuiet x heads) (n : ℕ) (env
       node-owes x heads quiet n (by_node (turn_by env before k (ending.Here b count, turn))) q u
       (record {
         notes = notes;
-        segments = inl (subst (λ (c : ℕ). AllTo (Client c) turn.segments) number to, ap (λ (v : Owning). v.owner) then ∙ mine);
+        segments = inl (subst (λ (c : ℕ). AllTo (Client c) turn.segments) number to, ap (λ (v : Owning). v.owner) then ∙ mine, tt);
         gave = tt;
         messages = Each-append (λ m. IsMachine m.0) msgs [] (all-machines before k machines) tt;
         then = then;
@@ -144,7 +144,7 @@ module _ (x : Conn) (heads : List Seen) (quiet : IsQuiet x heads) (n : ℕ) (env
       node-owes x heads quiet n (by_node (turn_by env before k (ending.Over last, turn))) q v
       (record {
         notes = notes;
-        segments = inl (subst (λ (c : ℕ). AllTo (Client c) turn.segments) number to, ap (λ (v : Owning). v.owner) then ∙ mine);
+        segments = inl (subst (λ (c : ℕ). AllTo (Client c) turn.segments) number to, ap (λ (v : Owning). v.owner) then ∙ mine, tt);
         gave = subst (λ (o : Owning). OwnsBy x.c o (gave_by env (ending.Over last))) (sym then) ((number, mine ∙ ap (λ (m : ℕ). Some (Node m)) (sym node), epoch), tt);
         messages = Each-append (λ m. IsMachine m.0) msgs end (all-machines before k machines) (tt, tt);
         then = ap (λ (o : Owning). after_all o (gave_by env (ending.Over last))) then;

@@ -62,7 +62,7 @@ there-small : (n e : ℕ) (w : Owning) (o : Option BackRow) (row : BackRow) → 
 there-small n e w o row le is h = let there : IsThere n e w (Some row) = subst (IsThere n e w) is h in omega (arith, there.0, le)
 
 -- of the node to which it was offered, or of another one
-by-node : (n m : ℕ) (P : Type 0) → (m ≡ n → P) → (m ≢ n → P) → P
+pub by-node : (n m : ℕ) (P : Type 0) → (m ≡ n → P) → (m ≢ n → P) → P
 by-node n m P same other = go (m == n) refl where
   go : (b : Bool) → (m == n) ≡ b → P
   go true e = same (eqb-true m n e)
@@ -142,7 +142,7 @@ module _ (x : Conn) (held : IsPlaced x) where
         epoch = t.1 ∙ sym t.0;
       }
 
-  has-at : (n : ℕ) (row : BackRow) (b : ControlBlock) → (nodes n).row ≡ Some row → row.stage ≡ back.Here b → (o : Option FrontRow) → x.part.front.row ≡ o → HasIt n row.epoch.0
+  pub has-at : (n : ℕ) (row : BackRow) (b : ControlBlock) → (nodes n).row ≡ Some row → row.stage ≡ back.Here b → (o : Option FrontRow) → x.part.front.row ≡ o → HasIt n row.epoch.0
   has-at n row b is at None found =
       let h : Sits w nodes None = subst (Sits w nodes) found held.sits in absurd (past-held 0 (nodes n).row row b is at (h.1 n))
   has-at n row b is at (Some f) found = go f.stage refl (let h : Sits w nodes (Some f) = subst (Sits w nodes) found held.sits in h.0) where
@@ -214,7 +214,7 @@ module _ (k : Setting) (x : Conn) (heads : List Seen) (quiet : IsQuiet x heads) 
   dropped = node-drops x heads quiet held n
 
   -- a turn of a connection that is here
-  turn-owes : HasIt x held n env.epoch → (part : NodePart) (before : List (Place × List ℕ)) (work : Work) (given : Ending × Turn) → Each IsPlain given.1.notes → AllTo (Client env.serve.c) given.1.segments
+  pub turn-owes : HasIt x held n env.epoch → (part : NodePart) (before : List (Place × List ℕ)) (work : Work) (given : Ending × Turn) → Each IsPlain given.1.notes → AllTo (Client env.serve.c) given.1.segments
       → Each (λ m. IsMachine m.0) before
       → ((q : NodePart) (st : BackConn) → q.row ≡ Some (record { stage = st; epoch = record { 0 = env.epoch } }) → Each (Tells (with_node x.part n q) (Node n)) before)
       → Owed (Does (kept_after env part work given.0, turn_by env before work given))

@@ -29,7 +29,7 @@ use Rattle.lard_view.proofs.Rows.{MayBeSeen, each_row-told, seen-rows}
 -- up what it owns.
 pub record Turned (c : ℕ) (place : Place) (w : Owning) (s : Said) (v : Owning) : Type 0 where
   pub notes : OwnsBy c w s.notes
-  pub segments : (AllTo (Client c) s.segments × ((after_all w s.notes).owner ≡ Some place)) ⊎ (s.segments ≡ [])
+  pub segments : (AllTo (Client c) s.segments × ((after_all w s.notes).owner ≡ Some place) × IsMachine place) ⊎ (s.segments ≡ [])
   pub gave : OwnsBy c (after_all w s.notes) s.gave
   pub messages : Each (λ m. IsMachine m.0) s.messages
   pub then : after_all (after_all w s.notes) s.gave ≡ v
@@ -46,13 +46,13 @@ timers-plain Front c p q = flat-plain (λ k. kind_change Front c k (front_armed 
 timers-plain (Node n) c p q = flat-plain (λ k. kind_change (Node n) c k (node_armed (p.nodes n) k) (node_armed (q.nodes n) k))
     (λ k. change-owns c (record { owner = None; epoch = 0 }) (Node n) c k (node_armed (p.nodes n) k) (node_armed (q.nodes n) k)) kinds
 
-segments-own : (c : ℕ) (place : Place) (w : Owning) (ss : List (Place × List ℕ)) → IsMachine place → (AllTo (Client c) ss × (w.owner ≡ Some place)) ⊎ (ss ≡ [])
+segments-own : (c : ℕ) (place : Place) (w : Owning) (ss : List (Place × List ℕ)) → (AllTo (Client c) ss × (w.owner ≡ Some place) × IsMachine place) ⊎ (ss ≡ [])
     → OwnsBy c w (map (sending place) ss)
-segments-own c place w ss at h = ⊎_elim
-    (λ (mine : AllTo (Client c) ss × (w.owner ≡ Some place)). owner-owns c w place ss at mine.1 mine.0)
+segments-own c place w ss h = ⊎_elim
+    (λ (mine : AllTo (Client c) ss × (w.owner ≡ Some place) × IsMachine place). owner-owns c w place ss mine.2 mine.1 mine.0)
     (λ (none : ss ≡ []). subst (λ (l : List (Place × List ℕ)). OwnsBy c w (map (sending place) l)) (sym none) tt) h
 
-module _ (c : ℕ) (place : Place) (at : IsMachine place) (w v : Owning) (s : Said) (timers : List Rec) (t : Turned c place w s v) (plain : Each IsPlain timers) where
+module _ (c : ℕ) (place : Place) (w v : Owning) (s : Said) (timers : List Rec) (t : Turned c place w s v) (plain : Each IsPlain timers) where
   abbrev S : List Rec
   S = map (sending place) s.segments
 
@@ -82,7 +82,7 @@ module _ (c : ℕ) (place : Place) (at : IsMachine place) (w v : Owning) (s : Sa
       owns-append c w (s.notes ++ S ++ G ++ M) timers
       (owns-append c w (s.notes ++ S ++ G) M
       (owns-append c w (s.notes ++ S) G
-      (owns-append c w s.notes S t.notes (segments-own c place noted s.segments at t.segments))
+      (owns-append c w s.notes S t.notes (segments-own c place noted s.segments t.segments))
       (subst (λ (u : Owning). OwnsBy c u G) (sym behind-S) t.gave))
       (machines-own c _ place s.messages t.messages))
       (plain-owns c _ timers plain)
