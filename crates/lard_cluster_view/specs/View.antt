@@ -1,7 +1,8 @@
 -- The machine of the cluster seen from one connection: its part of the state, its packets, and what it sees of the journal; and
 -- what one move makes of them.
-use Rattle.std.specs.Prelude.{◌≡◌, ◌⊎◌, ℕ, nat_lt, ◌==◌, Bool, false, if◌then◌else◌, List, [], ◌∷◌, ◌++◌, map, filter, is_some, Option, Some, None, Ok}
+use Rattle.std.specs.Prelude.{◌≡◌, ◌⊎◌, ℕ, nat_lt, ◌==◌, Bool, false, if◌then◌else◌, List, [], ◌∷◌, ◌++◌, length, map, filter, is_some, Option, Some, None, Ok}
 use Rattle.std.specs.FinMap as table
+use Rattle.std.specs.List.{AllByRecursion}
 use Rattle.lard_answers.specs.Answers.{FilesAt}
 use Rattle.lard_base.specs.declared.event.Event.{Event}
 use Rattle.lard_base.specs.declared.event.Event.TheVariants as event
@@ -11,8 +12,9 @@ use Rattle.lard_base.specs.declared.place.Place.TheVariants.{Front, Node, Client
 use Rattle.lard_base.specs.declared.place.Reason.{Reason}
 use Rattle.lard_client.specs.Control.{ClientBlock, is_armed, written_len}
 use Rattle.lard_cluster.specs.declared.machine.Machine.{Machine}
-use Rattle.lard_cluster.specs.Bounds.{HasRule}
+use Rattle.lard_cluster.specs.Bounds.{HasRule, IsNumber}
 use Rattle.lard_cluster.specs.Machine.{node_at}
+use Rattle.lard_disk.specs.declared.disk.Job.{Job}
 use Rattle.lard_files.specs.Files.{file_at}
 use Rattle.lard_front_rules.specs.declared.front.FrontTurn.{FrontTurn}
 use Rattle.lard_front_rules.specs.Front as front
@@ -20,7 +22,7 @@ use Rattle.lard_front_rules.specs.Front.{FrontEnv, FrontPart, ask_of, front_admi
 use Rattle.lard_front_rules.specs.FrontPlace as front_place
 use Rattle.lard_front_rules.specs.FrontPlace.{front_part}
 use Rattle.lard_history.specs.Journal.{request}
-use Rattle.lard_history.specs.Own.{Has, Letter, Seen, Row, Came, letters, own, whose}
+use Rattle.lard_history.specs.Own.{Has, Letter, Seen, Row, Came, letters, named_in, net_of, own, whose}
 use Rattle.lard_journal.specs.declared.rec.Rec.{Rec}
 use Rattle.lard_journal.specs.declared.rec.Rec.TheVariants as rec
 use Rattle.lard_message.specs.declared.message.Body.{Body}
@@ -34,6 +36,7 @@ use Rattle.lard_node_rules.specs.NodePlace as node_place
 use Rattle.lard_node_rules.specs.NodePlace.{bytes_of, node_part}
 use Rattle.lard_node_rules.specs.Stay.{NodeEnv}
 use Rattle.lard_policy.specs.declared.first.FirstChoice.{FirstChoice}
+use Rattle.lard_resend.specs.declared.kept.Kept.{Kept}
 use Rattle.lard_rules.specs.declared.places.Station.{Station}
 use Rattle.lard_rules.specs.declared.places.Turn.{Turn}
 use Rattle.lard_rules.specs.Client.{client_opens, client_writes, client_shuts, client_holds, client_takes, client_aborts, client_timer, client_gets, client_injects}
@@ -58,8 +61,11 @@ pub record Part : Type 0 where
   pub nodes : ℕ → NodePart
 
 -- a node that is not there keeps nothing
+abbrev pub nothing_kept : NodePart
+nothing_kept = record { row = None; stay = None; kept = []; fetches = [] }
+
 abbrev pub kept_at : ℕ → Option NodeState → NodePart
-kept_at c None = record { row = None; stay = None; kept = []; fetches = [] }
+kept_at c None = nothing_kept
 kept_at c (Some s) = node_part s c
 
 unfoldable pub part_of : Machine → ℕ → Part
@@ -74,6 +80,10 @@ pub record Conn : Type 0 where
 
 unfoldable pub conn : Machine → ℕ → Conn
 conn m q = record { c = q; part = part_of m q; letters = letters q m.net; seen = own q m.journal }
+
+-- before anything
+abbrev pub blank : ℕ → Conn
+blank c = record { c = c; part = record { station = None; front = record { row = None; rest = None; kept = [] }; nodes = λ n. nothing_kept }; letters = []; seen = [] }
 
 -- ---- a move
 
@@ -107,13 +117,9 @@ letter from s = record { from = from; to = s.0; bytes = s.1 }
 abbrev pub sending : Place → Place × List ℕ → Rec
 sending from s = rec.Sent 0 from s.0 s.1
 
--- those of a connection; a path that goes to the front of a cache names none
-abbrev pub named : List Rec → List Rec
-named rs = filter (λ r. is_some (whose r)) rs
-
 -- the move's records, behind its heads
 abbrev pub rows_of : Conn → Move → List Rec
-rows_of x v = named v.said.notes ++ map (sending v.place) v.said.segments ++ v.said.gave ++ map (sending v.place) v.said.messages ++ timer_rows v.place x.c x.part v.part
+rows_of x v = v.said.notes ++ map (sending v.place) v.said.segments ++ v.said.gave ++ map (sending v.place) v.said.messages ++ timer_rows v.place x.c x.part v.part
 
 -- all that the connection sees of the step
 abbrev pub seen_in : Conn → Move → List Seen
@@ -141,8 +147,12 @@ by_client t = record { notes = t.notes; segments = t.segments; gave = []; messag
 abbrev pub by_front : FrontTurn → Said
 by_front t = record { notes = t.notes; segments = t.segments; gave = t.gave; messages = t.messages }
 
+-- those of a connection; a path that goes to the front of a cache names none
+abbrev pub named : List Rec → List Rec
+named rs = filter (λ r. is_some (whose r)) rs
+
 abbrev pub by_node : NodeTurn → Said
-by_node t = record { notes = t.notes; segments = t.segments; gave = t.gave; messages = t.messages }
+by_node t = record { notes = named t.notes; segments = t.segments; gave = t.gave; messages = t.messages }
 
 -- this packet was sent
 abbrev pub Was : Conn → Place → Place → List ℕ → Type 0
@@ -233,6 +243,10 @@ pub record IsNodeEnv (k : Setting) (c n epoch : ℕ) (env : NodeEnv) : Type 0 wh
   pub node : env.n ≡ n
   pub epoch_is : env.epoch ≡ epoch
 
+-- the epoch of the connection's stay at a node, if it is here or its end is not acknowledged
+abbrev pub epoch_in : NodePart → ℕ
+epoch_in p = elim p.row [ None ↦ 0 | Some row ↦ row.epoch.0 ]
+
 -- the bytes are a message of the connection, in this epoch
 abbrev pub Spells : ℕ → ℕ → Body → List ℕ → Type 0
 Spells c epoch b bytes = decoded_message bytes ≡ Ok (record { c = c; epoch = record { 0 = epoch }; body = b })
@@ -283,11 +297,12 @@ pub record NodeRules (k : Setting) (P : Conn → Move → Type 0) : Type 0 where
       → P x (node_does x n (packet_seen Front (Node n) bytes) (node_acknowledged env (x.part.nodes n)))
   pub read : (x : Conn) (n epoch r : ℕ) (env : NodeEnv) (path : List ℕ) → IsNodeEnv k x.c n epoch env
       → P x (reads_first (rec.Read n n x.c r path) (node_does x n [] (node_read env (x.part.nodes n) r)))
-  pub fires : (x : Conn) (n epoch : ℕ) (env : NodeEnv) → IsNodeEnv k x.c n epoch env → P x (node_does x n (event_seen (event.Timer (Node n) x.c)) (node_timer env (x.part.nodes n)))
+  pub fires : (x : Conn) (s : Station) (n : ℕ) (env : NodeEnv) → x.part.station ≡ Some s → IsNodeEnv k x.c n (epoch_in (x.part.nodes n)) env
+      → P x (node_does x n (event_seen (event.Timer (Node n) x.c)) (node_timer env (x.part.nodes n)))
   -- what a node does for another one: it answers a Fetch, or queues a job for it, and sends the content that the job read
-  pub answers : (x : Conn) (n from epoch r : ℕ) (path bytes : List ℕ) → Spells x.c epoch (body.Fetch r path) bytes → Was x (Node from) (Node n) bytes
+  pub answers : (x : Conn) (n from epoch r : ℕ) (path file bytes : List ℕ) → k.files path ≡ Some file → Spells x.c epoch (body.Fetch r path) bytes → Was x (Node from) (Node n) bytes
       → P x (stands x (Node n) (packet_seen (Node from) (Node n) bytes) (contents k n from x.c epoch r path))
-  pub queues : (x : Conn) (n from epoch r : ℕ) (path bytes : List ℕ) → Spells x.c epoch (body.Fetch r path) bytes → Was x (Node from) (Node n) bytes
+  pub queues : (x : Conn) (n from epoch r : ℕ) (path file bytes : List ℕ) → k.files path ≡ Some file → Spells x.c epoch (body.Fetch r path) bytes → Was x (Node from) (Node n) bytes
       → P x (stands x (Node n) (packet_seen (Node from) (Node n) bytes) (record nothing_said { notes = rec.Queued n from x.c r path ∷ [] }))
   pub brings : (x : Conn) (n from epoch r : ℕ) (path : List ℕ) → P x (stands x (Node n) [] (brought_said k n from x.c epoch r path))
 
@@ -304,3 +319,47 @@ pub record Rules (k : Setting) (P : Conn → Move → Type 0) : Type 0 where
   pub untouched : UntouchedRules k P
   pub injects : (x : Conn) (s : Station) (bytes : List ℕ) → x.part.station ≡ Some s → HasRule (event.Inject x.c bytes)
       → P x (client_does x s (inject_seen x.c bytes) (client_injects s.client bytes))
+
+-- ---- what the view itself rests on
+
+abbrev pub IsMachine : Place → Type 0
+IsMachine Front = Unit {0}
+IsMachine (Node n) = Unit {0}
+IsMachine (Client d) = ⊥
+
+-- a packet of connection c goes between its client and the cluster, or between two machines of the cluster, and names it then
+abbrev pub GoesBetween : ℕ → Place → Place → List ℕ → Type 0
+GoesBetween c (Client d) Front bytes = d ≡ c
+GoesBetween c Front (Client d) bytes = d ≡ c
+GoesBetween c (Node n) (Client d) bytes = d ≡ c
+GoesBetween c Front (Node n) bytes = named_in bytes ≡ Some c
+GoesBetween c (Node n) Front bytes = named_in bytes ≡ Some c
+GoesBetween c (Node n) (Node m) bytes = named_in bytes ≡ Some c
+GoesBetween c _ _ _ = ⊥
+
+abbrev pub AreBetween : ℕ → List Letter → Type 0
+AreBetween c [] = Unit {0}
+AreBetween c (l ∷ ls) = GoesBetween c l.from l.to l.bytes × AreBetween c ls
+
+-- what a place holds until it is answered was sent, to another machine of the cluster
+abbrev pub AreSent : Conn → Place → List Kept → Type 0
+AreSent x place ks = AllByRecursion (λ k. IsMachine k.to × Was x place k.to k.bytes) ks
+
+-- Its packets are its own, so is its client, and what its places hold was sent.
+pub record IsSound (x : Conn) : Type 0 where
+  pub between : AreBetween x.c x.letters
+  pub client : (s : Station) → x.part.station ≡ Some s → (s.client.c ≡ x.c) × IsNumber x.c
+  pub front : AreSent x Front x.part.front.kept
+  pub kept : (n : ℕ) → AreSent x (Node n) (x.part.nodes n).kept
+  pub fetches : (n : ℕ) → AreSent x (Node n) (x.part.nodes n).fetches
+
+-- each job of a disk is of a connection
+abbrev pub AreNumbered : List Job → Type 0
+AreNumbered jobs = AllByRecursion (λ job. IsNumber job.c) jobs
+
+-- Each connection is sound, the journal tells of the packets that there are, and the nodes are as many as there are to be.
+pub record IsViewed (m : Machine) : Type 0 where
+  pub sound : (q : ℕ) → IsSound (conn m q)
+  pub told : net_of m.journal ≡ m.net
+  pub nodes : length m.nodes ≡ m.config.nodes
+  pub jobs : (n : ℕ) (s : NodeState) → node_at m.nodes n ≡ Some s → AreNumbered s.disk
