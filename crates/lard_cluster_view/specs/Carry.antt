@@ -1,11 +1,11 @@
 -- What a law of one connection owes, to be a law of every run of the cluster's machine.
-use Rattle.std.specs.Prelude.{◌≡◌, ℕ, false, List, [], ◌∷◌, ◌++◌, Ok}
+use Rattle.std.specs.Prelude.{◌≡◌, ℕ, false, List, [], ◌∷◌}
 use Rattle.lard_base.specs.declared.config.Config.{Config}
 use Rattle.lard_base.specs.declared.event.Event.{Event}
 use Rattle.lard_cluster.specs.declared.machine.Machine.{Machine}
-use Rattle.lard_cluster.specs.Bounds.{HasRule, IsNumber}
-use Rattle.lard_cluster.specs.Machine.{IsReached, machine_step}
-use Rattle.lard_cluster_view.specs.View.{Conn, Goes, IsSound, Move, Rules, Setting, UntouchedRules, blank, conn, grown, seen_in, setting_of}
+use Rattle.lard_cluster.specs.Bounds.{IsNumber}
+use Rattle.lard_cluster.specs.Machine.{IsReached}
+use Rattle.lard_cluster_view.specs.View.{Conn, IsSound, Rules, Setting, UntouchedRules, blank, conn, grown, seen_in}
 use Rattle.lard_files.specs.Files.{file_at}
 use Rattle.lard_history.specs.Journal.{Tale, tale_step}
 use Rattle.lard_history.specs.Own.{EachRow, Seen, tale_of}
@@ -65,3 +65,7 @@ pub record IsGuardedLaw (k : Setting) (Given Inv : Conn → Type 0) (mine : ℕ 
   pub events : (c : ℕ) (past : List Seen) (e : Event) → mine c past (rec.Event 0 e)
   pub injected : (c : ℕ) (past : List Seen) → mine c past (rec.Injected c)
   pub moves : UntouchedRules k (λ x v. MayMove Given x → (tale_at x).touched ≡ false → Inv x → Inv (grown x v) × EachRow (mine x.c) x.seen (seen_in x v))
+
+-- what holds of each connection: Inv while it is untouched, and the law of its records
+abbrev pub Guarded : (Conn → Type 0) → (ℕ → List Seen → Rec → Type 0) → Conn → Type 0
+Guarded Inv mine x = Untouched Inv x × EachRow (WhileUntouched mine x.c) [] x.seen

@@ -1,7 +1,8 @@
 -- The machine of the cluster seen from one connection: its part of the state, its packets, and what it sees of the journal; and
 -- what one move makes of them.
-use Rattle.std.specs.Prelude.{◌≡◌, ◌⊎◌, ℕ, nat_lt, ◌==◌, Bool, false, if◌then◌else◌, List, [], ◌∷◌, ◌++◌, map, filter, is_some, Option, Some, None, Ok}
+use Rattle.std.specs.Prelude.{◌≡◌, ◌⊎◌, ℕ, nat_lt, ◌==◌, Bool, false, if◌then◌else◌, List, [], ◌∷◌, ◌++◌, length, map, filter, is_some, Option, Some, None, Ok}
 use Rattle.std.specs.FinMap as table
+use Rattle.std.specs.List.{AllByRecursion}
 use Rattle.lard_answers.specs.Answers.{FilesAt}
 use Rattle.lard_base.specs.declared.event.Event.{Event}
 use Rattle.lard_base.specs.declared.event.Event.TheVariants as event
@@ -13,6 +14,7 @@ use Rattle.lard_client.specs.Control.{ClientBlock, is_armed, written_len}
 use Rattle.lard_cluster.specs.declared.machine.Machine.{Machine}
 use Rattle.lard_cluster.specs.Bounds.{HasRule, IsNumber}
 use Rattle.lard_cluster.specs.Machine.{node_at}
+use Rattle.lard_disk.specs.declared.disk.Job.{Job}
 use Rattle.lard_files.specs.Files.{file_at}
 use Rattle.lard_front_rules.specs.declared.front.FrontTurn.{FrontTurn}
 use Rattle.lard_front_rules.specs.Front as front
@@ -20,7 +22,7 @@ use Rattle.lard_front_rules.specs.Front.{FrontEnv, FrontPart, ask_of, front_admi
 use Rattle.lard_front_rules.specs.FrontPlace as front_place
 use Rattle.lard_front_rules.specs.FrontPlace.{front_part}
 use Rattle.lard_history.specs.Journal.{request}
-use Rattle.lard_history.specs.Own.{Has, Letter, Seen, Row, Came, letters, named_in, own, whose}
+use Rattle.lard_history.specs.Own.{Has, Letter, Seen, Row, Came, letters, named_in, net_of, own, whose}
 use Rattle.lard_journal.specs.declared.rec.Rec.{Rec}
 use Rattle.lard_journal.specs.declared.rec.Rec.TheVariants as rec
 use Rattle.lard_message.specs.declared.message.Body.{Body}
@@ -339,10 +341,9 @@ abbrev pub AreBetween : ℕ → List Letter → Type 0
 AreBetween c [] = Unit {0}
 AreBetween c (l ∷ ls) = GoesBetween c l.from l.to l.bytes × AreBetween c ls
 
--- what a place holds until it is answered was sent to another machine of the cluster
+-- what a place holds until it is answered was sent, to another machine of the cluster
 abbrev pub AreSent : Conn → Place → List Kept → Type 0
-AreSent x place [] = Unit {0}
-AreSent x place (k ∷ ks) = (IsMachine k.to × Was x place k.to k.bytes) × AreSent x place ks
+AreSent x place ks = AllByRecursion (λ k. IsMachine k.to × Was x place k.to k.bytes) ks
 
 -- Its packets are its own, so is its client, and what its places hold was sent.
 pub record IsSound (x : Conn) : Type 0 where
@@ -351,3 +352,14 @@ pub record IsSound (x : Conn) : Type 0 where
   pub front : AreSent x Front x.part.front.kept
   pub kept : (n : ℕ) → AreSent x (Node n) (x.part.nodes n).kept
   pub fetches : (n : ℕ) → AreSent x (Node n) (x.part.nodes n).fetches
+
+-- each job of a disk is of a connection
+abbrev pub AreNumbered : List Job → Type 0
+AreNumbered jobs = AllByRecursion (λ job. IsNumber job.c) jobs
+
+-- Each connection is sound, the journal tells of the packets that there are, and the nodes are as many as there are to be.
+pub record IsViewed (m : Machine) : Type 0 where
+  pub sound : (q : ℕ) → IsSound (conn m q)
+  pub told : net_of m.journal ≡ m.net
+  pub nodes : length m.nodes ≡ m.config.nodes
+  pub jobs : (n : ℕ) (s : NodeState) → node_at m.nodes n ≡ Some s → AreNumbered s.disk
