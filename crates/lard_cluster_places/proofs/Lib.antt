@@ -1,8 +1,10 @@
+pub mod Clients
 pub mod Front
 pub mod FrontMessages
 pub mod FrontRules
 pub mod Growing
 pub mod Heads
+pub mod Law
 pub mod Loops
 pub mod Node
 pub mod NodeEnds
