@@ -10,4 +10,5 @@ pub mod Node
 pub mod NodeEnds
 pub mod NodeRules
 pub mod Rows
+pub mod Telling
 pub mod Turns
