@@ -130,6 +130,10 @@ module _ (env : ServeEnv) (w out : Stream) (vs : List Verdict) where
   abbrev pub So : Service → List Verdict → Type 0
   So s pend = Serves env.files env.c w out vs s pend
 
+  pub go-on : (s : Service) (pend : List Verdict) (h : So s pend) → s.over ≡ None → s.block.send.finished ≡ false → s.block.recv.discarding ≡ false → MayGo w h.vs_now pend s
+  go-on s pend h none unfinished keeps =
+      record { none = none; unfinished = unfinished; keeps = keeps; read = subst (λ (o : Option ℕ). IsReading w h.vs_now pend s.block s.notes o) none h.reading }
+
   -- it would pass the stream limit
   passed-serves : (total : ℕ) (s : Service) (pend others : List Verdict) → So s pend → So (passed_over env total s) others
   passed-serves total s pend others h = record {
