@@ -1,3 +1,5 @@
+pub mod Ending
+pub mod FrontReading
 pub mod Reading
 pub mod Serving
 pub mod Wide

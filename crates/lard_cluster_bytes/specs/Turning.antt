@@ -1,16 +1,18 @@
 -- What a turn of a place notes while it has a connection, and what it makes of the connection's streams.
-use Rattle.std.specs.Prelude.{◌≡◌, ◌⊎◌, ℕ, ◌+◌, false, true, List, [], ◌∷◌, length, Option, Some, None}
+use Rattle.std.specs.Prelude.{◌≡◌, ◌⊎◌, ℕ, ◌+◌, ◌||◌, Bool, false, true, List, [], ◌∷◌, length, Option, Some, None}
 use Rattle.std.specs.List.{list_any}
 use Rattle.lard_answers.specs.Answers.{FilesAt}
-use Rattle.lard_cluster_bytes.specs.Agreement.{HasRead, IsWide}
+use Rattle.lard_cluster_bytes.specs.Agreement.{EndAgrees, HasRead, IsWide}
 use Rattle.lard_endpoint.specs.Control.{ControlBlock}
 use Rattle.lard_history.proofs.Each.{Each}
 use Rattle.lard_journal.specs.declared.rec.Rec.{Rec}
 use Rattle.lard_journal.specs.declared.rec.Rec.TheVariants as rec
-use Rattle.lard_laws_bytes.specs.Agreement.{SaysAnswers}
+use Rattle.lard_laws_bytes.specs.Agreement.{AreReplies, SaysAnswers}
 use Rattle.lard_laws_bytes.specs.Keeping.{resets, served_in, size_in}
 use Rattle.lard_laws_bytes.proofs.FrontEndpoint.{IsBetween}
 use Rattle.lard_request.specs.declared.verdict.Verdict.{Verdict}
+use Rattle.lard_rules.specs.declared.places.Ending.{Ending}
+use Rattle.lard_rules.specs.declared.places.Turn.{Turn}
 use Rattle.lard_rules.specs.Serving.{Service}
 use Rattle.lard_truth.specs.Truth.{GoesOn, Stream}
 
@@ -53,3 +55,13 @@ pub record Serves (files : FilesAt) (c : ℕ) (w out : Stream) (vs : List Verdic
   pub wide : IsWide s.block
   pub noted : Counts c out vs vs_now out_now.bytes s.notes
   pub reading : IsReading w vs_now pend s.block s.notes s.over
+
+-- A turn that is over, by where the connection is at its end: what was said is true, and what waits is answered by nobody yet.
+pub record EndTurned (files : FilesAt) (c : ℕ) (w out : Stream) (vs : List Verdict) (was_reset : Bool) (pend : List Verdict) (given : Ending × Turn) : Type 0 where
+  pub out_after : Stream
+  pub vs_after : List Verdict
+  pub longer : GoesOn out out_after
+  pub says : SaysAnswers files w out_after vs_after
+  pub agrees : EndAgrees w out_after vs_after pend (was_reset || list_any resets given.1.notes) given.0
+  pub noted : Counts c out vs vs_after out_after.bytes given.1.notes
+  pub sent : AreReplies c w out_after (was_reset || list_any resets given.1.notes) given.1.segments
