@@ -60,6 +60,19 @@ use Rattle.lard_view.proofs.Endpoints as ends_
 use Rattle.lard_view.proofs.Turns as turns
 use Rattle.lard_view.proofs.Turns.{AreNoted, IsServingTurn, NotesServing}
 
+-- A turn is of connection c.
+abbrev pub IsFrontTurn : ℕ → FrontTurn → Type 0
+IsFrontTurn c t = IsSaid Front c t.notes t.segments t.gave t.messages t.answered
+
+-- A rule's turn is of connection c, and what is held then was held before or is sent in it.
+abbrev pub IsFrontDeed : ℕ → FrontPart → Deed → Type 0
+IsFrontDeed c p Drops = Unit {0}
+IsFrontDeed c p (Says t) = IsFrontTurn c t
+IsFrontDeed c p (Does x) = IsFrontTurn c x.turn × AreHeld x.turn.messages p.kept x.part.kept
+
+abbrev pub IsAdmission : ℕ → FrontPart → FrontPart × FrontTurn → Type 0
+IsAdmission c p given = IsFrontTurn c given.1 × AreHeld given.1.messages p.kept given.0.kept
+
 -- The front end acts on connection c, whose number is one, and what it holds of it goes to nodes.
 module _ (env : FrontEnv) (own : env.serve.place ≡ Front) (number : IsNumber env.serve.c) where
   abbrev N : Rec → Type 0
@@ -74,9 +87,8 @@ module _ (env : FrontEnv) (own : env.serve.place ≡ Front) (number : IsNumber e
   abbrev Noted : Service → Type 0
   Noted w = AreNoted env.serve N noting w
 
-  -- a turn is of the connection
-  abbrev pub IsOfFront : FrontTurn → Type 0
-  IsOfFront t = IsSaid Front env.serve.c t.notes t.segments t.gave t.messages t.answered
+  abbrev IsOfFront : FrontTurn → Type 0
+  IsOfFront t = IsFrontTurn env.serve.c t
 
   here-turn : (t : Turn) → IsServingTurn N env.serve.c t → IsOfFront (turn_here t)
   here-turn t h = record { notes = h.notes; segments = front-segments env.serve.c t.segments h.to; gave = tt; messages = tt; counted = h.answered }
@@ -123,11 +135,8 @@ module _ (env : FrontEnv) (own : env.serve.place ≡ Front) (number : IsNumber e
   -- ---- what each rule comes to
 
   module _ (p : FrontPart) (kept : AreMessages env.serve.c Front (map sent_of p.kept)) where
-    -- a rule's turn is of the connection, and what is held then was held before or is sent in it
-    abbrev pub IsDeed : Deed → Type 0
-    IsDeed Drops = Unit {0}
-    IsDeed (Says t) = IsOfFront t
-    IsDeed (Does x) = IsOfFront x.turn × AreHeld x.turn.messages p.kept x.part.kept
+    abbrev IsDeed : Deed → Type 0
+    IsDeed d = IsFrontDeed env.serve.c p d
 
     as-before : (messages : List (Place × List ℕ)) → AreHeld messages p.kept p.kept
     as-before messages = as-held messages p.kept
@@ -295,18 +304,18 @@ module _ (env : FrontEnv) (own : env.serve.place ≡ Front) (number : IsNumber e
 
     -- ---- the head of the line
 
-    abbrev pub IsAdmission : FrontPart × FrontTurn → Type 0
-    IsAdmission given = IsOfFront given.1 × AreHeld given.1.messages p.kept given.0.kept
+    abbrev Admits : FrontPart × FrontTurn → Type 0
+    Admits given = IsAdmission env.serve.c p given
 
     admitted_with-turn : (row : FrontRow) (rest : FrontRest) (b : ControlBlock) (choice : FirstChoice) (o : Option (List ℕ)) (given : FrontPart × FrontTurn)
-        → admitted_with env row rest b choice o ≡ Some given → IsAdmission given
+        → admitted_with env row rest b choice o ≡ Some given → Admits given
     admitted_with-turn row rest b choice None given e = let no : ◌≡◌ {A = Option (FrontPart × FrontTurn)} None (Some given) = e in absurd cc
     admitted_with-turn row rest b choice (Some path) given e =
         let handed : FrontPart × FrontTurn = handed_off env row (serving b rest.count []) path choice in
         let same : handed ≡ given = cc in
-        subst IsAdmission same (handed-turn row (serving b rest.count []) path choice (fresh b rest.count))
+        subst Admits same (handed-turn row (serving b rest.count []) path choice (fresh b rest.count))
 
-    admitted_at-turn : (choice : FirstChoice) (row : FrontRow) (x : FrontConn) (given : FrontPart × FrontTurn) → admitted_at env p choice row x ≡ Some given → IsAdmission given
+    admitted_at-turn : (choice : FirstChoice) (row : FrontRow) (x : FrontConn) (given : FrontPart × FrontTurn) → admitted_at env p choice row x ≡ Some given → Admits given
     admitted_at-turn choice row (stage.Waiting b) given e = admitted_with-turn row (rest_of p.rest) b choice (rest_of p.rest).target given e
     admitted_at-turn choice row (stage.Held b) given e = let no : ◌≡◌ {A = Option (FrontPart × FrontTurn)} None (Some given) = e in absurd cc
     admitted_at-turn choice row stage.Lent given e = let no : ◌≡◌ {A = Option (FrontPart × FrontTurn)} None (Some given) = e in absurd cc
@@ -314,9 +323,9 @@ module _ (env : FrontEnv) (own : env.serve.place ≡ Front) (number : IsNumber e
     admitted_at-turn choice row (stage.Moved node epoch) given e = let no : ◌≡◌ {A = Option (FrontPart × FrontTurn)} None (Some given) = e in absurd cc
     admitted_at-turn choice row (stage.Closed last) given e = let no : ◌≡◌ {A = Option (FrontPart × FrontTurn)} None (Some given) = e in absurd cc
 
-    admitted_by-turn : (choice : FirstChoice) (o : Option FrontRow) (given : FrontPart × FrontTurn) → admitted_by env p choice o ≡ Some given → IsAdmission given
+    admitted_by-turn : (choice : FirstChoice) (o : Option FrontRow) (given : FrontPart × FrontTurn) → admitted_by env p choice o ≡ Some given → Admits given
     admitted_by-turn choice None given e = let no : ◌≡◌ {A = Option (FrontPart × FrontTurn)} None (Some given) = e in absurd cc
     admitted_by-turn choice (Some row) given e = admitted_at-turn choice row row.stage given e
 
-    pub admitted-turn : (choice : FirstChoice) (given : FrontPart × FrontTurn) → front_admitted env p choice ≡ Some given → IsAdmission given
+    pub admitted-turn : (choice : FirstChoice) (given : FrontPart × FrontTurn) → front_admitted env p choice ≡ Some given → Admits given
     admitted-turn choice given e = admitted_by-turn choice p.row given e

@@ -4,3 +4,11 @@ pub mod Turned
 pub mod Fronts
 pub mod Works
 pub mod Nodes
+pub mod Moving
+pub mod Parts
+pub mod Heads
+pub mod Shapes
+pub mod Timers
+pub mod Steps
+pub mod Clients
+pub mod FrontActs

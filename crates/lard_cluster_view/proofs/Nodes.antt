@@ -50,14 +50,23 @@ use Rattle.lard_view.proofs.Turns.{IsServingTurn}
 pub anew-all : (P : Kept → Type 0) (k : Kept) (ks : List Kept) → P k → AllByRecursion P ks → AllByRecursion P (anew k ks)
 anew-all P k ks h e = put_all P k (without k.kind k.r ks) h (drop_all P k.kind k.r ks e)
 
+-- A turn of node n is of connection c, and the jobs are of a connection.
+abbrev pub IsNodeTurn : ℕ → ℕ → NodeTurn → Type 0
+IsNodeTurn n c t = IsSaid (Node n) c t.notes t.segments t.gave t.messages t.answered × AreNumbered t.jobs
+
+-- A rule's turn is of connection c, and what is held then was held before or is sent in it.
+abbrev pub IsNodeDeed : ℕ → ℕ → NodePart → Deed → Type 0
+IsNodeDeed n c p Drops = Unit {0}
+IsNodeDeed n c p (Says messages) = AreMessages c (Node n) messages
+IsNodeDeed n c p (Does x) = IsNodeTurn n c x.1 × AreHeld x.1.messages p.kept x.0.kept × AreHeld x.1.messages p.fetches x.0.fetches
+
 -- Node env.n acts on connection c, whose number is one, and what it holds of it goes to other machines of the cluster.
 module _ (env : NodeEnv) (own : env.serve.place ≡ Node env.n) (number : IsNumber env.serve.c) where
-  abbrev pub AreSaid : List (Place × List ℕ) → Type 0
+  abbrev AreSaid : List (Place × List ℕ) → Type 0
   AreSaid messages = AreMessages env.serve.c (Node env.n) messages
 
-  -- a turn is of the connection, and so are the jobs
-  abbrev pub IsOfNode : NodeTurn → Type 0
-  IsOfNode t = IsSaid (Node env.n) env.serve.c t.notes t.segments t.gave t.messages t.answered × AreNumbered t.jobs
+  abbrev IsOfNode : NodeTurn → Type 0
+  IsOfNode t = IsNodeTurn env.n env.serve.c t
 
   abbrev Works : Work → Type 0
   Works w = IsAtWork env own number w
@@ -130,14 +139,11 @@ module _ (env : NodeEnv) (own : env.serve.place ≡ Node env.n) (number : IsNumb
   -- ---- what each rule comes to
 
   module _ (p : NodePart) where
-    -- a rule's turn is of the connection, and what is held then was held before or is sent in it
-    abbrev pub IsResult : NodePart × NodeTurn → Type 0
+    abbrev IsResult : NodePart × NodeTurn → Type 0
     IsResult x = IsOfNode x.1 × AreHeld x.1.messages p.kept x.0.kept × AreHeld x.1.messages p.fetches x.0.fetches
 
-    abbrev pub IsDeed : Deed → Type 0
-    IsDeed Drops = Unit {0}
-    IsDeed (Says messages) = AreSaid messages
-    IsDeed (Does x) = IsResult x
+    abbrev IsDeed : Deed → Type 0
+    IsDeed d = IsNodeDeed env.n env.serve.c p d
 
     -- what is held is as before, or less
     abbrev IsLess : NodePart → Type 0
