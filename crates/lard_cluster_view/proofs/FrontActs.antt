@@ -24,15 +24,15 @@ use Rattle.lard_history.specs.Own.{Seen}
 use Rattle.lard_rules.specs.Outs.{nothing_done}
 use Rattle.lard_view.proofs.Shapes.{behind}
 
-module _ (m : Machine) (P : Conn → Move → Type 0) (Q : Event → Machine → Type 0) (shapes : Shapes m P Q) (e : Event) (c : ℕ) (heads : List Seen) (number : IsNumber c) (begins : Begins m.net e c heads) where
-  is-put : (s : FrontState) → IsPut m (record m { front = s })
-  is-put s = record { config = refl; files = refl; net = refl; journal = refl; events = refl; answered = refl; nodes = refl; jobs = λ h. h }
+pub front-put : (m : Machine) (s : FrontState) → IsPut m (record m { front = s })
+front-put m s = record { config = refl; files = refl; net = refl; journal = refl; events = refl; answered = refl; nodes = refl; jobs = λ h. h }
 
+module _ (m : Machine) (P : Conn → Move → Type 0) (Q : Event → Machine → Type 0) (shapes : Shapes m P Q) (e : Event) (c : ℕ) (heads : List Seen) (number : IsNumber c) (begins : Begins m.net e c heads) where
   says : (t : FrontTurn) → IsFrontTurn c t → P (conn m c) (front_does (conn m c) heads (Says t)) → Q e (front_gave m e (behind e) (m.front, out_of t []))
   unfolding conn
   says t of does = shapes.one (record m { front = m.front }) e Front (out_of t []) c heads t.notes (part_of m c)
       (record {
-        put = is-put m.front;
+        put = front-put m m.front;
         number = number;
         begins = begins;
         said = of;
@@ -49,7 +49,7 @@ module _ (m : Machine) (P : Conn → Move → Type 0) (Q : Event → Machine →
   front-acts (Says t) of does = says t of does
   front-acts (Does x) of does = shapes.one (record m { front = put_back m.front c x }) e Front (out_of x.turn (timers_of c (front_part m.front c) x.part)) c heads x.turn.notes _
       (record {
-        put = is-put (put_back m.front c x);
+        put = front-put m (put_back m.front c x);
         number = number;
         begins = begins;
         said = of.0;

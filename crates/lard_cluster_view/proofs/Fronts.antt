@@ -70,8 +70,9 @@ IsFrontDeed c p Drops = Unit {0}
 IsFrontDeed c p (Says t) = IsFrontTurn c t
 IsFrontDeed c p (Does x) = IsFrontTurn c x.turn × AreHeld x.turn.messages p.kept x.part.kept
 
+-- So is that of an admission, which answers nothing.
 abbrev pub IsAdmission : ℕ → FrontPart → FrontPart × FrontTurn → Type 0
-IsAdmission c p given = IsFrontTurn c given.1 × AreHeld given.1.messages p.kept given.0.kept
+IsAdmission c p given = IsSaid Front c given.1.notes given.1.segments given.1.gave given.1.messages 0 × AreHeld given.1.messages p.kept given.0.kept
 
 -- The front end acts on connection c, whose number is one, and what it holds of it goes to nodes.
 module _ (env : FrontEnv) (own : env.serve.place ≡ Front) (number : IsNumber env.serve.c) where

@@ -12,3 +12,6 @@ pub mod Timers
 pub mod Steps
 pub mod Clients
 pub mod FrontActs
+pub mod Numbers
+pub mod Ended
+pub mod NodeActs

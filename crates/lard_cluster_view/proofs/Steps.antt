@@ -14,6 +14,7 @@ use Rattle.lard_cluster.specs.Machine.{clocked, machine_step, passed, told}
 use Rattle.lard_cluster_view.specs.View.{Conn, Goes, IsViewed, Move, Part, Rules, Said, conn, letter, nothing_said, part_of, sending, setting_of, timer_rows}
 use Rattle.lard_cluster_view.proofs.Heads.{Begins, comes, comes-to-none, was}
 use Rattle.lard_cluster_view.proofs.Moving.{Shows, ignores, moved, passes, shows-mine, shows-others, stays}
+use Rattle.lard_cluster_view.proofs.Numbers.{letter-number}
 use Rattle.lard_cluster_view.proofs.Saying.{changes-of, none-changes, notes-all}
 use Rattle.lard_cluster_view.proofs.Shapes.{ActsOn, ActsOnTwo, Shapes, both_out, move_of}
 use Rattle.lard_cluster_view.proofs.Timers.{timer_rows-of, timer_rows-same}
@@ -159,7 +160,7 @@ module _ (m : Machine) (view : IsViewed m) (P : Conn → Move → Type 0) (R : R
         by_number (Goes Numbered (conn m q) (conn n q)) q d
         (λ same. subst (λ (z : ℕ). Goes Numbered (conn m z) (conn n z)) (sym same)
         (ignores Numbered m m (event.Deliver k) (rec.Got k ∷ []) d view.told refl refl refl p.from p.to p.bytes (timer_rows-same p.to d (part_of m d)) (b.mine (m.events + 1))
-        ((view.sound d).number (letter_of p) sent, R.untouched.ignores (conn m d) p.from p.to p.bytes sent)))
+        (letter-number (conn m d) (letter_of p) (view.sound d) sent, R.untouched.ignores (conn m d) p.from p.to p.bytes sent)))
         (λ other. passes Numbered m m (event.Deliver k) (rec.Got k ∷ []) q view.told refl refl refl (b.others (m.events + 1) q other))
 
   pub shapes-go : Shapes m P (λ e n. To n)

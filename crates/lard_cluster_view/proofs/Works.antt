@@ -30,7 +30,7 @@ use Rattle.lard_rules.proofs.Runs.{runs_keep}
 use Rattle.lard_view.proofs.Turns as turns
 use Rattle.lard_view.proofs.Turns.{AreNoted, NotesServing}
 
-all-append : {A : Type 0} (P : A → Type 0) (xs ys : List A) → AllByRecursion P xs → AllByRecursion P ys → AllByRecursion P (xs ++ ys)
+pub all-append : {A : Type 0} (P : A → Type 0) (xs ys : List A) → AllByRecursion P xs → AllByRecursion P ys → AllByRecursion P (xs ++ ys)
 all-append P [] ys e f = f
 all-append P (x ∷ xs) ys e f = (e.0, all-append P xs ys e.1 f)
 
