@@ -15,3 +15,5 @@ pub mod FrontActs
 pub mod Numbers
 pub mod Ended
 pub mod NodeActs
+pub mod Nothing
+pub mod Hearing
