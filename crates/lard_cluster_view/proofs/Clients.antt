@@ -1,8 +1,7 @@
 -- What a client does in its turn is an act on its connection.
-use Rattle.std.proofs.Common.{◌≡◌, ◌≢◌, ℕ, Bool, List, [], ◌∷◌, ◌++◌, Option, Some, refl, sym, ap, ◌∙◌, subst}
+use Rattle.std.proofs.Common.{◌≡◌, ℕ, Bool, List, [], refl, ap}
 use Rattle.std.specs.FinMap as table
 use Rattle.lard_base.specs.declared.event.Event.{Event}
-use Rattle.lard_base.specs.declared.place.Place.{Place}
 use Rattle.lard_base.specs.declared.place.Place.TheVariants.{Client}
 use Rattle.lard_client.specs.Control.{ClientBlock, is_armed}
 use Rattle.lard_cluster.specs.declared.machine.Machine.{Machine}
@@ -12,10 +11,10 @@ use Rattle.lard_cluster_view.specs.View.{Conn, Move, by_client, conn, part_of, s
 use Rattle.lard_cluster_view.proofs.Heads.{Begins}
 use Rattle.lard_cluster_view.proofs.Parts.{client-mine, client-others}
 use Rattle.lard_cluster_view.proofs.Saying.{NotedAt, notes-all}
-use Rattle.lard_cluster_view.proofs.Shapes.{ActsOn, IsPut, Shapes}
+use Rattle.lard_cluster_view.proofs.Shapes.{Shapes}
 use Rattle.lard_cluster_view.proofs.Turned.{IsSaid, client-segments}
 use Rattle.lard_history.specs.Own.{Seen}
-use Rattle.lard_history.proofs.Each.{Each, Each-weaker}
+use Rattle.lard_history.proofs.Each.{Each-weaker}
 use Rattle.lard_journal.specs.declared.rec.Rec.{Rec}
 use Rattle.lard_journal.specs.declared.rec.Rec.TheVariants as rec
 use Rattle.lard_rules.specs.declared.places.Station.{Station}

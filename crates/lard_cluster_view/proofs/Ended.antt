@@ -1,18 +1,18 @@
 -- Where a connection ended at its node, the front end acts on it, and on the head of the line as well where that is admitted.
-use Rattle.std.proofs.Common.{◌≡◌, ◌≢◌, ℕ, nat_lt, Bool, true, false, cond, List, [], ◌++◌, map, Option, Some, None, refl, sym, ap, ◌∙◌, subst, inl, inr}
+use Rattle.std.proofs.Common.{◌≡◌, ◌≢◌, ℕ, nat_lt, Bool, true, false, cond, List, ◌++◌, Option, Some, None, refl, sym, ap, ◌∙◌, inl, inr}
 use Rattle.std.specs.Prelude.{◌⊎◌}
 use Rattle.lard_base.specs.declared.event.Event.{Event}
 use Rattle.lard_base.specs.declared.place.Place.TheVariants.{Front}
 use Rattle.lard_cluster.specs.declared.machine.Machine.{Machine}
 use Rattle.lard_cluster.specs.Bounds.{IsNumber}
 use Rattle.lard_cluster.specs.Machine.{front_gave, front_setting}
-use Rattle.lard_cluster_view.specs.View.{Conn, IsFrontEnv, IsSound, IsViewed, Move, Rules, conn, front_admits, front_does, part_of, setting_of, timer_rows, with_front}
+use Rattle.lard_cluster_view.specs.View.{Conn, IsViewed, Move, Rules, conn, front_does, part_of, setting_of, timer_rows, with_front}
 use Rattle.lard_cluster_view.proofs.FrontActs.{front-acts, front-put}
-use Rattle.lard_cluster_view.proofs.Fronts.{IsAdmission, IsFrontDeed, IsFrontTurn, admitted-turn}
+use Rattle.lard_cluster_view.proofs.Fronts.{IsAdmission, IsFrontDeed, admitted-turn}
 use Rattle.lard_cluster_view.proofs.Heads.{Begins}
 use Rattle.lard_cluster_view.proofs.Numbers.{row-number}
 use Rattle.lard_cluster_view.proofs.Parts.{front-mine, front-others}
-use Rattle.lard_cluster_view.proofs.Shapes.{ActsOnTwo, Shapes}
+use Rattle.lard_cluster_view.proofs.Shapes.{Shapes}
 use Rattle.lard_cluster_view.proofs.Turned.{sent-messages}
 use Rattle.lard_endpoint.specs.declared.control.moving.Final.{Final}
 use Rattle.lard_front_rules.specs.declared.front.FrontState.{FrontState}
@@ -26,7 +26,6 @@ use Rattle.lard_handoff_front.specs.declared.table.OnEnded.{OnEnded}
 use Rattle.lard_handoff_front.specs.declared.table.OnEnded.TheVariants.{New, Again, Stale}
 use Rattle.lard_handoff_front.specs.Front.{end_answer}
 use Rattle.lard_history.specs.Own.{Seen}
-use Rattle.lard_history.proofs.Seeing.{by_number}
 use Rattle.lard_journal.specs.declared.rec.Rec.{Rec}
 use Rattle.lard_policy.specs.declared.first.FirstChoice.{FirstChoice}
 use Rattle.lard_view.proofs.Shapes.{behind}
@@ -111,9 +110,9 @@ module _ (m : Machine) (view : IsViewed m) (P : Conn → Move → Type 0) (R : R
           others = λ q not_c not_d. front-others m (front_put s d y.0) q (part_other s d q y.0 not_d ∙ part_other m.front c q x.part not_c);
         })
         does (R.untouched.front.admitted (conn m d) env choice y (record { place = refl; number = refl; files = refl; stream = refl }) now) where
-      ordered : (b : Bool) (ds : List Rec) → (cond b (ds ++ cs) (cs ++ ds) ≡ cs ++ ds) ⊎ (cond b (ds ++ cs) (cs ++ ds) ≡ ds ++ cs)
-      ordered true ds = inr refl
-      ordered false ds = inl refl
+          ordered : (b : Bool) (ds : List Rec) → (cond b (ds ++ cs) (cs ++ ds) ≡ cs ++ ds) ⊎ (cond b (ds ++ cs) (cs ++ ds) ≡ ds ++ cs)
+          ordered true ds = inr refl
+          ordered false ds = inl refl
 
     -- what the books say of the line
     too : (d : ℕ) (choice : FirstChoice) (o : Option (FrontPart × FrontTurn)) → front_admitted (front_env (front_setting m) s d 0) (front_part s d) choice ≡ o

@@ -1,27 +1,23 @@
 -- What the front end does by a rule is an act on the rule's connection, and where one ended, perhaps on the head of the line.
-use Rattle.std.proofs.Common.{◌≡◌, ◌≢◌, ℕ, nat_lt, Bool, true, false, cond, List, [], ◌∷◌, ◌++◌, Option, Some, None, refl, sym, ap, ◌∙◌, subst, arith, append-nil, inl, inr}
-use Rattle.std.specs.Prelude.{◌⊎◌}
+use Rattle.std.proofs.Common.{ℕ, List, [], refl, sym, arith}
 use Rattle.lard_base.specs.declared.event.Event.{Event}
-use Rattle.lard_base.specs.declared.place.Place.{Place}
 use Rattle.lard_base.specs.declared.place.Place.TheVariants.{Front}
 use Rattle.lard_cluster.specs.declared.machine.Machine.{Machine}
 use Rattle.lard_cluster.specs.Bounds.{IsNumber}
-use Rattle.lard_cluster.specs.Machine.{front_gave, front_setting, told}
-use Rattle.lard_cluster_view.specs.View.{Conn, IsFrontEnv, IsViewed, Move, Rules, conn, front_admits, front_does, part_of, setting_of, stands, timer_rows}
-use Rattle.lard_cluster_view.proofs.Fronts.{IsAdmission, IsFrontDeed, IsFrontTurn}
+use Rattle.lard_cluster.specs.Machine.{front_gave}
+use Rattle.lard_cluster_view.specs.View.{Conn, Move, conn, front_does, part_of, timer_rows}
+use Rattle.lard_cluster_view.proofs.Fronts.{IsFrontDeed, IsFrontTurn}
 use Rattle.lard_cluster_view.proofs.Heads.{Begins}
 use Rattle.lard_cluster_view.proofs.Parts.{front-mine, front-others}
 use Rattle.lard_cluster_view.proofs.Saying.{notes-all}
-use Rattle.lard_cluster_view.proofs.Shapes.{ActsOn, ActsOnTwo, IsPut, Shapes}
+use Rattle.lard_cluster_view.proofs.Shapes.{IsPut, Shapes}
 use Rattle.lard_cluster_view.proofs.Timers.{timer_rows-same}
-use Rattle.lard_cluster_view.proofs.Turned.{IsSaid}
 use Rattle.lard_front_rules.specs.declared.front.FrontState.{FrontState}
 use Rattle.lard_front_rules.specs.declared.front.FrontTurn.{FrontTurn}
-use Rattle.lard_front_rules.specs.Front.{Deed, Drops, Says, Does, Did, FrontPart}
+use Rattle.lard_front_rules.specs.Front.{Deed, Drops, Says, Does}
 use Rattle.lard_front_rules.specs.FrontPlace.{front_deed, front_part, out_of, put_back, timers_of}
 use Rattle.lard_front_rules.proofs.Parts.{part_other, part_put}
 use Rattle.lard_history.specs.Own.{Seen}
-use Rattle.lard_rules.specs.Outs.{nothing_done}
 use Rattle.lard_view.proofs.Shapes.{behind}
 
 pub front-put : (m : Machine) (s : FrontState) → IsPut m (record m { front = s })

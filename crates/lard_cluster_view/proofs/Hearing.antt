@@ -1,5 +1,5 @@
 -- A packet comes to a place, which acts on the connection that it is of, or does nothing.
-use Rattle.std.proofs.Common.{◌≡◌, ℕ, ◌-◌, Bool, true, false, cond, List, [], ◌∷◌, ◌++◌, map, Option, Some, None, Result, Ok, Err, refl, sym, ap, ◌∙◌, subst, arith}
+use Rattle.std.proofs.Common.{◌≡◌, ℕ, false, List, [], ◌∷◌, map, Option, Some, None, Result, Ok, Err, refl, sym, subst, arith}
 use Rattle.std.proofs.lemmas.Bool.{cond_both}
 use Rattle.std.specs.List.{list_any}
 use Rattle.lard_base.specs.declared.event.Event.TheVariants as event
@@ -9,7 +9,7 @@ use Rattle.lard_base.specs.declared.event.Event.{Event}
 use Rattle.lard_cache.specs.Recency.{has}
 use Rattle.lard_cluster.specs.declared.machine.Machine.{Machine}
 use Rattle.lard_cluster.specs.Bounds.{IsNumber}
-use Rattle.lard_cluster.specs.Machine.{front_gave, front_setting, node_at, node_gave, node_setting, passed}
+use Rattle.lard_cluster.specs.Machine.{front_gave, front_setting, node_at, node_gave, node_setting}
 use Rattle.lard_cluster_view.specs.View.{Conn, IsFrontEnv, IsNodeEnv, IsViewed, Move, Rules, Was, conn, node_does, packet_seen, part_of, setting_of}
 use Rattle.lard_cluster_view.proofs.Ended.{ended-acts, ended-leaves}
 use Rattle.lard_cluster_view.proofs.FrontActs.{front-acts}
@@ -139,7 +139,6 @@ module _ (m : Machine) (view : IsViewed m) (P : Conn → Move → Type 0) (R : R
       unfolding conn
       hears rule good does = deed-acts m P Q shapes e c its_heads number its-begins n s here [] tt (λ j. refl) (λ rs. refl) s.cache s.disk (view.jobs n s here) (node_setting m n) (rule (node_part s c)) refl good
           (subst (λ (p : NodePart). P (conn m c) (node_does (conn m c) n its_heads (rule p))) (node-kept m n s c here) does)
-
 
     module _ (c epoch : ℕ) (number : IsNumber c) where
       -- from the front end

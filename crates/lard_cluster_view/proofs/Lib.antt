@@ -17,3 +17,11 @@ pub mod Ended
 pub mod NodeActs
 pub mod Nothing
 pub mod Hearing
+pub mod Stepping
+pub mod Firing
+pub mod Fine
+pub mod After
+pub mod Runs
+pub mod Carried
+pub mod InSteps
+pub mod Guarded

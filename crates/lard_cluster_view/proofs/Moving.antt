@@ -1,14 +1,13 @@
 -- What a step in which a place acts does to a connection, by what it sees of the act.
-use Rattle.std.proofs.Common.{◌≡◌, ◌≢◌, ℕ, ◌+◌, List, [], ◌∷◌, ◌++◌, map, length, inl, inr, refl, sym, ap, ◌∙◌, append_assoc, append-nil}
+use Rattle.std.proofs.Common.{◌≡◌, ◌≢◌, ℕ, ◌+◌, List, [], ◌∷◌, ◌++◌, map, length, inl, inr, sym, ap, ◌∙◌, append_assoc, append-nil}
 use Rattle.std.proofs.lemmas.List.{map-append}
 use Rattle.std.specs.List.{fold}
 use Rattle.lard_base.specs.declared.event.Event.{Event}
 use Rattle.lard_base.specs.declared.place.Place.{Place}
 use Rattle.lard_cluster.specs.declared.machine.Machine.{Machine}
-use Rattle.lard_cluster.specs.Bounds.{IsNumber}
 use Rattle.lard_cluster.specs.Machine.{passed, segments_sent, told, told_rows}
-use Rattle.lard_cluster_view.specs.View.{Conn, Goes, Move, Part, Said, conn, letter, nothing_said, packet_seen, part_of, seen_in, sending, stands, timer_rows}
-use Rattle.lard_cluster_view.proofs.Saying.{AllBetween, GaveAt, NotedAt, gaves-mine, gaves-others, letters-mine, letters-others, messages-between, notes-others, sents-mine, sents-others}
+use Rattle.lard_cluster_view.specs.View.{Conn, Goes, Move, Part, Said, conn, letter, nothing_said, packet_seen, part_of, sending, stands, timer_rows}
+use Rattle.lard_cluster_view.proofs.Saying.{gaves-mine, gaves-others, letters-mine, letters-others, messages-between, notes-others, sents-mine, sents-others}
 use Rattle.lard_cluster_view.proofs.Turned.{IsSaid}
 use Rattle.lard_history.specs.Own.{Seen, Row, letters, net_of, net_step, own, seen_on}
 use Rattle.lard_history.proofs.Seeing.{AreOf, letters-append, of-whose, own-append, seen-all, seen-none, seen_on-append}

@@ -1,5 +1,5 @@
 -- What a node does by a rule, or for another node, is an act on one connection.
-use Rattle.std.proofs.Common.{◌≡◌, ◌≢◌, ℕ, ◌-◌, Bool, true, false, cond, List, [], ◌∷◌, ◌++◌, map, length, Option, Some, None, refl, sym, ap, ◌∙◌, subst, arith, append-nil}
+use Rattle.std.proofs.Common.{◌≡◌, ℕ, ◌-◌, cond, List, [], ◌++◌, map, Some, refl, sym, ap, ◌∙◌, subst, arith}
 use Rattle.std.specs.Prelude.{slice_set}
 use Rattle.std.proofs.lemmas.List.Sums.{fold-append}
 use Rattle.std.specs.List.{fold}
@@ -8,16 +8,16 @@ use Rattle.lard_base.specs.declared.place.Place.{Place}
 use Rattle.lard_base.specs.declared.place.Place.TheVariants.{Node}
 use Rattle.lard_cluster.specs.declared.machine.Machine.{Machine}
 use Rattle.lard_cluster.specs.Bounds.{IsNumber}
-use Rattle.lard_cluster.specs.Machine.{node_at, node_gave, node_setting}
+use Rattle.lard_cluster.specs.Machine.{node_at, node_gave}
 use Rattle.lard_cluster_view.specs.View as view
 use Rattle.lard_cluster_view.specs.View.{AreNumbered, Conn, IsViewed, Move, Part, conn, named, node_does, nothing_said, part_of, stands, timer_rows, with_node}
 use Rattle.lard_cluster_view.proofs.Heads.{Begins}
-use Rattle.lard_cluster_view.proofs.Nodes.{IsNodeDeed, IsNodeTurn}
+use Rattle.lard_cluster_view.proofs.Nodes.{IsNodeDeed}
 use Rattle.lard_cluster_view.proofs.Parts.{length-set, node-as-before, node-elsewhere, node-here, node-kept, node-mine, node-others, node-set}
-use Rattle.lard_cluster_view.proofs.Saying.{AreMessages, NotedAt, notes-mine}
-use Rattle.lard_cluster_view.proofs.Shapes.{ActsOn, HasJobs, IsPut, Shapes, move_of}
+use Rattle.lard_cluster_view.proofs.Saying.{NotedAt, notes-mine}
+use Rattle.lard_cluster_view.proofs.Shapes.{HasJobs, IsPut, Shapes, move_of}
 use Rattle.lard_cluster_view.proofs.Timers.{timer_rows-same}
-use Rattle.lard_cluster_view.proofs.Turned.{AreHeld, IsSaid}
+use Rattle.lard_cluster_view.proofs.Turned.{IsSaid}
 use Rattle.lard_cluster_view.proofs.Works.{all-append}
 use Rattle.lard_cache.specs.Recency.{Recency}
 use Rattle.lard_disk.specs.declared.disk.Job.{Job}

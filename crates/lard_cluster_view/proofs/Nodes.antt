@@ -1,22 +1,19 @@
 -- What each rule of a node says is of its connection.
-use Rattle.std.proofs.Common.{◌≡◌, ℕ, ◌+◌, ◌==◌, ◌&&◌, Bool, true, false, cond, List, [], ◌∷◌, ◌++◌, length, map, Option, Some, None, is_some, Result, Ok, Err, refl, sym, ap, ◌∙◌, subst, arith, inl, inr, ⊎_elim}
+use Rattle.std.proofs.Common.{◌≡◌, ℕ, true, List, [], ◌∷◌, ◌++◌, map, Option, Some, None, Result, Ok, Err, refl, arith, inl, inr}
 use Rattle.std.proofs.lemmas.Bool.{cond_both}
 use Rattle.std.specs.List.{AllByRecursion, find}
 use Rattle.lard_base.specs.declared.parts.EndpointParts.{EndpointParts}
 use Rattle.lard_base.specs.declared.place.Place.{Place}
-use Rattle.lard_base.specs.declared.place.Place.TheVariants.{Front, Node, Client}
-use Rattle.lard_base.specs.declared.place.TimerKind.{TimerKind}
+use Rattle.lard_base.specs.declared.place.Place.TheVariants.{Node}
 use Rattle.lard_base.specs.declared.place.TimerKind.TheVariants as kind
 use Rattle.lard_cluster.specs.Bounds.{IsNumber}
 use Rattle.lard_cluster_view.specs.View.{AreNumbered, GoesBetween, IsMachine}
-use Rattle.lard_cluster_view.proofs.Saying.{AreMessages, GaveAt, NotedAt}
+use Rattle.lard_cluster_view.proofs.Saying.{AreMessages, GaveAt}
 use Rattle.lard_cluster_view.proofs.Turned.{AreHeld, HeldBy, IsSaid, all-has, all-weaker, as-held, node-segments, spelled}
-use Rattle.lard_cluster_view.proofs.Works.{IsAtWork, N, Noted, batch-works, came-works, goes-works, noting, tagged-works}
-use Rattle.lard_endpoint.specs.declared.control.moving.Final.{Final}
+use Rattle.lard_cluster_view.proofs.Works.{IsAtWork, N, batch-works, came-works, goes-works, noting, tagged-works}
 use Rattle.lard_endpoint.specs.Arriving.{on_segment}
 use Rattle.lard_endpoint.specs.Control.{ControlBlock}
 use Rattle.lard_endpoint.specs.Leaving as leaving
-use Rattle.lard_handoff_back.specs.declared.row.BackRow.{BackRow}
 use Rattle.lard_handoff_back.specs.declared.table.Adopt.{Adopt}
 use Rattle.lard_handoff_back.specs.declared.table.Adopt.TheVariants.{New, Again, Stale}
 use Rattle.lard_handoff_back.specs.Back.{awaits_ack, endpoint_of, offer_answer}
@@ -29,10 +26,10 @@ use Rattle.lard_node_rules.specs.declared.node.NodeTurn.{NodeTurn}
 use Rattle.lard_node_rules.specs.declared.stay.Asked.{Asked}
 use Rattle.lard_node_rules.specs.declared.stay.Stay.{Stay}
 use Rattle.lard_node_rules.specs.declared.stay.Want.{Want}
-use Rattle.lard_node_rules.specs.Node.{Deed, Drops, Says, Does, NodePart, again_sent, all_sent, anew, ask_kept, asked_kept, asked_sent, begins, both_of, come_by, ended_kept, ended_sent, fetch_of, fired, fired_by, gave_by, gone, heard_by, here, is_awaited, kept_after, node_acknowledged, node_content, node_forwarded, node_offered, node_read, node_tagged, node_timer, offered_by, read_by, rests, saying, tagged_by, taken_sent, turn_by, wants_kept, wants_sent, with_work, work_of}
+use Rattle.lard_node_rules.specs.Node.{Deed, Drops, Says, Does, NodePart, again_sent, all_sent, anew, ask_kept, asked_kept, asked_sent, begins, both_of, come_by, ended_kept, ended_sent, fetch_of, fired_by, gave_by, gone, heard_by, here, is_awaited, kept_after, node_acknowledged, node_content, node_forwarded, node_offered, node_read, node_tagged, node_timer, offered_by, read_by, saying, tagged_by, taken_sent, turn_by, wants_kept, wants_sent, with_work, work_of}
 use Rattle.lard_node_rules.specs.Stay.{NodeEnv, Work, came_for, come_progress, goes_on, read_progress, reads_batch, tagged}
 use Rattle.lard_resend.specs.declared.kept.Kept.{Kept}
-use Rattle.lard_resend.specs.Kept.{is_under, put_in, without}
+use Rattle.lard_resend.specs.Kept.{is_under, without}
 use Rattle.lard_resend.specs.Pending.{sent_of}
 use Rattle.lard_resend.proofs.Ordered.{drop_all, put_all}
 use Rattle.lard_rules.specs.declared.places.Ending.{Ending}
@@ -102,7 +99,7 @@ module _ (env : NodeEnv) (own : env.serve.place ≡ Node env.n) (number : IsNumb
       gave = gave-of given.0;
       messages = Each-append IsMessage (all_sent env before w) (ended_sent env w.service.over given.0)
           (Each-append IsMessage (before ++ asked_sent env w.asked) (wants_sent env w.wants)
-              (Each-append IsMessage before (asked_sent env w.asked) said (asks-sent w.asked)) (wants-are-sent w.wants))
+          (Each-append IsMessage before (asked_sent env w.asked) said (asks-sent w.asked)) (wants-are-sent w.wants))
           (ends-sent w.service.over given.0);
       counted = t.answered;
     },

@@ -1,5 +1,5 @@
 -- A connection on which something happened has the number of one.
-use Rattle.std.proofs.Common.{◌≡◌, ℕ, List, [], Option, Some, None, sym, ap, ◌∙◌, subst, ⊎_elim}
+use Rattle.std.proofs.Common.{◌≡◌, Some, None, sym, ap, ◌∙◌, subst, ⊎_elim}
 use Rattle.lard_cluster.specs.Bounds.{IsNumber}
 use Rattle.lard_cluster_view.specs.View.{Conn, IsSound, blank}
 use Rattle.lard_handoff_front.specs.declared.row.FrontRow.{FrontRow}

@@ -1,10 +1,10 @@
 -- What each place keeps of a connection, over what is put back of one.
-use Rattle.std.proofs.Common.{◌≡◌, ◌≢◌, ℕ, zero, suc, ◌-◌, ◌==◌, Bool, true, false, cond, List, [], ◌∷◌, length, Option, Some, None, refl, sym, ap, ◌∙◌, arith, nat_eq}
+use Rattle.std.proofs.Common.{◌≡◌, ◌≢◌, ℕ, zero, suc, ◌-◌, cond, List, [], ◌∷◌, length, Some, None, refl, sym, ap, ◌∙◌, arith, nat_eq}
 use Rattle.std.specs.Prelude.{slice_get, slice_set}
 use Rattle.std.specs.FinMap as table
 use Rattle.lard_cluster.specs.declared.machine.Machine.{Machine}
 use Rattle.lard_cluster.specs.Machine.{client_put, node_at}
-use Rattle.lard_cluster_view.specs.View.{Part, kept_at, node_put, part_of, with_front, with_node, with_station}
+use Rattle.lard_cluster_view.specs.View.{kept_at, node_put, part_of, with_front, with_node, with_station}
 use Rattle.lard_front_rules.specs.declared.front.FrontState.{FrontState}
 use Rattle.lard_front_rules.specs.Front.{FrontPart}
 use Rattle.lard_front_rules.specs.FrontPlace.{front_part}

@@ -1,13 +1,12 @@
 -- What a place says of the connection that it acts on: what it may note, give up and send, and who sees that.
-use Rattle.std.proofs.Common.{◌≡◌, ◌≢◌, ℕ, ◌+◌, Bool, true, false, cond, List, [], ◌∷◌, ◌++◌, map, is_some, Option, Some, None, refl, sym, ap, ◌∙◌, subst, append-nil, append_assoc, inl, inr, ⊎_elim}
+use Rattle.std.proofs.Common.{◌≡◌, ◌≢◌, ℕ, ◌+◌, Bool, true, false, cond, List, [], ◌∷◌, ◌++◌, map, is_some, Option, Some, None, refl, sym, ap, ◌∙◌, inl, inr, ⊎_elim}
 use Rattle.std.specs.Prelude.{◌⊎◌}
-use Rattle.std.specs.List.{flat_map, fold}
-use Rattle.std.proofs.lemmas.List.Sums.{fold-append}
+use Rattle.std.specs.List.{flat_map}
 use Rattle.lard_base.specs.declared.place.Place.{Place}
 use Rattle.lard_base.specs.declared.place.Place.TheVariants.{Front, Node, Client}
 use Rattle.lard_base.specs.declared.place.TimerKind.{TimerKind}
 use Rattle.lard_cluster_view.specs.View.{GoesBetween, IsMachine, letter, named, sending}
-use Rattle.lard_history.specs.Own.{Seen, Row, conn_of, letter_of, letters, net_step, plain, seen_of, seen_on, whose}
+use Rattle.lard_history.specs.Own.{Row, conn_of, letter_of, letters, net_step, plain, seen_of, seen_on, whose}
 use Rattle.lard_history.specs.Steps.{is_opening}
 use Rattle.lard_history.proofs.Each.{Each, Each-append, Each-weaker}
 use Rattle.lard_history.proofs.Seeing.{AreOf, letters-all, letters-none, of-whose, packet_conn, seen-all, seen-mine, seen-none, seen-other}

@@ -1,21 +1,19 @@
 -- One step of the machine: each connection stays as it is, or makes one move of one rule.
-use Rattle.std.proofs.Common.{◌≡◌, ◌≢◌, ℕ, ◌+◌, ◌-◌, List, [], ◌∷◌, ◌++◌, map, Option, Some, None, Ok, refl, sym, ap, ◌∙◌, subst, append-nil, inl, inr, ⊎_elim}
+use Rattle.std.proofs.Common.{◌≡◌, ℕ, ◌+◌, ◌-◌, List, [], ◌∷◌, ◌++◌, map, Option, Some, None, refl, sym, ap, ◌∙◌, subst, append-nil, inl, inr, ⊎_elim}
 use Rattle.std.specs.Prelude.{◌⊎◌}
 use Rattle.std.specs.List.{fold}
 use Rattle.std.proofs.lemmas.List.{map-append}
 use Rattle.lard_base.specs.declared.event.Event.{Event}
 use Rattle.lard_base.specs.declared.event.Event.TheVariants as event
 use Rattle.lard_base.specs.declared.place.Place.{Place}
-use Rattle.lard_base.specs.declared.place.Place.TheVariants.{Front, Node, Client}
-use Rattle.lard_base.specs.declared.place.TimerKind.{TimerKind}
 use Rattle.lard_cluster.specs.declared.machine.Machine.{Machine}
-use Rattle.lard_cluster.specs.Bounds.{HasRule, IsNumber}
-use Rattle.lard_cluster.specs.Machine.{clocked, machine_step, passed, told}
+use Rattle.lard_cluster.specs.Bounds.{IsNumber}
+use Rattle.lard_cluster.specs.Machine.{clocked, passed, told}
 use Rattle.lard_cluster_view.specs.View.{Conn, Goes, IsViewed, Move, Part, Rules, Said, conn, letter, nothing_said, part_of, sending, setting_of, timer_rows}
-use Rattle.lard_cluster_view.proofs.Heads.{Begins, comes, comes-to-none, was}
+use Rattle.lard_cluster_view.proofs.Heads.{comes, comes-to-none, was}
 use Rattle.lard_cluster_view.proofs.Moving.{Shows, ignores, moved, passes, shows-mine, shows-others, stays}
 use Rattle.lard_cluster_view.proofs.Numbers.{letter-number}
-use Rattle.lard_cluster_view.proofs.Saying.{changes-of, none-changes, notes-all}
+use Rattle.lard_cluster_view.proofs.Saying.{notes-all}
 use Rattle.lard_cluster_view.proofs.Shapes.{ActsOn, ActsOnTwo, Shapes, both_out, move_of}
 use Rattle.lard_cluster_view.proofs.Timers.{timer_rows-of, timer_rows-same}
 use Rattle.lard_history.specs.Own.{Letter, Row, Seen, conn_of, letter_of, letters, net_step, seen_on}

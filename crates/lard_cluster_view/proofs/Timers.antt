@@ -1,8 +1,7 @@
 -- The records of a place's timers are of its connection, and there are none where nothing changed.
-use Rattle.std.proofs.Common.{◌≡◌, ℕ, Bool, true, false, List, [], refl}
+use Rattle.std.proofs.Common.{◌≡◌, ℕ, Bool, true, false, [], refl}
 use Rattle.lard_base.specs.declared.place.Place.{Place}
 use Rattle.lard_base.specs.declared.place.Place.TheVariants.{Front, Node, Client}
-use Rattle.lard_base.specs.declared.place.TimerKind.{TimerKind}
 use Rattle.lard_cluster_view.specs.View.{Part, station_armed, timer_rows}
 use Rattle.lard_cluster_view.proofs.Saying.{IsStill, changes-of, changes-still, none-changes}
 use Rattle.lard_front_rules.specs.Front.{front_armed}
