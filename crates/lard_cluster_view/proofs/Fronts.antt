@@ -1,12 +1,12 @@
 -- What each rule of the front end says is of its connection.
-use Rattle.std.proofs.Common.{◌≡◌, ℕ, ◌+◌, nat_lt, ◌==◌, ◌&&◌, Bool, true, false, cond, List, [], ◌∷◌, ◌++◌, length, map, Option, Some, None, Result, Ok, Err, refl, sym, ap, ◌∙◌, subst, arith, inl, inr}
+use Rattle.std.proofs.Common.{◌≡◌, ℕ, ◌+◌, nat_lt, ◌==◌, ◌&&◌, Bool, true, false, cond, List, [], ◌∷◌, ◌++◌, length, map, Option, Some, None, Result, Ok, Err, refl, sym, ap, ◌∙◌, subst, arith, inl}
 use Rattle.std.proofs.lemmas.Bool.{cond_both}
 use Rattle.std.proofs.lemmas.List.Sums.{fold-append}
 use Rattle.std.specs.List.{fold}
 use Rattle.lard_answers.specs.Answers.{good_path}
 use Rattle.lard_base.specs.declared.ids.Epoch.{Epoch}
 use Rattle.lard_base.specs.declared.place.Place.{Place}
-use Rattle.lard_base.specs.declared.place.Place.TheVariants.{Front, Node, Client}
+use Rattle.lard_base.specs.declared.place.Place.TheVariants.{Front}
 use Rattle.lard_base.specs.declared.place.TimerKind.TheVariants as kind
 use Rattle.lard_base.specs.declared.place.Via.TheVariants.{Own}
 use Rattle.lard_block.specs.declared.block.Found.{Found}
@@ -14,7 +14,7 @@ use Rattle.lard_block.specs.declared.block.Found.TheVariants.{Block, More, TooLo
 use Rattle.lard_block.specs.Blocks.{cut_of}
 use Rattle.lard_cluster.specs.Bounds.{IsNumber}
 use Rattle.lard_cluster_view.proofs.Saying.{AreMessages, NotedAt}
-use Rattle.lard_cluster_view.proofs.Turned.{AreHeld, HeldBy, IsSaid, all-has, all-weaker, as-held, front-segments, spelled}
+use Rattle.lard_cluster_view.proofs.Turned.{AreHeld, HeldBy, IsSaid, as-held, front-segments, spelled}
 use Rattle.lard_costs.specs.declared.later.LaterChoice.{LaterChoice}
 use Rattle.lard_dispatch.specs.declared.dispatch.Ask.{Ask}
 use Rattle.lard_dispatch.specs.declared.dispatch.First.{First}
@@ -27,8 +27,8 @@ use Rattle.lard_endpoint.specs.Leaving as leaving
 use Rattle.lard_endpoint.specs.Moving.{may_freeze}
 use Rattle.lard_front_rules.specs.declared.front.FrontRest.{FrontRest}
 use Rattle.lard_front_rules.specs.declared.front.FrontTurn.{FrontTurn}
-use Rattle.lard_front_rules.specs.Front.{Deed, Drops, Says, Does, Did, FrontEnv, FrontPart, ack_sent, admitted_at, admitted_by, admitted_with, asked_by, assigned_notes, assigns, begun, ended_by, ends, fired, fired_by, fires_at, forwarded, front_admitted, front_asked, front_ended, front_gets, front_hears, front_taken, front_timer, handed_off, heard, hears_at, holds, is_at, leaves_by, met, offering, over_note, placed, rest_of, rests, saying, settled_by, tag_sent, taken_by, turn_here, waits_on}
-use Rattle.lard_front_rules.specs.Reading.{Reading, block_at, left, reads, reads_block, reads_found, targeted, turn, with_service}
+use Rattle.lard_front_rules.specs.Front.{Deed, Drops, Says, Does, FrontEnv, FrontPart, ack_sent, admitted_at, admitted_by, admitted_with, asked_by, assigned_notes, assigns, begun, ended_by, fired, fired_by, fires_at, forwarded, front_admitted, front_asked, front_ended, front_gets, front_hears, front_taken, front_timer, handed_off, heard, hears_at, holds, is_at, met, over_note, placed, rest_of, saying, settled_by, tag_sent, taken_by, turn_here, waits_on}
+use Rattle.lard_front_rules.specs.Reading.{Reading, block_at, left, reads, reads_block, reads_found, targeted, turn}
 use Rattle.lard_handoff_front.specs.declared.row.FrontConn.{FrontConn}
 use Rattle.lard_handoff_front.specs.declared.row.FrontConn.TheVariants as stage
 use Rattle.lard_handoff_front.specs.declared.row.FrontRow.{FrontRow}
@@ -44,7 +44,6 @@ use Rattle.lard_policy.specs.declared.first.FirstChoice.{FirstChoice}
 use Rattle.lard_request.specs.declared.verdict.Code.TheVariants as code
 use Rattle.lard_request.specs.declared.verdict.Verdict.{Verdict}
 use Rattle.lard_request.specs.declared.verdict.Verdict.TheVariants.{Fault}
-use Rattle.lard_resend.specs.declared.kept.Kept.{Kept}
 use Rattle.lard_resend.specs.Pending.{sent_of}
 use Rattle.lard_resend.proofs.Ordered.{drop_all}
 use Rattle.lard_rules.specs.declared.places.Ending.{Ending}
@@ -52,13 +51,27 @@ use Rattle.lard_rules.specs.declared.places.Turn.{Turn}
 use Rattle.lard_rules.specs.Front.{is_plain_syn, last_words, tombstone}
 use Rattle.lard_rules.specs.Loop.{Step}
 use Rattle.lard_rules.specs.Loop as loop
-use Rattle.lard_rules.specs.Serving.{Service, answered, consumed, ended_at_fin, may_read, ready_of, serving, settled, spoken}
+use Rattle.lard_rules.specs.Serving.{Service, consumed, may_read, ready_of, serving, settled, spoken}
 use Rattle.lard_rules.proofs.Runs.{runs_keep}
 use Rattle.lard_segment.specs.declared.fault.SegFault.{SegFault}
 use Rattle.lard_segment.specs.Segment.{Said}
 use Rattle.lard_view.proofs.Endpoints as ends_
 use Rattle.lard_view.proofs.Turns as turns
 use Rattle.lard_view.proofs.Turns.{AreNoted, IsServingTurn, NotesServing}
+
+-- A turn is of connection c.
+abbrev pub IsFrontTurn : ℕ → FrontTurn → Type 0
+IsFrontTurn c t = IsSaid Front c t.notes t.segments t.gave t.messages t.answered
+
+-- A rule's turn is of connection c, and what is held then was held before or is sent in it.
+abbrev pub IsFrontDeed : ℕ → FrontPart → Deed → Type 0
+IsFrontDeed c p Drops = Unit {0}
+IsFrontDeed c p (Says t) = IsFrontTurn c t
+IsFrontDeed c p (Does x) = IsFrontTurn c x.turn × AreHeld x.turn.messages p.kept x.part.kept
+
+-- So is that of an admission, which answers nothing.
+abbrev pub IsAdmission : ℕ → FrontPart → FrontPart × FrontTurn → Type 0
+IsAdmission c p given = IsSaid Front c given.1.notes given.1.segments given.1.gave given.1.messages 0 × AreHeld given.1.messages p.kept given.0.kept
 
 -- The front end acts on connection c, whose number is one, and what it holds of it goes to nodes.
 module _ (env : FrontEnv) (own : env.serve.place ≡ Front) (number : IsNumber env.serve.c) where
@@ -74,9 +87,8 @@ module _ (env : FrontEnv) (own : env.serve.place ≡ Front) (number : IsNumber e
   abbrev Noted : Service → Type 0
   Noted w = AreNoted env.serve N noting w
 
-  -- a turn is of the connection
-  abbrev pub IsOfFront : FrontTurn → Type 0
-  IsOfFront t = IsSaid Front env.serve.c t.notes t.segments t.gave t.messages t.answered
+  abbrev IsOfFront : FrontTurn → Type 0
+  IsOfFront t = IsFrontTurn env.serve.c t
 
   here-turn : (t : Turn) → IsServingTurn N env.serve.c t → IsOfFront (turn_here t)
   here-turn t h = record { notes = h.notes; segments = front-segments env.serve.c t.segments h.to; gave = tt; messages = tt; counted = h.answered }
@@ -123,11 +135,8 @@ module _ (env : FrontEnv) (own : env.serve.place ≡ Front) (number : IsNumber e
   -- ---- what each rule comes to
 
   module _ (p : FrontPart) (kept : AreMessages env.serve.c Front (map sent_of p.kept)) where
-    -- a rule's turn is of the connection, and what is held then was held before or is sent in it
-    abbrev pub IsDeed : Deed → Type 0
-    IsDeed Drops = Unit {0}
-    IsDeed (Says t) = IsOfFront t
-    IsDeed (Does x) = IsOfFront x.turn × AreHeld x.turn.messages p.kept x.part.kept
+    abbrev IsDeed : Deed → Type 0
+    IsDeed d = IsFrontDeed env.serve.c p d
 
     as-before : (messages : List (Place × List ℕ)) → AreHeld messages p.kept p.kept
     as-before messages = as-held messages p.kept
@@ -155,12 +164,14 @@ module _ (env : FrontEnv) (own : env.serve.place ≡ Front) (number : IsNumber e
     placed-deed row rest w path (first.Go choice) h = handed-turn row w path choice h
     placed-deed row rest w path first.Waits h =
         let v : Service = record w { notes = w.notes ++ rec.Waits env.serve.c ∷ [] } in
-        let given : Ending × Turn = spoken env.serve v [] in
-        (here-turn given.1 (record {
-          notes = Each-append N w.notes (rec.Waits env.serve.c ∷ []) h.0 (refl, tt);
-          to = (turns.spoken-turn env.serve N noting w [] tt h).to;
-          answered = λ n. fold-append answered_step n w.notes (rec.Waits env.serve.c ∷ []) ∙ h.1 n;
-        }), as-before [])
+        let given : Ending × Turn = spoken env.serve v [] in (
+          here-turn given.1 (record {
+            notes = Each-append N w.notes (rec.Waits env.serve.c ∷ []) h.0 (refl, tt);
+            to = (turns.spoken-turn env.serve N noting w [] tt h).to;
+            answered = λ n. fold-append answered_step n w.notes (rec.Waits env.serve.c ∷ []) ∙ h.1 n;
+          }),
+          as-before [],
+        )
 
     settled-deed : (row : FrontRow) (rest : FrontRest) (w : Service) (o : Option (List ℕ)) → Noted w → IsDeed (settled_by env p row rest w o)
     settled-deed row rest w None h = holds-deed row rest (settled env.serve w) (turns.settled-turn env.serve N noting w h)
@@ -295,18 +306,18 @@ module _ (env : FrontEnv) (own : env.serve.place ≡ Front) (number : IsNumber e
 
     -- ---- the head of the line
 
-    abbrev pub IsAdmission : FrontPart × FrontTurn → Type 0
-    IsAdmission given = IsOfFront given.1 × AreHeld given.1.messages p.kept given.0.kept
+    abbrev Admits : FrontPart × FrontTurn → Type 0
+    Admits given = IsAdmission env.serve.c p given
 
     admitted_with-turn : (row : FrontRow) (rest : FrontRest) (b : ControlBlock) (choice : FirstChoice) (o : Option (List ℕ)) (given : FrontPart × FrontTurn)
-        → admitted_with env row rest b choice o ≡ Some given → IsAdmission given
+        → admitted_with env row rest b choice o ≡ Some given → Admits given
     admitted_with-turn row rest b choice None given e = let no : ◌≡◌ {A = Option (FrontPart × FrontTurn)} None (Some given) = e in absurd cc
     admitted_with-turn row rest b choice (Some path) given e =
         let handed : FrontPart × FrontTurn = handed_off env row (serving b rest.count []) path choice in
         let same : handed ≡ given = cc in
-        subst IsAdmission same (handed-turn row (serving b rest.count []) path choice (fresh b rest.count))
+        subst Admits same (handed-turn row (serving b rest.count []) path choice (fresh b rest.count))
 
-    admitted_at-turn : (choice : FirstChoice) (row : FrontRow) (x : FrontConn) (given : FrontPart × FrontTurn) → admitted_at env p choice row x ≡ Some given → IsAdmission given
+    admitted_at-turn : (choice : FirstChoice) (row : FrontRow) (x : FrontConn) (given : FrontPart × FrontTurn) → admitted_at env p choice row x ≡ Some given → Admits given
     admitted_at-turn choice row (stage.Waiting b) given e = admitted_with-turn row (rest_of p.rest) b choice (rest_of p.rest).target given e
     admitted_at-turn choice row (stage.Held b) given e = let no : ◌≡◌ {A = Option (FrontPart × FrontTurn)} None (Some given) = e in absurd cc
     admitted_at-turn choice row stage.Lent given e = let no : ◌≡◌ {A = Option (FrontPart × FrontTurn)} None (Some given) = e in absurd cc
@@ -314,9 +325,9 @@ module _ (env : FrontEnv) (own : env.serve.place ≡ Front) (number : IsNumber e
     admitted_at-turn choice row (stage.Moved node epoch) given e = let no : ◌≡◌ {A = Option (FrontPart × FrontTurn)} None (Some given) = e in absurd cc
     admitted_at-turn choice row (stage.Closed last) given e = let no : ◌≡◌ {A = Option (FrontPart × FrontTurn)} None (Some given) = e in absurd cc
 
-    admitted_by-turn : (choice : FirstChoice) (o : Option FrontRow) (given : FrontPart × FrontTurn) → admitted_by env p choice o ≡ Some given → IsAdmission given
+    admitted_by-turn : (choice : FirstChoice) (o : Option FrontRow) (given : FrontPart × FrontTurn) → admitted_by env p choice o ≡ Some given → Admits given
     admitted_by-turn choice None given e = let no : ◌≡◌ {A = Option (FrontPart × FrontTurn)} None (Some given) = e in absurd cc
     admitted_by-turn choice (Some row) given e = admitted_at-turn choice row row.stage given e
 
-    pub admitted-turn : (choice : FirstChoice) (given : FrontPart × FrontTurn) → front_admitted env p choice ≡ Some given → IsAdmission given
+    pub admitted-turn : (choice : FirstChoice) (given : FrontPart × FrontTurn) → front_admitted env p choice ≡ Some given → Admits given
     admitted-turn choice given e = admitted_by-turn choice p.row given e

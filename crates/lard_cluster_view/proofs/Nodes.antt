@@ -1,22 +1,19 @@
 -- What each rule of a node says is of its connection.
-use Rattle.std.proofs.Common.{◌≡◌, ℕ, ◌+◌, ◌==◌, ◌&&◌, Bool, true, false, cond, List, [], ◌∷◌, ◌++◌, length, map, Option, Some, None, is_some, Result, Ok, Err, refl, sym, ap, ◌∙◌, subst, arith, inl, inr, ⊎_elim}
+use Rattle.std.proofs.Common.{◌≡◌, ℕ, true, List, [], ◌∷◌, ◌++◌, map, Option, Some, None, Result, Ok, Err, refl, arith, inl, inr}
 use Rattle.std.proofs.lemmas.Bool.{cond_both}
 use Rattle.std.specs.List.{AllByRecursion, find}
 use Rattle.lard_base.specs.declared.parts.EndpointParts.{EndpointParts}
 use Rattle.lard_base.specs.declared.place.Place.{Place}
-use Rattle.lard_base.specs.declared.place.Place.TheVariants.{Front, Node, Client}
-use Rattle.lard_base.specs.declared.place.TimerKind.{TimerKind}
+use Rattle.lard_base.specs.declared.place.Place.TheVariants.{Node}
 use Rattle.lard_base.specs.declared.place.TimerKind.TheVariants as kind
 use Rattle.lard_cluster.specs.Bounds.{IsNumber}
 use Rattle.lard_cluster_view.specs.View.{AreNumbered, GoesBetween, IsMachine}
-use Rattle.lard_cluster_view.proofs.Saying.{AreMessages, GaveAt, NotedAt}
+use Rattle.lard_cluster_view.proofs.Saying.{AreMessages, GaveAt}
 use Rattle.lard_cluster_view.proofs.Turned.{AreHeld, HeldBy, IsSaid, all-has, all-weaker, as-held, node-segments, spelled}
-use Rattle.lard_cluster_view.proofs.Works.{IsAtWork, N, Noted, batch-works, came-works, goes-works, noting, tagged-works}
-use Rattle.lard_endpoint.specs.declared.control.moving.Final.{Final}
+use Rattle.lard_cluster_view.proofs.Works.{IsAtWork, N, batch-works, came-works, goes-works, noting, tagged-works}
 use Rattle.lard_endpoint.specs.Arriving.{on_segment}
 use Rattle.lard_endpoint.specs.Control.{ControlBlock}
 use Rattle.lard_endpoint.specs.Leaving as leaving
-use Rattle.lard_handoff_back.specs.declared.row.BackRow.{BackRow}
 use Rattle.lard_handoff_back.specs.declared.table.Adopt.{Adopt}
 use Rattle.lard_handoff_back.specs.declared.table.Adopt.TheVariants.{New, Again, Stale}
 use Rattle.lard_handoff_back.specs.Back.{awaits_ack, endpoint_of, offer_answer}
@@ -29,10 +26,10 @@ use Rattle.lard_node_rules.specs.declared.node.NodeTurn.{NodeTurn}
 use Rattle.lard_node_rules.specs.declared.stay.Asked.{Asked}
 use Rattle.lard_node_rules.specs.declared.stay.Stay.{Stay}
 use Rattle.lard_node_rules.specs.declared.stay.Want.{Want}
-use Rattle.lard_node_rules.specs.Node.{Deed, Drops, Says, Does, NodePart, again_sent, all_sent, anew, ask_kept, asked_kept, asked_sent, begins, both_of, come_by, ended_kept, ended_sent, fetch_of, fired, fired_by, gave_by, gone, heard_by, here, is_awaited, kept_after, node_acknowledged, node_content, node_forwarded, node_offered, node_read, node_tagged, node_timer, offered_by, read_by, rests, saying, tagged_by, taken_sent, turn_by, wants_kept, wants_sent, with_work, work_of}
+use Rattle.lard_node_rules.specs.Node.{Deed, Drops, Says, Does, NodePart, again_sent, all_sent, anew, ask_kept, asked_kept, asked_sent, begins, both_of, come_by, ended_kept, ended_sent, fetch_of, fired_by, gave_by, gone, heard_by, here, is_awaited, kept_after, node_acknowledged, node_content, node_forwarded, node_offered, node_read, node_tagged, node_timer, offered_by, read_by, saying, tagged_by, taken_sent, turn_by, wants_kept, wants_sent, with_work, work_of}
 use Rattle.lard_node_rules.specs.Stay.{NodeEnv, Work, came_for, come_progress, goes_on, read_progress, reads_batch, tagged}
 use Rattle.lard_resend.specs.declared.kept.Kept.{Kept}
-use Rattle.lard_resend.specs.Kept.{is_under, put_in, without}
+use Rattle.lard_resend.specs.Kept.{is_under, without}
 use Rattle.lard_resend.specs.Pending.{sent_of}
 use Rattle.lard_resend.proofs.Ordered.{drop_all, put_all}
 use Rattle.lard_rules.specs.declared.places.Ending.{Ending}
@@ -50,14 +47,23 @@ use Rattle.lard_view.proofs.Turns.{IsServingTurn}
 pub anew-all : (P : Kept → Type 0) (k : Kept) (ks : List Kept) → P k → AllByRecursion P ks → AllByRecursion P (anew k ks)
 anew-all P k ks h e = put_all P k (without k.kind k.r ks) h (drop_all P k.kind k.r ks e)
 
+-- A turn of node n is of connection c, and the jobs are of a connection.
+abbrev pub IsNodeTurn : ℕ → ℕ → NodeTurn → Type 0
+IsNodeTurn n c t = IsSaid (Node n) c t.notes t.segments t.gave t.messages t.answered × AreNumbered t.jobs
+
+-- A rule's turn is of connection c, and what is held then was held before or is sent in it.
+abbrev pub IsNodeDeed : ℕ → ℕ → NodePart → Deed → Type 0
+IsNodeDeed n c p Drops = Unit {0}
+IsNodeDeed n c p (Says messages) = AreMessages c (Node n) messages
+IsNodeDeed n c p (Does x) = IsNodeTurn n c x.1 × AreHeld x.1.messages p.kept x.0.kept × AreHeld x.1.messages p.fetches x.0.fetches
+
 -- Node env.n acts on connection c, whose number is one, and what it holds of it goes to other machines of the cluster.
 module _ (env : NodeEnv) (own : env.serve.place ≡ Node env.n) (number : IsNumber env.serve.c) where
-  abbrev pub AreSaid : List (Place × List ℕ) → Type 0
+  abbrev AreSaid : List (Place × List ℕ) → Type 0
   AreSaid messages = AreMessages env.serve.c (Node env.n) messages
 
-  -- a turn is of the connection, and so are the jobs
-  abbrev pub IsOfNode : NodeTurn → Type 0
-  IsOfNode t = IsSaid (Node env.n) env.serve.c t.notes t.segments t.gave t.messages t.answered × AreNumbered t.jobs
+  abbrev IsOfNode : NodeTurn → Type 0
+  IsOfNode t = IsNodeTurn env.n env.serve.c t
 
   abbrev Works : Work → Type 0
   Works w = IsAtWork env own number w
@@ -93,7 +99,7 @@ module _ (env : NodeEnv) (own : env.serve.place ≡ Node env.n) (number : IsNumb
       gave = gave-of given.0;
       messages = Each-append IsMessage (all_sent env before w) (ended_sent env w.service.over given.0)
           (Each-append IsMessage (before ++ asked_sent env w.asked) (wants_sent env w.wants)
-              (Each-append IsMessage before (asked_sent env w.asked) said (asks-sent w.asked)) (wants-are-sent w.wants))
+          (Each-append IsMessage before (asked_sent env w.asked) said (asks-sent w.asked)) (wants-are-sent w.wants))
           (ends-sent w.service.over given.0);
       counted = t.answered;
     },
@@ -130,14 +136,11 @@ module _ (env : NodeEnv) (own : env.serve.place ≡ Node env.n) (number : IsNumb
   -- ---- what each rule comes to
 
   module _ (p : NodePart) where
-    -- a rule's turn is of the connection, and what is held then was held before or is sent in it
-    abbrev pub IsResult : NodePart × NodeTurn → Type 0
+    abbrev IsResult : NodePart × NodeTurn → Type 0
     IsResult x = IsOfNode x.1 × AreHeld x.1.messages p.kept x.0.kept × AreHeld x.1.messages p.fetches x.0.fetches
 
-    abbrev pub IsDeed : Deed → Type 0
-    IsDeed Drops = Unit {0}
-    IsDeed (Says messages) = AreSaid messages
-    IsDeed (Does x) = IsResult x
+    abbrev IsDeed : Deed → Type 0
+    IsDeed d = IsNodeDeed env.n env.serve.c p d
 
     -- what is held is as before, or less
     abbrev IsLess : NodePart → Type 0

@@ -1,13 +1,12 @@
 -- What a place says of the connection that it acts on: what it may note, give up and send, and who sees that.
-use Rattle.std.proofs.Common.{◌≡◌, ◌≢◌, ℕ, ◌+◌, Bool, true, false, cond, List, [], ◌∷◌, ◌++◌, map, is_some, Option, Some, None, refl, sym, ap, ◌∙◌, subst, append-nil, append_assoc, inl, inr, ⊎_elim}
+use Rattle.std.proofs.Common.{◌≡◌, ◌≢◌, ℕ, ◌+◌, Bool, true, false, cond, List, [], ◌∷◌, ◌++◌, map, is_some, Option, Some, None, refl, sym, ap, ◌∙◌, inl, inr, ⊎_elim}
 use Rattle.std.specs.Prelude.{◌⊎◌}
-use Rattle.std.specs.List.{flat_map, fold}
-use Rattle.std.proofs.lemmas.List.Sums.{fold-append}
+use Rattle.std.specs.List.{flat_map}
 use Rattle.lard_base.specs.declared.place.Place.{Place}
 use Rattle.lard_base.specs.declared.place.Place.TheVariants.{Front, Node, Client}
 use Rattle.lard_base.specs.declared.place.TimerKind.{TimerKind}
 use Rattle.lard_cluster_view.specs.View.{GoesBetween, IsMachine, letter, named, sending}
-use Rattle.lard_history.specs.Own.{Seen, Row, conn_of, letter_of, letters, net_step, plain, seen_of, seen_on, whose}
+use Rattle.lard_history.specs.Own.{Row, conn_of, letter_of, letters, net_step, plain, seen_of, seen_on, whose}
 use Rattle.lard_history.specs.Steps.{is_opening}
 use Rattle.lard_history.proofs.Each.{Each, Each-append, Each-weaker}
 use Rattle.lard_history.proofs.Seeing.{AreOf, letters-all, letters-none, of-whose, packet_conn, seen-all, seen-mine, seen-none, seen-other}
@@ -144,6 +143,38 @@ gaves-mine place c net rs e = seen-all c net rs (gaves-of place c rs e)
 pub gaves-others : (place : Place) (c q : ℕ) (net : List Packet) (rs : List Rec) → q ≢ c → Each (GaveAt place c) rs → seen_on q net rs ≡ []
 gaves-others place c q net rs n e = seen-none c q net rs n (of-whose c rs (gaves-of place c rs e))
 
+-- ---- no record of a turn begins a step, or tells of a packet
+
+abbrev pub IsStill : Rec → Type 0
+IsStill r = (is_opening r ≡ false) × ((net : List Packet) → net_step net r ≡ net)
+
+pub note-still : (place : Place) (c : ℕ) (r : Rec) → NotedAt place c r → IsStill r
+note-still (Client e) c (rec.Wrote d bytes) h = (refl, λ net. refl)
+note-still (Client e) c (rec.Accepted d bytes) h = (refl, λ net. refl)
+note-still (Client e) c (rec.Eof d) h = (refl, λ net. refl)
+note-still (Client e) c (rec.Aborted d) h = (refl, λ net. refl)
+note-still Front c (rec.Took Front d epoch) h = (refl, λ net. refl)
+note-still Front c (rec.Served Front d r code size via) h = (refl, λ net. refl)
+note-still Front c (rec.Reset Front d total) h = (refl, λ net. refl)
+note-still Front c (rec.Waits d) h = (refl, λ net. refl)
+note-still Front c (rec.Admitted d) h = (refl, λ net. refl)
+note-still Front c (rec.AssignedFirst d r path n add remove) h = (refl, λ net. refl)
+note-still Front c (rec.AssignedLater d r path n add size queue) h = (refl, λ net. refl)
+note-still Front c (rec.BatchOver d) h = (refl, λ net. refl)
+note-still Front c (rec.Released d) h = (refl, λ net. refl)
+note-still (Node n) c (rec.Took (Node k) d epoch) h = (refl, λ net. refl)
+note-still (Node n) c (rec.Served (Node k) d r code size via) h = (refl, λ net. refl)
+note-still (Node n) c (rec.Reset (Node k) d total) h = (refl, λ net. refl)
+note-still (Node n) c (rec.Queued k o d r path) h = (refl, λ net. refl)
+note-still (Node n) c (rec.Read k o d r path) h = (refl, λ net. refl)
+note-still (Node n) c (rec.Hit k path) h = (refl, λ net. refl)
+note-still _ c _ h = absurd h
+
+pub gave-still : (place : Place) (c : ℕ) (r : Rec) → GaveAt place c r → IsStill r
+gave-still Front c (rec.Gave Front d epoch) h = (refl, λ net. refl)
+gave-still (Node n) c (rec.Gave (Node k) d epoch) h = (refl, λ net. refl)
+gave-still _ c _ h = absurd h
+
 -- ---- timers
 
 module _ (place : Place) (c : ℕ) (was is : TimerKind → Bool) where
@@ -161,6 +192,16 @@ module _ (place : Place) (c : ℕ) (was is : TimerKind → Bool) where
   changes-of [] = tt
   changes-of (kind ∷ kinds) =
       Each-append (λ r. (whose r ≡ Some c) × (plain r ≡ r)) (kind_change place c kind (was kind) (is kind)) (changes kinds) (one-of kind (was kind) (is kind)) (changes-of kinds)
+
+  one-still : (kind : TimerKind) (a b : Bool) → Each IsStill (kind_change place c kind a b)
+  one-still kind false false = tt
+  one-still kind false true = ((refl, λ net. refl), tt)
+  one-still kind true false = ((refl, λ net. refl), tt)
+  one-still kind true true = tt
+
+  pub changes-still : (kinds : List TimerKind) → Each IsStill (changes kinds)
+  changes-still [] = tt
+  changes-still (kind ∷ kinds) = Each-append IsStill (kind_change place c kind (was kind) (is kind)) (changes kinds) (one-still kind (was kind) (is kind)) (changes-still kinds)
 
 -- a timer that is as it was writes nothing
 unchanged : (place : Place) (c : ℕ) (kind : TimerKind) (b : Bool) → kind_change place c kind b b ≡ []
@@ -219,35 +260,3 @@ letters-mine c place ss e = letters-all c (packets_of place ss) (packets-of c pl
 
 pub letters-others : (c q : ℕ) (place : Place) (ss : List (Place × List ℕ)) → q ≢ c → AllBetween c place ss → letters q (packets_of place ss) ≡ []
 letters-others c q place ss n e = letters-none c q (packets_of place ss) n (packets-of c place ss e)
-
--- ---- no record of a turn begins a step, or tells of a packet
-
-abbrev pub IsStill : Rec → Type 0
-IsStill r = (is_opening r ≡ false) × ((net : List Packet) → net_step net r ≡ net)
-
-pub note-still : (place : Place) (c : ℕ) (r : Rec) → NotedAt place c r → IsStill r
-note-still (Client e) c (rec.Wrote d bytes) h = (refl, λ net. refl)
-note-still (Client e) c (rec.Accepted d bytes) h = (refl, λ net. refl)
-note-still (Client e) c (rec.Eof d) h = (refl, λ net. refl)
-note-still (Client e) c (rec.Aborted d) h = (refl, λ net. refl)
-note-still Front c (rec.Took Front d epoch) h = (refl, λ net. refl)
-note-still Front c (rec.Served Front d r code size via) h = (refl, λ net. refl)
-note-still Front c (rec.Reset Front d total) h = (refl, λ net. refl)
-note-still Front c (rec.Waits d) h = (refl, λ net. refl)
-note-still Front c (rec.Admitted d) h = (refl, λ net. refl)
-note-still Front c (rec.AssignedFirst d r path n add remove) h = (refl, λ net. refl)
-note-still Front c (rec.AssignedLater d r path n add size queue) h = (refl, λ net. refl)
-note-still Front c (rec.BatchOver d) h = (refl, λ net. refl)
-note-still Front c (rec.Released d) h = (refl, λ net. refl)
-note-still (Node n) c (rec.Took (Node k) d epoch) h = (refl, λ net. refl)
-note-still (Node n) c (rec.Served (Node k) d r code size via) h = (refl, λ net. refl)
-note-still (Node n) c (rec.Reset (Node k) d total) h = (refl, λ net. refl)
-note-still (Node n) c (rec.Queued k o d r path) h = (refl, λ net. refl)
-note-still (Node n) c (rec.Read k o d r path) h = (refl, λ net. refl)
-note-still (Node n) c (rec.Hit k path) h = (refl, λ net. refl)
-note-still _ c _ h = absurd h
-
-pub gave-still : (place : Place) (c : ℕ) (r : Rec) → GaveAt place c r → IsStill r
-gave-still Front c (rec.Gave Front d epoch) h = (refl, λ net. refl)
-gave-still (Node n) c (rec.Gave (Node k) d epoch) h = (refl, λ net. refl)
-gave-still _ c _ h = absurd h

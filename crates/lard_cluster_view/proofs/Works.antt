@@ -1,18 +1,18 @@
 -- What a node notes of a connection as it reads, starts and serves its requests, and the jobs that it gives its disk.
-use Rattle.std.proofs.Common.{◌≡◌, ℕ, zero, suc, ◌+◌, ◌-◌, nat_lt, ◌==◌, Bool, true, false, cond, List, [], ◌∷◌, ◌++◌, length, Option, Some, None, refl, sym, ap, ◌∙◌, subst, arith}
+use Rattle.std.proofs.Common.{◌≡◌, ℕ, ◌+◌, ◌-◌, nat_lt, ◌==◌, Bool, true, false, List, [], ◌∷◌, ◌++◌, length, Option, Some, None, refl, sym, ◌∙◌, subst}
 use Rattle.std.proofs.lemmas.Bool.{cond_both}
 use Rattle.std.proofs.lemmas.List.Sums.{fold-append}
 use Rattle.std.specs.Prelude.{slice_get}
 use Rattle.std.specs.List.{AllByRecursion, fold}
 use Rattle.lard_answers.specs.Answers.{good_path}
 use Rattle.lard_base.specs.declared.place.Place.{Place}
-use Rattle.lard_base.specs.declared.place.Place.TheVariants.{Front, Node, Client}
+use Rattle.lard_base.specs.declared.place.Place.TheVariants.{Node}
 use Rattle.lard_cluster.specs.Bounds.{IsNumber}
 use Rattle.lard_cluster_view.specs.View.{AreNumbered}
 use Rattle.lard_cluster_view.proofs.Saying.{NotedAt}
 use Rattle.lard_disk.specs.declared.disk.Job.{Job}
 use Rattle.lard_history.specs.Journal.{answered_step}
-use Rattle.lard_history.proofs.Each.{Each, Each-append}
+use Rattle.lard_history.proofs.Each.{Each-append}
 use Rattle.lard_journal.specs.declared.rec.Rec.{Rec}
 use Rattle.lard_journal.specs.declared.rec.Rec.TheVariants as rec
 use Rattle.lard_node_rules.specs.declared.stay.Entry.{Entry}
@@ -20,17 +20,17 @@ use Rattle.lard_node_rules.specs.declared.stay.Next.{Next}
 use Rattle.lard_node_rules.specs.declared.stay.Next.TheVariants.{Serve, Read, Stop}
 use Rattle.lard_node_rules.specs.declared.stay.Progress.{Progress}
 use Rattle.lard_node_rules.specs.declared.stay.Progress.TheVariants.{Named, Reading, Awaited, Ready}
-use Rattle.lard_node_rules.specs.Stay.{NodeEnv, Work, asking, asks_for, came_for, come_on, entered, enters, enters_first, enters_one, goes_on, left, named_path, named_paths, next_of, noted, read_entry, reads_batch, reads_these, serves, serves_by, serves_first, serves_with, started, started_here, started_there, starts_at, starts_named, starts_one, tagged, turn, turned}
+use Rattle.lard_node_rules.specs.Stay.{NodeEnv, Work, asks_for, came_for, come_on, entered, enters, enters_first, enters_one, goes_on, left, named_path, named_paths, next_of, noted, reads_batch, reads_these, serves_by, serves_first, started, started_here, started_there, starts_at, starts_named, starts_one, tagged, turn, turned}
 use Rattle.lard_reader.specs.Batches.{batch_of, bytes_used}
 use Rattle.lard_request.specs.declared.verdict.Verdict.{Verdict}
 use Rattle.lard_rules.specs.Loop.{Step, state_of}
 use Rattle.lard_rules.specs.Loop as loop
-use Rattle.lard_rules.specs.Serving.{Service, answered, consumed, ended_at_fin, may_read}
+use Rattle.lard_rules.specs.Serving.{Service, consumed}
 use Rattle.lard_rules.proofs.Runs.{runs_keep}
 use Rattle.lard_view.proofs.Turns as turns
 use Rattle.lard_view.proofs.Turns.{AreNoted, NotesServing}
 
-all-append : {A : Type 0} (P : A → Type 0) (xs ys : List A) → AllByRecursion P xs → AllByRecursion P ys → AllByRecursion P (xs ++ ys)
+pub all-append : {A : Type 0} (P : A → Type 0) (xs ys : List A) → AllByRecursion P xs → AllByRecursion P ys → AllByRecursion P (xs ++ ys)
 all-append P [] ys e f = f
 all-append P (x ∷ xs) ys e f = (e.0, all-append P xs ys e.1 f)
 

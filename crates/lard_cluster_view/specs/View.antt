@@ -345,10 +345,12 @@ AreBetween c (l ∷ ls) = GoesBetween c l.from l.to l.bytes × AreBetween c ls
 abbrev pub AreSent : Conn → Place → List Kept → Type 0
 AreSent x place ks = AllByRecursion (λ k. IsMachine k.to × Was x place k.to k.bytes) ks
 
--- Its packets are its own, so is its client, and what its places hold was sent.
+-- It has the number of a connection, or nothing happened on it. Its packets are its own, so is its client, and what its places hold
+-- was sent.
 pub record IsSound (x : Conn) : Type 0 where
+  pub number : IsNumber x.c ⊎ (x ≡ blank x.c)
   pub between : AreBetween x.c x.letters
-  pub client : (s : Station) → x.part.station ≡ Some s → (s.client.c ≡ x.c) × IsNumber x.c
+  pub client : (s : Station) → x.part.station ≡ Some s → s.client.c ≡ x.c
   pub front : AreSent x Front x.part.front.kept
   pub kept : (n : ℕ) → AreSent x (Node n) (x.part.nodes n).kept
   pub fetches : (n : ℕ) → AreSent x (Node n) (x.part.nodes n).fetches
