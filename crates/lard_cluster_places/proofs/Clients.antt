@@ -1,16 +1,16 @@
 -- What a client's rules owe, and what a packet that nobody answers does.
-use Rattle.std.proofs.Common.{◌≡◌, ℕ, List, [], ◌∷◌, ◌++◌, map, Some, None, refl, sym, ap, ◌∙◌, subst}
+use Rattle.std.proofs.Common.{◌≡◌, ℕ, List, [], ◌∷◌, ◌++◌, map, sym, ◌∙◌, subst}
 use Rattle.std.proofs.lemmas.List.Sums.{fold-append}
 use Rattle.lard_base.specs.declared.place.Place.{Place}
-use Rattle.lard_base.specs.declared.place.Place.TheVariants.{Client, Front, Node}
+use Rattle.lard_base.specs.declared.place.Place.TheVariants.{Client}
 use Rattle.lard_client.specs.Control.{ClientBlock}
 use Rattle.lard_cluster_places.specs.Places.{LetterMay, Owning, Sits, owning}
 use Rattle.lard_cluster_places.proofs.Front.{IsQuiet}
-use Rattle.lard_cluster_places.proofs.Growing.{Grows, back-still, front-still}
-use Rattle.lard_cluster_places.proofs.Rows.{IsPlain, OwnsBy, after_all, client-owns, owns-append, plain-after, plain-owns, sends-after}
+use Rattle.lard_cluster_places.proofs.Growing.{back-still, front-still}
+use Rattle.lard_cluster_places.proofs.Rows.{IsPlain, after_all, client-owns, owns-append, plain-after, plain-owns, sends-after}
 use Rattle.lard_cluster_places.proofs.Turns.{IsPlaced, Owes, timers-plain}
 use Rattle.lard_cluster_view.specs.Carry.{tale_at}
-use Rattle.lard_cluster_view.specs.View.{Conn, Move, Part, letter, sending, timer_rows, by_client, with_station}
+use Rattle.lard_cluster_view.specs.View.{Conn, Part, letter, sending, timer_rows, by_client, with_station}
 use Rattle.lard_history.specs.Own.{Seen}
 use Rattle.lard_history.proofs.Each.{Each, Each-append, Each-weaker}
 use Rattle.lard_journal.specs.declared.rec.Rec.{Rec}

@@ -1,46 +1,35 @@
 -- What each rule of the front end owes.
-use Rattle.std.proofs.Common.{◌≡◌, ◌≢◌, ◌⊎◌, ℕ, ◌+◌, ◌<◌, ◌≤◌, ◌^◌, ◌==◌, ◌&&◌, nat_lt, Bool, true, false, cond, List, [], ◌∷◌, ◌++◌, map, Option, Some, None, Result, Ok, Err, inl, inr, ⊎_elim, refl, sym, ap, ◌∙◌, subst, arith, eqb-true}
-use Rattle.std.proofs.lemmas.Bool.{and_parts, cond_both}
+use Rattle.std.proofs.Common.{◌≡◌, ℕ, ◌+◌, ◌≤◌, List, [], ◌∷◌, ◌++◌, map, Option, Some, None, inl, inr, ⊎_elim, refl, sym, ap, ◌∙◌, subst, arith}
 use Rattle.std.specs.List.{fold}
-use Rattle.lard_base.specs.declared.ids.Epoch.{Epoch}
 use Rattle.lard_base.specs.declared.place.Place.{Place}
 use Rattle.lard_base.specs.declared.place.Place.TheVariants.{Client, Front, Node}
-use Rattle.lard_cluster_places.specs.Places.{ArePast, EndedBefore, IsHome, IsPast, LetterMay, MaySay, Offers, OthersArePast, Owning, Sits, StageSits, head_of, owning, unowned}
-use Rattle.lard_cluster_places.proofs.Growing.{FrontGrows, back-still, front-still, grows-still, past-later}
+use Rattle.lard_cluster_places.specs.Places.{EndedBefore, IsHome, IsPast, LetterMay, MaySay, Offers, Owning, Sits, StageSits, head_of, owning}
+use Rattle.lard_cluster_places.proofs.Growing.{FrontGrows, back-still, front-still, past-later}
 use Rattle.lard_cluster_places.proofs.Heads.{spelled-head}
 use Rattle.lard_cluster_places.proofs.Loops.{reads-notes, settled-is, spoken-to}
 use Rattle.lard_cluster_places.proofs.Rows.{IsPlain, MayStand, OwnsBy, after_all, plain-after, plain-owns}
 use Rattle.lard_cluster_places.proofs.Turns.{IsPlaced, Owes, Turned, timers-plain, turned-after, turned-owns}
 use Rattle.lard_cluster_view.specs.Carry.{tale_at}
-use Rattle.lard_cluster_view.specs.View.{Conn, IsMachine, Move, Part, Said, by_front, front_does, letter, nothing_said, stands, with_front}
+use Rattle.lard_cluster_view.specs.View.{Conn, IsMachine, Part, Said, by_front, front_does, letter, nothing_said, with_front}
 use Rattle.lard_dispatch.specs.declared.dispatch.First.{First}
 use Rattle.lard_dispatch.specs.declared.dispatch.First.TheVariants as first
 use Rattle.lard_dispatch.specs.Laws.{Call}
 use Rattle.lard_dispatch.specs.Laws as call
-use Rattle.lard_endpoint.specs.declared.control.moving.Final.{Final}
-use Rattle.lard_endpoint.specs.Arriving.{on_segment}
 use Rattle.lard_endpoint.specs.Control.{ControlBlock}
-use Rattle.lard_endpoint.specs.Leaving.{after_timer, timed}
 use Rattle.lard_front_rules.specs.declared.front.FrontRest.{FrontRest}
-use Rattle.lard_front_rules.specs.declared.front.FrontTurn.{FrontTurn}
-use Rattle.lard_front_rules.specs.Front.{Deed, Drops, Says, Does, FrontEnv, FrontPart, heard, leaves_by, placed, read_by, rest_of, rests, saying, settled_by, stage_after, turn_here, waits_on}
+use Rattle.lard_front_rules.specs.Front.{Drops, Says, Does, FrontEnv, FrontPart, heard, leaves_by, placed, rests, saying, settled_by, stage_after, turn_here}
 use Rattle.lard_front_rules.specs.Reading.{Reading, reads}
 use Rattle.lard_handoff_front.specs.declared.row.FrontConn.{FrontConn}
 use Rattle.lard_handoff_front.specs.declared.row.FrontConn.TheVariants as stage
 use Rattle.lard_handoff_front.specs.declared.row.FrontRow.{FrontRow}
 use Rattle.lard_history.specs.Journal.{tale_step}
-use Rattle.lard_history.specs.Own.{EachRow, Letter, Seen, seen_step}
+use Rattle.lard_history.specs.Own.{EachRow, Seen, seen_step}
 use Rattle.lard_history.proofs.Each.{Each, Each-append}
-use Rattle.lard_journal.specs.declared.rec.Rec.{Rec}
 use Rattle.lard_journal.specs.declared.rec.Rec.TheVariants as rec
-use Rattle.lard_message.specs.declared.message.Body.TheVariants as body
 use Rattle.lard_rules.specs.declared.places.Ending.{Ending}
 use Rattle.lard_rules.specs.declared.places.Ending.TheVariants as ending
 use Rattle.lard_rules.specs.declared.places.Turn.{Turn}
-use Rattle.lard_rules.specs.Front.{is_plain_syn, last_words, tombstone}
-use Rattle.lard_rules.specs.Serving.{ServeEnv, Service, ready_of, serving, settled, spoken}
-use Rattle.lard_segment.specs.declared.fault.SegFault.{SegFault}
-use Rattle.lard_segment.specs.Segment as segment
+use Rattle.lard_rules.specs.Serving.{Service, serving, settled, spoken}
 use Rattle.lard_view.proofs.Endpoints.{AllTo}
 use Rattle.lard_view.proofs.Rows.{MayBeSeen}
 
@@ -131,7 +120,7 @@ module _ (x : Conn) (heads : List Seen) (quiet : IsQuiet x heads) where
 
   -- an endpoint that is here goes on, with plain notes
   module _ (env : FrontEnv) (mine : env.serve.c ≡ x.c) (row : FrontRow) (found : x.part.front.row ≡ Some row) (one : row.epoch.0 ≡ 1) (home : IsHome row.epoch.0 w x.part.nodes)
-    (ended : EndedBefore row.epoch.0 row.ended_by) (none : (n e : ℕ) → Offers n e row.stage → ⊥) where
+      (ended : EndedBefore row.epoch.0 row.ended_by) (none : (n e : ℕ) → Offers n e row.stage → ⊥) where
     to-mine : (ss : List (Place × List ℕ)) → AllTo (Client env.serve.c) ss → AllTo (Client x.c) ss
     to-mine ss to = subst (λ (c : ℕ). AllTo (Client c) ss) mine to
 

@@ -1,18 +1,18 @@
 -- The front end's rules for what nodes say, and the head of the line.
-use Rattle.std.proofs.Common.{◌≡◌, ◌≢◌, ◌⊎◌, ℕ, ◌+◌, ◌<◌, ◌≤◌, ◌^◌, ◌==◌, ◌&&◌, nat_lt, Bool, true, false, cond, List, [], ◌∷◌, ◌++◌, map, Option, Some, None, inl, inr, ⊎_elim, refl, sym, ap, ◌∙◌, subst, arith, eqb-true, eq-eqb}
+use Rattle.std.proofs.Common.{◌≡◌, ◌⊎◌, ℕ, ◌+◌, ◌<◌, ◌≤◌, ◌==◌, ◌&&◌, nat_lt, Bool, true, false, cond, List, [], ◌∷◌, Option, Some, None, inr, refl, sym, ◌∙◌, subst, arith, eqb-true, eq-eqb}
 use Rattle.std.proofs.lemmas.Bool.{cond_both}
 use Rattle.lard_base.specs.declared.ids.Epoch.{Epoch}
 use Rattle.lard_base.specs.declared.place.Place.{Place}
-use Rattle.lard_base.specs.declared.place.Place.TheVariants.{Client, Front, Node}
-use Rattle.lard_cluster_places.specs.Places.{EndedBefore, HasEnded, IsComing, IsDecided, IsLeft, IsOver, IsPast, IsThere, LetterMay, MaySay, Offers, OthersArePast, Owning, Owns, Sits, StageSits, head_of, owning}
+use Rattle.lard_base.specs.declared.place.Place.TheVariants.{Front, Node}
+use Rattle.lard_cluster_places.specs.Places.{EndedBefore, HasEnded, IsComing, IsDecided, IsLeft, IsOver, IsPast, IsThere, LetterMay, MaySay, Offers, OthersArePast, Owning, Owns, StageSits, owning}
 use Rattle.lard_cluster_places.proofs.Front.{IsQuiet, Tells, drops-owes, front-owes, messages-owe, placed-owes}
 use Rattle.lard_cluster_places.proofs.FrontRules.{decided-there, has-each, sits-row, small, there-decided}
 use Rattle.lard_cluster_places.proofs.Growing.{FrontGrows, front-still, past-later}
 use Rattle.lard_cluster_places.proofs.Heads.{decoded-head, head, spelled-head, spelled-some}
-use Rattle.lard_cluster_places.proofs.Rows.{IsPlain, OwnsBy, after_all, plain-after, plain-owns}
-use Rattle.lard_cluster_places.proofs.Turns.{IsPlaced, Owes, Turned}
+use Rattle.lard_cluster_places.proofs.Rows.{IsPlain, plain-after, plain-owns}
+use Rattle.lard_cluster_places.proofs.Turns.{IsPlaced, Owes}
 use Rattle.lard_cluster_view.specs.Carry.{tale_at}
-use Rattle.lard_cluster_view.specs.View.{Conn, IsFrontEnv, IsMachine, Part, Setting, Spells, Was, by_front, front_admits, front_does, with_front}
+use Rattle.lard_cluster_view.specs.View.{Conn, IsFrontEnv, Part, Setting, Spells, Was, by_front, front_admits, front_does, with_front}
 use Rattle.lard_costs.specs.declared.later.LaterChoice.{LaterChoice}
 use Rattle.lard_dispatch.specs.declared.dispatch.Ask.{Ask}
 use Rattle.lard_dispatch.specs.declared.dispatch.First.TheVariants as first
@@ -21,21 +21,18 @@ use Rattle.lard_endpoint.specs.declared.control.moving.Final.{Final}
 use Rattle.lard_endpoint.specs.Control.{ControlBlock}
 use Rattle.lard_front_rules.specs.declared.front.FrontRest.{FrontRest}
 use Rattle.lard_front_rules.specs.declared.front.FrontTurn.{FrontTurn}
-use Rattle.lard_front_rules.specs.Front.{Deed, Drops, Says, Does, FrontEnv, FrontPart, ack_sent, admitted_at, admitted_by, admitted_with, asked_by, assigned_notes, assigns, ended_by, ends, front_admitted, front_asked, front_ended, front_taken, handed_off, is_at, message, over_note, placed, rest_of, saying, tag_sent, taken_by}
+use Rattle.lard_front_rules.specs.Front.{Deed, Drops, Says, Does, FrontEnv, FrontPart, ack_sent, admitted_at, admitted_by, admitted_with, asked_by, assigned_notes, assigns, ended_by, ends, front_admitted, front_asked, front_ended, front_taken, handed_off, is_at, over_note, rest_of, saying, tag_sent, taken_by}
 use Rattle.lard_handoff_back.specs.declared.row.BackConn.{BackConn}
 use Rattle.lard_handoff_back.specs.declared.row.BackConn.TheVariants as back
 use Rattle.lard_handoff_back.specs.declared.row.BackRow.{BackRow}
 use Rattle.lard_handoff_front.specs.declared.row.FrontConn.{FrontConn}
 use Rattle.lard_handoff_front.specs.declared.row.FrontConn.TheVariants as stage
 use Rattle.lard_handoff_front.specs.declared.row.FrontRow.{FrontRow}
-use Rattle.lard_handoff_front.specs.declared.table.OnEnded.{OnEnded}
 use Rattle.lard_handoff_front.specs.declared.table.OnEnded.TheVariants.{New, Again, Stale}
-use Rattle.lard_handoff_front.specs.Front.{end_answer, ended_row, ended_with, next_epoch}
+use Rattle.lard_handoff_front.specs.Front.{end_answer, ended_with, next_epoch}
 use Rattle.lard_handoff_front.specs.Row.{is_away, offered_to}
 use Rattle.lard_history.specs.Own.{Seen}
 use Rattle.lard_history.proofs.Each.{Each, Each-append}
-use Rattle.lard_journal.specs.declared.rec.Rec.{Rec}
-use Rattle.lard_journal.specs.declared.rec.Rec.TheVariants as rec
 use Rattle.lard_message.specs.declared.kind.Kind.{Kind}
 use Rattle.lard_message.specs.declared.kind.Kind.TheVariants as kind
 use Rattle.lard_message.specs.declared.message.Body.{Body}
@@ -116,10 +113,12 @@ module _ (k : Setting) (x : Conn) (heads : List Seen) (quiet : IsQuiet x heads) 
       front-owes x heads quiet (by_front (saying [])) _ w
       (record { notes = tt; segments = inr refl; gave = tt; messages = tt; then = refl })
       ((sits.0, now, sits.2, there), h.1)
-      (subst (λ (o : Option FrontRow). FrontGrows nodes o (Some next)) (sym found)
-      (omega arith, λ i e offers.
-      let o : Offers i e (stage.Offering n d) = subst (Offers i e) at offers in
-      inr (subst (λ (j : ℕ). IsDecided e (nodes j).row) o.0 (subst (λ (f : ℕ). IsDecided f (nodes n).row) (sym sits.1 ∙ o.1) (there-decided n row.epoch.0 w nodes sits.2 (nodes n).row there)))))
+      (subst (λ (o : Option FrontRow). FrontGrows nodes o (Some next)) (sym found) (
+        omega arith,
+        λ i e offers.
+            let o : Offers i e (stage.Offering n d) = subst (Offers i e) at offers in
+            inr (subst (λ (j : ℕ). IsDecided e (nodes j).row) o.0 (subst (λ (f : ℕ). IsDecided f (nodes n).row) (sym sits.1 ∙ o.1) (there-decided n row.epoch.0 w nodes sits.2 (nodes n).row there))),
+      ))
       tt
 
   taken-at : (epoch m : ℕ) (row : FrontRow) → p.row ≡ Some row → IsDecided epoch (nodes m).row → (st : FrontConn) → row.stage ≡ st → Owed (taken_by p epoch (Some row) (offered_to epoch st))
@@ -198,9 +197,11 @@ module _ (k : Setting) (x : Conn) (heads : List Seen) (quiet : IsQuiet x heads) 
         then = refl;
       })
       ((omega (arith, away.two), (refl, all-past row n away there over_n)), omega (arith, now))
-      (subst (λ (o : Option FrontRow). FrontGrows nodes o did.part.row) (sym found)
-      (omega arith, λ i f offers. inr (subst (λ (j : ℕ). IsDecided f (nodes j).row) (sym (offered i f offers).0)
-      (subst (λ (g : ℕ). IsDecided g (nodes n).row) (sym (offered i f offers).1) (there-decided n e w nodes away.others (nodes n).row there)))))
+      (subst (λ (o : Option FrontRow). FrontGrows nodes o did.part.row) (sym found) (
+        omega arith,
+        λ i f offers. inr (subst (λ (j : ℕ). IsDecided f (nodes j).row) (sym (offered i f offers).0)
+            (subst (λ (g : ℕ). IsDecided g (nodes n).row) (sym (offered i f offers).1) (there-decided n e w nodes away.others (nodes n).row there))),
+      ))
       (subst (λ h. MaySay q Front (Node m) h) (sym (spelled-head _ (omega (arith, now, away.two)))) (omega (arith, now)), tt) where
         only : (row : FrontRow) (m n : ℕ) → IsWith x row n → IsDecided row.epoch.0 (nodes m).row → m ≡ n
         only row m n away decided = go (m == n) refl where

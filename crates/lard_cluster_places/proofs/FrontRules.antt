@@ -1,54 +1,36 @@
 -- The rules of the front end, one by one.
-use Rattle.std.proofs.Common.{◌≡◌, ◌≢◌, ◌⊎◌, ℕ, ◌+◌, ◌<◌, ◌≤◌, ◌^◌, ◌==◌, ◌&&◌, nat_lt, Bool, true, false, cond, List, [], ◌∷◌, ◌++◌, map, Option, Some, None, Result, Ok, Err, inl, inr, ⊎_elim, refl, sym, ap, ◌∙◌, subst, arith, eqb-true, eq-eqb}
-use Rattle.std.proofs.lemmas.Bool.{and_parts, cond_both}
-use Rattle.lard_base.specs.declared.ids.Epoch.{Epoch}
+use Rattle.std.proofs.Common.{◌≡◌, ◌⊎◌, ℕ, ◌≤◌, ◌==◌, Bool, true, false, List, [], ◌∷◌, map, Option, Some, None, Result, Ok, Err, inl, inr, ⊎_elim, refl, sym, ap, ◌∙◌, subst, arith, eqb-true, eq-eqb}
+use Rattle.std.proofs.lemmas.Bool.{cond_both}
 use Rattle.lard_base.specs.declared.place.Place.{Place}
 use Rattle.lard_base.specs.declared.place.Place.TheVariants.{Client, Front, Node}
-use Rattle.lard_base.specs.declared.place.Reason.{Reason}
-use Rattle.lard_cluster_places.specs.Places.{ArePast, EndedBefore, IsComing, IsDecided, IsHome, IsOver, IsPast, IsThere, LetterMay, MaySay, NodeSaid, Offers, OthersArePast, Owning, Owns, Sits, StageSits, head_of, owning, unowned}
-use Rattle.lard_cluster_places.proofs.Front.{IsQuiet, Tells, drops-owes, ends-owe, front-owes, goes-owe, heard-owes, messages-owe, placed-owes, says-owe}
+use Rattle.lard_cluster_places.specs.Places.{EndedBefore, IsComing, IsDecided, IsHome, IsPast, IsThere, LetterMay, MaySay, Offers, OthersArePast, Owning, Sits, StageSits, owning}
+use Rattle.lard_cluster_places.proofs.Front.{IsQuiet, Tells, drops-owes, ends-owe, front-owes, heard-owes, messages-owe, says-owe}
 use Rattle.lard_cluster_places.proofs.Growing.{FrontGrows, front-still, past-later}
-use Rattle.lard_cluster_places.proofs.Heads.{decoded-head, head, spelled-head, spelled-some}
+use Rattle.lard_cluster_places.proofs.Heads.{spelled-some}
 use Rattle.lard_cluster_places.proofs.Loops.{spoken-to}
-use Rattle.lard_cluster_places.proofs.Rows.{IsPlain, OwnsBy, after_all, plain-after, plain-owns}
-use Rattle.lard_cluster_places.proofs.Turns.{IsPlaced, Owes, Turned}
+use Rattle.lard_cluster_places.proofs.Turns.{IsPlaced, Owes}
 use Rattle.lard_cluster_view.specs.Carry.{tale_at}
-use Rattle.lard_cluster_view.specs.View.{AreSent, Conn, IsFrontEnv, IsMachine, IsSound, Move, Part, Said, Setting, Spells, Was, by_front, front_admits, front_does, nothing_said, with_front}
-use Rattle.lard_dispatch.specs.declared.dispatch.Ask.{Ask}
-use Rattle.lard_dispatch.specs.declared.dispatch.First.TheVariants as first
-use Rattle.lard_dispatch.specs.declared.dispatch.Later.{Later}
-use Rattle.lard_costs.specs.declared.later.LaterChoice.{LaterChoice}
+use Rattle.lard_cluster_view.specs.View.{AreSent, Conn, IsFrontEnv, IsMachine, IsSound, Setting, by_front, front_does}
 use Rattle.lard_endpoint.specs.declared.control.moving.Final.{Final}
 use Rattle.lard_endpoint.specs.Arriving.{on_segment}
-use Rattle.lard_endpoint.specs.Control.{ControlBlock, listening}
+use Rattle.lard_endpoint.specs.Control.{listening}
 use Rattle.lard_endpoint.specs.Leaving.{after_timer, timed}
-use Rattle.lard_front_rules.specs.declared.front.FrontRest.{FrontRest}
-use Rattle.lard_front_rules.specs.declared.front.FrontTurn.{FrontTurn}
-use Rattle.lard_front_rules.specs.Front.{Deed, Drops, Says, Does, FrontEnv, FrontPart, ack_sent, admitted_at, admitted_by, admitted_with, asked_by, assigned_notes, assigns, begun, ended_by, ends, fired, fired_by, fires_at, forwarded, front_admitted, front_asked, front_ended, front_gets, front_hears, front_taken, front_timer, handed_off, hears_at, is_at, leaves_by, message, met, over_note, rest_of, saying, tag_sent, taken_by, turn_here}
+use Rattle.lard_front_rules.specs.Front.{Deed, Drops, Says, FrontEnv, FrontPart, begun, fired, fired_by, fires_at, front_gets, front_hears, front_timer, hears_at, leaves_by, message, met, rest_of, saying, turn_here}
 use Rattle.lard_handoff_front.specs.declared.row.FrontConn.{FrontConn}
 use Rattle.lard_handoff_front.specs.declared.row.FrontConn.TheVariants as stage
 use Rattle.lard_handoff_front.specs.declared.row.FrontRow.{FrontRow}
-use Rattle.lard_handoff_front.specs.declared.table.OnEnded.{OnEnded}
-use Rattle.lard_handoff_front.specs.declared.table.OnEnded.TheVariants.{New, Again, Stale}
-use Rattle.lard_handoff_front.specs.Front.{asked_node, end_answer, ended_row, ended_with, next_epoch}
-use Rattle.lard_handoff_front.specs.Row.{is_away, offered_to}
-use Rattle.lard_handoff_back.specs.declared.row.BackConn.{BackConn}
-use Rattle.lard_handoff_back.specs.declared.row.BackConn.TheVariants as back
 use Rattle.lard_handoff_back.specs.declared.row.BackRow.{BackRow}
-use Rattle.lard_history.specs.Own.{Has, Letter, Seen}
-use Rattle.lard_history.proofs.Each.{Each, Each-append}
-use Rattle.lard_journal.specs.declared.rec.Rec.{Rec}
+use Rattle.lard_history.specs.Own.{Has, Seen}
+use Rattle.lard_history.proofs.Each.{Each}
 use Rattle.lard_journal.specs.declared.rec.Rec.TheVariants as rec
 use Rattle.lard_message.specs.declared.message.Body.TheVariants as body
 use Rattle.lard_node_rules.specs.Node.{NodePart}
-use Rattle.lard_policy.specs.declared.first.FirstChoice.{FirstChoice}
 use Rattle.lard_resend.specs.declared.kept.Kept.{Kept}
 use Rattle.lard_resend.specs.Pending.{sent_of}
 use Rattle.lard_rules.specs.declared.places.Ending.{Ending}
 use Rattle.lard_rules.specs.declared.places.Turn.{Turn}
 use Rattle.lard_rules.specs.Front.{is_plain_syn, last_words, tombstone}
-use Rattle.lard_rules.specs.Serving.{Service, ready_of, serving, spoken}
-use Rattle.lard_rules.specs.Speaking.{to_client}
+use Rattle.lard_rules.specs.Serving.{ready_of, serving, spoken}
 use Rattle.lard_segment.specs.declared.fault.SegFault.{SegFault}
 use Rattle.lard_segment.specs.Segment.{Said as Segment}
 use Rattle.lard_view.proofs.Endpoints.{AllTo, ready-to}

@@ -1,10 +1,9 @@
 -- The law of places: each rule keeps it, so it holds of each connection in every run.
-use Rattle.std.proofs.Common.{◌≡◌, ◌<◌, ℕ, List, [], ◌∷◌, Some, None, refl, sym, ap, subst}
+use Rattle.std.proofs.Common.{ℕ, List, [], ◌∷◌, refl}
 use Rattle.lard_base.specs.declared.event.Event.{Event}
 use Rattle.lard_base.specs.declared.event.Event.TheVariants as event
 use Rattle.lard_base.specs.declared.place.Place.{Place}
 use Rattle.lard_base.specs.declared.place.Place.TheVariants.{Client, Front, Node}
-use Rattle.lard_cluster_places.specs.Places.{SitsAt}
 use Rattle.lard_cluster_places.proofs.Clients.{client-owes}
 use Rattle.lard_cluster_places.proofs.Front.{IsQuiet}
 use Rattle.lard_cluster_places.proofs.FrontMessages.{admitted-rule, asked-rule, ended-rule, taken-rule}
@@ -12,17 +11,15 @@ use Rattle.lard_cluster_places.proofs.FrontRules.{gets-owe, timer-owes}
 use Rattle.lard_cluster_places.proofs.Node.{plain-turned, stands-owes}
 use Rattle.lard_cluster_places.proofs.NodeEnds.{acknowledged-rule, timer-rule}
 use Rattle.lard_cluster_places.proofs.NodeRules.{content-rule, forwarded-rule, offered-rule, read-rule, tagged-rule}
-use Rattle.lard_cluster_places.proofs.Rows.{IsPlain}
-use Rattle.lard_cluster_places.proofs.Turns.{IsPlaced, Owes, owes-placed}
-use Rattle.lard_cluster_view.specs.Carry.{IsLaw, MayMove}
-use Rattle.lard_cluster_view.specs.View.{ClientRules, Conn, FrontRules, Move, NodeRules, Rules, Setting, UntouchedRules, contents, event_seen, grown, inject_seen, nothing_said, packet_seen, reads_first}
+use Rattle.lard_cluster_places.proofs.Turns.{IsPlaced, Owes}
+use Rattle.lard_cluster_view.specs.Carry.{MayMove}
+use Rattle.lard_cluster_view.specs.View.{ClientRules, Conn, FrontRules, Move, NodeRules, Rules, Setting, contents, event_seen, nothing_said, packet_seen}
 use Rattle.lard_front_rules.specs.Front.{ask_of}
 use Rattle.lard_history.specs.Journal.{request}
-use Rattle.lard_history.specs.Own.{Row, Seen}
+use Rattle.lard_history.specs.Own.{Row}
 use Rattle.lard_journal.specs.declared.rec.Rec.{Rec}
 use Rattle.lard_journal.specs.declared.rec.Rec.TheVariants as rec
 use Rattle.lard_message.specs.declared.message.Body.TheVariants as body
-use Rattle.lard_rules.specs.declared.places.Station.{Station}
 use Rattle.lard_rules.specs.Client.{client_aborts, client_gets, client_holds, client_injects, client_opens, client_shuts, client_takes, client_timer, client_writes}
 use Rattle.lard_segment.specs.declared.segment.Dir.TheVariants.{ToClient, ToCluster}
 use Rattle.lard_segment.specs.Segment.{decoded}
@@ -54,15 +51,15 @@ module _ (k : Setting) (Given : Conn → Type 0) where
   clients : ClientRules k Owing
   clients = record {
     opens = λ x isn iss wnd mss rule none m h. client-owes x _ (open-quiet x isn iss wnd mss) h (record { client = (client_opens x.c isn wnd mss).0; iss = iss }) (client_opens x.c isn wnd mss) (opens-turn x.c isn wnd mss);
-    gets = λ x s path there le m h. client-owes x _ (event-quiet x (event.Get x.c path)) h _ (client_writes s.client (request path)) (writes-turn x.c s.client (m.sound.client s there).0 (request path));
-    writes = λ x s bytes there le m h. client-owes x _ (event-quiet x (event.Write x.c bytes)) h _ (client_writes s.client bytes) (writes-turn x.c s.client (m.sound.client s there).0 bytes);
-    shuts = λ x s there m h. client-owes x _ (event-quiet x (event.Shut x.c)) h _ (client_shuts s.client) (shuts-turn x.c s.client (m.sound.client s there).0);
-    aborts = λ x s there m h. client-owes x _ (event-quiet x (event.Abort x.c)) h _ (client_aborts s.client) (aborts-turn x.c s.client (m.sound.client s there).0);
-    holds = λ x s there m h. client-owes x _ (event-quiet x (event.Hold x.c)) h _ (client_holds s.client) (holds-turn x.c s.client (m.sound.client s there).0);
-    takes = λ x s there m h. client-owes x _ (event-quiet x (event.Take x.c)) h _ (client_takes s.client) (takes-turn x.c s.client (m.sound.client s there).0);
-    fires = λ x s there m h. client-owes x _ (event-quiet x (event.Timer (Client x.c) x.c)) h _ (client_timer s.client) (fires-turn x.c s.client (m.sound.client s there).0);
+    gets = λ x s path there le m h. client-owes x _ (event-quiet x (event.Get x.c path)) h _ (client_writes s.client (request path)) (writes-turn x.c s.client (m.sound.client s there) (request path));
+    writes = λ x s bytes there le m h. client-owes x _ (event-quiet x (event.Write x.c bytes)) h _ (client_writes s.client bytes) (writes-turn x.c s.client (m.sound.client s there) bytes);
+    shuts = λ x s there m h. client-owes x _ (event-quiet x (event.Shut x.c)) h _ (client_shuts s.client) (shuts-turn x.c s.client (m.sound.client s there));
+    aborts = λ x s there m h. client-owes x _ (event-quiet x (event.Abort x.c)) h _ (client_aborts s.client) (aborts-turn x.c s.client (m.sound.client s there));
+    holds = λ x s there m h. client-owes x _ (event-quiet x (event.Hold x.c)) h _ (client_holds s.client) (holds-turn x.c s.client (m.sound.client s there));
+    takes = λ x s there m h. client-owes x _ (event-quiet x (event.Take x.c)) h _ (client_takes s.client) (takes-turn x.c s.client (m.sound.client s there));
+    fires = λ x s there m h. client-owes x _ (event-quiet x (event.Timer (Client x.c) x.c)) h _ (client_timer s.client) (fires-turn x.c s.client (m.sound.client s there));
     hears = λ x s from bytes there was m h. client-owes x _ (packet-quiet x from (Client x.c) bytes) h _ (client_gets s.client (decoded bytes x.c ToClient))
-        (hears-turn x.c s.client (m.sound.client s there).0 (decoded bytes x.c ToClient));
+        (hears-turn x.c s.client (m.sound.client s there) (decoded bytes x.c ToClient));
   }
 
   fronts : FrontRules k Owing
@@ -109,5 +106,5 @@ module _ (k : Setting) (Given : Conn → Type 0) where
       node = nodes;
       ignores = λ x from to bytes was m h. stands-owes x _ (packet-quiet x from to bytes) h to nothing_said (plain-turned x _ (packet-quiet x from to bytes) to [] [] tt tt) tt;
     };
-    injects = λ x s bytes there rule m h. client-owes x _ (two-quiet x (event.Inject x.c bytes) (rec.Injected x.c)) h _ (client_injects s.client bytes) (injects-turn x.c s.client (m.sound.client s there).0 bytes);
+    injects = λ x s bytes there rule m h. client-owes x _ (two-quiet x (event.Inject x.c bytes) (rec.Injected x.c)) h _ (client_injects s.client bytes) (injects-turn x.c s.client (m.sound.client s there) bytes);
   }

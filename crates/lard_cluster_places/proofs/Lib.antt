@@ -10,5 +10,6 @@ pub mod Node
 pub mod NodeEnds
 pub mod NodeRules
 pub mod Rows
+pub mod Runs
 pub mod Telling
 pub mod Turns

@@ -1,29 +1,25 @@
 -- What a turn of a node owes.
-use Rattle.std.proofs.Common.{◌≡◌, ◌≢◌, ◌⊎◌, ℕ, ◌+◌, ◌<◌, ◌≤◌, ◌^◌, ◌==◌, Bool, true, false, cond, List, [], ◌∷◌, ◌++◌, map, Option, Some, None, inl, inr, ⊎_elim, refl, sym, ap, ◌∙◌, subst, arith, eqb-true, eq-eqb}
+use Rattle.std.proofs.Common.{◌≡◌, ℕ, List, [], ◌∷◌, ◌++◌, Option, Some, None, inl, inr, refl, sym, ap, ◌∙◌, subst, arith}
 use Rattle.lard_base.specs.declared.place.Place.{Place}
 use Rattle.lard_base.specs.declared.place.Place.TheVariants.{Client, Front, Node}
-use Rattle.lard_cluster_places.specs.Places.{IsComing, IsDecided, IsLeft, IsOver, IsPast, IsThere, LetterMay, MaySay, OthersArePast, Owning, Owns, Sits, StageSits, head_of, owning}
+use Rattle.lard_cluster_places.specs.Places.{IsOver, MaySay, Owning, Owns, Sits, owning}
 use Rattle.lard_cluster_places.proofs.Front.{IsQuiet, Tells, turn-letters}
-use Rattle.lard_cluster_places.proofs.Growing.{BackGrows, FrontGrows, Grows, back-still, front-still, grows-still, put-each, put-same}
+use Rattle.lard_cluster_places.proofs.Growing.{BackGrows, back-still, front-still, grows-still, put-each, put-same}
 use Rattle.lard_cluster_places.proofs.Heads.{spelled-head, spelled-some}
-use Rattle.lard_cluster_places.proofs.Rows.{IsPlain, OwnsBy, after_all, plain-after, plain-named, plain-owns}
+use Rattle.lard_cluster_places.proofs.Rows.{IsPlain, OwnsBy, after_all, plain-after, plain-owns}
 use Rattle.lard_cluster_places.proofs.Turns.{IsPlaced, Owes, Turned, timers-plain, turned-after, turned-owns}
 use Rattle.lard_cluster_view.specs.Carry.{tale_at}
-use Rattle.lard_cluster_view.specs.View.{Conn, IsMachine, Move, Part, Said, by_node, named, node_does, node_put, nothing_said, stands, with_node}
+use Rattle.lard_cluster_view.specs.View.{Conn, IsMachine, Part, Said, by_node, named, node_does, node_put, nothing_said, stands, with_node}
 use Rattle.lard_handoff_back.specs.declared.row.BackConn.{BackConn}
 use Rattle.lard_handoff_back.specs.declared.row.BackConn.TheVariants as back
 use Rattle.lard_handoff_back.specs.declared.row.BackRow.{BackRow}
-use Rattle.lard_handoff_front.specs.declared.row.FrontRow.{FrontRow}
 use Rattle.lard_history.specs.Own.{Seen}
 use Rattle.lard_history.proofs.Each.{Each, Each-append}
 use Rattle.lard_journal.specs.declared.rec.Rec.{Rec}
-use Rattle.lard_journal.specs.declared.rec.Rec.TheVariants as rec
-use Rattle.lard_node_rules.specs.declared.node.NodeTurn.{NodeTurn}
 use Rattle.lard_node_rules.specs.declared.stay.Asked.{Asked}
 use Rattle.lard_node_rules.specs.declared.stay.Want.{Want}
-use Rattle.lard_node_rules.specs.Node.{Deed, Drops, Says, Does, NodePart, all_sent, asked_sent, count_of, ended_kept, ended_sent, fetch_of, gave_by, kept_after, turn_by, wants_sent}
+use Rattle.lard_node_rules.specs.Node.{Drops, Says, Does, NodePart, all_sent, asked_sent, ended_sent, gave_by, kept_after, turn_by, wants_sent}
 use Rattle.lard_node_rules.specs.Stay.{NodeEnv, Work}
-use Rattle.lard_resend.specs.Pending.{sent_of}
 use Rattle.lard_rules.specs.declared.places.Ending.{Ending}
 use Rattle.lard_rules.specs.declared.places.Ending.TheVariants as ending
 use Rattle.lard_rules.specs.declared.places.Turn.{Turn}
@@ -150,6 +146,8 @@ module _ (x : Conn) (heads : List Seen) (quiet : IsQuiet x heads) (n : ℕ) (env
         then = ap (λ (o : Owning). after_all o (gave_by env (ending.Over last))) then;
       })
       (can.sits v q back.Ended refl refl epoch) (can.grows back.Ended)
-      (Each-append (Tells p (Node n)) msgs end (all-tells p before k (tells q back.Ended refl))
-      (subst (λ h. MaySay p (Node n) Front h) (sym (spelled-head _ (omega (arith, can.two))))
-      (subst (λ (r : NodePart). IsOver env.epoch r.row) (sym (put-same x.part.nodes n q)) (omega arith, λ same. tt)), tt))
+      (Each-append (Tells p (Node n)) msgs end (all-tells p before k (tells q back.Ended refl)) (
+        subst (λ h. MaySay p (Node n) Front h) (sym (spelled-head _ (omega (arith, can.two))))
+            (subst (λ (r : NodePart). IsOver env.epoch r.row) (sym (put-same x.part.nodes n q)) (omega arith, λ same. tt)),
+        tt,
+      ))

@@ -1,8 +1,8 @@
 -- A node's timers, and the acknowledgement of an end.
-use Rattle.std.proofs.Common.{◌≡◌, ◌≢◌, ◌⊎◌, ℕ, ◌<◌, ◌≤◌, ◌==◌, ◌&&◌, Bool, true, false, cond, List, [], ◌∷◌, ◌++◌, map, option_map, Option, Some, None, inl, inr, ⊎_elim, refl, sym, ap, ◌∙◌, subst, arith, eqb-true, eq-eqb}
-use Rattle.std.proofs.lemmas.Bool.{and_parts, cond_both}
+use Rattle.std.proofs.Common.{◌≡◌, ◌≢◌, ℕ, Bool, true, false, cond, List, [], ◌∷◌, ◌++◌, Option, Some, None, inl, inr, ⊎_elim, refl, sym, ap, ◌∙◌, subst, arith, eqb-true}
+use Rattle.std.proofs.lemmas.Bool.{and_parts}
 use Rattle.lard_base.specs.declared.place.Place.{Place}
-use Rattle.lard_base.specs.declared.place.Place.TheVariants.{Client, Front, Node}
+use Rattle.lard_base.specs.declared.place.Place.TheVariants.{Front, Node}
 use Rattle.lard_base.specs.declared.place.TimerKind.TheVariants as kind
 use Rattle.lard_cluster_places.specs.Places.{ArePast, HasEnded, IsComing, IsLeft, IsPast, IsThere, OthersArePast, Owning, Sits, StageSits, owning}
 use Rattle.lard_cluster_places.proofs.Front.{IsQuiet, Tells}
@@ -10,11 +10,11 @@ use Rattle.lard_cluster_places.proofs.FrontMessages.{came-says}
 use Rattle.lard_cluster_places.proofs.FrontRules.{resent-machines, resent-tells}
 use Rattle.lard_cluster_places.proofs.Growing.{BackGrows, Grows, back-still, front-still, may_say-grows, put-each}
 use Rattle.lard_cluster_places.proofs.Loops.{spoken-to}
-use Rattle.lard_cluster_places.proofs.Node.{CanSit, node-drops, node-owes, node-says, plain-turned}
-use Rattle.lard_cluster_places.proofs.NodeRules.{HasIt, by-node, has-at, turn-owes}
+use Rattle.lard_cluster_places.proofs.Node.{node-drops, node-owes, node-says, plain-turned}
+use Rattle.lard_cluster_places.proofs.NodeRules.{HasIt, has-at, turn-owes}
 use Rattle.lard_cluster_places.proofs.Turns.{IsPlaced, Owes}
 use Rattle.lard_cluster_view.specs.Carry.{tale_at}
-use Rattle.lard_cluster_view.specs.View.{AreSent, Conn, IsMachine, IsNodeEnv, IsSound, Part, Setting, Spells, Was, by_node, epoch_in, node_does, node_put, with_node}
+use Rattle.lard_cluster_view.specs.View.{AreSent, Conn, IsMachine, IsNodeEnv, IsSound, Setting, Spells, Was, by_node, epoch_in, node_does, node_put, with_node}
 use Rattle.lard_endpoint.specs.Control.{ControlBlock}
 use Rattle.lard_endpoint.specs.Leaving.{after_timer, timed}
 use Rattle.lard_handoff_back.specs.declared.row.BackConn.{BackConn}
@@ -26,21 +26,20 @@ use Rattle.lard_handoff_front.specs.declared.row.FrontConn.{FrontConn}
 use Rattle.lard_handoff_front.specs.declared.row.FrontConn.TheVariants as stage
 use Rattle.lard_handoff_front.specs.declared.row.FrontRow.{FrontRow}
 use Rattle.lard_history.specs.Own.{Seen}
-use Rattle.lard_history.proofs.Each.{Each, Each-append, Each-weaker}
+use Rattle.lard_history.proofs.Each.{Each, Each-weaker}
 use Rattle.lard_message.specs.declared.message.Body.TheVariants as body
 use Rattle.lard_node_rules.specs.declared.stay.Stay.{Stay}
-use Rattle.lard_node_rules.specs.Node.{Deed, Drops, Says, Does, NodePart, again_sent, both_of, fired, fired_by, gone, node_acknowledged, node_timer, saying, work_of}
+use Rattle.lard_node_rules.specs.Node.{Deed, Drops, Does, NodePart, again_sent, both_of, fired, fired_by, gone, node_acknowledged, node_timer, saying, work_of}
 use Rattle.lard_node_rules.specs.Stay.{NodeEnv}
 use Rattle.lard_resend.specs.declared.kept.Kept.{Kept}
 use Rattle.lard_resend.specs.Kept.{without}
-use Rattle.lard_resend.specs.Pending.{sent_of}
 use Rattle.lard_rules.specs.Serving.{ready_of, serving, spoken}
 use Rattle.lard_view.proofs.Endpoints.{ready-to}
 
 -- ---- an end that is acknowledged
 
 module _ (x : Conn) (held : IsPlaced x) (n : ℕ) (row : BackRow) (found : (x.part.nodes n).row ≡ Some row) (left : IsLeft row.stage) (ended : HasEnded row.epoch.0 x.part.front.row) (q : NodePart)
-  (is : q.row ≡ Some (record row { stage = back.Gone })) where
+    (is : q.row ≡ Some (record row { stage = back.Gone })) where
   abbrev w : Owning
   w = owning (tale_at x)
 
@@ -67,8 +66,12 @@ module _ (x : Conn) (held : IsPlaced x) (n : ℕ) (row : BackRow) (found : (x.pa
       omega (arith, here.0, before, same)
 
   coming-past : (m e : ℕ) → IsComing e w (nodes m).row → IsComing e w (node_put nodes n q m).row
-  coming-past m e coming = (coming.0, coming.1, put-each nodes n q (λ j r. j ≡ m → IsPast e r.row) (λ same. gone-past e (subst (λ (i : ℕ). IsPast e (nodes i).row) (sym same) coming.2))
-      (λ j no same. subst (λ (i : ℕ). IsPast e (nodes i).row) (sym same) coming.2) m refl)
+  coming-past m e coming = (
+    coming.0,
+    coming.1,
+    put-each nodes n q (λ j r. j ≡ m → IsPast e r.row) (λ same. gone-past e (subst (λ (i : ℕ). IsPast e (nodes i).row) (sym same) coming.2))
+        (λ j no same. subst (λ (i : ℕ). IsPast e (nodes i).row) (sym same) coming.2) m refl,
+  )
 
   stage-gone : (f : FrontRow) → x.part.front.row ≡ Some f → (st : FrontConn) → StageSits f.epoch.0 w nodes st → StageSits f.epoch.0 w (node_put nodes n q) st
   stage-gone f at (stage.Held b) s = (s.0, (s.1.0, all-past f.epoch.0 s.1.1))
@@ -79,7 +82,7 @@ module _ (x : Conn) (held : IsPlaced x) (n : ℕ) (row : BackRow) (found : (x.pa
     s.1,
     others-past m f.epoch.0 s.2,
     ⊎_elim (λ (coming : IsComing f.epoch.0 w (nodes m).row). inl (coming-past m f.epoch.0 coming))
-    (λ (there : IsThere m f.epoch.0 w (nodes m).row). inr (other-there m f.epoch.0 (not-there m f.epoch.0 f at refl there) there)) s.3,
+        (λ (there : IsThere m f.epoch.0 w (nodes m).row). inr (other-there m f.epoch.0 (not-there m f.epoch.0 f at refl there) there)) s.3,
   )
   stage-gone f at (stage.Moved m d) s = (s.0, s.1, others-past m f.epoch.0 s.2, other-there m f.epoch.0 (not-there m f.epoch.0 f at refl s.3) s.3)
   stage-gone f at (stage.Closed last) s = (s.0, (s.1.0, all-past f.epoch.0 s.1.1))

@@ -1,5 +1,5 @@
 -- The rules of a node, one by one.
-use Rattle.std.proofs.Common.{◌≡◌, ◌≢◌, ◌⊎◌, ℕ, ◌+◌, ◌<◌, ◌≤◌, ◌^◌, ◌==◌, ◌&&◌, nat_lt, Bool, true, false, cond, List, [], ◌∷◌, ◌++◌, map, length, option_map, Option, Some, None, Result, Ok, Err, inl, inr, ⊎_elim, refl, sym, ap, ◌∙◌, subst, arith, eqb-true, eq-eqb}
+use Rattle.std.proofs.Common.{◌≡◌, ◌≢◌, ◌⊎◌, ℕ, ◌<◌, ◌≤◌, ◌==◌, ◌&&◌, nat_lt, Bool, true, false, cond, List, [], ◌∷◌, ◌++◌, option_map, Option, Some, None, Result, Ok, Err, inr, ⊎_elim, refl, sym, ap, ◌∙◌, subst, arith, eqb-true, eq-eqb}
 use Rattle.std.proofs.lemmas.Bool.{and_parts, cond_both, ltb-true}
 use Rattle.std.specs.List.{find}
 use Rattle.lard_base.specs.declared.ids.Epoch.{Epoch}
@@ -7,28 +7,26 @@ use Rattle.lard_base.specs.declared.parts.EndpointParts.{EndpointParts}
 use Rattle.lard_base.specs.declared.place.Place.{Place}
 use Rattle.lard_base.specs.declared.place.Place.TheVariants.{Client, Front, Node}
 use Rattle.lard_base.specs.declared.place.TimerKind.TheVariants as kind
-use Rattle.lard_cluster_places.specs.Places.{ArePast, HasEnded, IsComing, IsDecided, IsHome, IsLeft, IsOffered, IsPast, IsThere, LetterMay, MaySay, Offers, OthersArePast, Owning, Owns, Sits, StageSits, head_of, owning}
+use Rattle.lard_cluster_places.specs.Places.{IsComing, IsDecided, IsLeft, IsOffered, IsPast, IsThere, MaySay, Offers, OthersArePast, Owning, Owns, Sits, StageSits, owning}
 use Rattle.lard_cluster_places.proofs.Front.{IsQuiet, Tells}
 use Rattle.lard_cluster_places.proofs.FrontMessages.{came-says}
-use Rattle.lard_cluster_places.proofs.FrontRules.{resent-machines, resent-tells, small}
-use Rattle.lard_cluster_places.proofs.Growing.{BackGrows, back-still, may_say-grows, put-each, put-same}
+use Rattle.lard_cluster_places.proofs.FrontRules.{small}
+use Rattle.lard_cluster_places.proofs.Growing.{BackGrows, put-each, put-same}
 use Rattle.lard_cluster_places.proofs.Heads.{spelled-head}
-use Rattle.lard_cluster_places.proofs.Loops.{batch-state, came-notes, goes-notes, settled-is, spoken-to, tagged-notes}
-use Rattle.lard_cluster_places.proofs.Node.{CanSit, node-drops, node-owes, node-says, rests-owe}
+use Rattle.lard_cluster_places.proofs.Loops.{batch-state, came-notes, goes-notes, settled-is, tagged-notes}
+use Rattle.lard_cluster_places.proofs.Node.{CanSit, node-drops, node-says, rests-owe}
 use Rattle.lard_cluster_places.proofs.Rows.{IsPlain, OwnsBy, after_all, plain-after, plain-named, plain-owns}
-use Rattle.lard_cluster_places.proofs.Turns.{IsPlaced, Owes, Turned}
+use Rattle.lard_cluster_places.proofs.Turns.{IsPlaced, Owes}
 use Rattle.lard_cluster_view.specs.Carry.{tale_at}
-use Rattle.lard_cluster_view.specs.View.{AreSent, Conn, IsMachine, IsNodeEnv, IsSound, Part, Setting, Spells, Was, epoch_in, named, node_does, node_put, with_node}
+use Rattle.lard_cluster_view.specs.View.{Conn, IsMachine, IsNodeEnv, Setting, Spells, Was, named, node_does, node_put, with_node}
 use Rattle.lard_endpoint.specs.Arriving.{on_segment}
 use Rattle.lard_endpoint.specs.Control.{ControlBlock}
-use Rattle.lard_endpoint.specs.Leaving.{after_timer, timed}
 use Rattle.lard_handoff_back.specs.declared.row.BackConn.{BackConn}
 use Rattle.lard_handoff_back.specs.declared.row.BackConn.TheVariants as back
 use Rattle.lard_handoff_back.specs.declared.row.BackRow.{BackRow}
-use Rattle.lard_handoff_back.specs.declared.table.Adopt.{Adopt}
 use Rattle.lard_handoff_back.specs.declared.table.Adopt.TheVariants.{New, Again, Stale}
-use Rattle.lard_handoff_back.specs.Back.{awaits_ack, endpoint_of, offer_answer, staying}
-use Rattle.lard_handoff_back.specs.Row.{held_in, is_ended, is_gone}
+use Rattle.lard_handoff_back.specs.Back.{offer_answer, staying}
+use Rattle.lard_handoff_back.specs.Row.{held_in, is_gone}
 use Rattle.lard_handoff_front.specs.declared.row.FrontConn.{FrontConn}
 use Rattle.lard_handoff_front.specs.declared.row.FrontConn.TheVariants as stage
 use Rattle.lard_handoff_front.specs.declared.row.FrontRow.{FrontRow}
@@ -38,19 +36,17 @@ use Rattle.lard_journal.specs.declared.rec.Rec.{Rec}
 use Rattle.lard_journal.specs.declared.rec.Rec.TheVariants as rec
 use Rattle.lard_lateral.specs.Lateral.{is_from}
 use Rattle.lard_message.specs.declared.message.Body.TheVariants as body
-use Rattle.lard_node_rules.specs.declared.stay.Progress.{Progress}
 use Rattle.lard_node_rules.specs.declared.stay.Stay.{Stay}
-use Rattle.lard_node_rules.specs.Node.{Deed, Drops, Says, Does, NodePart, again_sent, begins, both_of, come_by, fired, fired_by, gone, heard_by, here, is_awaited, node_acknowledged, node_content, node_forwarded, node_offered, node_read, node_tagged, node_timer, kept_after, offered_by, read_by, saying, tagged_by, taken_sent, turn_by, with_work, work_of}
+use Rattle.lard_node_rules.specs.Node.{Deed, Drops, Says, Does, NodePart, begins, both_of, come_by, heard_by, here, is_awaited, node_content, node_forwarded, node_offered, node_read, node_tagged, kept_after, offered_by, read_by, tagged_by, taken_sent, turn_by, with_work, work_of}
 use Rattle.lard_node_rules.specs.Stay.{NodeEnv, Work, came_for, come_progress, goes_on, read_progress, reads_batch, tagged}
 use Rattle.lard_resend.specs.Kept.{is_under, without}
-use Rattle.lard_resend.specs.Pending.{sent_of}
 use Rattle.lard_rules.specs.declared.places.Ending.{Ending}
 use Rattle.lard_rules.specs.declared.places.Turn.{Turn}
 use Rattle.lard_rules.specs.Loop.{state_of}
-use Rattle.lard_rules.specs.Serving.{ready_of, serving, settled, spoken}
+use Rattle.lard_rules.specs.Serving.{settled}
 use Rattle.lard_segment.specs.declared.fault.SegFault.{SegFault}
 use Rattle.lard_segment.specs.Segment.{Said as Segment}
-use Rattle.lard_view.proofs.Endpoints.{AllTo, ready-to}
+use Rattle.lard_view.proofs.Endpoints.{AllTo}
 
 -- ---- where a node's row stands
 
@@ -119,10 +115,12 @@ module _ (x : Conn) (held : IsPlaced x) where
       → ((v : Owning) (ps : ℕ → NodePart) → OthersArePast n f.epoch.0 ps → IsThere n f.epoch.0 v (ps n).row → StageSits f.epoch.0 v ps st)
       → (v : Owning) (q : NodePart) (b : BackConn) → q.row ≡ Some (record { stage = b; epoch = record { 0 = e } }) → Owns n b v.owner → v.epoch ≡ e → Sits v (node_put nodes n q) x.part.front.row
   offering-sits f n e found st at s same others make v q b is owns epoch =
-      subst (Sits v (node_put nodes n q)) (sym found) (subst (StageSits f.epoch.0 v (node_put nodes n q)) (sym at) (make v (node_put nodes n q)
-      (subst (λ (d : ℕ). OthersArePast n d (node_put nodes n q)) (sym same) (others-put n e q others))
-      (subst (λ (d : ℕ). IsThere n d v (node_put nodes n q n).row) (sym same) (put-there n e v q b is owns epoch))),
-      let h : Sits w nodes (Some f) = subst (Sits w nodes) found held.sits in h.1)
+      subst (Sits v (node_put nodes n q)) (sym found) (
+        subst (StageSits f.epoch.0 v (node_put nodes n q)) (sym at) (make v (node_put nodes n q)
+            (subst (λ (d : ℕ). OthersArePast n d (node_put nodes n q)) (sym same) (others-put n e q others))
+            (subst (λ (d : ℕ). IsThere n d v (node_put nodes n q n).row) (sym same) (put-there n e v q b is owns epoch))),
+        let h : Sits w nodes (Some f) = subst (Sits w nodes) found held.sits in h.1,
+      )
 
   has-there : (f : FrontRow) (n : ℕ) (row : BackRow) (b : ControlBlock) → x.part.front.row ≡ Some f → (nodes n).row ≡ Some row → row.stage ≡ back.Here b → (st : FrontConn) → f.stage ≡ st
       → StageSits f.epoch.0 w nodes st → f.epoch.0 ≡ 2 → OthersArePast n f.epoch.0 nodes → IsThere n f.epoch.0 w (nodes n).row
@@ -285,8 +283,11 @@ module _ (k : Setting) (x : Conn) (heads : List Seen) (quiet : IsQuiet x heads) 
       (subst (λ (l : List Rec). OwnsBy x.c owned (named l)) (sym notes) ((is.number, before, free), plain-owns x.c u (named all.0) plain))
       (subst (λ (l : List Rec). after_all owned (named l) ≡ u) (sym notes) (plain-after u (named all.0) plain))
       done.to (tt, tt)
-      (λ q st row. (subst (λ h. MaySay (with_node x.part n q) (Node n) Front h) (sym (spelled-head _ (omega (arith, can.two))))
-      (subst (λ (r : NodePart). IsDecided env.epoch r.row) (sym (put-same x.part.nodes n q)) (subst (IsDecided env.epoch) (sym row) (omega arith))), tt))
+      (λ q st row. (
+        subst (λ h. MaySay (with_node x.part n q) (Node n) Front h) (sym (spelled-head _ (omega (arith, can.two))))
+            (subst (λ (r : NodePart). IsDecided env.epoch r.row) (sym (put-same x.part.nodes n q)) (subst (IsDecided env.epoch) (sym row) (omega arith))),
+        tt,
+      ))
 
   -- an Offer of this epoch that is on its way to this node
   comes-owe : (parts : EndpointParts) (f : FrontRow) (d : Epoch) → x.part.front.row ≡ Some f → f.stage ≡ stage.Offering n d → d.0 ≡ env.epoch → (IsThere n f.epoch.0 owned ours.row → ⊥) → Owed (offered_by env parts ours New)

@@ -1,6 +1,5 @@
 -- What the records of a turn do to who owns a connection: the law of owners and senders, of one connection's own records.
-use Rattle.std.proofs.Common.{◌≡◌, ℕ, ◌<◌, List, [], ◌∷◌, ◌++◌, map, filter, Bool, true, false, cond, Option, Some, None, is_some, refl, sym, ap, ◌∙◌, subst, nat_eq, ◌⊎◌, inl, inr, ⊎_elim}
-use Rattle.std.proofs.lemmas.List.Sums.{fold-append}
+use Rattle.std.proofs.Common.{◌≡◌, ℕ, ◌<◌, List, [], ◌∷◌, ◌++◌, map, Bool, true, false, cond, Some, None, is_some, refl, sym, ap, ◌∙◌, subst, nat_eq}
 use Rattle.std.specs.List.{fold}
 use Rattle.lard_base.specs.declared.place.Place.{Place}
 use Rattle.lard_base.specs.declared.place.Place.TheVariants.{Client, Front, Node}
@@ -9,7 +8,7 @@ use Rattle.lard_cluster_places.specs.Places.{Owning, owning}
 use Rattle.lard_cluster_view.specs.View.{IsMachine, named, sending}
 use Rattle.lard_history.specs.Journal.{Tale, tale_step, told_on}
 use Rattle.lard_history.specs.Own.{whose}
-use Rattle.lard_history.proofs.Each.{Each, Each-append}
+use Rattle.lard_history.proofs.Each.{Each}
 use Rattle.lard_history.proofs.Seeing.{same_number}
 use Rattle.lard_journal.specs.declared.rec.Rec.{Rec}
 use Rattle.lard_journal.specs.declared.rec.Rec.TheVariants as rec

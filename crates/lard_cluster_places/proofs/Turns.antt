@@ -1,5 +1,5 @@
 -- What a move owes: its records may stand, and behind them the connection sits where they say.
-use Rattle.std.proofs.Common.{◌≡◌, ◌⊎◌, ℕ, List, [], ◌∷◌, ◌++◌, map, flat_map, Bool, false, Option, Some, None, inl, inr, ⊎_elim, refl, sym, ap, ◌∙◌, subst}
+use Rattle.std.proofs.Common.{◌≡◌, ◌⊎◌, ℕ, List, [], ◌∷◌, ◌++◌, map, flat_map, Some, None, ⊎_elim, sym, ap, ◌∙◌, subst}
 use Rattle.std.proofs.lemmas.List.Sums.{fold-append}
 use Rattle.std.specs.List.{fold}
 use Rattle.lard_base.specs.declared.place.Place.{Place}
@@ -8,17 +8,17 @@ use Rattle.lard_base.specs.declared.place.TimerKind.{TimerKind}
 use Rattle.lard_base.specs.declared.place.TimerKind.TheVariants as kind
 use Rattle.lard_cluster_places.specs.Places.{LetterMay, Owning, Sits, SitsAt, owning}
 use Rattle.lard_cluster_places.proofs.Growing.{Grows, letters-grow}
-use Rattle.lard_cluster_places.proofs.Rows.{IsPlain, MayStand, OwnsBy, after_all, change-owns, client-owns, machines-own, owner-owns, owns-append, owns-told, plain-after, plain-owns, sends-after}
+use Rattle.lard_cluster_places.proofs.Rows.{IsPlain, MayStand, OwnsBy, after_all, change-owns, machines-own, owner-owns, owns-append, owns-told, plain-after, plain-owns, sends-after}
 use Rattle.lard_cluster_view.specs.Carry.{tale_at}
 use Rattle.lard_cluster_view.specs.View.{Conn, IsMachine, Move, Part, Said, grown, letters_of, rows_of, seen_in, sending, station_armed, timer_rows}
-use Rattle.lard_front_rules.specs.Front.{FrontPart, front_armed}
+use Rattle.lard_front_rules.specs.Front.{front_armed}
 use Rattle.lard_history.specs.Journal.{Tale, tale_step, told_on, untold}
 use Rattle.lard_history.specs.Own.{EachRow, Row, seen_step}
 use Rattle.lard_history.proofs.Each.{Each, Each-append}
 use Rattle.lard_history.proofs.Lifting.{each_row-append}
 use Rattle.lard_journal.specs.declared.rec.Rec.{Rec}
-use Rattle.lard_node_rules.specs.Node.{NodePart, node_armed}
-use Rattle.lard_rules.specs.Outs.{kind_change, kinds, timer_change}
+use Rattle.lard_node_rules.specs.Node.{node_armed}
+use Rattle.lard_rules.specs.Outs.{kind_change, kinds}
 use Rattle.lard_view.proofs.Endpoints.{AllTo}
 use Rattle.lard_view.specs.Carry.{TellsBy}
 use Rattle.lard_view.proofs.Rows.{MayBeSeen, each_row-told, seen-rows}
