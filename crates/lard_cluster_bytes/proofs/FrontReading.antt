@@ -1,14 +1,14 @@
 -- The front end reads until a request is good: what it answers is the first to what the client wrote, and nothing waits.
-use Rattle.std.proofs.Common.{◌≡◌, ◌≤◌, ◌+◌, ◌-◌, ◌^◌, ℕ, Bool, true, false, cond, ◌||◌, List, [], ◌∷◌, ◌++◌, length, take, drop, Option, Some, None, arith, refl, ap, ◌∙◌, sym, subst}
+use Rattle.std.proofs.Common.{◌≡◌, ◌≤◌, ◌+◌, ◌^◌, ℕ, false, List, [], ◌∷◌, length, take, drop, Option, Some, None, refl, subst}
 use Rattle.std.proofs.lemmas.Bool.{both_ways, cond_both}
-use Rattle.lard_answers.specs.Answers.{IsPrefix, closes_any, good_path, verdicts, verdicts_on}
+use Rattle.lard_answers.specs.Answers.{good_path}
 use Rattle.lard_base.specs.declared.place.Via.TheVariants.{Own}
 use Rattle.lard_block.specs.declared.block.Found.{Found}
 use Rattle.lard_block.specs.declared.block.Found.TheVariants as found
-use Rattle.lard_block.specs.Blocks.{Cuts, Head, cut_of}
+use Rattle.lard_block.specs.Blocks.{Head, cut_of}
 use Rattle.lard_block.proofs.Division.{cuts-block}
 use Rattle.lard_cluster_bytes.specs.Agreement.{HasRead}
-use Rattle.lard_cluster_bytes.specs.Turning.{IsReading, Serves}
+use Rattle.lard_cluster_bytes.specs.Turning.{IsReading}
 use Rattle.lard_cluster_bytes.proofs.Reading.{read-alone}
 use Rattle.lard_cluster_bytes.proofs.Serving.{MayGo, So, answered-serves, consumed-serves, ended-serves, go-on, left_of, may-go}
 use Rattle.lard_endpoint.specs.Control.{ControlBlock, consuming}
@@ -18,9 +18,9 @@ use Rattle.lard_laws_bytes.proofs.ReadingBytes.{IsJudged, begins-block, begins-l
 use Rattle.lard_request.specs.declared.verdict.Code.TheVariants as code
 use Rattle.lard_request.specs.declared.verdict.Verdict.{Verdict}
 use Rattle.lard_request.specs.declared.verdict.Verdict.TheVariants.{Fault}
-use Rattle.lard_request.specs.Verdict.{closes, verdict}
+use Rattle.lard_request.specs.Verdict.{verdict}
 use Rattle.lard_rules.specs.Loop.{Step, More, Done}
-use Rattle.lard_rules.specs.Serving.{ServeEnv, Service, answered, consumed, ended_at_fin, may_read}
+use Rattle.lard_rules.specs.Serving.{ServeEnv, Service, answered, consumed, may_read}
 use Rattle.lard_rules.proofs.Runs.{runs_keep}
 use Rattle.lard_truth.specs.Truth.{Hears, Stream}
 

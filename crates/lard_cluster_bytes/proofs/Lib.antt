@@ -4,3 +4,4 @@ pub mod Reading
 pub mod Serving
 pub mod Wide
 pub mod Working
+pub mod Stays

@@ -1,22 +1,22 @@
 -- What was read and what is answered of it: while segments come, while a batch is read, and while its requests are served in order.
-use Rattle.std.proofs.Common.{◌≡◌, ◌≤◌, ◌<◌, ◌+◌, ◌-◌, ◌^◌, ℕ, zero, suc, Bool, true, false, cond, not, ◌&&◌, ◌||◌, nat_lt, List, [], ◌∷◌, ◌++◌, length, take, drop, Option, Some, None, arith, refl, ap, ◌∙◌, sym, subst, append_assoc, append-nil, length-append}
-use Rattle.std.proofs.lemmas.Bool.{both_ways, cond_both, cond-false, or_parts}
+use Rattle.std.proofs.Common.{◌≡◌, ℕ, Bool, true, false, cond, ◌||◌, List, [], ◌∷◌, ◌++◌, length, take, drop, arith, refl, ap, ◌∙◌, sym, subst, append_assoc, append-nil, length-append}
+use Rattle.std.proofs.lemmas.Bool.{both_ways, cond_both, cond-false}
 use Rattle.std.proofs.lemmas.List.{take-append-drop}
 use Rattle.std.proofs.lemmas.List.Folds.{list_any-append}
 use Rattle.lard_answers.specs.Answers.{IsPrefix, closes_any, until_close, verdicts, verdicts_on}
 use Rattle.lard_answers.proofs.Following.{until_close-behind}
 use Rattle.lard_answers.proofs.Growing.{IsPrefix-trans, until_close-cons, until_close-nil, verdicts-are, verdicts-grow}
-use Rattle.lard_block.specs.Blocks.{Cuts, blocks}
+use Rattle.lard_block.specs.Blocks.{blocks}
 use Rattle.lard_block.proofs.Skips.{cuts-pairs}
 use Rattle.lard_cluster_bytes.specs.Agreement.{HasRead}
 use Rattle.lard_endpoint.specs.Arriving.{on_segment}
-use Rattle.lard_endpoint.specs.Control.{ControlBlock, consuming, discarding_on, finishing, queueing}
+use Rattle.lard_endpoint.specs.Control.{ControlBlock, consuming, discarding_on, finishing}
 use Rattle.lard_laws_bytes.specs.Agreement as one
 use Rattle.lard_laws_bytes.proofs.FrontEndpoint.{IsBetween, same-finished, segment-takes}
 use Rattle.lard_laws_bytes.proofs.ReadingBytes.{IsJudged, place, read-judged, read-split}
 use Rattle.lard_reader.specs.Batches.{batch_of, batch_pieces, bytes_used}
 use Rattle.lard_reader.proofs.Taken.{batch-open_cut, batch-verdicts}
-use Rattle.lard_recv.specs.Recv.{Received, arrived, awaited, begins_after, ends, fresh, taken}
+use Rattle.lard_recv.specs.Recv.{Received, awaited, begins_after, ends, fresh, taken}
 use Rattle.lard_request.specs.declared.verdict.Verdict.{Verdict}
 use Rattle.lard_request.specs.Verdict.{closes}
 use Rattle.lard_rules.specs.Serving.{closed_behind}

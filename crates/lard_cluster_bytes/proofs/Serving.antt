@@ -6,10 +6,10 @@ use Rattle.std.proofs.lemmas.List.{map-append}
 use Rattle.std.proofs.lemmas.List.Folds.{concat-append, list_any-append}
 use Rattle.lard_answers.specs.Answers.{FilesAt, IsPrefix, answer, answer_code, verdicts}
 use Rattle.lard_base.specs.declared.place.Via.{Via}
-use Rattle.lard_cluster_bytes.specs.Agreement.{HasRead, IsWide}
+use Rattle.lard_cluster_bytes.specs.Agreement.{HasRead}
 use Rattle.lard_cluster_bytes.specs.Turning.{Counts, IsNoteOf, IsReading, Serves}
 use Rattle.lard_cluster_bytes.proofs.Reading.{IsFirst, first-fronts, first-read}
-use Rattle.lard_cluster_bytes.proofs.Wide.{closed-wide, half-wide, wide-half}
+use Rattle.lard_cluster_bytes.proofs.Wide.{closed-wide, wide-half}
 use Rattle.lard_endpoint.specs.Control.{ControlBlock, consuming, discarding_on, finishing, queueing}
 use Rattle.lard_history.proofs.Each.{Each, Each-append}
 use Rattle.lard_journal.specs.declared.rec.Rec.{Rec}
@@ -19,7 +19,7 @@ use Rattle.lard_laws_bytes.specs.Keeping.{resets, served_in, size_in}
 use Rattle.lard_laws_bytes.proofs.FrontEndpoint.{IsBetween, Onward, between-consumed, between-discarded, onward-finished, onward-queued}
 use Rattle.lard_request.specs.declared.verdict.Verdict.{Verdict}
 use Rattle.lard_request.specs.Verdict.{closes}
-use Rattle.lard_rules.specs.Serving.{ServeEnv, Service, answered, closed_behind, consumed, ended_at_fin, may_read, passed_over, queued, serving}
+use Rattle.lard_rules.specs.Serving.{ServeEnv, Service, answered, closed_behind, consumed, ended_at_fin, may_read, passed_over, queued}
 use Rattle.lard_truth.specs.Truth.{GoesOn, Stream}
 use Rattle.lard_truth.proofs.Growth.{goes_on-same}
 

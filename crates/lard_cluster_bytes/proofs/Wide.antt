@@ -1,5 +1,5 @@
 -- The window of the peer that an endpoint keeps fits a message, whatever comes and goes.
-use Rattle.std.proofs.Common.{◌≡◌, ◌<◌, ◌+◌, ◌^◌, ℕ, max, cond, Bool, true, false, refl, sym, subst, nat_lt, ◌==◌, not, ◌&&◌, ◌||◌, length, Option, Some, None}
+use Rattle.std.proofs.Common.{◌≡◌, ◌<◌, ◌+◌, ◌^◌, ℕ, max, cond, Bool, true, refl, sym, subst, nat_lt, ◌==◌, not, ◌&&◌, ◌||◌, length, Option, Some, None}
 use Rattle.std.proofs.lemmas.Bool.{cond_both}
 use Rattle.lard_arrival.specs.Arrival.{bare, is_acceptable, is_allowed}
 use Rattle.lard_cluster_bytes.specs.Agreement.{IsWide}
@@ -11,9 +11,9 @@ use Rattle.lard_endpoint.specs.Leaving.{advanced, after_emit, after_owed, after_
 use Rattle.lard_recv.specs.Recv as recv
 use Rattle.lard_request.specs.declared.verdict.Verdict.{Verdict}
 use Rattle.lard_request.specs.Verdict.{closes}
-use Rattle.lard_rules.proofs.Loops.{KeptBySpeaking, speaks_keep, symbols_keep}
+use Rattle.lard_rules.proofs.Loops.{KeptBySpeaking, speaks_keep}
 use Rattle.lard_rules.specs.Serving.{closed_behind}
-use Rattle.lard_rules.specs.Speaking.{speaks, speaks_symbols}
+use Rattle.lard_rules.specs.Speaking.{speaks}
 use Rattle.lard_segment.specs.Segment.{IsSendable, Said}
 use Rattle.lard_send.specs.declared.piece.Piece.{Piece}
 use Rattle.lard_send.specs.Send.{Sending, after_ack, after_next, after_resend, is_newer, may_send, moved_up, next_fin, next_len, next_piece, resent_piece, symbols, windowed}

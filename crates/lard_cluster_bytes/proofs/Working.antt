@@ -7,10 +7,10 @@ use Rattle.std.proofs.lemmas.List.Folds.{list_any-append}
 use Rattle.lard_answers.specs.Answers.{good_path}
 use Rattle.lard_base.specs.declared.place.Via.TheVariants as via
 use Rattle.lard_cluster_bytes.specs.Agreement.{HasRead}
-use Rattle.lard_cluster_bytes.specs.Turning.{Counts, IsNoteOf, IsReading, Serves}
+use Rattle.lard_cluster_bytes.specs.Turning.{IsNoteOf, IsReading}
 use Rattle.lard_cluster_bytes.proofs.Reading.{batch-read}
 use Rattle.lard_cluster_bytes.proofs.Serving.{MayGo, So, answered-serves, consumed-serves, counts-more, ended-serves, go-on, left_of, may-go}
-use Rattle.lard_endpoint.specs.Control.{ControlBlock, consuming}
+use Rattle.lard_endpoint.specs.Control.{consuming}
 use Rattle.lard_history.proofs.Each.{Each, Each-append}
 use Rattle.lard_journal.specs.declared.rec.Rec.{Rec}
 use Rattle.lard_journal.specs.declared.rec.Rec.TheVariants as rec
@@ -20,7 +20,7 @@ use Rattle.lard_node_rules.specs.declared.stay.Next.{Next}
 use Rattle.lard_node_rules.specs.declared.stay.Next.TheVariants as next
 use Rattle.lard_node_rules.specs.declared.stay.Progress.{Progress}
 use Rattle.lard_node_rules.specs.declared.stay.Progress.TheVariants as progress
-use Rattle.lard_node_rules.specs.Stay.{NodeEnv, Work, asking, asks_for, came_for, come_on, entered, enters, enters_first, enters_one, goes_on, left, left_by, named_path, named_paths, next_by, next_in, next_of, noted, reads_batch, reads_these, read_entry, serves, serves_by, serves_first, serves_with, started, started_here, started_there, starts_at, starts_named, starts_one, tagged, turn, turned}
+use Rattle.lard_node_rules.specs.Stay.{NodeEnv, Work, asks_for, came_for, come_on, entered, enters, enters_first, enters_one, goes_on, left, left_by, named_path, named_paths, next_by, next_in, noted, reads_batch, reads_these, read_entry, serves_by, serves_first, started, started_here, started_there, starts_at, starts_named, starts_one, tagged, turn, turned}
 use Rattle.lard_reader.specs.Batches.{batch_of, bytes_used}
 use Rattle.lard_request.specs.declared.verdict.Verdict.{Verdict}
 use Rattle.lard_rules.specs.Loop.{Step, More, Done, state_of}

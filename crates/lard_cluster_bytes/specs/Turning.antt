@@ -1,5 +1,5 @@
 -- What a turn of a place notes while it has a connection, and what it makes of the connection's streams.
-use Rattle.std.specs.Prelude.{◌≡◌, ◌⊎◌, ℕ, ◌+◌, ◌||◌, Bool, false, true, List, [], ◌∷◌, length, Option, Some, None}
+use Rattle.std.specs.Prelude.{◌≡◌, ◌⊎◌, ℕ, ◌+◌, ◌||◌, Bool, false, true, List, length, Option, Some, None}
 use Rattle.std.specs.List.{list_any}
 use Rattle.lard_answers.specs.Answers.{FilesAt}
 use Rattle.lard_cluster_bytes.specs.Agreement.{EndAgrees, HasRead, IsWide}

@@ -1,0 +1,257 @@
+-- The rules of a node keep the agreement of a connection that it has.
+use Rattle.std.proofs.Common.{◌≡◌, ◌-◌, ◌||◌, ◌==◌, ℕ, Bool, true, false, List, [], ◌∷◌, length, Option, Some, None, Ok, arith, refl, subst, inr}
+use Rattle.std.specs.List.{find, list_any}
+use Rattle.std.proofs.lemmas.Bool.{cond_both}
+use Rattle.lard_base.specs.declared.limits.TheConstants.{RECEIVE_WINDOW}
+use Rattle.lard_base.specs.declared.parts.EndpointParts.{EndpointParts}
+use Rattle.lard_base.specs.declared.place.Place.{Place}
+use Rattle.lard_base.specs.declared.place.Place.TheVariants as place
+use Rattle.lard_base.specs.declared.place.TimerKind.TheVariants as kind
+use Rattle.lard_cluster_bytes.specs.Agreement.{BackAgrees, EndAgrees, FrontHolds, HasRead, HoldsIt, IsWide, NodeAgrees, RowAgrees, StayAgrees}
+use Rattle.lard_cluster_bytes.specs.Keeping.{ContentsKeep, DeedKeeps, IsTalk, NodeHearsTruth, NodeTimerKeeps, NodeTurned, OffersKeep, ReadsKeep, TagsKeep}
+use Rattle.lard_cluster_bytes.specs.Turning.{Counts, EndTurned}
+use Rattle.lard_cluster_bytes.proofs.Ending.{settled-ends, spoken-ends}
+use Rattle.lard_cluster_bytes.proofs.Reading.{read-arrived, read-same}
+use Rattle.lard_cluster_bytes.proofs.Serving.{MayGo, So, counts-nothing, go-on}
+use Rattle.lard_cluster_bytes.proofs.Wide.{half-wide, segment-wide, timer-wide, wide-half}
+use Rattle.lard_cluster_bytes.proofs.Working.{Works, came-so, first-so, goes-so, tagged-so, verdicts_of}
+use Rattle.lard_segment.specs.declared.segment.Ready.{Ready}
+use Rattle.lard_endpoint.specs.Arriving.{on_segment}
+use Rattle.lard_endpoint.specs.Control.{ControlBlock}
+use Rattle.lard_endpoint.specs.Leaving.{after_timer, filled, timed}
+use Rattle.lard_endpoint.specs.Moving.{adopted, may_freeze, parts_of}
+use Rattle.lard_endpoint.proofs.Adoption.{Stands, frozen_stands}
+use Rattle.lard_handoff_back.specs.declared.row.BackConn.{BackConn}
+use Rattle.lard_handoff_back.specs.declared.row.BackConn.TheVariants as back
+use Rattle.lard_handoff_back.specs.declared.row.BackRow.{BackRow}
+use Rattle.lard_handoff_back.specs.declared.table.Adopt.{Adopt}
+use Rattle.lard_handoff_back.specs.declared.table.Adopt.TheVariants.{New, Again, Stale}
+use Rattle.lard_handoff_back.specs.Back.{endpoint_of, offer_answer, staying}
+use Rattle.lard_handoff_back.specs.Row.{held_in}
+use Rattle.lard_journal.specs.declared.rec.Rec.{Rec}
+use Rattle.lard_journal.specs.declared.rec.Rec.TheVariants as rec
+use Rattle.lard_lateral.specs.Lateral.{is_from}
+use Rattle.lard_laws_bytes.specs.Agreement.{AreReplies, IsWord, SaysAnswers}
+use Rattle.lard_laws_bytes.specs.Keeping.{resets}
+use Rattle.lard_laws_bytes.proofs.FrontEndpoint.{IsBetween, between-arrived, between-timed}
+use Rattle.lard_laws_bytes.proofs.FrontSpeaking.{timed-reply}
+use Rattle.lard_node_rules.specs.declared.node.NodeTurn.{NodeTurn}
+use Rattle.lard_node_rules.specs.declared.stay.Stay.{Stay}
+use Rattle.lard_node_rules.specs.Node.{Deed, Drops, NodePart, again_sent, begins, both_of, come_by, fired, fired_by, heard_by, here, is_awaited, kept_after, node_offered, offered_by, read_by, rests, tagged_by, taken_sent, turn_by, with_work, work_of}
+use Rattle.lard_node_rules.specs.Node as node
+use Rattle.lard_node_rules.specs.Stay.{NodeEnv, Work, came_for, come_progress, goes_on, read_progress, reads_batch, tagged}
+use Rattle.lard_recv.specs.Recv.{restored}
+use Rattle.lard_request.specs.declared.verdict.Verdict.{Verdict}
+use Rattle.lard_resend.specs.Kept.{is_under, without}
+use Rattle.lard_rules.specs.declared.places.Ending.{Ending}
+use Rattle.lard_rules.specs.declared.places.Ending.TheVariants as ending
+use Rattle.lard_rules.specs.declared.places.Turn.{Turn}
+use Rattle.lard_rules.specs.Loop.{state_of}
+use Rattle.lard_rules.specs.Serving.{ready_of, serving, settled, spoken}
+use Rattle.lard_segment.specs.Segment.{Said}
+use Rattle.lard_send.specs.Send.{resumed}
+use Rattle.lard_truth.specs.Truth.{Stream}
+use Rattle.lard_truth.proofs.Endpoint.{timer-left}
+use Rattle.lard_truth.proofs.Growth.{goes_on-same}
+
+module _ (env : NodeEnv) (w out : Stream) (vs : List Verdict) (was_reset : Bool) where
+  abbrev Turns : NodePart × NodeTurn → Type 0
+  Turns given = NodeTurned env w out vs was_reset given
+
+  abbrev Keeps : Deed → Type 0
+  Keeps d = DeedKeeps env w out vs was_reset d
+
+  -- ---- the end of a turn
+
+  ends-agree : (p : NodePart) (k : Work) (now : Stream) (us : List Verdict) (r : Bool) (e : Ending) → EndAgrees w now us (verdicts_of k.batch) r e
+      → NodeAgrees w now us (verdicts_of k.batch) r env.serve.c (kept_after env p k e)
+  ends-agree p k now us r (ending.Here b count) h = (refl, h)
+  ends-agree p k now us r (ending.Over last) h = record { last = last; count = node.count_of k.service.over; ended = h; kept_is = refl }
+
+  rests-turn : (p : NodePart) (before : List (Place × List ℕ)) (k : Work) (given : Ending × Turn) → EndTurned env.serve.files env.serve.c w out vs was_reset (verdicts_of k.batch) given
+      → Turns (kept_after env p k given.0, turn_by env before k given)
+  rests-turn p before k given h = record {
+    out_after = h.out_after;
+    vs_after = h.vs_after;
+    pend_after = verdicts_of k.batch;
+    longer = h.longer;
+    says = h.says;
+    agrees = ends-agree p k h.out_after h.vs_after (was_reset || list_any resets given.1.notes) given.0 h.agrees;
+    noted = h.noted;
+    sent = h.sent;
+  }
+
+  work-turns : (p : NodePart) (before : List (Place × List ℕ)) (k : Work) → Works env w out vs k → Keeps (with_work env p before k)
+  work-turns p before k h = rests-turn p before k (settled env.serve k.service) (settled-ends env.serve w out vs was_reset k.service (verdicts_of k.batch) h)
+
+  -- ---- its beginning
+
+  held-between : (pend : List Verdict) (b : ControlBlock) (count : ℕ) → HoldsIt w out vs pend b count → IsBetween w out b
+  held-between pend b count h = record { same_irs = h.sound.same_irs; speaks = h.speaks; out_is = h.out_is; hears = h.hears }
+
+  works-begin : (pend : List Verdict) (b : ControlBlock) (count : ℕ) (notes : List Rec) → SaysAnswers env.serve.files w out vs → count ≡ length vs → IsBetween w out b → IsWide b → HasRead w b vs pend
+      → Counts env.serve.c out vs vs out.bytes notes → So env.serve w out vs (serving b count notes) pend
+  works-begin pend b count notes says counted between wide read counts = record {
+    out_now = out;
+    vs_now = vs;
+    longer = goes_on-same out;
+    says = says;
+    counted = counted;
+    between = between;
+    wide = wide;
+    noted = counts;
+    reading = read;
+  }
+
+  -- a stay that agrees
+  abbrev IsHeld : List Verdict → ControlBlock × Stay → Type 0
+  IsHeld pend x = (pend ≡ verdicts_of x.1.batch) × HoldsIt w out vs pend x.0 x.1.served
+
+  same-works : (pend : List Verdict) (x : ControlBlock × Stay) → SaysAnswers env.serve.files w out vs → IsHeld pend x → Works env w out vs (work_of x.0 x.1)
+  same-works pend x says h = subst (So env.serve w out vs (serving x.0 x.1.served [])) h.0
+      (works-begin pend x.0 x.1.served [] says h.1.counted (held-between pend x.0 x.1.served h.1) h.1.wide h.1.has_read (counts-nothing env.serve.c out vs))
+
+  -- ---- where the node has it
+
+  -- it is so of none, and of each stay that agrees
+  module _ (pend : List Verdict) (P : Option (ControlBlock × Stay) → Type 0) (none : P None) (some : (x : ControlBlock × Stay) → IsHeld pend x → P (Some x)) where
+    of-stay : (b : ControlBlock) (o : Option Stay) → StayAgrees w out vs pend b o → P (both_of (Some b) o)
+    of-stay b None h = absurd h
+    of-stay b (Some s) h = some (b, s) h
+
+    of-stage : (p : NodePart) (c e : ℕ) (d : BackConn) → BackAgrees w out vs pend was_reset c e p d → P (both_of (held_in d) p.stay)
+    of-stage p c e (back.Here b) h = of-stay b p.stay h
+    of-stage p c e back.Out h = none
+    of-stage p c e back.Ended h = none
+    of-stage p c e back.Gone h = none
+
+    at-endpoint : (p : NodePart) (c : ℕ) (o : Option BackRow) → RowAgrees w out vs pend was_reset c p o → P (both_of (endpoint_of o) p.stay)
+    at-endpoint p c None h = absurd h
+    at-endpoint p c (Some row) h = of-stage p c row.epoch.0 row.stage h
+
+    at-epoch : (p : NodePart) (c : ℕ) (o : Option BackRow) → RowAgrees w out vs pend was_reset c p o → P (both_of (staying env.epoch o) p.stay)
+    at-epoch p c None h = absurd h
+    at-epoch p c (Some row) h = cond_both (row.epoch.0 == env.epoch) (held_in row.stage) None (λ b. P (both_of b p.stay))
+        (λ t. of-stage p c row.epoch.0 row.stage h) (λ t. none)
+
+  -- ---- the rules
+
+  module _ (talk : IsTalk env w out vs) (pend : List Verdict) (p : NodePart) (h : NodeAgrees w out vs pend was_reset env.serve.c p) where
+    goes-turn : (p_kept : NodePart) (k : Work) → Works env w out vs k → Keeps (with_work env p_kept [] (goes_on env k))
+    goes-turn p_kept k works = work-turns p_kept [] (goes_on env k) (goes-so env w out vs talk.most k works)
+
+    hears-turn : (s : Said) → IsWord w s → Keeps (heard_by env p (Ok s) (here env.epoch p))
+    hears-turn s word = at-epoch pend (λ x. Keeps (heard_by env p (Ok s) x)) tt
+        (λ x held.
+        let before = held-between pend x.0 x.1.served held.1 in
+        let after = between-arrived w out x.0 before s talk.stream word.true_of in
+        let wide = wide-half (on_segment x.0 s).1 (segment-wide x.0 s word.sendable (half-wide x.0 held.1.wide)) in
+        goes-turn p (work_of (on_segment x.0 s).1 x.1)
+        (subst (So env.serve w out vs (serving (on_segment x.0 s).1 x.1.served [])) held.0
+        (works-begin pend (on_segment x.0 s).1 x.1.served [] talk.says held.1.counted after wide (read-arrived w out x.0 vs pend s before after held.1.has_read) (counts-nothing env.serve.c out vs))))
+        p env.serve.c p.row h
+
+    tags-turn : (number : ℕ) (nodes : List ℕ) → Keeps (tagged_by env number nodes p (here env.epoch p))
+    tags-turn number nodes = at-epoch pend (λ x. Keeps (tagged_by env number nodes p x)) tt
+        (λ x held. cond_both (is_awaited env number nodes p x.1) (with_work env (record p { kept = without kind.Ask 0 p.kept }) [] (goes_on env (tagged env nodes (work_of x.0 x.1)))) Drops Keeps
+        (λ t. goes-turn (record p { kept = without kind.Ask 0 p.kept }) (tagged env nodes (work_of x.0 x.1)) (tagged-so env w out vs nodes (work_of x.0 x.1) (same-works pend x talk.says held)))
+        (λ t. tt))
+        p env.serve.c p.row h
+
+    comes-turn : (from r : ℕ) → Keeps (come_by env from r p (here env.epoch p))
+    comes-turn from r = at-epoch pend (λ x. Keeps (come_by env from r p x)) tt
+        (λ x held. cond_both (is_from from env.epoch (find (is_under kind.Fetch r) p.fetches))
+        (with_work env (record p { fetches = without kind.Fetch r p.fetches }) [] (goes_on env (came_for (come_progress from) r (work_of x.0 x.1)))) Drops Keeps
+        (λ t. goes-turn (record p { fetches = without kind.Fetch r p.fetches }) (came_for (come_progress from) r (work_of x.0 x.1))
+        (came-so env w out vs (come_progress from) r (work_of x.0 x.1) (same-works pend x talk.says held)))
+        (λ t. tt))
+        p env.serve.c p.row h
+
+    reads-turn : (r : ℕ) → Keeps (read_by env r p (here env.epoch p))
+    reads-turn r = at-epoch pend (λ x. Keeps (read_by env r p x)) tt
+        (λ x held. goes-turn p (came_for read_progress r (work_of x.0 x.1)) (came-so env w out vs read_progress r (work_of x.0 x.1) (same-works pend x talk.says held)))
+        p env.serve.c p.row h
+
+    fires-turn : Keeps (fired_by env p (both_of (endpoint_of p.row) p.stay))
+    unfolding works-begin
+    fires-turn = at-endpoint pend (λ x. Keeps (fired_by env p x)) tt (λ x held. fires x held) p env.serve.c p.row h where
+      fires : (x : ControlBlock × Stay) → IsHeld pend x
+          → Turns (fired env p x (spoken env.serve (serving (after_timer x.0) x.1.served []) (ready_of env.serve (after_timer x.0) (timed x.0))))
+      fires x held =
+          let before = held-between pend x.0 x.1.served held.1 in
+          let after = between-timed w out x.0 before in
+          let read = read-same w out x.0 (after_timer x.0) vs pend before after (timer-left x.0 out.bytes held.1.speaks).2 held.1.has_read in
+          let wide = wide-half (after_timer x.0) (timer-wide x.0 (half-wide x.0 held.1.wide)) in
+          let so = works-begin pend (after_timer x.0) x.1.served [] talk.says held.1.counted after wide read (counts-nothing env.serve.c out vs) in
+          rests-turn p (again_sent p) (work_of (after_timer x.0) x.1) (spoken env.serve (serving (after_timer x.0) x.1.served []) (ready_of env.serve (after_timer x.0) (timed x.0)))
+          (subst (λ (us : List Verdict). EndTurned env.serve.files env.serve.c w out vs was_reset us (spoken env.serve (serving (after_timer x.0) x.1.served []) (ready_of env.serve (after_timer x.0) (timed x.0)))) held.0
+          (spoken-ends env.serve w out vs was_reset (serving (after_timer x.0) x.1.served []) pend so (ready_of env.serve (after_timer x.0) (timed x.0)) so.reading (replies (timed x.0) refl)))
+        where
+          replies : (o : Option Ready) → timed x.0 ≡ o → AreReplies env.serve.c w out (was_reset || false) (ready_of env.serve (after_timer x.0) o)
+          replies None e = tt
+          replies (Some q) e = (refl, (filled (after_timer x.0) q, refl, timed-reply env.serve.c w out (was_reset || false) x.0 q (held-between pend x.0 x.1.served held.1) e), tt)
+
+  -- ---- an Offer
+
+  -- what is adopted is the endpoint that was frozen, which owes an ACK
+  abbrev moved : ControlBlock → ControlBlock
+  moved b = record { recv = b.recv; send = b.send; owed = true; last_window = RECEIVE_WINDOW; reset = false }
+
+  same-send : (b : ControlBlock) (count : ℕ) → Stands b → b.send.irs ≡ b.recv.irs → b.send ≡ resumed (parts_of b count)
+  same-send b count s irs = λ i. record b.send { irs = irs i; nxt = s.nxt_is i; rest = s.rest_is i; total = (let e : b.send.total ≡ b.send.una - 1 = omega (arith, s.una_is) in e) i; finished = s.finished_is i }
+
+  same-recv : (b : ControlBlock) → Stands b → b.recv ≡ restored b.recv.irs b.recv.got b.recv.fin b.recv.unread
+  same-recv b s = λ i. record b.recv { discarding = s.discarding_is i }
+
+  adopted-is : (b : ControlBlock) (count : ℕ) → Stands b → b.send.irs ≡ b.recv.irs → moved b ≡ adopted (parts_of b count)
+  adopted-is b count s irs = λ i. record { recv = same-recv b s i; send = same-send b count s irs i; owed = true; last_window = RECEIVE_WINDOW; reset = false }
+
+  module _ (talk : IsTalk env w out vs) (pend : List Verdict) (p : NodePart) (b : ControlBlock) (count : ℕ) (h : FrontHolds w out vs pend b count) (frozen : may_freeze b ≡ true) where
+    abbrev parts : EndpointParts
+    parts = parts_of b count
+
+    abbrev Begins : ControlBlock → Type 0
+    Begins d = So env.serve w out vs (serving d count (rec.Took (place.Node env.n) env.serve.c (record { 0 = env.epoch }) ∷ [])) []
+
+    stands : Stands b
+    stands = frozen_stands b h.holds.sound frozen
+
+    begins-so : Begins (adopted parts)
+    begins-so =
+        let held = h.holds in
+        let read = held.has_read in
+        subst Begins (adopted-is b count stands h.holds.sound.same_irs)
+        (works-begin [] (moved b) count (rec.Took (place.Node env.n) env.serve.c (record { 0 = env.epoch }) ∷ []) talk.says held.counted
+        (record { same_irs = held.sound.same_irs; speaks = held.speaks; out_is = held.out_is; hears = held.hears })
+        (record { wnd = held.wide.wnd; wl1 = held.wide.wl1; wl2 = held.wide.wl2 })
+        (record { cut = read.cut; goes_on = read.goes_on; stops = read.stops; fronts = read.fronts })
+        (record { each = (tt, tt); served = omega arith; size = omega arith; unless_ended = inr refl }))
+
+    offers-turn : (a : Adopt) → Keeps (offered_by env parts p a)
+    offers-turn New =
+        let first : Work = begins env parts in
+        let may : MayGo w begins-so.vs_now [] first.service = go-on env.serve w out vs first.service [] begins-so refl refl refl in
+        let works = first-so env w out vs true first begins-so may refl in
+        work-turns p (taken_sent env) (goes_on env (state_of (reads_batch env true first))) (goes-so env w out vs talk.most (state_of (reads_batch env true first)) works)
+    offers-turn Again = tt
+    offers-turn Stale = tt
+
+-- ---- what is kept
+
+pub node-hears : NodeHearsTruth
+node-hears env w out vs pend was_reset p s talk h word = hears-turn env w out vs was_reset talk pend p h s word
+
+pub tags-keep : TagsKeep
+tags-keep number nodes env w out vs pend was_reset p talk h = tags-turn env w out vs was_reset talk pend p h number nodes
+
+pub contents-keep : ContentsKeep
+contents-keep from r env w out vs pend was_reset p talk h = comes-turn env w out vs was_reset talk pend p h from r
+
+pub reads-keep : ReadsKeep
+reads-keep r env w out vs pend was_reset p talk h = reads-turn env w out vs was_reset talk pend p h r
+
+pub timer-keeps : NodeTimerKeeps
+timer-keeps env w out vs pend was_reset p talk h = fires-turn env w out vs was_reset talk pend p h
+
+pub offers-keep : OffersKeep
+offers-keep env w out vs pend was_reset p b count talk h frozen = offers-turn env w out vs was_reset talk pend p b count h frozen (offer_answer env.epoch p.row)

@@ -1,0 +1,69 @@
+-- What a rule of a node keeps of the agreement of its connection.
+use Rattle.std.specs.Prelude.{◌≡◌, ℕ, ◌||◌, ◌≤◌, Bool, true, List, Ok}
+use Rattle.std.specs.List.{list_any}
+use Rattle.lard_base.specs.declared.limits.TheConstants.{MAX_STREAM_BYTES}
+use Rattle.lard_cluster_bytes.specs.Agreement.{FrontHolds, NodeAgrees}
+use Rattle.lard_cluster_bytes.specs.Turning.{Counts}
+use Rattle.lard_endpoint.specs.Control.{ControlBlock}
+use Rattle.lard_endpoint.specs.Moving.{may_freeze, parts_of}
+use Rattle.lard_laws_bytes.specs.Agreement.{AreReplies, IsWord, SaysAnswers}
+use Rattle.lard_laws_bytes.specs.Keeping.{resets}
+use Rattle.lard_node_rules.specs.declared.node.NodeTurn.{NodeTurn}
+use Rattle.lard_node_rules.specs.Node.{Deed, Drops, Says, Does, NodePart, node_content, node_forwarded, node_offered, node_read, node_tagged, node_timer}
+use Rattle.lard_node_rules.specs.Stay.{NodeEnv}
+use Rattle.lard_request.specs.declared.verdict.Verdict.{Verdict}
+use Rattle.lard_segment.specs.Segment.{Said}
+use Rattle.lard_truth.specs.Truth.{GoesOn, IsStream, Stream}
+
+-- A turn of a node that has a connection: the cluster's stream goes on by the answers to more verdicts, as its notes count, all that
+-- was sent to the client is true of it, and what the node keeps of the connection agrees with it again: it holds the endpoint, and
+-- its batch is what was read and is not answered, or it tells the front end how it ended.
+pub record NodeTurned (env : NodeEnv) (w out : Stream) (vs : List Verdict) (was_reset : Bool) (given : NodePart × NodeTurn) : Type 0 where
+  pub out_after : Stream
+  pub vs_after : List Verdict
+  pub pend_after : List Verdict
+  pub longer : GoesOn out out_after
+  pub says : SaysAnswers env.serve.files w out_after vs_after
+  pub agrees : NodeAgrees w out_after vs_after pend_after (was_reset || list_any resets given.1.notes) env.serve.c given.0
+  pub noted : Counts env.serve.c out vs vs_after out_after.bytes given.1.notes
+  pub sent : AreReplies env.serve.c w out_after (was_reset || list_any resets given.1.notes) given.1.segments
+
+-- what a rule of a node comes to: what it drops or answers alone changes nothing
+abbrev pub DeedKeeps : NodeEnv → Stream → Stream → List Verdict → Bool → Deed → Type 0
+DeedKeeps env w out vs was_reset Drops = Unit {0}
+DeedKeeps env w out vs was_reset (Says messages) = Unit {0}
+DeedKeeps env w out vs was_reset (Does given) = NodeTurned env w out vs was_reset given
+
+-- the streams are those of a connection, and what was said so far answers what was read
+pub record IsTalk (env : NodeEnv) (w out : Stream) (vs : List Verdict) : Type 0 where
+  pub most : env.serve.stream ≤ MAX_STREAM_BYTES
+  pub stream : IsStream w
+  pub says : SaysAnswers env.serve.files w out vs
+
+-- A rule keeps the agreement of a connection that the node has.
+abbrev pub NodeKeeps : (NodeEnv → NodePart → Deed) → Type 0
+NodeKeeps rule = (env : NodeEnv) (w out : Stream) (vs pend : List Verdict) (was_reset : Bool) (p : NodePart) → IsTalk env w out vs → NodeAgrees w out vs pend was_reset env.serve.c p
+    → DeedKeeps env w out vs was_reset (rule env p)
+
+-- a true segment of the client is forwarded to it
+abbrev pub NodeHearsTruth : Type 0
+NodeHearsTruth = (env : NodeEnv) (w out : Stream) (vs pend : List Verdict) (was_reset : Bool) (p : NodePart) (s : Said) → IsTalk env w out vs → NodeAgrees w out vs pend was_reset env.serve.c p
+    → IsWord w s → DeedKeeps env w out vs was_reset (node_forwarded env p (Ok s))
+
+-- a Tag, a content, a completed job of its disk
+abbrev pub TagsKeep : Type 0
+TagsKeep = (number : ℕ) (nodes : List ℕ) → NodeKeeps (λ env p. node_tagged env p number nodes)
+
+abbrev pub ContentsKeep : Type 0
+ContentsKeep = (from r : ℕ) → NodeKeeps (λ env p. node_content env p from r)
+
+abbrev pub ReadsKeep : Type 0
+ReadsKeep = (r : ℕ) → NodeKeeps (λ env p. node_read env p r)
+
+abbrev pub NodeTimerKeeps : Type 0
+NodeTimerKeeps = NodeKeeps node_timer
+
+-- The parts of an endpoint that the front end froze: the node goes on where the front end stopped, whatever it kept before.
+abbrev pub OffersKeep : Type 0
+OffersKeep = (env : NodeEnv) (w out : Stream) (vs pend : List Verdict) (was_reset : Bool) (p : NodePart) (b : ControlBlock) (count : ℕ) → IsTalk env w out vs
+    → FrontHolds w out vs pend b count → may_freeze b ≡ true → DeedKeeps env w out vs was_reset (node_offered env p (parts_of b count))
