@@ -1,20 +1,17 @@
 -- What a place says of the connection that it acts on: what it may note, give up and send, and who sees that.
-use Rattle.std.proofs.Common.{◌≡◌, ◌≢◌, ℕ, ◌+◌, Bool, true, false, cond, List, [], ◌∷◌, ◌++◌, map, is_some, Option, Some, None, refl, sym, ap, ◌∙◌, inl, inr, ⊎_elim}
+use Rattle.std.proofs.Common.{◌≡◌, ◌≢◌, ℕ, ◌+◌, false, cond, List, [], ◌∷◌, ◌++◌, map, is_some, Option, Some, None, refl, sym, ap, ◌∙◌, inl, inr, ⊎_elim}
 use Rattle.std.specs.Prelude.{◌⊎◌}
-use Rattle.std.specs.List.{flat_map}
 use Rattle.lard_base.specs.declared.place.Place.{Place}
 use Rattle.lard_base.specs.declared.place.Place.TheVariants.{Front, Node, Client}
-use Rattle.lard_base.specs.declared.place.TimerKind.{TimerKind}
 use Rattle.lard_cluster_view.specs.View.{GoesBetween, IsMachine, letter, named, sending}
 use Rattle.lard_history.specs.Own.{Row, conn_of, letter_of, letters, net_step, plain, seen_of, seen_on, whose}
 use Rattle.lard_history.specs.Steps.{is_opening}
-use Rattle.lard_history.proofs.Each.{Each, Each-append, Each-weaker}
+use Rattle.lard_history.proofs.Each.{Each, Each-weaker}
 use Rattle.lard_history.proofs.Seeing.{AreOf, letters-all, letters-none, of-whose, packet_conn, seen-all, seen-mine, seen-none, seen-other}
 use Rattle.lard_journal.specs.declared.rec.Rec.{Rec}
 use Rattle.lard_journal.specs.declared.rec.Rec.TheVariants as rec
 use Rattle.lard_machine.specs.Machine.{packets_of, sent_records}
 use Rattle.lard_net.specs.Net.{Packet}
-use Rattle.lard_rules.specs.Outs.{kind_change}
 
 -- ---- notes
 
@@ -174,43 +171,6 @@ pub gave-still : (place : Place) (c : ℕ) (r : Rec) → GaveAt place c r → Is
 gave-still Front c (rec.Gave Front d epoch) h = (refl, λ net. refl)
 gave-still (Node n) c (rec.Gave (Node k) d epoch) h = (refl, λ net. refl)
 gave-still _ c _ h = absurd h
-
--- ---- timers
-
-module _ (place : Place) (c : ℕ) (was is : TimerKind → Bool) where
-  -- the records of kinds of timers that changed
-  abbrev pub changes : List TimerKind → List Rec
-  changes kinds = flat_map (λ kind. kind_change place c kind (was kind) (is kind)) kinds
-
-  one-of : (kind : TimerKind) (a b : Bool) → AreOf c (kind_change place c kind a b)
-  one-of kind false false = tt
-  one-of kind false true = ((refl, refl), tt)
-  one-of kind true false = ((refl, refl), tt)
-  one-of kind true true = tt
-
-  pub changes-of : (kinds : List TimerKind) → AreOf c (changes kinds)
-  changes-of [] = tt
-  changes-of (kind ∷ kinds) =
-      Each-append (λ r. (whose r ≡ Some c) × (plain r ≡ r)) (kind_change place c kind (was kind) (is kind)) (changes kinds) (one-of kind (was kind) (is kind)) (changes-of kinds)
-
-  one-still : (kind : TimerKind) (a b : Bool) → Each IsStill (kind_change place c kind a b)
-  one-still kind false false = tt
-  one-still kind false true = ((refl, λ net. refl), tt)
-  one-still kind true false = ((refl, λ net. refl), tt)
-  one-still kind true true = tt
-
-  pub changes-still : (kinds : List TimerKind) → Each IsStill (changes kinds)
-  changes-still [] = tt
-  changes-still (kind ∷ kinds) = Each-append IsStill (kind_change place c kind (was kind) (is kind)) (changes kinds) (one-still kind (was kind) (is kind)) (changes-still kinds)
-
--- a timer that is as it was writes nothing
-unchanged : (place : Place) (c : ℕ) (kind : TimerKind) (b : Bool) → kind_change place c kind b b ≡ []
-unchanged place c kind true = refl
-unchanged place c kind false = refl
-
-pub none-changes : (place : Place) (c : ℕ) (was : TimerKind → Bool) (kinds : List TimerKind) → changes place c was was kinds ≡ []
-none-changes place c was [] = refl
-none-changes place c was (kind ∷ kinds) = λ i. unchanged place c kind (was kind) i ++ none-changes place c was kinds i
 
 -- ---- what is sent
 
