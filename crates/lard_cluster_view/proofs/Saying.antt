@@ -1,9 +1,12 @@
 -- What a place says of the connection that it acts on: what it may note, give up and send, and who sees that.
-use Rattle.std.proofs.Common.{◌≡◌, ◌≢◌, ℕ, ◌+◌, false, cond, List, [], ◌∷◌, ◌++◌, map, is_some, Option, Some, None, refl, sym, ap, ◌∙◌, inl, inr, ⊎_elim}
+use Rattle.std.proofs.Common.{◌≡◌, ◌≢◌, ℕ, ◌+◌, false, cond, List, [], ◌∷◌, ◌++◌, map, is_some, Option, Some, None, refl, sym, ap, ◌∙◌, inl, inr, ⊎_elim, true, not, ◌&&◌}
 use Rattle.std.specs.Prelude.{◌⊎◌}
+use Rattle.std.specs.List.{list_all}
+use Rattle.lard_base.specs.declared.event.Event.{Event}
 use Rattle.lard_base.specs.declared.place.Place.{Place}
 use Rattle.lard_base.specs.declared.place.Place.TheVariants.{Front, Node, Client}
 use Rattle.lard_cluster_view.specs.View.{GoesBetween, IsMachine, letter, named, sending}
+use Rattle.lard_history.specs.Laws.{AreOwn, is_own}
 use Rattle.lard_history.specs.Own.{Row, conn_of, letter_of, letters, net_step, plain, seen_of, seen_on, whose}
 use Rattle.lard_history.specs.Steps.{is_opening}
 use Rattle.lard_history.proofs.Each.{Each, Each-weaker}
@@ -12,6 +15,8 @@ use Rattle.lard_journal.specs.declared.rec.Rec.{Rec}
 use Rattle.lard_journal.specs.declared.rec.Rec.TheVariants as rec
 use Rattle.lard_machine.specs.Machine.{packets_of, sent_records}
 use Rattle.lard_net.specs.Net.{Packet}
+use Rattle.lard_view.proofs.Firsts.{AreOthers, HasOwn}
+use Rattle.lard_view.proofs.Shapes.{behind}
 
 -- ---- notes
 
@@ -96,6 +101,34 @@ gave-of : (place : Place) (c : ℕ) (r : Rec) → GaveAt place c r → (whose r 
 gave-of Front c (rec.Gave Front d epoch) h = (ap Some h, refl)
 gave-of (Node n) c (rec.Gave (Node k) d epoch) h = (ap Some h.1, refl)
 gave-of _ c _ h = absurd h
+
+-- what a machine of the cluster notes is no event's own record
+note-other : (place : Place) (c : ℕ) (r : Rec) → IsMachine place → NotedAt place c r → not (is_own r) ≡ true
+note-other Front c (rec.Took Front d epoch) m h = refl
+note-other Front c (rec.Served Front d r code size via) m h = refl
+note-other Front c (rec.Reset Front d total) m h = refl
+note-other Front c (rec.Waits d) m h = refl
+note-other Front c (rec.Admitted d) m h = refl
+note-other Front c (rec.AssignedFirst d r path n add remove) m h = refl
+note-other Front c (rec.AssignedLater d r path n add size queue) m h = refl
+note-other Front c (rec.BatchOver d) m h = refl
+note-other Front c (rec.Released d) m h = refl
+note-other (Node n) c (rec.Took (Node k) d epoch) m h = refl
+note-other (Node n) c (rec.Served (Node k) d r code size via) m h = refl
+note-other (Node n) c (rec.Reset (Node k) d total) m h = refl
+note-other (Node n) c (rec.Queued k o d r path) m h = refl
+note-other (Node n) c (rec.Read k o d r path) m h = refl
+note-other (Node n) c (rec.Hit k path) m h = refl
+note-other (Client d) c r m h = absurd m
+note-other _ c _ m h = absurd h
+
+pub notes-other : (place : Place) (c : ℕ) (rs : List Rec) → IsMachine place → Each (NotedAt place c) rs → AreOthers rs
+notes-other place c [] m e = refl
+notes-other place c (r ∷ rs) m e = ap (λ b. b && list_all (λ q. not (is_own q)) rs) (note-other place c r m e.0) ∙ notes-other place c rs m e.1
+
+-- the event's own records stand first
+pub own-first : (e : Event) (place : Place) (c : ℕ) (rs : List Rec) → IsMachine place → AreOwn e (behind e) → Each (NotedAt place c) rs → HasOwn e (behind e ++ rs)
+own-first e place c rs m own noted = (behind e, rs, refl, own, notes-other place c rs m noted)
 
 -- ---- who sees notes
 
