@@ -35,7 +35,7 @@ viewed-kept m n e view rule is =
     let after : IsAfter m n = step-after m view e n rule is in
     let goes = step_moves m n e IsFine view (fine (setting_of m)) rule is in
     record {
-      sound = λ q. gone IsSound (λ x v. IsNumber x.c × IsFine x v) (conn m q) (conn n q) (view.sound q) (λ v good. good.1 good.0 (view.sound q)) (goes q);
+      sound = λ q. gone IsSound (λ x v. IsNumber x.c × IsFine x v) (conn m q) (conn n q) (view.sound q) (λ v good. (good.1 good.0 (view.sound q)).1) (goes q);
       told = after.told;
       nodes = after.nodes ∙ view.nodes ∙ ap (λ (c : Config). c.nodes) (sym after.config);
       jobs = after.jobs view.jobs;

@@ -1,5 +1,5 @@
 -- What a client does in its turn is an act on its connection.
-use Rattle.std.proofs.Common.{◌≡◌, ℕ, Bool, List, [], refl, ap}
+use Rattle.std.proofs.Common.{◌≡◌, ℕ, Bool, List, [], refl, ap, ◌++◌}
 use Rattle.std.specs.FinMap as table
 use Rattle.lard_base.specs.declared.event.Event.{Event}
 use Rattle.lard_base.specs.declared.place.Place.TheVariants.{Client}
@@ -20,6 +20,7 @@ use Rattle.lard_journal.specs.declared.rec.Rec.TheVariants as rec
 use Rattle.lard_rules.specs.declared.places.Station.{Station}
 use Rattle.lard_rules.specs.declared.places.Turn.{Turn}
 use Rattle.lard_rules.specs.Outs.{out_of, timer_change}
+use Rattle.lard_view.proofs.Firsts.{HasOwn}
 use Rattle.lard_view.proofs.Shapes.{behind}
 use Rattle.lard_view.proofs.Turns as today
 use Rattle.lard_view.proofs.Turns.{IsClientTurn}
@@ -42,11 +43,11 @@ client-said c given t = record {
 
 module _ (m : Machine) (P : Conn → Move → Type 0) (Q : Event → Machine → Type 0) (shapes : Shapes m P Q) where
   -- a client acted: its timer was so before
-  pub client-acts : (e : Event) (c iss : ℕ) (was : Bool) (given : ClientBlock × Turn) (heads : List Seen) → IsNumber c → was ≡ station_armed (table.get m.clients c) → IsClientTurn c given → Begins m.net e c heads
+  pub client-acts : (e : Event) (c iss : ℕ) (was : Bool) (given : ClientBlock × Turn) (heads : List Seen) → IsNumber c → was ≡ station_armed (table.get m.clients c) → IsClientTurn c given → Begins m e (Client c) c heads → HasOwn e (behind e ++ given.1.notes)
       → P (conn m c) (record { place = Client c; heads = heads; said = by_client given.1; part = with_station (conn m c).part (record { client = given.0; iss = iss }) })
       → Q e (client_acted m e (behind e) c iss was given)
   unfolding conn part_of timer_rows
-  client-acts e c iss was given heads number timer turn begins does =
+  client-acts e c iss was given heads number timer turn begins first does =
       let s : Station = record { client = given.0; iss = iss } in
       let said = client-said c given turn in
       shapes.one (client_put m c s) e (Client c) (out_of (Client c) c was (is_armed given.0) given.1) c heads given.1.notes (with_station (part_of m c) s)
@@ -55,6 +56,7 @@ module _ (m : Machine) (P : Conn → Move → Type 0) (Q : Event → Machine →
         number = number;
         begins = begins;
         said = said;
+        first = first;
         notes = λ net. notes-all (Client c) c net given.1.notes tt said.notes;
         timers = ap (λ b. timer_change (Client c) c b (is_armed given.0)) timer;
         mine = client-mine m c s;

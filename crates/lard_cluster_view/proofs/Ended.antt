@@ -12,6 +12,7 @@ use Rattle.lard_cluster_view.proofs.Fronts.{IsAdmission, IsFrontDeed, admitted-t
 use Rattle.lard_cluster_view.proofs.Heads.{Begins}
 use Rattle.lard_cluster_view.proofs.Numbers.{row-number}
 use Rattle.lard_cluster_view.proofs.Parts.{front-mine, front-others}
+use Rattle.lard_cluster_view.proofs.Saying.{notes-other}
 use Rattle.lard_cluster_view.proofs.Shapes.{Shapes}
 use Rattle.lard_cluster_view.proofs.Turned.{sent-messages}
 use Rattle.lard_endpoint.specs.declared.control.moving.Final.{Final}
@@ -25,9 +26,11 @@ use Rattle.lard_handoff_front.specs.declared.row.FrontRow.{FrontRow}
 use Rattle.lard_handoff_front.specs.declared.table.OnEnded.{OnEnded}
 use Rattle.lard_handoff_front.specs.declared.table.OnEnded.TheVariants.{New, Again, Stale}
 use Rattle.lard_handoff_front.specs.Front.{end_answer}
+use Rattle.lard_history.specs.Laws.{AreOwn}
 use Rattle.lard_history.specs.Own.{Seen}
 use Rattle.lard_journal.specs.declared.rec.Rec.{Rec}
 use Rattle.lard_policy.specs.declared.first.FirstChoice.{FirstChoice}
+use Rattle.lard_view.proofs.Firsts.{others_append}
 use Rattle.lard_view.proofs.Shapes.{behind}
 
 -- ---- what ended does not wait
@@ -60,7 +63,7 @@ admitted-row env p choice y e = go p.row refl where
 -- ---- the step
 
 module _ (m : Machine) (view : IsViewed m) (P : Conn → Move → Type 0) (R : Rules (setting_of m) P) (Q : Event → Machine → Type 0) (shapes : Shapes m P Q)
-    (e : Event) (c : ℕ) (heads : List Seen) (number : IsNumber c) (begins : Begins m.net e c heads) where
+    (e : Event) (c : ℕ) (heads : List Seen) (number : IsNumber c) (begins : Begins m e Front c heads) (own : AreOwn e (behind e)) where
   -- connection c is put back so
   module _ (x : Did) (of : IsFrontDeed c (front_part m.front c) (Does x)) (does : P (conn m c) (front_does (conn m c) heads (Does x))) (is_left : IsLeft x) where
     abbrev s : FrontState
@@ -70,7 +73,7 @@ module _ (m : Machine) (view : IsViewed m) (P : Conn → Move → Type 0) (R : R
     cs = timers_of c (front_part m.front c) x.part
 
     alone : Q e (front_gave m e (behind e) (s, out_of x.turn cs))
-    alone = front-acts m P Q shapes e c heads number begins (Does x) of does
+    alone = front-acts m P Q shapes e c heads number begins own (Does x) of does
 
     -- the head is another connection
     apart : (d : ℕ) (env : FrontEnv) (choice : FirstChoice) (y : FrontPart × FrontTurn) → front_admitted env (front_part s d) choice ≡ Some y → d ≢ c
@@ -100,6 +103,7 @@ module _ (m : Machine) (view : IsViewed m) (P : Conn → Move → Type 0) (R : R
           apart = n;
           begins = begins;
           names = tt;
+          first = (behind e, x.turn.notes ++ y.1.notes, refl, own, others_append x.turn.notes y.1.notes (notes-other Front c x.turn.notes tt of.0.notes) (notes-other Front d y.1.notes tt admission.0.notes));
           said = of.0;
           said_too = admission.0;
           order = ordered (nat_lt d c) ds;
@@ -130,6 +134,6 @@ module _ (m : Machine) (view : IsViewed m) (P : Conn → Move → Type 0) (R : R
   -- a rule by which a connection may have ended
   pub ended-acts : (deed : Deed) → Leaves deed → IsFrontDeed c (front_part m.front c) deed → P (conn m c) (front_does (conn m c) heads deed)
       → Q e (front_gave m e (behind e) (ended_deed (front_setting m) m.front c deed))
-  ended-acts Drops leaves of does = front-acts m P Q shapes e c heads number begins Drops of does
-  ended-acts (Says t) leaves of does = front-acts m P Q shapes e c heads number begins (Says t) of does
+  ended-acts Drops leaves of does = front-acts m P Q shapes e c heads number begins own Drops of does
+  ended-acts (Says t) leaves of does = front-acts m P Q shapes e c heads number begins own (Says t) of does
   ended-acts (Does x) leaves of does = over x of does leaves

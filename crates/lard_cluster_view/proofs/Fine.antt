@@ -1,24 +1,27 @@
 -- A move of any rule leaves its connection sound.
-use Rattle.std.proofs.Common.{◌≡◌, ℕ, cond, nat_eq, List, [], ◌∷◌, ◌++◌, map, Some, refl, sym, ap, ◌∙◌, subst, inl}
+use Rattle.std.proofs.Common.{◌≡◌, ℕ, is_some, cond, nat_eq, List, [], ◌∷◌, ◌++◌, map, Some, refl, sym, ap, ◌∙◌, subst, inl}
+use Rattle.std.proofs.lemmas.Bool.{cond_both}
 use Rattle.lard_base.specs.declared.event.Event.TheVariants as event
 use Rattle.lard_base.specs.declared.place.Place.{Place}
 use Rattle.lard_base.specs.declared.place.Place.TheVariants.{Front, Node, Client}
 use Rattle.lard_client.specs.Control.{ClientBlock}
 use Rattle.lard_cluster.specs.Bounds.{IsNumber}
-use Rattle.lard_cluster_view.specs.View.{AreBetween, AreSent, ClientRules, Conn, FrontRules, IsFrontEnv, IsNodeEnv, IsSound, Move, NodeRules, Rules, Said, Setting, client_begins, client_does, brought_said, by_front, contents, epoch_in, event_seen, front_admits, front_does, grown, inject_seen, letter, letters_of, node_does, node_put, nothing_said, packet_seen, reads_first, stands}
+use Rattle.lard_cluster_view.specs.View.{AreBetween, AreSent, ClientRules, Conn, FrontRules, IsFrontEnv, IsNodeEnv, IsSound, Move, NodeRules, Rules, Said, Setting, client_begins, client_does, brought_said, by_front, contents, epoch_in, event_seen, front_admits, front_does, grown, inject_seen, letter, letters_of, named, node_does, node_put, nothing_said, packet_seen, reads_first, stands, with_front}
+use Rattle.lard_cluster_view.proofs.Clients.{client-said}
 use Rattle.lard_cluster_view.proofs.Fronts as fronts
 use Rattle.lard_cluster_view.proofs.Fronts.{IsAdmission, IsFrontDeed}
 use Rattle.lard_cluster_view.proofs.Nodes as nodes
 use Rattle.lard_cluster_view.proofs.Nodes.{IsNodeDeed}
-use Rattle.lard_cluster_view.proofs.Saying.{AllBetween, AreMessages, messages-between}
-use Rattle.lard_cluster_view.proofs.Turned.{AreHeld, client-segments, held-sent, sent-messages, spelled}
+use Rattle.lard_cluster_view.proofs.Saying.{AllBetween, AreMessages, GaveAt, NotedAt, messages-between}
+use Rattle.lard_cluster_view.proofs.Turned.{AreHeld, IsSaid, held-sent, sent-messages, spelled}
 use Rattle.lard_dispatch.specs.declared.dispatch.Ask.{Ask}
 use Rattle.lard_endpoint.specs.declared.control.moving.Final.{Final}
 use Rattle.lard_front_rules.specs.Front as front
 use Rattle.lard_front_rules.specs.Front.{FrontEnv, FrontPart}
 use Rattle.lard_front_rules.specs.declared.front.FrontTurn.{FrontTurn}
 use Rattle.lard_history.specs.Journal.{request}
-use Rattle.lard_history.specs.Own.{Letter, Seen}
+use Rattle.lard_history.specs.Own.{Letter, Seen, whose}
+use Rattle.lard_history.proofs.Each.{Each}
 use Rattle.lard_history.proofs.Seeing.{by_number, other_number, same_number, has-before}
 use Rattle.lard_journal.specs.declared.rec.Rec.{Rec}
 use Rattle.lard_journal.specs.declared.rec.Rec.TheVariants as rec
@@ -35,9 +38,21 @@ use Rattle.lard_segment.specs.declared.segment.Dir.TheVariants.{ToClient, ToClus
 use Rattle.lard_segment.specs.Segment.{decoded}
 use Rattle.lard_view.proofs.Turns.{IsClientTurn, aborts-turn, fires-turn, hears-turn, holds-turn, injects-turn, opens-turn, shuts-turn, takes-turn, writes-turn}
 
--- a move of a sound connection with a number leaves it sound
+-- All that a move says is of its connection.
+pub record IsItsOwn (x : Conn) (v : Move) : Type 0 where
+  pub notes : Each (NotedAt v.place x.c) v.said.notes
+  pub segments : AllBetween x.c v.place v.said.segments
+  pub gave : Each (GaveAt v.place x.c) v.said.gave
+  pub messages : AreMessages x.c v.place v.said.messages
+
+-- So is it of a sound connection with a number, which stays sound.
 abbrev pub IsFine : Conn → Move → Type 0
-IsFine x v = IsNumber x.c → IsSound x → IsSound (grown x v)
+IsFine x v = IsNumber x.c → IsSound x → IsItsOwn x v × IsSound (grown x v)
+
+-- what is named of what a node notes is noted, too
+named-noted : (place : Place) (c : ℕ) (rs : List Rec) → Each (NotedAt place c) rs → Each (NotedAt place c) (named rs)
+named-noted place c [] e = tt
+named-noted place c (r ∷ rs) e = cond_both (is_some (whose r)) (r ∷ named rs) (named rs) (Each (NotedAt place c)) (λ t. (e.0, named-noted place c rs e.1)) (λ t. named-noted place c rs e.1)
 
 -- ---- packets
 
@@ -63,51 +78,71 @@ still-sent x v place (k ∷ ks) e = ((e.0.0, has-before (letter place (sent_of k
 some-same : {A : Type 0} (a b : A) → Some a ≡ Some b → a ≡ b
 some-same a b e = cc
 
+-- what a place says in a turn, as a move
+its-own : (x : Conn) (v : Move) (answered : ℕ) → IsSaid v.place x.c v.said.notes v.said.segments v.said.gave v.said.messages answered → IsItsOwn x v
+its-own x v answered of = record { notes = of.notes; segments = of.segments; gave = of.gave; messages = of.messages }
+
 module _ (x : Conn) (number : IsNumber x.c) (sound : IsSound x) where
+  -- what each rule's move owes
+  abbrev Good : Move → Type 0
+  Good v = IsItsOwn x v × IsSound (grown x v)
+
   -- nothing that is kept changes
-  stands-fine : (place : Place) (heads : List Seen) (said : Said) → AllBetween x.c place said.segments → AreMessages x.c place said.messages → IsSound (grown x (stands x place heads said))
-  stands-fine place heads said segments messages = let v : Move = stands x place heads said in record {
-    number = inl number;
-    between = between-grown x v sound segments messages;
-    client = sound.client;
-    front = still-sent x v Front x.part.front.kept sound.front;
-    kept = λ n. still-sent x v (Node n) (x.part.nodes n).kept (sound.kept n);
-    fetches = λ n. still-sent x v (Node n) (x.part.nodes n).fetches (sound.fetches n);
-  }
+  stands-fine : (place : Place) (heads : List Seen) (said : Said) → IsItsOwn x (stands x place heads said) → Good (stands x place heads said)
+  stands-fine place heads said own = let v : Move = stands x place heads said in (
+    own,
+    record {
+      number = inl number;
+      between = between-grown x v sound own.segments own.messages;
+      client = sound.client;
+      front = still-sent x v Front x.part.front.kept sound.front;
+      kept = λ n. still-sent x v (Node n) (x.part.nodes n).kept (sound.kept n);
+      fetches = λ n. still-sent x v (Node n) (x.part.nodes n).fetches (sound.fetches n);
+    },
+  )
 
   -- a client's turn
-  client-fine : (heads : List Seen) (iss : ℕ) (given : ClientBlock × Turn) → IsClientTurn x.c given → IsSound (grown x (client_does x (record { client = given.0; iss = iss }) heads given))
+  client-fine : (heads : List Seen) (iss : ℕ) (given : ClientBlock × Turn) → IsClientTurn x.c given → Good (client_does x (record { client = given.0; iss = iss }) heads given)
   client-fine heads iss given t =
       let s : Station = record { client = given.0; iss = iss } in
-      let v : Move = client_does x s heads given in record {
-        number = inl number;
-        between = between-grown x v sound (client-segments x.c given.1.segments t.to) tt;
-        client = λ y e. sym (ap (λ (z : Station). z.client.c) (some-same s y e)) ∙ t.number;
-        front = still-sent x v Front x.part.front.kept sound.front;
-        kept = λ n. still-sent x v (Node n) (x.part.nodes n).kept (sound.kept n);
-        fetches = λ n. still-sent x v (Node n) (x.part.nodes n).fetches (sound.fetches n);
-      }
+      let v : Move = client_does x s heads given in
+      let own : IsItsOwn x v = its-own x v given.1.answered (client-said x.c given t) in (
+        own,
+        record {
+          number = inl number;
+          between = between-grown x v sound own.segments own.messages;
+          client = λ y e. sym (ap (λ (z : Station). z.client.c) (some-same s y e)) ∙ t.number;
+          front = still-sent x v Front x.part.front.kept sound.front;
+          kept = λ n. still-sent x v (Node n) (x.part.nodes n).kept (sound.kept n);
+          fetches = λ n. still-sent x v (Node n) (x.part.nodes n).fetches (sound.fetches n);
+        },
+      )
 
-  -- the front end's
-  front-fine : (heads : List Seen) (p : FrontPart) (t : FrontTurn) → AllBetween x.c Front t.segments → AreMessages x.c Front t.messages → AreHeld t.messages x.part.front.kept p.kept
-      → IsSound (grown x (front_does x heads (front.Does (record { part = p; turn = t; calls = [] }))))
-  front-fine heads p t segments messages held =
-      let v : Move = front_does x heads (front.Does (record { part = p; turn = t; calls = [] })) in record {
+  -- the front end's, behind these heads
+  module _ (heads : List Seen) (p : FrontPart) (t : FrontTurn) where
+    abbrev fronts_move : Move
+    fronts_move = record { place = Front; heads = heads; said = by_front t; part = with_front x.part p }
+
+    front-fine : IsItsOwn x fronts_move → AreHeld t.messages x.part.front.kept p.kept → Good fronts_move
+    front-fine own held = (
+      own,
+      record {
         number = inl number;
-        between = between-grown x v sound segments messages;
+        between = between-grown x fronts_move sound own.segments own.messages;
         client = sound.client;
-        front = held-sent x (grown x v) Front t.messages (map (letter Front) t.segments) refl x.part.front.kept p.kept messages sound.front held;
-        kept = λ n. still-sent x v (Node n) (x.part.nodes n).kept (sound.kept n);
-        fetches = λ n. still-sent x v (Node n) (x.part.nodes n).fetches (sound.fetches n);
-      }
+        front = held-sent x (grown x fronts_move) Front t.messages (map (letter Front) t.segments) refl x.part.front.kept p.kept own.messages sound.front held;
+        kept = λ n. still-sent x fronts_move (Node n) (x.part.nodes n).kept (sound.kept n);
+        fetches = λ n. still-sent x fronts_move (Node n) (x.part.nodes n).fetches (sound.fetches n);
+      },
+    )
 
-  pub front-deed-fine : (heads : List Seen) (d : front.Deed) → IsFrontDeed x.c x.part.front d → IsSound (grown x (front_does x heads d))
-  front-deed-fine heads front.Drops of = stands-fine Front heads nothing_said tt tt
-  front-deed-fine heads (front.Says t) of = stands-fine Front heads (by_front t) of.segments of.messages
-  front-deed-fine heads (front.Does y) of = front-fine heads y.part y.turn of.0.segments of.0.messages of.1
+  front-deed-fine : (heads : List Seen) (d : front.Deed) → IsFrontDeed x.c x.part.front d → Good (front_does x heads d)
+  front-deed-fine heads front.Drops of = stands-fine Front heads nothing_said (record { notes = tt; segments = tt; gave = tt; messages = tt })
+  front-deed-fine heads (front.Says t) of = stands-fine Front heads (by_front t) (its-own x (front_does x heads (front.Says t)) t.answered of)
+  front-deed-fine heads (front.Does y) of = front-fine heads y.part y.turn (its-own x (front_does x heads (front.Does y)) y.turn.answered of.0) of.1
 
-  pub admits-fine : (given : FrontPart × FrontTurn) → IsAdmission x.c x.part.front given → IsSound (grown x (front_admits x given))
-  admits-fine given of = front-fine [] given.0 given.1 of.0.segments of.0.messages of.1
+  admits-fine : (given : FrontPart × FrontTurn) → IsAdmission x.c x.part.front given → Good (front_admits x given)
+  admits-fine given of = front-fine [] given.0 given.1 (its-own x (front_admits x given) 0 of.0) of.1
 
   -- ---- a node's, behind these heads
 
@@ -117,39 +152,51 @@ module _ (x : Conn) (number : IsNumber x.c) (sound : IsSound x) where
       (λ same. subst (P k) (sym (ap (λ b. cond b q (x.part.nodes k)) (ap (λ j. nat_eq j n) same ∙ same_number n))) (subst (λ (j : ℕ). P j q) (sym same) one))
       (λ other. subst (P k) (sym (ap (λ b. cond b q (x.part.nodes k)) (other_number k n other))) (all k))
 
-  pub node-deed-fine : (n : ℕ) (heads : List Seen) (d : node.Deed) → IsNodeDeed n x.c (x.part.nodes n) d → IsSound (grown x (node_does x n heads d))
-  node-deed-fine n heads node.Drops of = stands-fine (Node n) heads nothing_said tt tt
-  node-deed-fine n heads (node.Says messages) of = stands-fine (Node n) heads (record nothing_said { messages = messages }) tt of
+  node-deed-fine : (n : ℕ) (heads : List Seen) (d : node.Deed) → IsNodeDeed n x.c (x.part.nodes n) d → Good (node_does x n heads d)
+  node-deed-fine n heads node.Drops of = stands-fine (Node n) heads nothing_said (record { notes = tt; segments = tt; gave = tt; messages = tt })
+  node-deed-fine n heads (node.Says messages) of = stands-fine (Node n) heads (record nothing_said { messages = messages }) (record { notes = tt; segments = tt; gave = tt; messages = of })
   node-deed-fine n heads (node.Does y) of =
-      let v : Move = node_does x n heads (node.Does y) in record {
-        number = inl number;
-        between = between-grown x v sound of.0.0.segments of.0.0.messages;
-        client = sound.client;
-        front = still-sent x v Front x.part.front.kept sound.front;
-        kept = put-all (λ k p. AreSent (grown x v) (Node k) p.kept) n y.0 (λ k. still-sent x v (Node k) (x.part.nodes k).kept (sound.kept k))
-            (held-sent x (grown x v) (Node n) y.1.messages (map (letter (Node n)) y.1.segments) refl (x.part.nodes n).kept y.0.kept of.0.0.messages (sound.kept n) of.1);
-        fetches = put-all (λ k p. AreSent (grown x v) (Node k) p.fetches) n y.0 (λ k. still-sent x v (Node k) (x.part.nodes k).fetches (sound.fetches k))
-            (held-sent x (grown x v) (Node n) y.1.messages (map (letter (Node n)) y.1.segments) refl (x.part.nodes n).fetches y.0.fetches of.0.0.messages (sound.fetches n) of.2);
-      }
+      let v : Move = node_does x n heads (node.Does y) in
+      let said = of.0.0 in
+      let own : IsItsOwn x v = record { notes = named-noted (Node n) x.c y.1.notes said.notes; segments = said.segments; gave = said.gave; messages = said.messages } in (
+        own,
+        record {
+          number = inl number;
+          between = between-grown x v sound own.segments own.messages;
+          client = sound.client;
+          front = still-sent x v Front x.part.front.kept sound.front;
+          kept = put-all (λ k p. AreSent (grown x v) (Node k) p.kept) n y.0 (λ k. still-sent x v (Node k) (x.part.nodes k).kept (sound.kept k))
+              (held-sent x (grown x v) (Node n) y.1.messages (map (letter (Node n)) y.1.segments) refl (x.part.nodes n).kept y.0.kept said.messages (sound.kept n) of.1);
+          fetches = put-all (λ k p. AreSent (grown x v) (Node k) p.fetches) n y.0 (λ k. still-sent x v (Node k) (x.part.nodes k).fetches (sound.fetches k))
+              (held-sent x (grown x v) (Node n) y.1.messages (map (letter (Node n)) y.1.segments) refl (x.part.nodes n).fetches y.0.fetches said.messages (sound.fetches n) of.2);
+        },
+      )
 
-  -- one more note makes no difference
-  noted-fine : (r : Rec) (v : Move) → IsSound (grown x v) → IsSound (grown x (reads_first r v))
-  noted-fine r v h = record { number = inl number; between = h.between; client = h.client; front = h.front; kept = h.kept; fetches = h.fetches }
+  -- the record of a job that was read stands before
+  read-fine : (n r : ℕ) (path : List ℕ) (d : node.Deed) → Good (node_does x n [] d) → Good (reads_first (rec.Read n n x.c r path) (node_does x n [] d))
+  read-fine n r path d h = (
+    read_own d h.0,
+    record { number = inl number; between = h.1.between; client = h.1.client; front = h.1.front; kept = h.1.kept; fetches = h.1.fetches },
+  ) where
+    read_own : (d : node.Deed) → IsItsOwn x (node_does x n [] d) → IsItsOwn x (reads_first (rec.Read n n x.c r path) (node_does x n [] d))
+    read_own node.Drops own = record { notes = ((refl, refl), own.notes); segments = own.segments; gave = own.gave; messages = own.messages }
+    read_own (node.Says messages) own = record { notes = ((refl, refl), own.notes); segments = own.segments; gave = own.gave; messages = own.messages }
+    read_own (node.Does y) own = record { notes = ((refl, refl), own.notes); segments = own.segments; gave = own.gave; messages = own.messages }
 
   -- ---- by the rules of the machines
 
-  its-turn : (s : Station) (given : ClientBlock × Turn) → x.part.station ≡ Some s → (s.client.c ≡ x.c → IsClientTurn x.c given) → (heads : List Seen) → IsSound (grown x (client_does x s heads given))
+  its-turn : (s : Station) (given : ClientBlock × Turn) → x.part.station ≡ Some s → (s.client.c ≡ x.c → IsClientTurn x.c given) → (heads : List Seen) → Good (client_does x s heads given)
   its-turn s given there turn heads = client-fine heads s.iss given (turn (sound.client s there))
 
   module _ (k : Setting) where
     front-rule : (env : FrontEnv) (is : IsFrontEnv k x.c env) (heads : List Seen) (d : front.Deed)
-        → (env.serve.place ≡ Front → IsNumber env.serve.c → AreMessages env.serve.c Front (map sent_of x.part.front.kept) → IsFrontDeed env.serve.c x.part.front d) → IsSound (grown x (front_does x heads d))
+        → (env.serve.place ≡ Front → IsNumber env.serve.c → AreMessages env.serve.c Front (map sent_of x.part.front.kept) → IsFrontDeed env.serve.c x.part.front d) → Good (front_does x heads d)
     front-rule env is heads d deed = front-deed-fine heads d (subst (λ (c : ℕ). IsFrontDeed c x.part.front d) is.number
         (deed is.place (subst IsNumber (sym is.number) number)
         (subst (λ (c : ℕ). AreMessages c Front (map sent_of x.part.front.kept)) (sym is.number) (sent-messages x Front x.part.front.kept sound.between sound.front))))
 
     node-rule : (n epoch : ℕ) (env : NodeEnv) (is : IsNodeEnv k x.c n epoch env) (heads : List Seen) (d : node.Deed)
-        → (env.serve.place ≡ Node env.n → IsNumber env.serve.c → IsNodeDeed env.n env.serve.c (x.part.nodes n) d) → IsSound (grown x (node_does x n heads d))
+        → (env.serve.place ≡ Node env.n → IsNumber env.serve.c → IsNodeDeed env.n env.serve.c (x.part.nodes n) d) → Good (node_does x n heads d)
     node-rule n epoch env is heads d deed = node-deed-fine n heads d
         (subst (λ (c : ℕ). IsNodeDeed n c (x.part.nodes n) d) is.number (subst (λ (j : ℕ). IsNodeDeed j env.serve.c (x.part.nodes n) d) is.node
         (deed (is.place ∙ ap Node (sym is.node)) (subst IsNumber (sym is.number) number))))
@@ -164,7 +211,7 @@ module _ (x : Conn) (number : IsNumber x.c) (sound : IsSound x) where
 
 client-rules : (k : Setting) → ClientRules k IsFine
 client-rules k = record {
-  opens = λ x isn iss wnd mss rule none number sound. noted_heads x number sound isn iss wnd mss;
+  opens = λ x isn iss wnd mss rule none number sound. begins x number sound isn iss wnd mss;
   gets = λ x s path there le number sound. its-turn x number sound s (client_writes s.client (request path)) there (λ own. writes-turn x.c s.client own (request path)) (event_seen (event.Get x.c path));
   writes = λ x s bytes there le number sound. its-turn x number sound s (client_writes s.client bytes) there (λ own. writes-turn x.c s.client own bytes) (event_seen (event.Write x.c bytes));
   shuts = λ x s there number sound. its-turn x number sound s (client_shuts s.client) there (λ own. shuts-turn x.c s.client own) (event_seen (event.Shut x.c));
@@ -175,8 +222,8 @@ client-rules k = record {
   hears = λ x s from bytes there was number sound. its-turn x number sound s (client_gets s.client (decoded bytes x.c ToClient)) there (λ own. hears-turn x.c s.client own (decoded bytes x.c ToClient))
       (packet_seen from (Client x.c) bytes);
 } where
-  noted_heads : (x : Conn) → IsNumber x.c → IsSound x → (isn iss wnd mss : ℕ) → IsSound (grown x (client_begins x isn iss wnd mss))
-  noted_heads x number sound isn iss wnd mss = client-fine x number sound (client_begins x isn iss wnd mss).heads iss (client_opens x.c isn wnd mss) (opens-turn x.c isn wnd mss)
+  begins : (x : Conn) → IsNumber x.c → IsSound x → (isn iss wnd mss : ℕ) → IsItsOwn x (client_begins x isn iss wnd mss) × IsSound (grown x (client_begins x isn iss wnd mss))
+  begins x number sound isn iss wnd mss = client-fine x number sound (client_begins x isn iss wnd mss).heads iss (client_opens x.c isn wnd mss) (opens-turn x.c isn wnd mss)
 
 front-rules : (k : Setting) → FrontRules k IsFine
 front-rules k = record {
@@ -209,15 +256,17 @@ node-rules k = record {
       (λ own i. nodes.content-deed env own i (x.part.nodes n) from r);
   acknowledged = λ x n epoch env bytes is spells was number sound. node-rule x number sound k n epoch env is (packet_seen Front (Node n) bytes) (node.node_acknowledged env (x.part.nodes n))
       (λ own i. nodes.acknowledged-deed env own i (x.part.nodes n));
-  read = λ x n epoch r env path is number sound. noted-fine x number sound (rec.Read n n x.c r path) (node_does x n [] (node.node_read env (x.part.nodes n) r))
+  read = λ x n epoch r env path is number sound. read-fine x number sound n r path (node.node_read env (x.part.nodes n) r)
       (node-rule x number sound k n epoch env is [] (node.node_read env (x.part.nodes n) r) (λ own i. nodes.read-deed env own i (x.part.nodes n) r));
   fires = λ x s n env there is number sound. node-rule x number sound k n (epoch_in (x.part.nodes n)) env is (event_seen (event.Timer (Node n) x.c)) (node.node_timer env (x.part.nodes n))
       (λ own i. nodes.fires-deed env own i (x.part.nodes n) (node-held x number sound k n (epoch_in (x.part.nodes n)) env is (x.part.nodes n).kept (sound.kept n))
       (node-held x number sound k n (epoch_in (x.part.nodes n)) env is (x.part.nodes n).fetches (sound.fetches n)));
-  answers = λ x n from epoch r path file bytes there spells was number sound. stands-fine x number sound (Node n) (packet_seen (Node from) (Node n) bytes) (contents k n from x.c epoch r path) tt
-      ((tt, spelled x.c epoch (body.Content r _) number), tt);
-  queues = λ x n from epoch r path file bytes there spells was number sound. stands-fine x number sound (Node n) (packet_seen (Node from) (Node n) bytes) (record nothing_said { notes = rec.Queued n from x.c r path ∷ [] }) tt tt;
-  brings = λ x n from epoch r path number sound. stands-fine x number sound (Node n) [] (brought_said k n from x.c epoch r path) tt ((tt, spelled x.c epoch (body.Content r _) number), tt);
+  answers = λ x n from epoch r path file bytes there spells was number sound. stands-fine x number sound (Node n) (packet_seen (Node from) (Node n) bytes) (contents k n from x.c epoch r path)
+      (record { notes = tt; segments = tt; gave = tt; messages = ((tt, spelled x.c epoch (body.Content r _) number), tt) });
+  queues = λ x n from epoch r path file bytes there spells was number sound. stands-fine x number sound (Node n) (packet_seen (Node from) (Node n) bytes) (record nothing_said { notes = rec.Queued n from x.c r path ∷ [] })
+      (record { notes = ((refl, refl), tt); segments = tt; gave = tt; messages = tt });
+  brings = λ x n from epoch r path number sound. stands-fine x number sound (Node n) [] (brought_said k n from x.c epoch r path)
+      (record { notes = ((refl, refl), tt); segments = tt; gave = tt; messages = ((tt, spelled x.c epoch (body.Content r _) number), tt) });
 }
 
 pub fine : (k : Setting) → Rules k IsFine
@@ -226,7 +275,7 @@ fine k = record {
     client = client-rules k;
     front = front-rules k;
     node = node-rules k;
-    ignores = λ x from to bytes was number sound. stands-fine x number sound to (packet_seen from to bytes) nothing_said tt tt;
+    ignores = λ x from to bytes was number sound. stands-fine x number sound to (packet_seen from to bytes) nothing_said (record { notes = tt; segments = tt; gave = tt; messages = tt });
   };
   injects = λ x s bytes there rule number sound. its-turn x number sound s (client_injects s.client bytes) there (λ own. injects-turn x.c s.client own bytes) (inject_seen x.c bytes);
 }

@@ -13,7 +13,7 @@ use Rattle.lard_cluster.specs.Machine.{front_acts, front_setting, is_no_job, nod
 use Rattle.lard_cluster_view.specs.View.{AreNumbered, Conn, IsNodeEnv, IsViewed, Move, Rules, conn, epoch_in, event_seen, node_does, packet_seen, part_of, reads_first, setting_of}
 use Rattle.lard_cluster_view.proofs.FrontActs.{front-acts}
 use Rattle.lard_cluster_view.proofs.Fronts as fronts
-use Rattle.lard_cluster_view.proofs.Heads.{comes, names, silent, was}
+use Rattle.lard_cluster_view.proofs.Heads.{comes, completes, names, was}
 use Rattle.lard_cluster_view.proofs.NodeActs.{aside-acts, deed-acts}
 use Rattle.lard_cluster_view.proofs.Nodes as nodes
 use Rattle.lard_cluster_view.proofs.Nodes.{IsNodeDeed}
@@ -95,16 +95,16 @@ module _ (m : Machine) (view : IsViewed m) (P : Conn → Move → Type 0) (R : R
     front-fires =
         let env : FrontEnv = front_env (front_setting m) m.front c 0 in
         let p : FrontPart = front_part m.front c in
-        front-acts m P Q shapes (event.Timer Front c) c (event_seen (event.Timer Front c)) opened (names m.net (event.Timer Front c) c refl tt) (front_timer env p) (fronts.fires-deed env refl opened p front-kept)
+        front-acts m P Q shapes (event.Timer Front c) c (event_seen (event.Timer Front c)) opened (names m (event.Timer Front c) Front c refl (λ J. refl) tt) refl (front_timer env p) (fronts.fires-deed env refl opened p front-kept)
         (R.untouched.front.fires (conn m c) x env there (record { place = refl; number = refl; files = refl; stream = refl }))
 
-    pub front-gets : (k : ℕ) (l : Packet) → packet_at m.net k ≡ Some l → l.from ≡ Client c → l.to ≡ Front
+    pub front-gets : (k : ℕ) (l : Packet) → packet_at m.net k ≡ Some l → l.lost ≡ false → l.from ≡ Client c → l.to ≡ Front
         → Q (event.Deliver k) (front_acts m (event.Deliver k) (rec.Got k ∷ []) (input.Segment c (record { 0 = x.iss }) l.bytes))
     unfolding conn part_of
-    front-gets k l at from to =
+    front-gets k l at on from to =
         let env : FrontEnv = front_env (front_setting m) m.front c x.iss in
         let p : FrontPart = front_part m.front c in
-        front-acts m P Q shapes (event.Deliver k) c (packet_seen (Client c) Front l.bytes) opened (comes m k c l at (Client c) Front from to refl) (front_gets env p l.bytes (decoded l.bytes c ToCluster))
+        front-acts m P Q shapes (event.Deliver k) c (packet_seen (Client c) Front l.bytes) opened (comes m k c l at (Client c) Front from to refl on) refl (front_gets env p l.bytes (decoded l.bytes c ToCluster))
         (fronts.gets-deed env refl opened p front-kept l.bytes (decoded l.bytes c ToCluster))
         (R.untouched.front.hears (conn m c) x env l.bytes there (record { place = refl; number = refl; files = refl; stream = refl }) refl (was m k c l at (Client c) Front from to refl))
 
@@ -124,7 +124,7 @@ module _ (m : Machine) (view : IsViewed m) (P : Conn → Move → Type 0) (R : R
         record { place = refl; number = refl; files = refl; stream = refl; node = refl; epoch_is = ap epoch_in (sym kept-is) } in
         let moves : P (conn m c) (node_does (conn m c) n (event_seen e) (node_timer env ((conn m c).part.nodes n))) =
         R.untouched.node.fires (conn m c) x n env station-there is-env in
-        deed-acts m P Q shapes e c (event_seen e) opened (names m.net e c refl tt) n s here [] tt (λ j. refl) (λ rs. refl) s.cache s.disk (view.jobs n s here) (node_setting m n) (node_timer env (node_part s c)) refl
+        deed-acts m P Q shapes e c (event_seen e) opened n (names m e (Node n) c refl (λ J. refl) tt) refl s here [] tt (λ j. refl) (λ rs. refl) s.cache s.disk (view.jobs n s here) (node_setting m n) (node_timer env (node_part s c)) refl
         (nodes.fires-deed env refl opened (node_part s c) kept fetches)
         (subst (λ (p : NodePart). P (conn m c) (node_does (conn m c) n (event_seen e) (node_timer env p))) kept-is moves)
 
@@ -146,7 +146,7 @@ module _ (m : Machine) (view : IsViewed m) (P : Conn → Move → Type 0) (R : R
         let kept-is : (part_of m job.c).nodes n ≡ node_part s job.c = node-kept m n s job.c here in
         let moves : P (conn m job.c) (reads_first (read_of n) (node_does (conn m job.c) n [] (node_read env ((part_of m job.c).nodes n) job.r))) =
         R.untouched.node.read (conn m job.c) n job.epoch.0 job.r env job.path (record { place = refl; number = refl; files = refl; stream = refl; node = refl; epoch_is = refl }) in
-        deed-acts m P Q shapes (event.Disk n j) job.c [] number (silent m.net (event.Disk n j) job.c refl refl) n s here (read_of job.origin ∷ []) ((refl, refl), tt) (λ k. refl) (λ rs. refl)
+        deed-acts m P Q shapes (event.Disk n j) job.c [] number n (completes m n j job.c) refl s here (read_of job.origin ∷ []) ((refl, refl), tt) (λ k. refl) (λ rs. refl)
         after.cache after.disk (others-numbered s.disk j (view.jobs n s here)) (node_setting m n) (node_read env (node_part s job.c) job.r) refl
         (nodes.read-deed env refl number (node_part s job.c) job.r)
         (subst (λ (o : ℕ). P (conn m job.c) (reads_first (read_of o) (node_does (conn m job.c) n [] (node_read env (node_part s job.c) job.r)))) (sym own)
@@ -157,7 +157,7 @@ module _ (m : Machine) (view : IsViewed m) (P : Conn → Move → Type 0) (R : R
         (aside after (saying (content_sent (node_setting m n) job.origin job.c job.epoch.0 job.r job.path ∷ [])))))
     unfolding conn
     brings =
-        aside-acts m P Q shapes (event.Disk n j) job.c [] number (silent m.net (event.Disk n j) job.c refl refl) n s here (read_of job.origin ∷ []) ((refl, refl), tt) (λ k. refl) (λ rs. refl)
+        aside-acts m P Q shapes (event.Disk n j) job.c [] number n (completes m n j job.c) refl s here (read_of job.origin ∷ []) ((refl, refl), tt) (λ k. refl) (λ rs. refl)
         after.cache after.disk (others-numbered s.disk j (view.jobs n s here)) (saying (content_sent (node_setting m n) job.origin job.c job.epoch.0 job.r job.path ∷ []))
         (record { notes = tt; segments = tt; gave = tt; messages = ((tt, spelled job.c job.epoch.0 (body.Content job.r _) number), tt); counted = λ n. omega arith }) tt
         (R.untouched.node.brings (conn m job.c) n job.origin job.epoch.0 job.r job.path)

@@ -9,7 +9,7 @@ use Rattle.lard_cluster_view.specs.View.{Conn, Move, conn, front_does, part_of, 
 use Rattle.lard_cluster_view.proofs.Fronts.{IsFrontDeed, IsFrontTurn}
 use Rattle.lard_cluster_view.proofs.Heads.{Begins}
 use Rattle.lard_cluster_view.proofs.Parts.{front-mine, front-others}
-use Rattle.lard_cluster_view.proofs.Saying.{notes-all}
+use Rattle.lard_cluster_view.proofs.Saying.{notes-all, own-first}
 use Rattle.lard_cluster_view.proofs.Shapes.{IsPut, Shapes}
 use Rattle.lard_cluster_view.proofs.Timers.{timer_rows-same}
 use Rattle.lard_front_rules.specs.declared.front.FrontState.{FrontState}
@@ -17,13 +17,15 @@ use Rattle.lard_front_rules.specs.declared.front.FrontTurn.{FrontTurn}
 use Rattle.lard_front_rules.specs.Front.{Deed, Drops, Says, Does}
 use Rattle.lard_front_rules.specs.FrontPlace.{front_deed, front_part, out_of, put_back, timers_of}
 use Rattle.lard_front_rules.proofs.Parts.{part_other, part_put}
+use Rattle.lard_history.specs.Laws.{AreOwn}
 use Rattle.lard_history.specs.Own.{Seen}
 use Rattle.lard_view.proofs.Shapes.{behind}
 
 pub front-put : (m : Machine) (s : FrontState) → IsPut m (record m { front = s })
 front-put m s = record { config = refl; files = refl; net = refl; journal = refl; events = refl; answered = refl; nodes = refl; jobs = λ h. h }
 
-module _ (m : Machine) (P : Conn → Move → Type 0) (Q : Event → Machine → Type 0) (shapes : Shapes m P Q) (e : Event) (c : ℕ) (heads : List Seen) (number : IsNumber c) (begins : Begins m.net e c heads) where
+module _ (m : Machine) (P : Conn → Move → Type 0) (Q : Event → Machine → Type 0) (shapes : Shapes m P Q) (e : Event) (c : ℕ) (heads : List Seen) (number : IsNumber c) (begins : Begins m e Front c heads)
+    (own : AreOwn e (behind e)) where
   says : (t : FrontTurn) → IsFrontTurn c t → P (conn m c) (front_does (conn m c) heads (Says t)) → Q e (front_gave m e (behind e) (m.front, out_of t []))
   unfolding conn
   says t of does = shapes.one (record m { front = m.front }) e Front (out_of t []) c heads t.notes (part_of m c)
@@ -32,6 +34,7 @@ module _ (m : Machine) (P : Conn → Move → Type 0) (Q : Event → Machine →
         number = number;
         begins = begins;
         said = of;
+        first = own-first e Front c t.notes tt own of.notes;
         notes = λ net. notes-all Front c net t.notes tt of.notes;
         timers = sym (timer_rows-same Front c (part_of m c));
         mine = refl;
@@ -49,6 +52,7 @@ module _ (m : Machine) (P : Conn → Move → Type 0) (Q : Event → Machine →
         number = number;
         begins = begins;
         said = of.0;
+        first = own-first e Front c x.turn.notes tt own of.0.notes;
         notes = λ net. notes-all Front c net x.turn.notes tt of.0.notes;
         timers = refl;
         mine = front-mine m (put_back m.front c x) c x.part (part_put m.front c x.part);

@@ -70,8 +70,8 @@ module _ (m : Machine) (view : IsViewed m) (P : Conn → Move → Type 0) (R : R
     abbrev p : FrontPart
     p = front_part m.front c
 
-    begins : Begins m.net e c heads
-    begins = comes m k c l at (Node from) Front is-from is-to of
+    begins : Begins m e Front c heads
+    begins = comes m k c l at (Node from) Front is-from is-to of there
 
     sent : Was (conn m c) (Node from) Front l.bytes
     sent = was m k c l at (Node from) Front is-from is-to of
@@ -87,14 +87,14 @@ module _ (m : Machine) (view : IsViewed m) (P : Conn → Move → Type 0) (R : R
         → Q e (front_gave m e (rec.Got k ∷ []) (front_told (front_setting m) m.front from c epoch b))
     unfolding conn part_of
     told-acts body.Taken spells =
-        front-acts m P Q shapes e c heads number begins (front_taken p epoch) (fronts.taken-deed env refl number p kept epoch) (R.untouched.front.taken (conn m c) env from epoch l.bytes is-env spells sent)
+        front-acts m P Q shapes e c heads number begins refl (front_taken p epoch) (fronts.taken-deed env refl number p kept epoch) (R.untouched.front.taken (conn m c) env from epoch l.bytes is-env spells sent)
     told-acts (body.Ask n queue size paths) spells =
         let ask : Ask = ask_of c from n queue size paths in
-        front-acts m P Q shapes e c heads number begins (front_asked env p from epoch ask) (fronts.asked-deed env refl number p kept from epoch ask)
+        front-acts m P Q shapes e c heads number begins refl (front_asked env p from epoch ask) (fronts.asked-deed env refl number p kept from epoch ask)
         (R.untouched.front.asked (conn m c) env from epoch n queue size paths l.bytes is-env spells sent)
     told-acts (body.Ended reason snd rcv count) spells =
         let last : Final = record { reason = reason; snd = record { 0 = snd }; rcv = record { 0 = rcv } } in
-        ended-acts m view P R Q shapes e c heads number begins (front_ended env p from epoch last) (ended-leaves env p from epoch last) (fronts.ended-deed env refl number p kept from epoch last)
+        ended-acts m view P R Q shapes e c heads number begins refl (front_ended env p from epoch last) (ended-leaves env p from epoch last) (fronts.ended-deed env refl number p kept from epoch last)
         (R.untouched.front.ended (conn m c) env from epoch reason snd rcv count l.bytes is-env spells sent)
     told-acts (body.Offer parts) spells = front-silent
     told-acts (body.Forward bytes) spells = front-silent
@@ -124,8 +124,8 @@ module _ (m : Machine) (view : IsViewed m) (P : Conn → Move → Type 0) (R : R
       abbrev its_env : NodeEnv
       its_env = node_env (node_setting m n) s c epoch
 
-      its-begins : Begins m.net e c its_heads
-      its-begins = comes m k c l at from (Node n) is-from is-to of
+      its-begins : Begins m e (Node n) c its_heads
+      its-begins = comes m k c l at from (Node n) is-from is-to of there
 
       its-sent : Was (conn m c) from (Node n) l.bytes
       its-sent = was m k c l at from (Node n) is-from is-to of
@@ -137,7 +137,7 @@ module _ (m : Machine) (view : IsViewed m) (P : Conn → Move → Type 0) (R : R
       hears : (rule : NodePart → Deed) → IsNodeDeed n c (node_part s c) (rule (node_part s c)) → P (conn m c) (node_does (conn m c) n its_heads (rule ((conn m c).part.nodes n)))
           → Q e (node_gave m e (rec.Got k ∷ []) n (node_deed (node_setting m n) s c (rule (node_part s c))))
       unfolding conn
-      hears rule good does = deed-acts m P Q shapes e c its_heads number its-begins n s here [] tt (λ j. refl) (λ rs. refl) s.cache s.disk (view.jobs n s here) (node_setting m n) (rule (node_part s c)) refl good
+      hears rule good does = deed-acts m P Q shapes e c its_heads number n its-begins refl s here [] tt (λ j. refl) (λ rs. refl) s.cache s.disk (view.jobs n s here) (node_setting m n) (rule (node_part s c)) refl good
           (subst (λ (p : NodePart). P (conn m c) (node_does (conn m c) n its_heads (rule p))) (node-kept m n s c here) does)
 
     module _ (c epoch : ℕ) (number : IsNumber c) where
@@ -176,7 +176,7 @@ module _ (m : Machine) (view : IsViewed m) (P : Conn → Move → Type 0) (R : R
             let sent = its-sent (Node from) is-from c epoch number of in
             let cached : NodeTurn = record (saying (content_sent (node_setting m n) from c epoch r path ∷ [])) { notes = rec.Hit n path ∷ [] } in
             let queued : NodeTurn = record (saying []) { notes = rec.Queued n from c r path ∷ []; jobs = record { origin = from; c = c; epoch = record { 0 = epoch }; r = r; path = path } ∷ [] } in
-            let acts = aside-acts m P Q shapes e c (its_heads (Node from) is-from c epoch number of) number (its-begins (Node from) is-from c epoch number of) n s here [] tt (λ j. refl) (λ rs. refl) s.cache s.disk (view.jobs n s here) in
+            let acts = aside-acts m P Q shapes e c (its_heads (Node from) is-from c epoch number of) number n (its-begins (Node from) is-from c epoch number of) refl s here [] tt (λ j. refl) (λ rs. refl) s.cache s.disk (view.jobs n s here) in
             cond_both (has s.cache.entries path) cached queued (λ (u : NodeTurn). Q e (node_gave m e (rec.Got k ∷ []) n (aside s u)))
             (λ t. acts cached (record { notes = (refl, tt); segments = tt; gave = tt; messages = ((tt, spelled c epoch (body.Content r _) number), tt); counted = λ n. omega arith }) tt
             (R.untouched.node.answers (conn m c) n from epoch r path file l.bytes is spells sent))

@@ -25,3 +25,4 @@ pub mod Runs
 pub mod Carried
 pub mod InSteps
 pub mod Guarded
+pub mod Rows

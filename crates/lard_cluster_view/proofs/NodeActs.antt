@@ -14,7 +14,7 @@ use Rattle.lard_cluster_view.specs.View.{AreNumbered, Conn, IsViewed, Move, Part
 use Rattle.lard_cluster_view.proofs.Heads.{Begins}
 use Rattle.lard_cluster_view.proofs.Nodes.{IsNodeDeed}
 use Rattle.lard_cluster_view.proofs.Parts.{length-set, node-as-before, node-elsewhere, node-here, node-kept, node-mine, node-others, node-set}
-use Rattle.lard_cluster_view.proofs.Saying.{NotedAt, notes-mine}
+use Rattle.lard_cluster_view.proofs.Saying.{NotedAt, notes-mine, own-first}
 use Rattle.lard_cluster_view.proofs.Shapes.{HasJobs, IsPut, Shapes, move_of}
 use Rattle.lard_cluster_view.proofs.Timers.{timer_rows-same}
 use Rattle.lard_cluster_view.proofs.Turned.{IsSaid}
@@ -22,6 +22,7 @@ use Rattle.lard_cluster_view.proofs.Works.{all-append}
 use Rattle.lard_cache.specs.Recency.{Recency}
 use Rattle.lard_disk.specs.declared.disk.Job.{Job}
 use Rattle.lard_history.specs.Journal.{answered_step}
+use Rattle.lard_history.specs.Laws.{AreOwn}
 use Rattle.lard_history.specs.Own.{Row, Seen}
 use Rattle.lard_history.proofs.Each.{Each, Each-append}
 use Rattle.lard_history.proofs.Seeing.{by_number, same_number}
@@ -58,8 +59,8 @@ module _ (m : Machine) (n : ℕ) (s t : NodeState) (at : node_at m.nodes n ≡ S
   }
 
 -- Node n acts on connection c, in the step of this event.
-module _ (m : Machine) (P : Conn → Move → Type 0) (Q : Event → Machine → Type 0) (shapes : Shapes m P Q) (e : Event) (c : ℕ) (heads : List Seen) (number : IsNumber c) (begins : Begins m.net e c heads)
-    (n : ℕ) (s : NodeState) (at : node_at m.nodes n ≡ Some s) where
+module _ (m : Machine) (P : Conn → Move → Type 0) (Q : Event → Machine → Type 0) (shapes : Shapes m P Q) (e : Event) (c : ℕ) (heads : List Seen) (number : IsNumber c) (n : ℕ) (begins : Begins m e (Node n) c heads)
+    (own : AreOwn e (behind e)) (s : NodeState) (at : node_at m.nodes n ≡ Some s) where
   -- what the node keeps of connections is as before
   stands-acts : (t : NodeState) (o : Out) (ns : List Rec) → named o.notes ≡ ns → AreNumbered t.disk → ((q : ℕ) → node_part t q ≡ node_part s q)
       → IsSaid (Node n) c o.notes o.segments o.gave o.messages o.answered → o.timers ≡ [] → P (conn m c) (move_of (Node n) heads ns o (conn m c).part) → Q e (node_gave m e (behind e) n (t, o))
@@ -70,6 +71,7 @@ module _ (m : Machine) (P : Conn → Move → Type 0) (Q : Event → Machine →
         number = number;
         begins = begins;
         said = of;
+        first = own-first e (Node n) c o.notes tt own of.notes;
         notes = λ net. notes-mine (Node n) c net o.notes of.notes ∙ ap (map Row) names;
         timers = none ∙ sym (timer_rows-same (Node n) c (part_of m c));
         mine = node-as-before m n s t at c (same c);
@@ -89,6 +91,7 @@ module _ (m : Machine) (P : Conn → Move → Type 0) (Q : Event → Machine →
         number = number;
         begins = begins;
         said = of;
+        first = own-first e (Node n) c o.notes tt own of.notes;
         notes = λ net. notes-mine (Node n) c net o.notes of.notes ∙ ap (map Row) names;
         timers = timers ∙ (λ i. timers_of n c (sym (node-kept m n s c at) i) (sym here i));
         mine = node-mine m n s t at c p (same c ∙ node-here s c p);
@@ -125,10 +128,10 @@ module _ (m : Machine) (P : Conn → Move → Type 0) (Q : Event → Machine →
 
     pub deed-acts : (k : NodeSetting) (deed : Deed) → k.n ≡ n → IsNodeDeed n c (node_part s c) deed → P (conn m c) (first_in (node_does (conn m c) n heads deed))
         → Q e (node_gave m e (behind e) n (with_firsts (node_deed k t c deed)))
-    deed-acts k Drops own of does = stands-acts t (record nothing_done { notes = fs ++ [] }) (fs ++ []) (names []) jobs (λ q. refl)
+    deed-acts k Drops same of does = stands-acts t (record nothing_done { notes = fs ++ [] }) (fs ++ []) (names []) jobs (λ q. refl)
         (firsts-said [] [] [] [] 0 (record { notes = tt; segments = tt; gave = tt; messages = tt; counted = λ n. omega arith })) refl does
-    deed-acts k (Says messages) own of does = aside-acts (saying messages) (record { notes = tt; segments = tt; gave = tt; messages = of; counted = λ n. omega arith }) tt does
-    deed-acts k (Does x) own of does =
+    deed-acts k (Says messages) same of does = aside-acts (saying messages) (record { notes = tt; segments = tt; gave = tt; messages = of; counted = λ n. omega arith }) tt does
+    deed-acts k (Does x) same of does =
         does-acts (place.told (place.node_put t c x.0) x.1) x.0 (record (node_out k.n c (node_part s c) x.0 x.1) { notes = fs ++ x.1.notes }) (fs ++ named x.1.notes)
         (names x.1.notes) (all-append (λ (job : Job). IsNumber job.c) disk x.1.jobs jobs of.0.1) (λ q. refl) (firsts-said x.1.notes x.1.segments x.1.gave x.1.messages x.1.answered of.0.0)
-        (ap (λ i. timers_of i c (node_part s c) x.0) own) does
+        (ap (λ i. timers_of i c (node_part s c) x.0) same) does

@@ -1,20 +1,22 @@
 -- What a place says of the connection that it acts on: what it may note, give up and send, and who sees that.
-use Rattle.std.proofs.Common.{◌≡◌, ◌≢◌, ℕ, ◌+◌, Bool, true, false, cond, List, [], ◌∷◌, ◌++◌, map, is_some, Option, Some, None, refl, sym, ap, ◌∙◌, inl, inr, ⊎_elim}
+use Rattle.std.proofs.Common.{◌≡◌, ◌≢◌, ℕ, ◌+◌, false, cond, List, [], ◌∷◌, ◌++◌, map, is_some, Option, Some, None, refl, sym, ap, ◌∙◌, inl, inr, ⊎_elim, true, not, ◌&&◌}
 use Rattle.std.specs.Prelude.{◌⊎◌}
-use Rattle.std.specs.List.{flat_map}
+use Rattle.std.specs.List.{list_all}
+use Rattle.lard_base.specs.declared.event.Event.{Event}
 use Rattle.lard_base.specs.declared.place.Place.{Place}
 use Rattle.lard_base.specs.declared.place.Place.TheVariants.{Front, Node, Client}
-use Rattle.lard_base.specs.declared.place.TimerKind.{TimerKind}
 use Rattle.lard_cluster_view.specs.View.{GoesBetween, IsMachine, letter, named, sending}
+use Rattle.lard_history.specs.Laws.{AreOwn, is_own}
 use Rattle.lard_history.specs.Own.{Row, conn_of, letter_of, letters, net_step, plain, seen_of, seen_on, whose}
 use Rattle.lard_history.specs.Steps.{is_opening}
-use Rattle.lard_history.proofs.Each.{Each, Each-append, Each-weaker}
+use Rattle.lard_history.proofs.Each.{Each, Each-weaker}
 use Rattle.lard_history.proofs.Seeing.{AreOf, letters-all, letters-none, of-whose, packet_conn, seen-all, seen-mine, seen-none, seen-other}
 use Rattle.lard_journal.specs.declared.rec.Rec.{Rec}
 use Rattle.lard_journal.specs.declared.rec.Rec.TheVariants as rec
 use Rattle.lard_machine.specs.Machine.{packets_of, sent_records}
 use Rattle.lard_net.specs.Net.{Packet}
-use Rattle.lard_rules.specs.Outs.{kind_change}
+use Rattle.lard_view.proofs.Firsts.{AreOthers, HasOwn}
+use Rattle.lard_view.proofs.Shapes.{behind}
 
 -- ---- notes
 
@@ -100,6 +102,34 @@ gave-of Front c (rec.Gave Front d epoch) h = (ap Some h, refl)
 gave-of (Node n) c (rec.Gave (Node k) d epoch) h = (ap Some h.1, refl)
 gave-of _ c _ h = absurd h
 
+-- what a machine of the cluster notes is no event's own record
+note-other : (place : Place) (c : ℕ) (r : Rec) → IsMachine place → NotedAt place c r → not (is_own r) ≡ true
+note-other Front c (rec.Took Front d epoch) m h = refl
+note-other Front c (rec.Served Front d r code size via) m h = refl
+note-other Front c (rec.Reset Front d total) m h = refl
+note-other Front c (rec.Waits d) m h = refl
+note-other Front c (rec.Admitted d) m h = refl
+note-other Front c (rec.AssignedFirst d r path n add remove) m h = refl
+note-other Front c (rec.AssignedLater d r path n add size queue) m h = refl
+note-other Front c (rec.BatchOver d) m h = refl
+note-other Front c (rec.Released d) m h = refl
+note-other (Node n) c (rec.Took (Node k) d epoch) m h = refl
+note-other (Node n) c (rec.Served (Node k) d r code size via) m h = refl
+note-other (Node n) c (rec.Reset (Node k) d total) m h = refl
+note-other (Node n) c (rec.Queued k o d r path) m h = refl
+note-other (Node n) c (rec.Read k o d r path) m h = refl
+note-other (Node n) c (rec.Hit k path) m h = refl
+note-other (Client d) c r m h = absurd m
+note-other _ c _ m h = absurd h
+
+pub notes-other : (place : Place) (c : ℕ) (rs : List Rec) → IsMachine place → Each (NotedAt place c) rs → AreOthers rs
+notes-other place c [] m e = refl
+notes-other place c (r ∷ rs) m e = ap (λ b. b && list_all (λ q. not (is_own q)) rs) (note-other place c r m e.0) ∙ notes-other place c rs m e.1
+
+-- the event's own records stand first
+pub own-first : (e : Event) (place : Place) (c : ℕ) (rs : List Rec) → IsMachine place → AreOwn e (behind e) → Each (NotedAt place c) rs → HasOwn e (behind e ++ rs)
+own-first e place c rs m own noted = (behind e, rs, refl, own, notes-other place c rs m noted)
+
 -- ---- who sees notes
 
 named-of : (c : ℕ) (r : Rec) (rs : List Rec) → whose r ≡ Some c → named (r ∷ rs) ≡ r ∷ named rs
@@ -174,43 +204,6 @@ pub gave-still : (place : Place) (c : ℕ) (r : Rec) → GaveAt place c r → Is
 gave-still Front c (rec.Gave Front d epoch) h = (refl, λ net. refl)
 gave-still (Node n) c (rec.Gave (Node k) d epoch) h = (refl, λ net. refl)
 gave-still _ c _ h = absurd h
-
--- ---- timers
-
-module _ (place : Place) (c : ℕ) (was is : TimerKind → Bool) where
-  -- the records of kinds of timers that changed
-  abbrev pub changes : List TimerKind → List Rec
-  changes kinds = flat_map (λ kind. kind_change place c kind (was kind) (is kind)) kinds
-
-  one-of : (kind : TimerKind) (a b : Bool) → AreOf c (kind_change place c kind a b)
-  one-of kind false false = tt
-  one-of kind false true = ((refl, refl), tt)
-  one-of kind true false = ((refl, refl), tt)
-  one-of kind true true = tt
-
-  pub changes-of : (kinds : List TimerKind) → AreOf c (changes kinds)
-  changes-of [] = tt
-  changes-of (kind ∷ kinds) =
-      Each-append (λ r. (whose r ≡ Some c) × (plain r ≡ r)) (kind_change place c kind (was kind) (is kind)) (changes kinds) (one-of kind (was kind) (is kind)) (changes-of kinds)
-
-  one-still : (kind : TimerKind) (a b : Bool) → Each IsStill (kind_change place c kind a b)
-  one-still kind false false = tt
-  one-still kind false true = ((refl, λ net. refl), tt)
-  one-still kind true false = ((refl, λ net. refl), tt)
-  one-still kind true true = tt
-
-  pub changes-still : (kinds : List TimerKind) → Each IsStill (changes kinds)
-  changes-still [] = tt
-  changes-still (kind ∷ kinds) = Each-append IsStill (kind_change place c kind (was kind) (is kind)) (changes kinds) (one-still kind (was kind) (is kind)) (changes-still kinds)
-
--- a timer that is as it was writes nothing
-unchanged : (place : Place) (c : ℕ) (kind : TimerKind) (b : Bool) → kind_change place c kind b b ≡ []
-unchanged place c kind true = refl
-unchanged place c kind false = refl
-
-pub none-changes : (place : Place) (c : ℕ) (was : TimerKind → Bool) (kinds : List TimerKind) → changes place c was was kinds ≡ []
-none-changes place c was [] = refl
-none-changes place c was (kind ∷ kinds) = λ i. unchanged place c kind (was kind) i ++ none-changes place c was kinds i
 
 -- ---- what is sent
 

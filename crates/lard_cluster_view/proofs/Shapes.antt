@@ -18,6 +18,7 @@ use Rattle.lard_journal.specs.declared.rec.Rec.TheVariants as rec
 use Rattle.lard_net.specs.Net.{Packet, lose_at, packet_at}
 use Rattle.lard_node_rules.specs.declared.node.NodeState.{NodeState}
 use Rattle.lard_rules.specs.declared.front.Out.{Out}
+use Rattle.lard_view.proofs.Firsts.{HasOwn}
 use Rattle.lard_view.proofs.Shapes.{behind}
 
 -- each job of each disk is of a connection
@@ -43,8 +44,9 @@ move_of place heads ns o p = record { place = place; heads = heads; said = recor
 pub record ActsOn (m w : Machine) (e : Event) (place : Place) (o : Out) (c : ℕ) (heads : List Seen) (ns : List Rec) (p : Part) : Type 0 where
   pub put : IsPut m w
   pub number : IsNumber c
-  pub begins : Begins m.net e c heads
+  pub begins : Begins m e place c heads
   pub said : IsSaid place c o.notes o.segments o.gave o.messages o.answered
+  pub first : HasOwn e (behind e ++ o.notes)
   pub notes : (net : List Packet) → seen_on c net o.notes ≡ map Row ns
   pub timers : o.timers ≡ timer_rows place c (part_of m c) p
   pub mine : part_of w c ≡ p
@@ -60,8 +62,9 @@ pub record ActsOnTwo (m w : Machine) (e : Event) (place : Place) (a b : Out) (ro
   pub number : IsNumber c
   pub number_too : IsNumber d
   pub apart : d ≢ c
-  pub begins : Begins m.net e c heads
+  pub begins : Begins m e place c heads
   pub names : NamesAll place
+  pub first : HasOwn e (behind e ++ (a.notes ++ b.notes))
   pub said : IsSaid place c a.notes a.segments a.gave a.messages a.answered
   pub said_too : IsSaid place d b.notes b.segments b.gave b.messages 0
   pub order : (rows ≡ a.timers ++ b.timers) ⊎ (rows ≡ b.timers ++ a.timers)

@@ -1,5 +1,5 @@
 -- A step that is done has one of the shapes.
-use Rattle.std.proofs.Common.{◌≡◌, ℕ, ◌-◌, Bool, true, false, cond, nat_lt, List, [], ◌∷◌, length, Option, Some, None, Result, Ok, Err, refl, sym, ap, subst}
+use Rattle.std.proofs.Common.{◌≡◌, ℕ, ◌-◌, Bool, true, false, cond, nat_lt, List, [], ◌∷◌, length, Option, Some, None, Result, Ok, Err, refl, sym, ap, subst, ◌++◌}
 use Rattle.std.specs.FinMap as table
 use Rattle.lard_base.specs.declared.event.Event.{Event}
 use Rattle.lard_base.specs.declared.event.Event.TheVariants as event
@@ -37,6 +37,7 @@ use Rattle.lard_rules.specs.declared.places.Turn.{Turn}
 use Rattle.lard_rules.specs.Client.{client_aborts, client_gets, client_holds, client_injects, client_opens, client_shuts, client_takes, client_timer, client_writes}
 use Rattle.lard_segment.specs.declared.segment.Dir.TheVariants.{ToClient}
 use Rattle.lard_segment.specs.Segment.{decoded}
+use Rattle.lard_view.proofs.Firsts.{HasOwn, gets-others, own-alone, writes-own}
 use Rattle.lard_view.proofs.Shapes.{behind}
 use Rattle.lard_view.proofs.Turns.{IsClientTurn, aborts-turn, fires-turn, hears-turn, holds-turn, injects-turn, opens-turn, shuts-turn, takes-turn, writes-turn}
 
@@ -44,11 +45,11 @@ module _ (m : Machine) (view : IsViewed m) (P : Conn → Move → Type 0) (R : R
   -- ---- events of clients
 
   -- one that opened acts
-  goes-on : (e : Event) (c : ℕ) (x : Station) (given : ClientBlock × Turn) (heads : List Seen) → table.get m.clients c ≡ Some x → Begins m.net e c heads → IsClientTurn c given
+  goes-on : (e : Event) (c : ℕ) (x : Station) (given : ClientBlock × Turn) (heads : List Seen) → table.get m.clients c ≡ Some x → Begins m e (Client c) c heads → IsClientTurn c given → HasOwn e (behind e ++ given.1.notes)
       → P (conn m c) (view_.client_does (conn m c) x heads given) → Q e (client_goes_on m e (behind e) c x given)
   unfolding conn part_of
-  goes-on e c x given heads is begins turn does =
-      client-acts m P Q shapes e c x.iss (is_armed x.client) given heads (client-number (conn m c) x (view.sound c) is) (sym (ap station_armed is)) turn begins does
+  goes-on e c x given heads is begins turn first does =
+      client-acts m P Q shapes e c x.iss (is_armed x.client) given heads (client-number (conn m c) x (view.sound c) is) (sym (ap station_armed is)) turn begins first does
 
   -- its client is its own
   own : (c : ℕ) (x : Station) → table.get m.clients c ≡ Some x → x.client.c ≡ c
@@ -64,8 +65,8 @@ module _ (m : Machine) (view : IsViewed m) (P : Conn → Move → Type 0) (R : R
     unfolding opened conn part_of
     opened-is c isn iss wnd mss None h none is =
         let e : Event = event.Open c isn iss wnd mss in
-        done e _ (client-acts m P Q shapes e c iss false (client_opens c isn wnd mss) _ h.6 (sym (ap station_armed none)) (opens-turn c isn wnd mss) (names m.net e c refl (refl, tt))
-        (R.untouched.client.opens (conn m c) isn iss wnd mss h none)) is
+        done e _ (client-acts m P Q shapes e c iss false (client_opens c isn wnd mss) _ h.6 (sym (ap station_armed none)) (opens-turn c isn wnd mss) (names m e (Client c) c refl (λ J. refl) (refl, tt))
+        (own-alone e (rec.Opened c isn iss wnd mss ∷ []) refl) (R.untouched.client.opens (conn m c) isn iss wnd mss h none)) is
     opened-is c isn iss wnd mss (Some x) h at is = cc
 
     -- bytes are written, of an event with nothing behind it
@@ -103,7 +104,7 @@ module _ (m : Machine) (view : IsViewed m) (P : Conn → Move → Type 0) (R : R
     timer-is Front c (Some x) h at is = done (event.Timer Front c) _ (front-fires m view P R Q shapes c x at) is
     timer-is (Client d) c (Some x) h at is =
         done (event.Timer (Client d) c) _ (subst (λ (z : ℕ). Q (event.Timer (Client z) c) (client_goes_on m (event.Timer (Client z) c) [] c x (client_timer x.client))) (sym h)
-        (goes-on (event.Timer (Client c) c) c x (client_timer x.client) _ at (names m.net (event.Timer (Client c) c) c refl tt) (fires-turn c x.client (own c x at)) (R.untouched.client.fires (conn m c) x at))) is
+        (goes-on (event.Timer (Client c) c) c x (client_timer x.client) _ at (names m (event.Timer (Client c) c) (Client c) c refl (λ J. refl) tt) (fires-turn c x.client (own c x at)) (own-alone (event.Timer (Client c) c) [] refl) (R.untouched.client.fires (conn m c) x at))) is
     timer-is (Node i) c (Some x) h at is = node-timer-is i c x at (is_no_node m.config.nodes i) refl is
 
     -- ---- packets
@@ -111,7 +112,7 @@ module _ (m : Machine) (view : IsViewed m) (P : Conn → Move → Type 0) (R : R
     module _ (k : ℕ) (p : Packet) (at : packet_at m.net k ≡ Some p) (there : p.lost ≡ false) where
       front-is : (c : ℕ) (o : Option Station) → p.from ≡ Client c → p.to ≡ Front → table.get m.clients c ≡ o → Q (event.Deliver k) (to_front m k p.bytes c o)
       front-is c None from to is = shapes.nobody k p at there
-      front-is c (Some x) from to is = front-gets m view P R Q shapes c x is k p at from to
+      front-is c (Some x) from to is = front-gets m view P R Q shapes c x is k p at there from to
 
       from-is : (from : Place) → p.from ≡ from → p.to ≡ Front → Q (event.Deliver k) (from_place m k p.bytes from)
       from-is (Client c) from to = front-is c (table.get m.clients c) from to refl
@@ -130,8 +131,9 @@ module _ (m : Machine) (view : IsViewed m) (P : Conn → Move → Type 0) (R : R
       client-is c None to is = shapes.nobody k p at there
       client-is c (Some x) to is =
           let of : conn_of p.from (Client c) p.bytes ≡ Some c = client-of c p.from refl to in
-          goes-on (event.Deliver k) c x (client_gets x.client (decoded p.bytes c ToClient)) _ is (comes m k c p at p.from (Client c) refl to of)
-          (hears-turn c x.client (own c x is) (decoded p.bytes c ToClient)) (R.untouched.client.hears (conn m c) x p.from p.bytes is (was m k c p at p.from (Client c) refl to of))
+          goes-on (event.Deliver k) c x (client_gets x.client (decoded p.bytes c ToClient)) _ is (comes m k c p at p.from (Client c) refl to of there)
+          (hears-turn c x.client (own c x is) (decoded p.bytes c ToClient))
+          (rec.Got k ∷ [], (client_gets x.client (decoded p.bytes c ToClient)).1.notes, refl, refl, gets-others x.client (decoded p.bytes c ToClient)) (R.untouched.client.hears (conn m c) x p.from p.bytes is (was m k c p at p.from (Client c) refl to of))
 
       node-is : (i : ℕ) (o : Option NodeState) → node_at m.nodes i ≡ o → p.to ≡ Node i → Q (event.Deliver k) (node_acts m (event.Deliver k) (rec.Got k ∷ []) i (back.Message p.from p.bytes) o)
       node-is i None here to = shapes.nobody k p at there
@@ -180,22 +182,22 @@ module _ (m : Machine) (view : IsViewed m) (P : Conn → Move → Type 0) (R : R
     unfolding conn part_of
     happens-is (event.Open c isn iss wnd mss) h is = opened-is c isn iss wnd mss (table.get m.clients c) h refl is
     happens-is (event.Get c path) h is = wrote-is (event.Get c path) c (request path) (table.get m.clients c) refl
-        (λ x at le. goes-on (event.Get c path) c x (client_writes x.client (request path)) _ at (names m.net (event.Get c path) c refl tt) (writes-turn c x.client (own c x at) (request path))
-        (R.untouched.client.gets (conn m c) x path at le)) is
+        (λ x at le. goes-on (event.Get c path) c x (client_writes x.client (request path)) _ at (names m (event.Get c path) (Client c) c refl (λ J. refl) tt) (writes-turn c x.client (own c x at) (request path))
+        (own-alone (event.Get c path) (client_writes x.client (request path)).1.notes (writes-own x.client c (request path) (own c x at))) (R.untouched.client.gets (conn m c) x path at le)) is
     happens-is (event.Write c bytes) h is = wrote-is (event.Write c bytes) c bytes (table.get m.clients c) refl
-        (λ x at le. goes-on (event.Write c bytes) c x (client_writes x.client bytes) _ at (names m.net (event.Write c bytes) c refl tt) (writes-turn c x.client (own c x at) bytes)
-        (R.untouched.client.writes (conn m c) x bytes at le)) is
+        (λ x at le. goes-on (event.Write c bytes) c x (client_writes x.client bytes) _ at (names m (event.Write c bytes) (Client c) c refl (λ J. refl) tt) (writes-turn c x.client (own c x at) bytes)
+        (own-alone (event.Write c bytes) (client_writes x.client bytes).1.notes (writes-own x.client c bytes (own c x at))) (R.untouched.client.writes (conn m c) x bytes at le)) is
     happens-is (event.Shut c) h is = does-is (event.Shut c) [] c client_shuts (table.get m.clients c)
-        (λ x at. goes-on (event.Shut c) c x (client_shuts x.client) _ at (names m.net (event.Shut c) c refl tt) (shuts-turn c x.client (own c x at)) (R.untouched.client.shuts (conn m c) x at)) is
+        (λ x at. goes-on (event.Shut c) c x (client_shuts x.client) _ at (names m (event.Shut c) (Client c) c refl (λ J. refl) tt) (shuts-turn c x.client (own c x at)) (own-alone (event.Shut c) [] refl) (R.untouched.client.shuts (conn m c) x at)) is
     happens-is (event.Abort c) h is = does-is (event.Abort c) [] c client_aborts (table.get m.clients c)
-        (λ x at. goes-on (event.Abort c) c x (client_aborts x.client) _ at (names m.net (event.Abort c) c refl tt) (aborts-turn c x.client (own c x at)) (R.untouched.client.aborts (conn m c) x at)) is
+        (λ x at. goes-on (event.Abort c) c x (client_aborts x.client) _ at (names m (event.Abort c) (Client c) c refl (λ J. refl) tt) (aborts-turn c x.client (own c x at)) (own-alone (event.Abort c) (rec.Aborted x.client.c ∷ []) (ap (λ d. rec.Aborted d ∷ []) (own c x at))) (R.untouched.client.aborts (conn m c) x at)) is
     happens-is (event.Hold c) h is = does-is (event.Hold c) [] c client_holds (table.get m.clients c)
-        (λ x at. goes-on (event.Hold c) c x (client_holds x.client) _ at (names m.net (event.Hold c) c refl tt) (holds-turn c x.client (own c x at)) (R.untouched.client.holds (conn m c) x at)) is
+        (λ x at. goes-on (event.Hold c) c x (client_holds x.client) _ at (names m (event.Hold c) (Client c) c refl (λ J. refl) tt) (holds-turn c x.client (own c x at)) (own-alone (event.Hold c) [] refl) (R.untouched.client.holds (conn m c) x at)) is
     happens-is (event.Take c) h is = does-is (event.Take c) [] c client_takes (table.get m.clients c)
-        (λ x at. goes-on (event.Take c) c x (client_takes x.client) _ at (names m.net (event.Take c) c refl tt) (takes-turn c x.client (own c x at)) (R.untouched.client.takes (conn m c) x at)) is
+        (λ x at. goes-on (event.Take c) c x (client_takes x.client) _ at (names m (event.Take c) (Client c) c refl (λ J. refl) tt) (takes-turn c x.client (own c x at)) (own-alone (event.Take c) [] refl) (R.untouched.client.takes (conn m c) x at)) is
     happens-is (event.Inject c bytes) h is = does-is (event.Inject c bytes) (rec.Injected c ∷ []) c (λ x. client_injects x bytes) (table.get m.clients c)
-        (λ x at. goes-on (event.Inject c bytes) c x (client_injects x.client bytes) _ at (names m.net (event.Inject c bytes) c refl (refl, tt)) (injects-turn c x.client (own c x at) bytes)
-        (R.injects (conn m c) x bytes at h)) is
+        (λ x at. goes-on (event.Inject c bytes) c x (client_injects x.client bytes) _ at (names m (event.Inject c bytes) (Client c) c refl (λ J. refl) (refl, tt)) (injects-turn c x.client (own c x at) bytes)
+        (own-alone (event.Inject c bytes) (rec.Injected c ∷ []) refl) (R.injects (conn m c) x bytes at h)) is
     happens-is (event.Deliver k) h is = delivered-is k (packet_at m.net k) refl is
     happens-is (event.Lose k) h is = lost-is k (packet_at m.net k) refl is
     happens-is (event.Timer p c) h is = timer-is p c (table.get m.clients c) h refl is

@@ -1,5 +1,5 @@
 -- One step of the machine: each connection stays as it is, or makes one move of one rule.
-use Rattle.std.proofs.Common.{◌≡◌, ℕ, ◌+◌, ◌-◌, List, [], ◌∷◌, ◌++◌, map, Option, Some, None, refl, sym, ap, ◌∙◌, subst, append-nil, inl, inr, ⊎_elim}
+use Rattle.std.proofs.Common.{◌≡◌, ℕ, ◌+◌, ◌-◌, List, [], ◌∷◌, ◌++◌, map, Option, Some, None, refl, sym, ap, ◌∙◌, subst, append-nil, inl, inr, ⊎_elim, false}
 use Rattle.std.specs.Prelude.{◌⊎◌}
 use Rattle.std.specs.List.{fold}
 use Rattle.std.proofs.lemmas.List.{map-append}
@@ -144,16 +144,16 @@ module _ (m : Machine) (view : IsViewed m) (P : Conn → Move → Type 0) (R : R
       (shows-first q place a k nothing_said rows [] (λ net. either q net a.timers b.timers rows [] act.order left_.timers right_.timers) [] [] left_ right_)))
 
   -- a packet comes, and nothing is done
-  ignored : (k : ℕ) (p : Packet) → packet_at m.net k ≡ Some p → To (passed m (event.Deliver k) (rec.Got k ∷ []))
+  ignored : (k : ℕ) (p : Packet) → packet_at m.net k ≡ Some p → p.lost ≡ false → To (passed m (event.Deliver k) (rec.Got k ∷ []))
   unfolding conn
-  ignored k p at q = go (conn_of p.from p.to p.bytes) refl where
+  ignored k p at there q = go (conn_of p.from p.to p.bytes) refl where
     n : Machine
     n = passed m (event.Deliver k) (rec.Got k ∷ [])
 
     go : (o : Option ℕ) → conn_of p.from p.to p.bytes ≡ o → Goes Numbered (conn m q) (conn n q)
     go None e = passes Numbered m m (event.Deliver k) (rec.Got k ∷ []) q view.told refl refl refl (comes-to-none m k p at e (m.events + 1) q)
     go (Some d) e =
-        let b = comes m k d p at p.from p.to refl refl e in
+        let b = comes m k d p at p.from p.to refl refl e there in
         let sent = was m k d p at p.from p.to refl refl e in
         by_number (Goes Numbered (conn m q) (conn n q)) q d
         (λ same. subst (λ (z : ℕ). Goes Numbered (conn m z) (conn n z)) (sym same)
@@ -166,7 +166,7 @@ module _ (m : Machine) (view : IsViewed m) (P : Conn → Move → Type 0) (R : R
   shapes-go = record {
     one = goes-one;
     two = goes-two;
-    nobody = λ k l at there. ignored k l at;
+    nobody = λ k l at there. ignored k l at there;
     loses = λ k l at there q. passes Numbered m (record m { net = lose_at (k - 1) m.net }) (event.Lose k) (rec.Lost k ∷ []) q view.told (letters-lost q (k - 1) m.net) refl refl refl;
     clocks = λ ms q. passes Numbered m (record m { now = m.now + ms }) (event.Clock ms) (rec.Clock (record { 0 = m.now + ms }) ∷ []) q view.told refl refl refl refl;
   }

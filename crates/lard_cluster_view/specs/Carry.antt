@@ -1,5 +1,5 @@
 -- What a law of one connection owes, to be a law of every run of the cluster's machine.
-use Rattle.std.specs.Prelude.{◌≡◌, ℕ, false, List, [], ◌∷◌}
+use Rattle.std.specs.Prelude.{◌≡◌, ℕ, false, List, []}
 use Rattle.lard_base.specs.declared.config.Config.{Config}
 use Rattle.lard_base.specs.declared.event.Event.{Event}
 use Rattle.lard_cluster.specs.declared.machine.Machine.{Machine}
@@ -7,10 +7,11 @@ use Rattle.lard_cluster.specs.Bounds.{IsNumber}
 use Rattle.lard_cluster.specs.Machine.{IsReached}
 use Rattle.lard_cluster_view.specs.View.{Conn, IsSound, Rules, Setting, UntouchedRules, blank, conn, grown, seen_in}
 use Rattle.lard_files.specs.Files.{file_at}
-use Rattle.lard_history.specs.Journal.{Tale, tale_step}
+use Rattle.lard_history.specs.Journal.{Tale}
 use Rattle.lard_history.specs.Own.{EachRow, Seen, tale_of}
 use Rattle.lard_journal.specs.declared.rec.Rec.{Rec}
 use Rattle.lard_journal.specs.declared.rec.Rec.TheVariants as rec
+pub use Rattle.lard_view.specs.Carry.{TellsBy, WhileUntouched}
 
 abbrev pub setting : Config → List (List ℕ × List ℕ) → Setting
 setting config files = record { files = file_at files; stream = config.stream }
@@ -49,15 +50,6 @@ pub record IsUntouchedLaw (k : Setting) (Given Inv : Conn → Type 0) : Type 0 w
 -- what holds of each connection that the schedule did not touch
 abbrev pub Untouched : (Conn → Type 0) → Conn → Type 0
 Untouched Inv x = (tale_at x).touched ≡ false → Inv x
-
--- a record may stand where it does, as long as the schedule did not touch the connection
-abbrev pub WhileUntouched : (ℕ → List Seen → Rec → Type 0) → ℕ → List Seen → Rec → Type 0
-WhileUntouched mine c past r = (tale_of c past).touched ≡ false → mine c past r
-
--- each record may stand where this is told of the connection
-abbrev pub TellsBy : (Tale → Rec → Type 0) → ℕ → Tale → List Rec → Type 0
-TellsBy may c t [] = Unit {0}
-TellsBy may c t (r ∷ rs) = may t r × TellsBy may c (tale_step c t r) rs
 
 -- The same with a law of its records: each rule keeps what holds, and all that is seen of its step may stand.
 pub record IsGuardedLaw (k : Setting) (Given Inv : Conn → Type 0) (mine : ℕ → List Seen → Rec → Type 0) : Type 0 where

@@ -1,5 +1,5 @@
 -- What is proved of the view: each connection goes by a rule or stays, and what each rule keeps holds in every run.
-use Rattle.std.specs.Prelude.{◌≡◌, ℕ, List, [], Some, None, Ok}
+use Rattle.std.specs.Prelude.{◌≡◌, ℕ, Bool, true, List, [], Some, None, Ok}
 use Rattle.lard_base.specs.declared.config.Config.{Config}
 use Rattle.lard_base.specs.declared.event.Event.{Event}
 use Rattle.lard_cluster.specs.declared.machine.Machine.{Machine}
@@ -44,3 +44,28 @@ UntouchedIsLaw = (k : Setting) (Given Inv : Conn → Type 0) → IsUntouchedLaw 
 
 abbrev pub GuardedIsLaw : Type 1
 GuardedIsLaw = (k : Setting) (Given Inv : Conn → Type 0) (mine : ℕ → List Seen → Rec → Type 0) → IsGuardedLaw k Given Inv mine → IsLaw k Given (Guarded Inv mine)
+
+-- ---- the same of tests, since a contract cannot range over facts
+
+abbrev pub Passes : (Conn → Move → Bool) → Conn → Move → Type 0
+Passes test x v = test x v ≡ true
+
+abbrev pub Holds : (Conn → Bool) → Conn → Type 0
+Holds test x = test x ≡ true
+
+-- What passes each rule's move, passes the move of each connection that does not stay as it is.
+abbrev pub ConnectionsGoByRules : Type 0
+ConnectionsGoByRules = (m n : Machine) (e : Event) (test : Conn → Move → Bool) → IsViewed m → Rules (setting_of m) (Passes test) → HasRule e → machine_step m e ≡ Ok n
+    → (q : ℕ) → Goes (λ x v. IsNumber x.c × Passes test x v) (conn m q) (conn n q)
+
+-- What each rule keeps, holds of each connection in every state.
+abbrev pub LawsAreCarried : Type 0
+LawsAreCarried = (config : Config) (files : List (List ℕ × List ℕ)) (given inv : Conn → Bool) → IsLaw (setting config files) (Holds given) (Holds inv) → OfEach config files (Holds given)
+    → OfEach config files (Holds inv)
+
+-- What the move of each rule holds, each step of the journal holds.
+abbrev pub StepLawsAreCarried : Type 0
+StepLawsAreCarried = (config : Config) (files : List (List ℕ × List ℕ)) (given : Conn → Bool) (must : List Rec → List Rec → Bool) (own_must : ℕ → List Seen → List Seen → Bool)
+    → ((past s : List Rec) → ((c : ℕ) → own_must c (own c past) (seen_on c (net_of past) s) ≡ true) → must past s ≡ true)
+    → IsStepLaw (setting config files) (Holds given) (λ c past s. own_must c past s ≡ true) → OfEach config files (Holds given)
+    → (m : Machine) → IsReached config files m → EachStep (λ past s. must past s ≡ true) [] (steps m.journal)
