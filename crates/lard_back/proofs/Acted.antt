@@ -64,7 +64,7 @@ put-sound s c q rest sound = record {
 pub told-sound : (s : NodeState) (t : NodeTurn) → IsNodeSound s → IsNodeSound (told s t)
 told-sound s t sound = record { stays = sound.stays; kept = sound.kept; fetches = sound.fetches }
 
-ends-rest : (env : NodeEnv) (p : NodePart) (w : Work) (e : Ending) → EndsSound e w → IsAtRest (kept_after env p w e).row (kept_after env p w e).stay
+pub ends-rest : (env : NodeEnv) (p : NodePart) (w : Work) (e : Ending) → EndsSound e w → IsAtRest (kept_after env p w e).row (kept_after env p w e).stay
 ends-rest env p w (ending.Here b count) s = s
 ends-rest env p w (ending.Over last) s = tt
 

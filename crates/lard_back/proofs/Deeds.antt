@@ -3,11 +3,12 @@ use Rattle.std.proofs.Common.{◌≡◌, ℕ, true, List, [], ◌++◌, append_a
 use Rattle.std.proofs.lemmas.Bool.{cond-true}
 use Rattle.lard_back.specs.declared.hand.At.{At}
 use Rattle.lard_back.specs.declared.timers.Flags.{Flags}
-use Rattle.lard_back.specs.Place.{IsActed, acted, ends_with, env_of, out_at}
+use Rattle.lard_back.specs.Place.{IsActed, acted, ends_with, env_of, out_at, told_at}
 use Rattle.lard_back.specs.Awaiting.{awaits}
 use Rattle.lard_back.specs.Hand.{Held}
 use Rattle.lard_back.specs.Sound.{IsNodeSound, NoneEmpty}
 use Rattle.lard_back.proofs.Acted.{empty-put}
+use Rattle.lard_back.proofs.Putting.{part-put}
 use Rattle.lard_back.specs.Timers.{flag_changes, flags_of}
 use Rattle.lard_base.specs.declared.errors.NoMemory.{NoMemory}
 use Rattle.lard_base.specs.declared.place.Place.{Place}
@@ -22,8 +23,8 @@ use Rattle.lard_lateral.specs.Lateral as lateral
 use Rattle.lard_node_rules.specs.declared.node.NodeState.{NodeState}
 use Rattle.lard_node_rules.specs.declared.stay.Stay.{Stay}
 use Rattle.lard_node_rules.specs.declared.node.NodeTurn.{NodeTurn}
-use Rattle.lard_node_rules.specs.Node.{Does, Drops, NodePart, come_by, heard_by, here, is_awaited, kept_after, node_armed, node_content, node_forwarded, node_read, node_tagged, read_by, rests, tagged_by, turn_by, work_of}
-use Rattle.lard_node_rules.specs.NodePlace.{NodeSetting, node_deed, node_did, node_env, node_out, node_part, node_put, timers_of, told}
+use Rattle.lard_node_rules.specs.Node.{Does, Drops, NodePart, come_by, heard_by, here, is_awaited, kept_after, node_armed, node_content, node_forwarded, node_read, node_tagged, read_by, rests, saying, tagged_by, turn_by, work_of}
+use Rattle.lard_node_rules.specs.NodePlace.{NodeSetting, aside, node_deed, node_did, node_env, node_out, node_part, node_put, timers_of, told}
 use Rattle.lard_node_rules.specs.Stay.{NodeEnv, Work, came_for, come_progress, goes_on, read_progress, tagged}
 use Rattle.lard_resend.specs.declared.kept.Kept.{Kept}
 use Rattle.lard_resend.specs.Kept.{without}
@@ -32,8 +33,9 @@ use Rattle.lard_resend.proofs.Lists.{list_got, list_twice}
 use Rattle.lard_resend.proofs.Renewed.{held_settled, settled_is}
 use Rattle.lard_rules.specs.declared.front.Out.{Out}
 use Rattle.lard_rules.specs.declared.places.Ending.{Ending}
+use Rattle.lard_rules.specs.declared.places.Turn.{Turn}
 use Rattle.lard_table.specs.Table.{put_or}
-use Rattle.lard_rules.specs.Outs.{kind_change}
+use Rattle.lard_rules.specs.Outs.{kind_change, nothing_done}
 use Rattle.lard_rules.specs.Serving as serving
 use Rattle.lard_segment.specs.declared.fault.SegFault.{SegFault}
 use Rattle.lard_segment.specs.Segment.{Said}
@@ -67,6 +69,29 @@ heard-here k s at m (Some x) = did-is k s at [] (goes_on (node_env k s at.c at.e
 
 pub at-node : (k : NodeSetting) (at : At) → at.n ≡ k.n → at ≡ here_at k at
 at-node k at e = λ i. record at { n = e i }
+
+-- what is kept of the connection is put back, and its turn told
+pub told-did : (k : NodeSetting) (s t : NodeState) (at : At) (was : Flags) (q : NodePart) (turn : NodeTurn) → t ≡ node_put s at.c q → was ≡ flags_of (node_part s at.c) → at.n ≡ k.n
+    → told_at t at was turn ≡ node_did k s at.c (q, turn)
+told-did k s t at was q turn is flags node =
+    (λ i. told_at (is i) at (flags i) turn)
+    ∙ (λ i. (told (node_put s at.c q) turn, out_at (at-node k at node i) (flags_of (node_part s at.c)) (part-put s at.c q i) turn))
+    ∙ (λ i. (told (node_put s at.c q) turn, record (node_out k.n at.c (node_part s at.c) q turn) { timers = changes-are k.n at.c (node_part s at.c) q i }))
+
+-- all that was in hand is put back, wherever its turn ended
+pub ends-did : (k : NodeSetting) (s : NodeState) (at : At) (was : Flags) (before : List (Place × List ℕ)) (w : Work) (given : Ending × Turn) → was ≡ flags_of (node_part s at.c) → at.n ≡ k.n
+    → ends_with k s at was before w given
+    ≡ node_did k s at.c (kept_after (node_env k s at.c at.epoch.0) (node_part s at.c) w given.0, turn_by (node_env k s at.c at.epoch.0) before w given)
+ends-did k s at was before w given flags node =
+    let env : NodeEnv = node_env k s at.c at.epoch.0 in
+    let q : NodePart = kept_after env (node_part s at.c) w given.0 in
+    let turn : NodeTurn = turn_by env before w given in
+    (λ i. ends_with k s (at-node k at node i) (flags i) before w given)
+    ∙ (λ i. (told (node_put s at.c q) turn, record (node_out k.n at.c (node_part s at.c) q turn) { timers = changes-are k.n at.c (node_part s at.c) q i }))
+
+-- messages go out, and nothing else is done
+pub said-is : (s : NodeState) (ms : List (Place × List ℕ)) (out : Out) → out ≡ record nothing_done { messages = ms } → (s, out) ≡ aside s (saying ms)
+said-is s ms out is = λ i. (record s { disk = sym (append-nil s.disk) i }, is i)
 
 -- a segment that decodes comes to the connection
 pub forwarded : (k : NodeSetting) (s : NodeState) (at : At) (m : Said) → at.n ≡ k.n

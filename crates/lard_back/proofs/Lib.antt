@@ -1,6 +1,10 @@
+pub mod Acknowledged
 pub mod Acted
+pub mod Adopted
 pub mod Deeds
+pub mod Fired
 pub mod Keeping
 pub mod Messages
 pub mod Putting
+pub mod Queued
 pub mod Turning

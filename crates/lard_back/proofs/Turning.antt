@@ -1,6 +1,7 @@
 -- What a turn leaves is sound, and its end may be told.
-use Rattle.std.proofs.Common.{◌≡◌, ℕ, suc, ◌+◌, ◌≤◌, List, [], ◌∷◌, length, Option, Some, None, Result, Ok, IfOk, All, IfSome, refl, sym, ap, subst, arith}
+use Rattle.std.proofs.Common.{◌≡◌, ℕ, suc, ◌+◌, ◌≤◌, List, [], ◌∷◌, length, Option, Some, None, Result, Ok, IfOk, All, IfSome, refl, sym, ap, subst, ◌∙◌, arith}
 use Rattle.std.proofs.lemmas.Bool.{cond_both}
+use Rattle.lard_back.specs.declared.hand.Rest.{Rest}
 use Rattle.lard_back.specs.Bounds.{AreWants, MayTell}
 use Rattle.lard_back.specs.Bounds as bounds
 use Rattle.lard_back.specs.Hand.{rest_of, rested_in}
@@ -22,7 +23,9 @@ use Rattle.lard_rules.specs.declared.places.Ending.TheVariants.{Here, Over}
 use Rattle.lard_rules.specs.declared.places.Turn.{Turn}
 use Rattle.lard_rules.specs.Serving.{ServeEnv, Service, cut_off, rested, settled, spoken}
 use Rattle.lard_rules.specs.Speaking.{speaks}
+use Rattle.lard_serving.specs.declared.answering.Service.{Service as Served}
 use Rattle.lard_serving.specs.Bounds.{IsTurn}
+use Rattle.lard_serving.specs.Serving.{service_of}
 use Rattle.lard_stay.specs.declared.work.Work.{Work as InHand}
 use Rattle.lard_stay.specs.Work.{IsAsk, IsSound, IsStaySound, IsWant, work_seen}
 
@@ -95,6 +98,13 @@ settled-is env b w e turn s few is fits =
       jobs = few;
       sound = subst (λ (x : Ending). EndsSound x (work_seen b w)) (sym ended) (settled-sound env (work_seen b w) (work-sound b w s));
     }
+
+-- the same, of a service and a rest that were taken apart
+pub settled-by : (env : ServeEnv) (b : ControlBlock) (w : InHand) (service : Served) (rest : Rest) (e : Ending) (turn : Turn) → IsSound b w → length w.jobs ≤ 9 → service ≡ w.service → rest ≡ rest_of (work_seen b w)
+    → (e, turn) ≡ settled env (service_of b service) → IsTurn turn → IsDone (work_seen b w) (settled env (work_seen b w).service) e (record { turn = turn; rest = rest })
+settled-by env b w service rest e turn s few same left is fits =
+    subst (λ (r : Rest). IsDone (work_seen b w) (settled env (work_seen b w).service) e (record { turn = turn; rest = r })) (sym left)
+    (settled-is env b w e turn s few (is ∙ ap (λ (v : Served). settled env (service_of b v)) same) fits)
 
 pub of_ok : {A E : Type 0} (P : A → Type 0) (r : Result A E) (a : A) → r ≡ Ok a → IfOk r P → P a
 of_ok P r a is h = subst (λ x. IfOk x P) is h

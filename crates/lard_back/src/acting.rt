@@ -3,10 +3,12 @@
 ghost use Rattle.std.specs.Prelude.{◌≡◌, ◌+◌, ◌^◌, ◌<◌, ◌≤◌, [], length, true, IfOk};
 ghost use Rattle.std.specs.FinMap as table;
 ghost use Rattle.lard_back.specs.Bounds.{AreMessages, AreWants, IsAsk, IsNodeOut, MayTell};
+ghost use Rattle.lard_back.specs.Hand.{rest_of};
 ghost use Rattle.lard_back.specs.Place.{IsActed, IsDone, IsGone, closes, env_of, setting_seen, told_at};
 ghost use Rattle.lard_back.specs.Sound.{IsNodeSound};
 ghost use Rattle.lard_base.specs.declared.limits.TheConstants.{MAX_STREAM_BYTES};
 ghost use Rattle.lard_endpoint.specs.Arriving.{on_segment};
+ghost use Rattle.lard_endpoint.specs.Control.{ControlBlock};
 ghost use Rattle.lard_handoff_back.specs.Back.{may_put};
 ghost use Rattle.lard_node_rules.specs.Node.{work_of};
 ghost use Rattle.lard_node_rules.specs.Stay.{came_for, come_progress, goes_on, read_progress, tagged};
@@ -26,7 +28,7 @@ use lard_files::Files;
 use lard_node_rules::{NodeState, NodeTurn};
 use lard_rules::{Ending, Out, Turn};
 use lard_segment::Segment;
-use lard_serving::{nothing, settled};
+use lard_serving::{Service, nothing, settled};
 use lard_stay::{Env, Work, come, complete, go_on, tag};
 use std::alloc::Global;
 
@@ -250,6 +252,19 @@ pub fn settle(
     requires jobs { length work.jobs ≤ 9 }
     ensures done { IfOk result.1 (λ done. IsDone (work_seen endpoint work) (settled (env_seen env.now) (work_seen endpoint work).service) result.0 done) }
 {
+    let (service, rest) = apart(work);
+    let (ending, turn) = settled(alloc, env, endpoint, service);
+    match turn {
+        Ok(turn) => return (ending, Ok(Done { turn, rest })),
+        Err(NoMemory) => return (ending, Err(NoMemory)),
+    }
+}
+
+/// What was served, and what is left of a turn beside it.
+pub fn apart(work: Work) -> (Service, Rest)
+    ensures service { result.0 ≡ work.service }
+    ensures rest { (b : ControlBlock) → result.1 ≡ rest_of (work_seen b work) }
+{
     let Work {
         service,
         batch,
@@ -267,11 +282,7 @@ pub fn settle(
         asked,
         over,
     };
-    let (ending, turn) = settled(alloc, env, endpoint, service);
-    match turn {
-        Ok(turn) => return (ending, Ok(Done { turn, rest })),
-        Err(NoMemory) => return (ending, Err(NoMemory)),
-    }
+    (service, rest)
 }
 
 /// The end of a turn, once the endpoint is back.

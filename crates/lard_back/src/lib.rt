@@ -2,13 +2,16 @@
 //! and answers what other nodes ask for.
 //!
 //! It stands above the tables of a node, its cache and its disk, and what is done with the requests of one stay, and follows the
-//! rules of `lard_node_rules`. Built are those of a Forward, a Tag, a Content, a Fetch and a job of its own. Nothing stands on it
-//! yet: the rules of an Offer, an EndedAck and the timers, and the step over all of them, are to come.
+//! rules of `lard_node_rules`. `step` is all that a node does with what comes to it. Nothing stands on it yet.
 #![tactic(auto)]
 
 mod acting;
+mod firing;
 mod hand;
+mod hearing;
+mod offers;
 pub mod place;
+mod reads;
 pub mod rules;
 mod sends;
 pub mod stores;
@@ -18,4 +21,4 @@ mod timers;
 
 pub use acting::Setting;
 pub use hand::At;
-pub use place::{begin, finish};
+pub use place::{begin, finish, step};

@@ -1,16 +1,24 @@
-//! A node's state as it begins and as it is spent.
+//! A node: its state as it begins and as it is spent, and its step.
 
-ghost use Rattle.std.specs.Prelude.{◌≡◌, IfOk};
+ghost use Rattle.std.specs.Prelude.{◌≡◌, ◌+◌, ◌^◌, ◌<◌, ◌≤◌, length, IfOk, OnOk};
+ghost use Rattle.lard_back.specs.Bounds.{IsNodeOut};
+ghost use Rattle.lard_back.specs.Place.{setting_seen};
 ghost use Rattle.lard_back.specs.Sound.{IsNodeSound};
-ghost use Rattle.lard_node_rules.specs.NodePlace.{no_stays};
+ghost use Rattle.lard_base.specs.declared.limits.TheConstants.{MAX_STREAM_BYTES};
+ghost use Rattle.lard_node_rules.specs.NodePlace.{no_stays, node_step};
 
+use crate::acting::Setting;
+use crate::firing::fire;
+use crate::hearing::get;
+use crate::reads::complete;
 use lard_base::NoMemory;
 use lard_cache::Cache;
 use lard_disk::Disk;
 use lard_handoff_back::BackTable;
 use lard_lateral::Lateral;
-use lard_node_rules::NodeState;
+use lard_node_rules::{BackIn, NodeState};
 use lard_resend::Pending;
+use lard_rules::Out;
 use lard_table::Table;
 use std::alloc::Global;
 
@@ -45,4 +53,29 @@ pub fn finish(state: NodeState) {
     stays.destroy_empty();
     kept.finish();
     fetches.finish();
+}
+
+/// What a node does with what comes to it. Without memory it is not said what it did, nor what of it.
+pub fn step(
+    state: &mut NodeState,
+    alloc: Global,
+    setting: &Setting<'_>,
+    input: BackIn,
+) -> Result<Out, NoMemory>
+    requires sound { IsNodeSound state.old }
+    requires stream { setting.now.stream ≤ MAX_STREAM_BYTES }
+    requires few { length state.old.disk < 2 ^ 31 }
+    ensures ok { IfOk result (λ out. (state.new, out) ≡ node_step (setting_seen setting.now) state.old input) }
+    ensures sound { OnOk result (IsNodeSound state.new) }
+    ensures fits { IfOk result IsNodeOut }
+    // Each job that is queued has its record.
+    ensures queue { IfOk result (λ out. length state.new.disk ≤ length state.old.disk + length out.notes) }
+{
+    match input {
+        BackIn::Message { from, bytes } => {
+            return get(state, alloc, setting, from, bytes.as_slice());
+        }
+        BackIn::Timer(c) => return fire(state, alloc, setting, c),
+        BackIn::Disk(j) => return complete(state, alloc, setting, j),
+    }
 }

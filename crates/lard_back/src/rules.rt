@@ -1,20 +1,21 @@
 //! The rules of a node over one connection.
 
-ghost use Rattle.std.specs.Prelude.{◌≡◌, ◌^◌, ◌<◌, ◌≤◌, length, IfOk, OnOk};
+ghost use Rattle.std.specs.Prelude.{◌≡◌, ◌^◌, ◌<◌, ◌≤◌, [], length, IfOk, OnOk};
 ghost use Rattle.lard_back.specs.Bounds.{IsNodeOut};
 ghost use Rattle.lard_back.specs.Place.{setting_seen};
 ghost use Rattle.lard_back.specs.Awaiting.{awaits};
 ghost use Rattle.lard_back.specs.Sound.{IsNodeSound};
 ghost use Rattle.lard_base.specs.declared.limits.TheConstants.{MAX_SEGMENT_BYTES, MAX_STREAM_BYTES};
-ghost use Rattle.lard_node_rules.specs.Node.{here, node_content, node_forwarded, node_read, node_tagged};
-ghost use Rattle.lard_node_rules.specs.NodePlace.{node_deed, node_env, node_part};
+ghost use Rattle.lard_node_rules.specs.Node.{here, node_acknowledged, node_content, node_forwarded, node_read, node_tagged, saying};
+ghost use Rattle.lard_node_rules.specs.NodePlace.{NodeSetting, node_deed, node_env, node_part};
 ghost use Rattle.lard_segment.specs.Segment.{decoded};
 
-use crate::acting::{Setting, assign, bring, hear, read};
+use crate::acting::{Setting, assign, bring, hear, read, tell_turn};
 use crate::hand::{At, is_here};
 use crate::timers::running;
-use lard_base::{ConnId, NoMemory, NodeId, TimerKind};
-use lard_node_rules::NodeState;
+use lard_base::{ConnId, Items, NoMemory, NodeId, Sends, TimerKind};
+use lard_journal::Recs;
+use lard_node_rules::{NodeState, NodeTurn};
 use lard_resend::PendingKey;
 use lard_rules::Out;
 use lard_segment::{Dir, decode};
@@ -140,4 +141,39 @@ pub fn completed(
 {
     let was = running(state, at.c);
     read(state, alloc, setting, at, was, r)
+}
+
+/// An EndedAck comes. The end is not told again where it is awaited in this epoch.
+pub fn acknowledged(state: &mut NodeState, alloc: Global, at: &At) -> Result<Out, NoMemory>
+    requires sound { IsNodeSound state.old }
+    requires few { length state.old.disk < 2 ^ 31 }
+    ensures ok { IfOk result (λ out. (k : NodeSetting) → k.n ≡ at.now.n → (state.new, out) ≡ node_deed k state.old at.now.c (node_acknowledged (node_env k state.old at.now.c at.now.epoch.0) (node_part state.old at.now.c))) }
+    ensures sound { OnOk result (IsNodeSound state.new) }
+    ensures fits { IfOk result IsNodeOut }
+{
+    let was = running(state, at.c);
+    if !state.conns.on_ended_ack(at.c, at.epoch) {
+        return Ok(nothing(alloc));
+    }
+    let kind = TimerKind::Ended;
+    let _ = state.kept.settle(PendingKey {
+        c: at.c,
+        kind,
+        r: 0,
+    });
+    tell_turn(state, alloc, at, was, quiet(alloc))
+}
+
+/// A turn in which nothing is noted, sent or queued.
+fn quiet(alloc: Global) -> NodeTurn
+    ensures { result ≡ saying [] }
+{
+    NodeTurn {
+        notes: Recs::new(alloc),
+        segments: Sends::new(alloc),
+        gave: Recs::new(alloc),
+        messages: Sends::new(alloc),
+        jobs: Items::new(alloc),
+        answered: 0,
+    }
 }

@@ -1,21 +1,25 @@
 //! The messages that a node sends of a connection, and those that it holds until they are answered.
 
-ghost use Rattle.std.specs.Prelude.{◌≡◌, ◌++◌, [], ◌∷◌, ◌≤◌, length, IfOk, OnOk};
+ghost use Rattle.std.specs.Prelude.{◌≡◌, ◌++◌, [], ◌∷◌, ◌≤◌, length, map, IfOk, OnOk};
 ghost use Rattle.std.specs.FinMap as table;
-ghost use Rattle.lard_back.specs.Bounds.{AreMessages, AreWants, IsAsk};
+ghost use Rattle.lard_back.specs.Bounds.{AreMessages, AreWants, IsAsk, IsNodeOut};
 ghost use Rattle.lard_back.specs.Hand.{ask_sent, asked_in, ended_at, fetch_at, fetches_sent, wanted};
 ghost use Rattle.lard_base.specs.declared.limits.TheConstants.{MAX_MESSAGE_BYTES};
 ghost use Rattle.lard_message.specs.Message.{IsCount, IsOfTable, IsPath};
-ghost use Rattle.lard_node_rules.specs.Node.{count_of, message};
-ghost use Rattle.lard_resend.specs.Pending.{renewed, sent_of};
+ghost use Rattle.lard_node_rules.specs.Node.{again_sent, count_of, message};
+ghost use Rattle.lard_node_rules.specs.NodePlace.{node_part};
+ghost use Rattle.lard_resend.specs.Pending.{AreFit, renewed, sent_of};
+ghost use Rattle.lard_rules.specs.Outs.{nothing_done};
 
 use crate::hand::At;
-use lard_base::{Bytes, NoMemory, Place, Sends, TimerKind};
+use lard_base::{Bytes, ConnId, NoMemory, Place, Sends, TimerKind};
 use lard_endpoint::Final;
 use lard_lateral::Lateral;
 use lard_message::{Body, Message, encode};
-use lard_node_rules::{Asked, Want};
-use lard_resend::{Pending, PendingKey};
+use lard_node_rules::{Asked, NodeState, Want};
+use lard_resend::{Kept, Pending, PendingKey};
+use lard_rules::Out;
+use lard_serving::nothing;
 use std::alloc::Global;
 
 /// The bytes of a message of this stay.
@@ -162,4 +166,52 @@ pub fn end(
     let bytes = message(alloc, at, body)?;
     kept.forget(at.c);
     tell_front(kept, alloc, at, TimerKind::Ended, bytes, messages)
+}
+
+// ---- what goes out beside a turn
+
+/// The answer to an Offer that was decided.
+pub fn taken(alloc: Global, at: &At) -> Result<Sends, NoMemory>
+    ensures sends { IfOk result (λ sends. sends ≡ (Place.Front, message at.now.c at.now.epoch.0 Body.Taken) ∷ []) }
+    ensures fit { IfOk result AreMessages }
+{
+    let mut messages = Sends::new(alloc);
+    let bytes = message(alloc, at, Body::Taken)?;
+    send(&mut messages, Place::Front, bytes)?;
+    Ok(messages)
+}
+
+/// All that awaits an answer, once more: the Ask or the Ended of a connection, and then its Fetches, by number.
+pub fn again(state: &NodeState, alloc: Global, c: ConnId) -> Result<Sends, NoMemory>
+    ensures sends { IfOk result (λ sends. sends ≡ again_sent (node_part state.now c)) }
+    ensures fit { IfOk result AreMessages }
+{
+    let mut messages = Sends::new(alloc);
+    send_again(alloc, state.kept.of(c), &mut messages)?;
+    send_again(alloc, state.fetches.of(c), &mut messages)?;
+    Ok(messages)
+}
+
+/// What is held goes out once more, behind the others.
+fn send_again(alloc: Global, held: &[Kept], messages: &mut Sends) -> Result<(), NoMemory>
+    requires fit { AreMessages messages.old }
+    requires short { AreFit held.now }
+    ensures sends { OnOk result (messages.new ≡ messages.old ++ map sent_of held.now) }
+    ensures fit { OnOk result (AreMessages messages.new) }
+{
+    for kept in held {
+        send(messages, kept.to, kept.bytes.copy(alloc)?)?;
+    }
+    Ok(())
+}
+
+/// Messages go out, and nothing else is done.
+pub fn say(alloc: Global, messages: Sends) -> Out
+    requires { AreMessages messages }
+    ensures out { result ≡ record nothing_done { messages = messages } }
+    ensures fits { IsNodeOut result }
+{
+    let mut out = nothing(alloc);
+    out.messages = messages;
+    out
 }

@@ -5,7 +5,7 @@ ghost use Rattle.std.specs.FinMap as map;
 ghost use Rattle.lard_base.specs.declared.limits.TheConstants.{MAX_MESSAGE_BYTES, MAX_PATH_BYTES};
 ghost use Rattle.lard_base.specs.declared.place.TimerKind.TheVariants as kind;
 ghost use Rattle.lard_message.specs.Message.{spelled_message};
-ghost use Rattle.lard_resend.specs.Pending.{held, settled, under};
+ghost use Rattle.lard_resend.specs.Pending.{AreFit, held, settled, under};
 ghost use Rattle.lard_lateral.specs.Lateral.{fetching, wanting, is_awaited, is_from, is_node, names_epoch, after_content};
 
 use lard_base::{Bytes, ConnId, Epoch, NoMemory, NodeId, Path, Place, TimerKind};
@@ -103,7 +103,8 @@ impl Lateral {
 
     /// The Fetches of a connection that are sent again, in the order of their requests, lent.
     pub fn of(&self, c: ConnId) -> &[Kept]
-        ensures { result.now ≡ held self.now c }
+        ensures value { result.now ≡ held self.now c }
+        ensures fit { AreFit result.now }
     {
         self.fetches.of(c)
     }
