@@ -32,7 +32,7 @@ gone Inv P x y held grows goes = ⊎_elim
 
 pub viewed-kept : (m n : Machine) (e : Event) → IsViewed m → HasRule e → machine_step m e ≡ Ok n → IsViewed n
 viewed-kept m n e view rule is =
-    let after : IsAfter m n = step-after m view e n rule is in
+    let after : IsAfter m e n = step-after m view e n rule is in
     let goes = step_moves m n e IsFine view (fine (setting_of m)) rule is in
     record {
       sound = λ q. gone IsSound (λ x v. IsNumber x.c × IsFine x v) (conn m q) (conn n q) (view.sound q) (λ v good. (good.1 good.0 (view.sound q)).1) (goes q);
@@ -72,7 +72,7 @@ module _ (config : Config) (files : List (List ℕ × List ℕ)) where
   on-setting m on = λ i. record { files = file_at (sym on.files_are i); stream = (sym on.config_is i).stream }
 
   on-more : (m n : Machine) (e : Event) → IsOn m → HasRule e → machine_step m e ≡ Ok n → IsOn n
-  on-more m n e on rule is = let after : IsAfter m n = step-after m on.view e n rule is in record {
+  on-more m n e on rule is = let after : IsAfter m e n = step-after m on.view e n rule is in record {
     reached = (on.reached.0 ++ e ∷ [], passes-more on.reached.0 (start config files) m n e on.reached.1 rule is);
     view = viewed-kept m n e on.view rule is;
     config_is = after.config ∙ on.config_is;

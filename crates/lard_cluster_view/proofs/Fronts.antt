@@ -55,7 +55,7 @@ use Rattle.lard_rules.specs.Serving.{Service, consumed, may_read, ready_of, serv
 use Rattle.lard_rules.proofs.Runs.{runs_keep}
 use Rattle.lard_segment.specs.declared.fault.SegFault.{SegFault}
 use Rattle.lard_segment.specs.Segment.{Said}
-use Rattle.lard_view.proofs.Endpoints as ends_
+use Rattle.lard_view.proofs.Endpoints as endpoints
 use Rattle.lard_view.proofs.Turns as turns
 use Rattle.lard_view.proofs.Turns.{AreNoted, IsServingTurn, NotesServing}
 
@@ -130,7 +130,7 @@ module _ (env : FrontEnv) (own : env.serve.place ≡ Front) (number : IsNumber e
 
   fired-turn : (rest : FrontRest) (b : ControlBlock) → IsServingTurn N env.serve.c (fired env rest b).1
   fired-turn rest b = turns.spoken-turn env.serve N noting (serving (leaving.after_timer b) rest.count []) (ready_of env.serve (leaving.after_timer b) (leaving.timed b))
-      (ends_.ready-to env.serve (leaving.after_timer b) (leaving.timed b)) (fresh (leaving.after_timer b) rest.count)
+      (endpoints.ready-to env.serve (leaving.after_timer b) (leaving.timed b)) (fresh (leaving.after_timer b) rest.count)
 
   -- ---- what each rule comes to
 

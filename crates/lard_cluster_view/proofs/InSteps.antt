@@ -41,7 +41,7 @@ unfolding conn
 carried-steps config files Given must own_must local law given m r = (carried-keep config files (λ k. AreLawful must k.journal) (refl, tt) step m r).1 where
   step : (k n : Machine) (e : Event) → IsOn config files k → AreLawful must k.journal → HasRule e → machine_step k e ≡ Ok n → AreLawful must n.journal
   step k n e on h rule is =
-      let shape : IsAfter k n = step-after k on.view e n rule is in
+      let shape : IsAfter k e n = step-after k on.view e n rule is in
       let P : Conn → Move → Type 0 = λ x v. MayMove Given x → own_must x.c x.seen (seen_in x v) in
       let Q : Conn → Move → Type 0 = λ x v. IsNumber x.c × P x v in
       let goes : (q : ℕ) → Goes Q (conn k q) (conn n q) = goes-on config files P law.moves k n e on rule is in
@@ -61,6 +61,6 @@ pub carried-ends : (config : Config) (files : List (List ℕ × List ℕ)) (P : 
 carried-ends config files P always m r = record { before = carried-keep config files (λ k. EachMay (HoldsBefore P) [] k.journal) tt step m r; last = always m r } where
   step : (k n : Machine) (e : Event) → IsOn config files k → EachMay (HoldsBefore P) [] k.journal → HasRule e → machine_step k e ≡ Ok n → EachMay (HoldsBefore P) [] n.journal
   step k n e on h rule is =
-      let shape : IsAfter k n = step-after k on.view e n rule is in
+      let shape : IsAfter k e n = step-after k on.view e n rule is in
       subst (EachMay (HoldsBefore P) []) (sym shape.is)
       (each_append (HoldsBefore P) [] k.journal shape.step h (step-holds P k.journal shape.step (always k on.reached) shape.one))

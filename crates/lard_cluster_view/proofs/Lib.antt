@@ -26,3 +26,4 @@ pub mod Carried
 pub mod InSteps
 pub mod Guarded
 pub mod Rows
+pub mod Acts

@@ -39,7 +39,7 @@ use Rattle.lard_rules.specs.Loop.{state_of}
 use Rattle.lard_rules.specs.Serving.{Service, ready_of, serving, settled, spoken}
 use Rattle.lard_segment.specs.declared.fault.SegFault.{SegFault}
 use Rattle.lard_segment.specs.Segment.{Said}
-use Rattle.lard_view.proofs.Endpoints as ends
+use Rattle.lard_view.proofs.Endpoints as endpoints
 use Rattle.lard_view.proofs.Turns as turns
 use Rattle.lard_view.proofs.Turns.{IsServingTurn}
 
@@ -250,7 +250,7 @@ module _ (env : NodeEnv) (own : env.serve.place ≡ Node env.n) (number : IsNumb
           let b : ControlBlock = leaving.after_timer x.0 in
           let w : Service = serving b x.1.served [] in
           result p (again_sent p) (work_of b x.1) (spoken env.serve w (ready_of env.serve b (leaving.timed x.0))) same (again p.kept p.fetches kept fetches) tt
-          (turns.spoken-turn env.serve (N env own number) (noting env own number) w (ready_of env.serve b (leaving.timed x.0)) (ends.ready-to env.serve b (leaving.timed x.0)) (tt, λ n. omega arith))
+          (turns.spoken-turn env.serve (N env own number) (noting env own number) w (ready_of env.serve b (leaving.timed x.0)) (endpoints.ready-to env.serve b (leaving.timed x.0)) (tt, λ n. omega arith))
 
       pub fires-deed : IsDeed (node_timer env p)
       fires-deed = fired-deed (both_of (endpoint_of p.row) p.stay)

@@ -12,7 +12,7 @@ use Rattle.lard_cluster.specs.declared.machine.Machine.{Machine}
 use Rattle.lard_cluster.specs.Bounds.{HasRule}
 use Rattle.lard_cluster.specs.Machine.{client_does, client_goes_on, completes, delivered, disk_at, from_place, happens, is_no_job, is_no_node, limit_reached, lost, machine_step, node_acts, node_at, node_gave, node_setting, opened, passed, timer, to_client, to_front, to_place, unless_limit, wrote}
 use Rattle.lard_cluster_view.specs.View.{Conn, IsViewed, Move, Rules, conn, packet_seen, part_of, setting_of, station_armed}
-use Rattle.lard_cluster_view.specs.View as view_
+use Rattle.lard_cluster_view.specs.View as moves
 use Rattle.lard_cluster_view.proofs.Clients.{client-acts}
 use Rattle.lard_cluster_view.proofs.Heads.{Begins, comes, names, was}
 use Rattle.lard_cluster_view.proofs.Firing.{disk-completes, front-fires, front-gets, node-fires}
@@ -46,7 +46,7 @@ module _ (m : Machine) (view : IsViewed m) (P : Conn → Move → Type 0) (R : R
 
   -- one that opened acts
   goes-on : (e : Event) (c : ℕ) (x : Station) (given : ClientBlock × Turn) (heads : List Seen) → table.get m.clients c ≡ Some x → Begins m e (Client c) c heads → IsClientTurn c given → HasOwn e (behind e ++ given.1.notes)
-      → P (conn m c) (view_.client_does (conn m c) x heads given) → Q e (client_goes_on m e (behind e) c x given)
+      → P (conn m c) (moves.client_does (conn m c) x heads given) → Q e (client_goes_on m e (behind e) c x given)
   unfolding conn part_of
   goes-on e c x given heads is begins turn first does =
       client-acts m P Q shapes e c x.iss (is_armed x.client) given heads (client-number (conn m c) x (view.sound c) is) (sym (ap station_armed is)) turn begins first does

@@ -51,8 +51,8 @@ sents-append k place [] ys = (k, refl)
 sents-append k place (x ∷ xs) ys = let later = sents-append (k + 1) place xs ys in (later.0, ap (λ rs. rec.Sent k place x.0 x.1 ∷ rs) later.1)
 
 module _ (q : ℕ) (place : Place) (a b : Out) (s : Said) (rows xs : List Rec) (timers : (net : List Packet) → seen_on q net rows ≡ map Row xs) where
-  letters-two : (as_ bs : List (Place × List ℕ)) (x y : List Letter) → letters q (packets_of place as_) ≡ x → letters q (packets_of place bs) ≡ y → letters q (packets_of place (as_ ++ bs)) ≡ x ++ y
-  letters-two as_ bs x y ea eb = ap (letters q) (map-append (packet_of place) as_ bs) ∙ letters-append q (packets_of place as_) (packets_of place bs) ∙ (λ i. ea i ++ eb i)
+  letters-two : (sent more : List (Place × List ℕ)) (x y : List Letter) → letters q (packets_of place sent) ≡ x → letters q (packets_of place more) ≡ y → letters q (packets_of place (sent ++ more)) ≡ x ++ y
+  letters-two sent more x y ea eb = ap (letters q) (map-append (packet_of place) sent more) ∙ letters-append q (packets_of place sent) (packets_of place more) ∙ (λ i. ea i ++ eb i)
 
   -- what the first is seen of is all, where the second is none of the connection's
   pub shows-first : (ys zs : List Rec) → Shows q place a s ys → Shows q place b nothing_said zs → Shows q place (both_out a b rows) s xs
@@ -138,10 +138,10 @@ module _ (m : Machine) (view : IsViewed m) (P : Conn → Move → Type 0) (R : R
       moved m w e (behind e) place o view.told act.put.net act.put.journal Numbered d [] t r act.mine_too (act.begins.others (w.events + 1) d act.apart)
       (shows-second d place a k t rows (timer_rows place d (part_of m d) r) seen [] b.timers others its) (act.number_too, too)))
       (λ not_d.
-      let left_ = shows-others c place a act.said first q not_c in
-      let right_ = shows-others d place k act.said_too second q not_d in
+      let of_c = shows-others c place a act.said first q not_c in
+      let of_d = shows-others d place k act.said_too second q not_d in
       stays m w e (behind e) place o view.told act.put.net act.put.journal Numbered q (act.others q not_c not_d) (act.begins.others (w.events + 1) q not_c)
-      (shows-first q place a k nothing_said rows [] (λ net. either q net a.timers b.timers rows [] act.order left_.timers right_.timers) [] [] left_ right_)))
+      (shows-first q place a k nothing_said rows [] (λ net. either q net a.timers b.timers rows [] act.order of_c.timers of_d.timers) [] [] of_c of_d)))
 
   -- a packet comes, and nothing is done
   ignored : (k : ℕ) (p : Packet) → packet_at m.net k ≡ Some p → p.lost ≡ false → To (passed m (event.Deliver k) (rec.Got k ∷ []))

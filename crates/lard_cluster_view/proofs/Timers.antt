@@ -68,7 +68,7 @@ pub timer_rows-of : (place : Place) (c : ℕ) (p q : Part) → AreOf c (timer_ro
 timer_rows-of place c p q = Each-weaker (IsTimerAt place c) (λ r. (whose r ≡ Some c) × (plain r ≡ r)) (timer-of place c) (timer_rows place c p q) (timer_rows-are place c p q)
 
 -- a timer's record begins no step, and tells of no packet
-timer-still : (place : Place) (c : ℕ) (r : Rec) → IsTimerAt place c r → IsStill r
+pub timer-still : (place : Place) (c : ℕ) (r : Rec) → IsTimerAt place c r → IsStill r
 timer-still place c (rec.Armed p d kind) h = (refl, λ net. refl)
 timer-still place c (rec.Cleared p d kind) h = (refl, λ net. refl)
 timer-still place c _ h = absurd h
