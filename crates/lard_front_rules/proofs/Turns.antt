@@ -1,5 +1,5 @@
 -- The turns of reading: each but the last takes unread bytes, and a request that is to be placed finds an endpoint that may move.
-use Rattle.std.proofs.Common.{◌≡◌, ℕ, ◌+◌, ◌≤◌, ◌<◌, true, false, List, length, cond, nat_lt, Option, Some, None, refl, sym, ap, subst, ◌∙◌, arith, length-drop}
+use Rattle.std.proofs.Common.{◌≡◌, ℕ, zero, suc, ◌+◌, ◌≤◌, ◌<◌, true, false, List, length, cond, nat_lt, Option, Some, None, refl, sym, ap, subst, ◌∙◌, arith, length-drop}
 use Rattle.std.proofs.lemmas.Bool.{cond_both}
 use Rattle.lard_answers.specs.Answers.{answer, good_path}
 use Rattle.lard_base.specs.declared.place.Via.{Via}
@@ -14,12 +14,14 @@ use Rattle.lard_request.specs.declared.verdict.Code.TheVariants as code
 use Rattle.lard_request.specs.declared.verdict.Verdict.{Verdict}
 use Rattle.lard_request.specs.declared.verdict.Verdict.TheVariants.{Fault}
 use Rattle.lard_request.specs.Verdict.{closes}
+use Rattle.lard_front_rules.proofs.Blocks.{ServesAs, one-few}
 use Rattle.lard_rules.proofs.Reading.{answered-unread}
-use Rattle.lard_rules.proofs.Runs.{Falls, goes_done, goes_more, runs_keep}
-use Rattle.lard_rules.specs.Loop.{Step}
+use Rattle.lard_rules.proofs.Serving.{answer-some}
+use Rattle.lard_rules.proofs.Runs.{Falls, goes_done, goes_more}
+use Rattle.lard_rules.specs.Loop.{Step, runs_on}
 use Rattle.lard_rules.specs.Loop as loop
 use Rattle.lard_rules.specs.Serving.{ServeEnv, Service, answered, closed_behind, consumed, ended_at_fin, may_read, passed_over, queued}
-use Rattle.lard_front_rules.specs.Reading.{Reading, block_at, left, reads, reads_block, reads_found, targeted, turn}
+use Rattle.lard_front_rules.specs.Reading.{MayMove, Reading, block_at, left, reads, reads_block, reads_found, targeted, turn, with_service}
 
 -- ---- each turn but the last takes unread bytes
 
@@ -62,52 +64,69 @@ reads-none env x may = sym (goes_done (turn env) left x x (ap (λ b. cond {A = S
 pub less-left : (env : ServeEnv) (x y : Reading) → loop.More y ≡ reads_found env x (cut_of x.service.block.recv.unread) → left y < left x
 less-left env x y e = subst (FallsFrom (left x)) (sym e) (found-falls env x (cut_of x.service.block.recv.unread) (cut-within x.service.block.recv.unread))
 
--- ---- each response was asked for by a request that was read
+-- ---- what a turn leaves serves on, and what is to be placed may move
 
--- so many bytes were read that none of the responses was queued without a request
-abbrev pub IsAsked : Service → Type 0
-IsAsked w = w.count + length w.block.recv.unread ≤ w.block.recv.got
+closed-serves : (v : Verdict) (n : ℕ) (b : ControlBlock) → ServesAs n b → ServesAs n (closed_behind v b)
+closed-serves v n b h = cond_both (closes v) (finishing (discarding_on b)) b (ServesAs n)
+    (λ t. record { counted = h.counted; asked = omega (arith, h.asked); most = h.most; sent = omega (arith, h.sent, one-few b.send.finished) }) (λ t. h)
 
-closed-got : (v : Verdict) (b : ControlBlock) → (closed_behind v b).recv.got ≡ b.recv.got
-closed-got v b = cond_both (closes v) (finishing (discarding_on b)) b (λ d. d.recv.got ≡ b.recv.got) (λ t. refl) (λ t. refl)
+abbrev pub IsServed : Service → Type 0
+IsServed w = ServesAs w.count w.block
 
-closed-left : (v : Verdict) (b : ControlBlock) → length (closed_behind v b).recv.unread ≤ length b.recv.unread
-closed-left v b = cond_both (closes v) (finishing (discarding_on b)) b (λ d. length d.recv.unread ≤ length b.recv.unread) (λ t. omega arith) (λ t. omega arith)
+consumed-serves : (n : ℕ) (w : Service) → IsServed w → IsServed (consumed n w)
+consumed-serves n w h = record { counted = h.counted; asked = omega (arith, h.asked, length-drop n w.block.recv.unread); most = h.most; sent = h.sent }
 
-pub answered-asked : (env : ServeEnv) (via : Via) (v : Verdict) (w : Service) → w.count + 1 + length w.block.recv.unread ≤ w.block.recv.got → IsAsked (answered env via v w)
-answered-asked env via v w le =
+-- an answer is of a request that was read, and has a byte
+pub answered-serves : (env : ServeEnv) (via : Via) (v : Verdict) (w : Service) → w.count + 1 + length w.block.recv.unread ≤ w.block.recv.got → IsServed w → IsServed (answered env via v w)
+answered-serves env via v w le h =
     let bytes : List ℕ = answer env.files v in
     let total : ℕ = w.block.send.total + length bytes in
-    cond_both (nat_lt env.stream total) (passed_over env total w) (queued env via v bytes w) IsAsked
-    (λ t. omega (arith, le))
-    (λ t. omega (arith, le, closed-got v (queueing w.block bytes), closed-left v (queueing w.block bytes)))
+    cond_both (nat_lt env.stream total) (passed_over env total w) (queued env via v bytes w) IsServed (λ t. h)
+    (λ t. closed-serves v (w.count + 1) (queueing w.block bytes) (record { counted = omega (arith, h.counted, answer-some env.files v); asked = le; most = h.most; sent = omega (arith, h.sent) }))
 
-abbrev AskedIn : Step Reading → Type 0
-AskedIn (loop.More y) = IsAsked y.service
-AskedIn (loop.Done y) = IsAsked y.service
+ended-serves : (w : Service) → IsServed w → IsServed (ended_at_fin w)
+ended-serves w h = cond_both w.block.recv.fin (record w { block = finishing w.block }) w IsServed (λ t. record { counted = h.counted; asked = h.asked; most = h.most; sent = omega (arith, h.sent, one-few w.block.send.finished) }) (λ t. h)
 
-ended-asked : (w : Service) → IsAsked w → IsAsked (ended_at_fin w)
-ended-asked w le = cond_both w.block.recv.fin (record w { block = finishing w.block }) w IsAsked (λ t. le) (λ t. le)
+-- while it goes on nothing is to be placed
+abbrev pub IsReading : Reading → Type 0
+IsReading x = IsServed x.service × (x.target ≡ None)
 
-targeted-asked : (path : List ℕ) (x : Reading) → IsAsked x.service → IsAsked (targeted path x).service
-targeted-asked path x le = cond_both (may_freeze x.service.block) (record x { target = Some path }) x (λ y. IsAsked y.service) (λ t. le) (λ t. le)
+abbrev pub HasStopped : Reading → Type 0
+HasStopped x = IsServed x.service × MayMove x.service.block x.target
 
-block-asked : (env : ServeEnv) (x : Reading) (n : ℕ) (v : Verdict) (o : Option (List ℕ)) → 1 ≤ n → n ≤ left x → IsAsked x.service → AskedIn (reads_block env x n v o)
-block-asked env x n v None some within le = answered-asked env Own v (consumed n x.service) (omega (arith, le, length-drop n x.service.block.recv.unread, some, within))
-block-asked env x n v (Some path) some within le = targeted-asked path x le
+abbrev ReadOn : Step Reading → Type 0
+ReadOn (loop.More y) = IsReading y
+ReadOn (loop.Done y) = HasStopped y
 
-found-asked : (env : ServeEnv) (x : Reading) (f : Found) → IsWithin f (left x) → IsAsked x.service → AskedIn (reads_found env x f)
-found-asked env x (More skip) h le = ended-asked (consumed skip x.service) (omega (arith, le, length-drop skip x.service.block.recv.unread))
-found-asked env x (Block skip len) h le = block-asked env x (skip + len) (block_at x skip len) (good_path env.files (block_at x skip len)) (omega (arith, h.0)) h.2 le
-found-asked env x (TooLong skip) h le =
-    answered-asked env Own (Fault code.FieldsTooLarge) (consumed (left x) x.service) (omega (arith, le, length-drop (left x) x.service.block.recv.unread, h))
+still : (x : Reading) (w : Service) → IsServed w → x.target ≡ None → HasStopped (with_service x w)
+still x w h none = (h, subst (MayMove w.block) (sym none) tt)
 
-turn-asked : (env : ServeEnv) (x : Reading) → IsAsked x.service → AskedIn (turn env x)
-turn-asked env x le = cond_both (may_read x.service) (reads_found env x (cut_of x.service.block.recv.unread)) (loop.Done x) AskedIn
-    (λ t. found-asked env x (cut_of x.service.block.recv.unread) (cut-within x.service.block.recv.unread) le) (λ t. le)
+targeted-stops : (path : List ℕ) (x : Reading) → IsReading x → HasStopped (targeted path x)
+targeted-stops path x h = cond_both (may_freeze x.service.block) (record x { target = Some path }) x HasStopped (λ t. (h.0, t)) (λ t. still x x.service h.0 h.1)
 
-pub reads-asked : (env : ServeEnv) (x : Reading) → IsAsked x.service → IsAsked (reads env x).service
-reads-asked env x le = runs_keep (turn env) left (λ y. IsAsked y.service) (record {
-  more = λ y z e p. subst AskedIn e (turn-asked env y p);
-  done = λ y z e p. subst AskedIn e (turn-asked env y p);
-}) x le
+block-reads : (env : ServeEnv) (x : Reading) (n : ℕ) (v : Verdict) (o : Option (List ℕ)) → 1 ≤ n → n ≤ left x → IsReading x → ReadOn (reads_block env x n v o)
+block-reads env x n v None some within h =
+    (answered-serves env Own v (consumed n x.service) (omega (arith, h.0.asked, length-drop n x.service.block.recv.unread, some, within)) (consumed-serves n x.service h.0), h.1)
+block-reads env x n v (Some path) some within h = targeted-stops path x h
+
+found-reads : (env : ServeEnv) (x : Reading) (f : Found) → IsWithin f (left x) → IsReading x → ReadOn (reads_found env x f)
+found-reads env x (More skip) w h = still x (ended_at_fin (consumed skip x.service)) (ended-serves (consumed skip x.service) (consumed-serves skip x.service h.0)) h.1
+found-reads env x (Block skip len) w h = block-reads env x (skip + len) (block_at x skip len) (good_path env.files (block_at x skip len)) (omega (arith, w.0)) w.2 h
+found-reads env x (TooLong skip) w h =
+    (answered-serves env Own (Fault code.FieldsTooLarge) (consumed (left x) x.service) (omega (arith, h.0.asked, length-drop (left x) x.service.block.recv.unread, w)) (consumed-serves (left x) x.service h.0), h.1)
+
+turn-reads-on : (env : ServeEnv) (x : Reading) → IsReading x → ReadOn (turn env x)
+turn-reads-on env x h = cond_both (may_read x.service) (reads_found env x (cut_of x.service.block.recv.unread)) (loop.Done x) ReadOn
+    (λ t. found-reads env x (cut_of x.service.block.recv.unread) (cut-within x.service.block.recv.unread) h) (λ t. still x x.service h.0 h.1)
+
+-- so many turns
+stops-on : (env : ServeEnv) (n : ℕ) (x : Reading) → IsReading x → HasStopped (runs_on n (turn env) x)
+unfolding runs_on
+stops-on env zero x h = still x x.service h.0 h.1
+stops-on env (suc n) x h = go (turn env x) (turn-reads-on env x h) (stops-on env n) where
+  go : (s : Step Reading) → ReadOn s → ((y : Reading) → IsReading y → HasStopped (runs_on n (turn env) y)) → HasStopped (elim s as (λ s. Reading) [ loop.More y ↦ runs_on n (turn env) y | loop.Done y ↦ y ])
+  go (loop.More y) k later = later y k
+  go (loop.Done y) k later = k
+
+pub reads-stop : (env : ServeEnv) (w : Service) → IsServed w → HasStopped (reads env (record { service = w; target = None }))
+reads-stop env w h = stops-on env (left (record { service = w; target = None }) + 1) (record { service = w; target = None }) (h, refl)

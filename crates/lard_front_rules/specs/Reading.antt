@@ -1,10 +1,11 @@
 -- How the front end reads the requests of a connection that it holds, until one is to be placed.
-use Rattle.std.specs.Prelude.{ℕ, ◌+◌, if◌then◌else◌, List, length, take, drop, Option, Some, None}
+use Rattle.std.specs.Prelude.{◌≡◌, ℕ, ◌+◌, true, if◌then◌else◌, List, length, take, drop, Option, Some, None}
 use Rattle.lard_answers.specs.Answers.{good_path}
 use Rattle.lard_base.specs.declared.place.Via.TheVariants.{Own}
 use Rattle.lard_block.specs.declared.block.Found.{Found}
 use Rattle.lard_block.specs.declared.block.Found.TheVariants.{Block, More, TooLong}
 use Rattle.lard_block.specs.Blocks.{cut_of}
+use Rattle.lard_endpoint.specs.Control.{ControlBlock}
 use Rattle.lard_endpoint.specs.Moving.{may_freeze}
 use Rattle.lard_request.specs.declared.verdict.Code.TheVariants as code
 use Rattle.lard_request.specs.declared.verdict.Verdict.{Verdict}
@@ -21,6 +22,11 @@ pub record Reading : Type 0 where
 
 abbrev pub with_service : Reading → Service → Reading
 with_service x s = record x { service = s }
+
+-- an endpoint with a request that is to be placed may move
+abbrev pub MayMove : ControlBlock → Option (List ℕ) → Type 0
+MayMove b None = Unit {0}
+MayMove b (Some path) = may_freeze b ≡ true
 
 -- a good request is placed once all that was said is acknowledged, so that the endpoint may move; until then reading stops
 abbrev pub targeted : List ℕ → Reading → Reading

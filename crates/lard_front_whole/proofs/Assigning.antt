@@ -1,17 +1,15 @@
 -- The records of an Ask, one by one.
 use Rattle.std.proofs.Common.{◌≡◌, ℕ, zero, suc, ◌+◌, ◌<◌, ◌==◌, ◌&&◌, nat_lt, if◌then◌else◌, Bool, true, IfOk, Result, Ok, Err, List, [], ◌∷◌, ◌++◌, length, map, drop, get_or, slice_get, Some, refl, sym, ap, ◌∙◌, append_assoc, arith}
-use Rattle.std.proofs.lemmas.List.{length-map}
 use Rattle.std.specs.FinMap as table
 use Rattle.std.specs.FinMap.{FinMap}
 use Rattle.std.specs.Ordering.{nat_cmp}
-use Rattle.lard_base.specs.declared.config.Config.{Config}
 use Rattle.lard_base.specs.declared.ids.Millis.{Millis}
 use Rattle.lard_costs.specs.declared.later.LaterChoice.{LaterChoice}
 use Rattle.lard_dispatch.specs.declared.dispatch.Ask.{Ask}
 use Rattle.lard_dispatch.specs.declared.dispatch.Later.{Later}
-use Rattle.lard_dispatch.specs.Books.{Books, Dispatcher}
+use Rattle.lard_dispatch.specs.Books.{Dispatcher}
 use Rattle.lard_dispatch.specs.Laws as call
-use Rattle.lard_dispatch.specs.Calls.{after_later, all_choices, batch_over, later_answer, shared_with}
+use Rattle.lard_dispatch.specs.Calls.{after_later}
 use Rattle.lard_front_rules.specs.declared.front.FrontRest.{FrontRest}
 use Rattle.lard_front_rules.specs.declared.front.FrontState.{FrontState}
 use Rattle.lard_front_rules.specs.declared.front.FrontTurn.{FrontTurn}
@@ -25,17 +23,6 @@ use Rattle.lard_resend.proofs.Lists.{list_got}
 use Rattle.lard_table.proofs.Map.{put_got}
 use Rattle.lard_journal.specs.declared.rec.Rec.{Rec}
 use Rattle.lard_journal.specs.declared.rec.Rec.TheVariants as rec
-
--- an Ask has as many choices as paths
-choices-many : (cfg : Config) (ask : Ask) (now : Millis) (paths : List (List ℕ)) (b : Books) → length (all_choices cfg ask now paths b) ≡ length paths
-choices-many cfg ask now [] b = refl
-choices-many cfg ask now (p ∷ ps) b = ap suc (choices-many cfg ask now ps (shared_with cfg b ask p now))
-
-pub many-choices : (d : Dispatcher) (ask : Ask) (now : Millis) → length (later_answer d ask now).choices ≡ length ask.paths
-many-choices d ask now = choices-many d.config ask now ask.paths (batch_over d.books ask)
-
-pub many-nodes : (d : Dispatcher) (ask : Ask) (now : Millis) → length (map (λ (x : LaterChoice). x.node) (later_answer d ask now).choices) ≡ length ask.paths
-many-nodes d ask now = length-map (later_answer d ask now).choices (λ (x : LaterChoice). x.node) ∙ many-choices d ask now
 
 -- what was chosen is kept and told
 pub assigned-with : (env : FrontEnv) (s : FrontState) (epoch : ℕ) (ask : Ask) (assigned : ℕ) (l : Later) (rests : FinMap nat_cmp FrontRest) (d : Dispatcher) (notes : List Rec)

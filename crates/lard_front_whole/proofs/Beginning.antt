@@ -3,11 +3,13 @@ use Rattle.std.proofs.Common.{◌≡◌, ℕ, false, [], Some, None, refl, ap, �
 use Rattle.std.specs.FinMap as table
 use Rattle.std.specs.FinMap.{FinMap}
 use Rattle.std.specs.Ordering.{nat_cmp}
-use Rattle.lard_endpoint.specs.Control.{ControlBlock}
+use Rattle.lard_endpoint.specs.Control.{ControlBlock, listening}
+use Rattle.lard_segment.specs.Segment.{Said}
 use Rattle.lard_front_rules.specs.declared.front.FrontRest.{FrontRest}
 use Rattle.lard_front_rules.specs.declared.front.FrontState.{FrontState}
 use Rattle.lard_front_rules.specs.Front.{holds, rest_of, rests, rest_after, turn_here}
 use Rattle.lard_front_rules.specs.FrontPlace.{front_part}
+use Rattle.lard_front_rules.specs.Sound.{Serves}
 use Rattle.lard_front_whole.specs.Hand.{Holds, deed_turn}
 use Rattle.lard_handoff_front.specs.declared.row.FrontConn.TheVariants as stage
 use Rattle.lard_handoff_front.specs.declared.row.FrontRow.{FrontRow}
@@ -32,15 +34,15 @@ module _ (s : FrontState) (c : ℕ) (b : ControlBlock) (m : Fronts) (r : FinMap 
   pub found_rest : table.get r c ≡ Some (rest_of None)
   found_rest = ap (λ u. table.get u c) set ∙ get_inserted s.rests c (rest_of None)
 
-  abbrev pub met_holds : held s.kept c ≡ [] → (table.get s.kept c ≡ Some [] → ⊥) → Holds met c false
-  met_holds none some = record {
+  abbrev pub met_holds : Serves 0 b.recv b.send → held s.kept c ≡ [] → (table.get s.kept c ≡ Some [] → ⊥) → Holds met c false
+  met_holds serves none some = record {
     row = begun b;
     block = b;
     rest = rest_of None;
     found = found;
     stage = refl;
     found_rest = found_rest;
-    here = record { first_owner = refl; counted = omega arith; asked = omega arith };
+    here = record { first_owner = refl; serves = serves };
     none_kept = none;
     some_kept = some;
   }
@@ -57,3 +59,7 @@ module _ (s : FrontState) (c : ℕ) (b : ControlBlock) (m : Fronts) (r : FinMap 
         },
         turn_here x.1,
       ))
+
+-- nothing was done on a connection that listens
+pub listens_serve : (syn : Said) (iss : ℕ) → Serves 0 (listening syn iss).recv (listening syn iss).send
+listens_serve syn iss = record { counted = omega arith; asked = omega arith; most = omega arith; sent = omega arith }

@@ -1,13 +1,13 @@
 -- A connection whose endpoint is here, and the turn that begins with it.
-use Rattle.std.proofs.Common.{◌≡◌, ℕ, ◌+◌, ◌-◌, ◌≤◌, Bool, List, [], length, Option, Some, None, sym, ap, ◌∙◌, arith, subst}
+use Rattle.std.proofs.Common.{◌≡◌, ℕ, ◌-◌, ◌≤◌, Bool, List, [], length, Option, Some, None, sym, ap, ◌∙◌, arith, subst}
 use Rattle.std.specs.FinMap as table
 use Rattle.lard_endpoint.specs.declared.control.arriving.Arrival.{Arrival}
 use Rattle.lard_endpoint.specs.Arriving.{on_segment}
 use Rattle.lard_endpoint.specs.Control.{ControlBlock}
 use Rattle.lard_front_rules.specs.declared.front.FrontState.{FrontState}
 use Rattle.lard_front_rules.specs.Reading.{Reading, reads}
-use Rattle.lard_front_rules.proofs.Asked.{segment-read}
-use Rattle.lard_front_rules.proofs.Turns.{IsAsked, reads-asked}
+use Rattle.lard_front_rules.proofs.Blocks.{ServesAs, segment-serves}
+use Rattle.lard_front_rules.proofs.Turns.{HasStopped, IsServed, reads-stop}
 use Rattle.lard_front_rules.specs.Front.{fired, holds, rest_of, settled_by, waits_on}
 use Rattle.lard_front_rules.specs.FrontPlace.{front_part}
 use Rattle.lard_front_whole.specs.declared.turns.Around.{Around}
@@ -44,12 +44,12 @@ took b d s new a e f = ap (λ (x : Arrival × ControlBlock). x.1) e ∙ ap (λ (
 pub still_counted : (b : ControlBlock) (s : Said) (n : ℕ) → n ≤ b.send.total → n ≤ (on_segment b s).1.send.total
 still_counted b s n le = omega (arith, le, segment-many b s)
 
-pub still_asked : (env : ServeEnv) (b e : ControlBlock) (s : Said) (n : ℕ) (w : Served) (target : Option (List ℕ)) → n ≤ b.recv.got - length b.recv.unread → length b.recv.unread ≤ b.recv.got
+pub still_asked : (env : ServeEnv) (b e : ControlBlock) (s : Said) (n : ℕ) (w : Served) (target : Option (List ℕ)) → ServesAs n b
     → reading_of e w target ≡ reads env (record { service = serving (on_segment b s).1 n []; target = None }) → w.count ≤ e.recv.got - length e.recv.unread
-still_asked env b e s n w target le within read =
-    let first : n + length (on_segment b s).1.recv.unread ≤ (on_segment b s).1.recv.got = segment-read n b s (omega (arith, le, within)) in
-    let all : IsAsked (service_of e w) = subst (λ (x : Reading). IsAsked x.service) (sym read) (reads-asked env (record { service = serving (on_segment b s).1 n []; target = None }) first) in
-    omega (arith, all)
+still_asked env b e s n w target serves read =
+    let stopped : HasStopped (reads env (record { service = serving (on_segment b s).1 n []; target = None })) = reads-stop env (serving (on_segment b s).1 n []) (segment-serves n b s serves) in
+    let all : IsServed (service_of e w) = subst (λ (x : Reading). IsServed x.service) (sym read) stopped.0 in
+    omega (arith, all.asked)
 
 -- ---- the rules of a connection whose endpoint is here
 

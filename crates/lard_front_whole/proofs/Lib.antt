@@ -5,6 +5,7 @@ pub mod Lent
 pub mod Heard
 pub mod Beginning
 pub mod Ends
-pub mod Starting
 pub mod Admitted
 pub mod Assigning
+pub mod Bounded
+pub mod Joined

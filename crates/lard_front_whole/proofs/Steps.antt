@@ -27,7 +27,7 @@ use Rattle.std.proofs.Common.{append-nil}
 -- ---- timers
 
 -- the records are those of the two kinds that the front end has
-changes_are : (c : ℕ) (p q : FrontPart) → changes c (armed_of p) (armed_of q) ≡ timers_of c p q
+pub changes_are : (c : ℕ) (p q : FrontPart) → changes c (armed_of p) (armed_of q) ≡ timers_of c p q
 changes_are c p q = ap (λ (xs : List Rec). kind_change place.Front c kind.Tcp (front_armed p kind.Tcp) (front_armed q kind.Tcp) ++ xs) (sym (append-nil _))
 
 changes_none : (c : ℕ) (p : FrontPart) → changes c (armed_of p) (armed_of p) ≡ []

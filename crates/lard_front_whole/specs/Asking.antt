@@ -1,5 +1,5 @@
 -- What the code of an Ask has in hand, as the rules have it.
-use Rattle.std.specs.Prelude.{◌≡◌, ℕ, ◌+◌, ◌<◌, ◌≤◌, true, List, ◌++◌, length, map, Option, Some, None}
+use Rattle.std.specs.Prelude.{◌≡◌, ℕ, ◌+◌, true, List, ◌++◌, length, map, Some}
 use Rattle.std.specs.FinMap as table
 use Rattle.std.specs.FinMap.{FinMap}
 use Rattle.std.specs.Ordering.{nat_cmp}
@@ -12,20 +12,9 @@ use Rattle.lard_front_rules.specs.declared.front.FrontTurn.{FrontTurn}
 use Rattle.lard_front_rules.specs.Front.{FrontEnv, assigned_notes, is_at, over_note, rest_of, saying, tag_sent}
 use Rattle.lard_loads.specs.Tally.{home}
 
--- an Ask as its message says it: a batch has at most eight requests, and one to all of them are to be assigned
-pub record IsAsk (a : Ask) : Type 0 where
-  pub some : 1 ≤ length a.paths
-  pub within : length a.paths ≤ a.size
-  pub few : a.size ≤ 8
-
 -- the connection is admitted at the node that asks, where it is there
 abbrev pub MayShare : FrontState → Ask → ℕ → Type 0
 MayShare s a epoch = is_at a.home epoch (table.get s.conns a.c) ≡ true → home s.dispatch.books.loads a.c ≡ Some a.home
-
--- the Tag of the last Ask, where there was one, names one to eight nodes
-abbrev pub HasTag : Option FrontRest → Type 0
-HasTag None = Unit {0}
-HasTag (Some rest) = 0 < rest.asks → (1 ≤ length rest.tag) × (length rest.tag ≤ 8)
 
 abbrev pub kept_rests : FinMap nat_cmp FrontRest → Ask → List ℕ → ℕ → FinMap nat_cmp FrontRest
 kept_rests rests a tag last = table.insert rests a.c (record (rest_of (table.get rests a.c)) { asks = a.number; tag = tag; assigned = last })

@@ -1,5 +1,5 @@
 -- What the code of the front end has in hand, as the rules have it.
-use Rattle.std.specs.Prelude.{◌≡◌, ℕ, ◌++◌, Bool, List, [], true, false, ◌∷◌, Option, Some, None}
+use Rattle.std.specs.Prelude.{◌≡◌, ℕ, ◌++◌, Bool, List, [], false, ◌∷◌, Option, Some, None}
 use Rattle.std.specs.FinMap as table
 use Rattle.lard_base.specs.declared.ids.Millis.{Millis}
 use Rattle.lard_base.specs.declared.place.Place.TheVariants as place
@@ -11,13 +11,12 @@ use Rattle.lard_dispatch.specs.Line.{waits}
 use Rattle.lard_dispatch.specs.Sound.{AreBefore}
 use Rattle.lard_endpoint.specs.Control.{ControlBlock}
 use Rattle.lard_endpoint.specs.Arriving.{on_segment}
-use Rattle.lard_endpoint.specs.Moving.{may_freeze}
 use Rattle.lard_front_rules.specs.declared.front.FrontRest.{FrontRest}
 use Rattle.lard_front_rules.specs.declared.front.FrontState.{FrontState}
 use Rattle.lard_front_rules.specs.declared.front.FrontTurn.{FrontTurn}
 use Rattle.lard_front_rules.specs.Front.{Deed, Drops, Says, Does, FrontEnv, FrontPart, fired, front_armed, handed_off, heard, holds, leaves_by, rest_of, rests, saying, settled_by, turn_here, waits_on}
 use Rattle.lard_front_rules.specs.FrontPlace.{front_part, front_put, out_of, put_back}
-use Rattle.lard_front_rules.specs.Reading.{Reading}
+use Rattle.lard_front_rules.specs.Reading.{MayMove, Reading}
 use Rattle.lard_front_rules.specs.Sound.{IsHere}
 use Rattle.lard_front_whole.specs.declared.reading.Going.{Going}
 use Rattle.lard_front_whole.specs.declared.reading.Going.TheVariants.{On, Last}
@@ -54,11 +53,6 @@ reading_of b w target = record { service = service_of b w; target = target }
 abbrev pub step_seen : ControlBlock → Served → Going → Step Reading
 step_seen b w On = loop.More (reading_of b w None)
 step_seen b w (Last target) = loop.Done (reading_of b w target)
-
--- an endpoint with a request that is to be placed may move
-abbrev pub MayMove : ControlBlock → Option (List ℕ) → Type 0
-MayMove b None = Unit {0}
-MayMove b (Some path) = may_freeze b ≡ true
 
 abbrev pub MayGo : ControlBlock → Going → Type 0
 MayGo b On = Unit {0}

@@ -1,3 +1,5 @@
 pub mod Hand
 pub mod Told
 pub mod Asking
+pub mod Bounds
+pub mod Place

@@ -6,6 +6,7 @@ ghost use Rattle.lard_endpoint.specs.Moving.{may_freeze};
 ghost use Rattle.lard_front_rules.specs.Front.{front_admitted};
 ghost use Rattle.lard_front_rules.specs.FrontPlace.{front_part};
 ghost use Rattle.lard_front_rules.specs.Sound.{HasTarget};
+ghost use Rattle.lard_front_whole.specs.Bounds.{IsFrontTurn};
 ghost use Rattle.lard_front_whole.specs.Hand.{Holds, count_of, env_of, gives, target_of};
 ghost use Rattle.lard_handoff_front.specs.Front.{MayBeOffered};
 
@@ -30,7 +31,9 @@ pub fn admit(
     requires may { MayBeOffered (table.get state.old.conns around.now.serve.c) (count_of (table.get state.old.rests around.now.serve.c)) }
     requires few { count_of (table.get state.old.rests around.now.serve.c) < 2 ^ 31 }
     requires target { HasTarget (table.get state.old.rests around.now.serve.c) }
-    ensures { IfOk result (λ turn. option_map (gives state.old around.now.serve.c) (front_admitted (env_of around.now state.old) (front_part state.old around.now.serve.c) choice) ≡ Some (state.new, turn)) }
+    ensures turn { IfOk result (λ turn. option_map (gives state.old around.now.serve.c) (front_admitted (env_of around.now state.old) (front_part state.old around.now.serve.c) choice) ≡ Some (state.new, turn)) }
+    ensures fits { IfOk result IsFrontTurn }
+    ensures quiet { IfOk result (λ turn. turn.segments ≡ []) }
 {
     let c = around.serve.c;
     let service = Service::new(alloc, count_of(&state.rests, c));

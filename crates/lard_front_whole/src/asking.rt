@@ -5,7 +5,9 @@ ghost use Rattle.std.specs.FinMap as table;
 ghost use Rattle.lard_dispatch.specs.Sound.{AreBefore};
 ghost use Rattle.lard_front_rules.specs.Front.{assigned_notes, front_asked, is_at, is_with, over_note};
 ghost use Rattle.lard_front_rules.specs.FrontPlace.{front_part};
-ghost use Rattle.lard_front_whole.specs.Asking.{HasTag, IsAsk, MayShare, assigned_by, kept_rests};
+ghost use Rattle.lard_front_rules.specs.Sound.{HasTag, IsAsk};
+ghost use Rattle.lard_front_whole.specs.Bounds.{IsFrontTurn};
+ghost use Rattle.lard_front_whole.specs.Asking.{MayShare, assigned_by, kept_rests};
 ghost use Rattle.lard_front_whole.specs.Hand.{deed_turn, env_of};
 ghost use Rattle.lard_loads.specs.Tally.{home};
 
@@ -38,6 +40,7 @@ pub fn asked(
     requires kept { table.get state.old.kept ask.c ≡ Some [] → ⊥ }
     requires clock { AreBefore around.now.time.0 state.old.dispatch.books.sets }
     ensures turn { IfOk result (λ turn. (state.new, turn) ≡ deed_turn state.old ask.c (front_asked (env_of around.now state.old) (front_part state.old ask.c) ask.home epoch.0 ask)) }
+    ensures fits { IfOk result IsFrontTurn }
     ensures clock { OnOk result (AreBefore around.now.time.0 state.new.dispatch.books.sets) }
 {
     let c = ask.c;
@@ -113,6 +116,7 @@ fn assign(
     requires there { IsSome (table.get state.old.rests ask.c) }
     requires clock { AreBefore around.now.time.0 state.old.dispatch.books.sets }
     ensures turn { IfOk result (λ turn. (state.new, turn) ≡ assigned_by (env_of around.now state.old) state.old epoch.0 ask assigned) }
+    ensures fits { IfOk result IsFrontTurn }
     ensures clock { OnOk result (AreBefore around.now.time.0 state.new.dispatch.books.sets) }
 {
     let Some(last) = assigned.checked_add(ask.paths.len() as u32) else {

@@ -2,7 +2,8 @@
 
 ghost use Rattle.std.specs.Prelude.{◌≡◌, ◌+◌, ◌^◌, ◌<◌, ◌≤◌, [], ◌∷◌, ◌++◌, IfOk, OnOk, None, Some, length, option_map};
 ghost use Rattle.std.specs.FinMap as table;
-ghost use Rattle.lard_base.specs.declared.limits.TheConstants.{MAX_MESSAGE_BYTES};
+ghost use Rattle.lard_base.specs.declared.limits.TheConstants.{MAX_MESSAGE_BYTES, MAX_STREAM_BYTES};
+ghost use Rattle.lard_front_whole.specs.Bounds.{IsFrontTurn};
 ghost use Rattle.lard_front_whole.specs.Hand.{env_of, handed_at};
 ghost use Rattle.lard_handoff_front.specs.Front.{MayBeOffered};
 ghost use Rattle.lard_resend.specs.Pending.{held, renewed};
@@ -31,7 +32,10 @@ pub fn hand_off(
     requires may { MayBeOffered (table.get state.old.conns around.now.serve.c) service.count }
     requires none { held state.old.kept around.now.serve.c ≡ [] }
     requires few { service.count < 2 ^ 31 }
-    ensures { IfOk result (λ turn. handed_at (env_of around.now state.old) state.old service path choice (table.get state.old.conns around.now.serve.c) ≡ Some (state.new, turn)) }
+    requires answered { service.answered ≤ MAX_STREAM_BYTES }
+    ensures turn { IfOk result (λ turn. handed_at (env_of around.now state.old) state.old service path choice (table.get state.old.conns around.now.serve.c) ≡ Some (state.new, turn)) }
+    ensures fits { IfOk result IsFrontTurn }
+    ensures quiet { IfOk result (λ turn. turn.segments ≡ []) }
 {
     let c = around.serve.c;
     let epoch = epoch_of(&state.conns, c);
@@ -102,14 +106,18 @@ fn handed_turn(
     choice: FirstChoice,
     bytes: Bytes,
 ) -> Result<FrontTurn, NoMemory>
-    requires { service.count < 2 ^ 31 }
-    ensures { IfOk result (λ turn. turn ≡ record {
+    requires few { service.count < 2 ^ 31 }
+    requires answered { service.answered ≤ MAX_STREAM_BYTES }
+    requires size { length bytes ≤ MAX_MESSAGE_BYTES }
+    ensures turn { IfOk result (λ turn. turn ≡ record {
       notes = service.notes ++ Rec.Admitted c ∷ Rec.AssignedFirst c (service.count + 1) path choice.node choice.add choice.remove ∷ [];
       segments = [];
       gave = Rec.Gave Place.Front c epoch ∷ [];
       messages = (Place.Node choice.node, bytes) ∷ [];
       answered = service.answered;
     }) }
+    ensures fits { IfOk result IsFrontTurn }
+    ensures quiet { IfOk result (λ turn. turn.segments ≡ []) }
 {
     let Service {
         count,

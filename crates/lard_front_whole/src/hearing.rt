@@ -4,11 +4,14 @@ ghost use Rattle.std.specs.Prelude.{◌≡◌, ◌-◌, ◌^◌, ◌<◌, ◌≤
 ghost use Rattle.std.specs.FinMap as table;
 ghost use Rattle.lard_base.specs.declared.limits.TheConstants.{MAX_STREAM_BYTES};
 ghost use Rattle.lard_front_rules.specs.FrontPlace.{front_part};
-ghost use Rattle.lard_front_whole.specs.Hand.{Holds, IsFree, Lends, MayMove, deed_turn, env_of, fires_held, fires_waiting, heard_at, read_deed, waits_heard};
+ghost use Rattle.lard_front_rules.specs.Reading.{MayMove};
+ghost use Rattle.lard_front_whole.specs.Bounds.{IsFrontTurn};
+ghost use Rattle.lard_front_whole.specs.Hand.{Holds, IsFree, Lends, deed_turn, env_of, fires_held, fires_waiting, heard_at, read_deed, waits_heard};
 ghost use Rattle.lard_handoff_front.specs.Front.{may_put};
 ghost use Rattle.lard_endpoint.specs.Leaving.{after_timer, timed};
 ghost use Rattle.lard_rules.specs.Serving.{ready_of, serving, spoken};
 ghost use Rattle.lard_segment.specs.Segment.{said};
+ghost use Rattle.lard_serving.specs.Bounds.{IsTurn};
 ghost use Rattle.lard_serving.specs.Serving.{IsCounted, env_seen, service_of};
 
 use crate::placing::{leave_by, place};
@@ -33,7 +36,8 @@ pub fn hear_held(
     requires holds { Holds state.old around.now.serve.c false }
     requires free { IsFree state.old.dispatch around.now.serve.c around.now.time.0 }
     requires stream { around.now.serve.stream ≤ MAX_STREAM_BYTES }
-    ensures { IfOk result (λ turn. (state.new, turn) ≡ deed_turn state.old around.now.serve.c (heard_at (env_of around.now state.old) (front_part state.old around.now.serve.c) (said segment.now) (table.get state.old.conns around.now.serve.c))) }
+    ensures turn { IfOk result (λ turn. (state.new, turn) ≡ deed_turn state.old around.now.serve.c (heard_at (env_of around.now state.old) (front_part state.old around.now.serve.c) (said segment.now) (table.get state.old.conns around.now.serve.c))) }
+    ensures fits { IfOk result IsFrontTurn }
 {
     let c = around.serve.c;
     let count = count_of(&state.rests, c);
@@ -68,8 +72,10 @@ fn go_on(
     requires may { MayMove endpoint target }
     requires counted { IsCounted endpoint service }
     requires few { service.count < 2 ^ 31 }
+    requires answered { service.answered ≤ MAX_STREAM_BYTES }
     requires asked { service.count ≤ endpoint.recv.got - length endpoint.recv.unread }
-    ensures { IfOk result (λ turn. (state.new, turn) ≡ deed_turn state.old around.now.serve.c (read_deed (env_of around.now state.old) (front_part state.old around.now.serve.c) (service_of endpoint service) target (table.get state.old.conns around.now.serve.c))) }
+    ensures turn { IfOk result (λ turn. (state.new, turn) ≡ deed_turn state.old around.now.serve.c (read_deed (env_of around.now state.old) (front_part state.old around.now.serve.c) (service_of endpoint service) target (table.get state.old.conns around.now.serve.c))) }
+    ensures fits { IfOk result IsFrontTurn }
 {
     match target {
         Some(path) => return place(state, alloc, around, endpoint, service, path),
@@ -88,7 +94,8 @@ fn settle(
     requires lends { Lends state.old around.now.serve.c }
     requires lent { may_put (table.get state.old.conns around.now.serve.c) ≡ true }
     requires counted { IsCounted endpoint service }
-    ensures { IfOk result (λ turn. (state.new, turn) ≡ deed_turn state.old around.now.serve.c (read_deed (env_of around.now state.old) (front_part state.old around.now.serve.c) (service_of endpoint service) None (table.get state.old.conns around.now.serve.c))) }
+    ensures turn { IfOk result (λ turn. (state.new, turn) ≡ deed_turn state.old around.now.serve.c (read_deed (env_of around.now state.old) (front_part state.old around.now.serve.c) (service_of endpoint service) None (table.get state.old.conns around.now.serve.c))) }
+    ensures fits { IfOk result IsFrontTurn }
 {
     let (ending, turn) = settled(alloc, &around.serve, endpoint, service);
     put_back(state, alloc, around.serve.c, false, ending);
@@ -103,7 +110,8 @@ pub fn hear_waiting(
     segment: &Segment<'_>,
 ) -> Result<FrontTurn, NoMemory>
     requires holds { Holds state.old around.now.serve.c true }
-    ensures { IfOk result (λ turn. (state.new, turn) ≡ deed_turn state.old around.now.serve.c (waits_heard (env_of around.now state.old) (front_part state.old around.now.serve.c) (said segment.now) (table.get state.old.conns around.now.serve.c))) }
+    ensures turn { IfOk result (λ turn. (state.new, turn) ≡ deed_turn state.old around.now.serve.c (waits_heard (env_of around.now state.old) (front_part state.old around.now.serve.c) (said segment.now) (table.get state.old.conns around.now.serve.c))) }
+    ensures fits { IfOk result IsFrontTurn }
 {
     let c = around.serve.c;
     let count = count_of(&state.rests, c);
@@ -125,7 +133,8 @@ pub fn fire_held(
     around: &Around<'_>,
 ) -> Result<FrontTurn, NoMemory>
     requires holds { Holds state.old around.now.serve.c false }
-    ensures { IfOk result (λ turn. (state.new, turn) ≡ deed_turn state.old around.now.serve.c (fires_held (env_of around.now state.old) (front_part state.old around.now.serve.c) (table.get state.old.conns around.now.serve.c))) }
+    ensures turn { IfOk result (λ turn. (state.new, turn) ≡ deed_turn state.old around.now.serve.c (fires_held (env_of around.now state.old) (front_part state.old around.now.serve.c) (table.get state.old.conns around.now.serve.c))) }
+    ensures fits { IfOk result IsFrontTurn }
 {
     let c = around.serve.c;
     let count = count_of(&state.rests, c);
@@ -142,7 +151,8 @@ pub fn fire_waiting(
     around: &Around<'_>,
 ) -> Result<FrontTurn, NoMemory>
     requires holds { Holds state.old around.now.serve.c true }
-    ensures { IfOk result (λ turn. (state.new, turn) ≡ deed_turn state.old around.now.serve.c (fires_waiting (env_of around.now state.old) (front_part state.old around.now.serve.c) (table.get state.old.conns around.now.serve.c))) }
+    ensures turn { IfOk result (λ turn. (state.new, turn) ≡ deed_turn state.old around.now.serve.c (fires_waiting (env_of around.now state.old) (front_part state.old around.now.serve.c) (table.get state.old.conns around.now.serve.c))) }
+    ensures fits { IfOk result IsFrontTurn }
 {
     let c = around.serve.c;
     let count = count_of(&state.rests, c);
@@ -156,7 +166,8 @@ pub fn fire_waiting(
 /// What an endpoint says whose timer fires (RFC 9293, 3.10.8).
 fn fired(alloc: Global, env: &Env<'_>, mut endpoint: Endpoint, count: u32) -> Ends
     requires { count ≤ endpoint.send.total }
-    ensures { IfOk result.1 (λ turn. (result.0, turn) ≡ spoken (env_seen env.now) (serving (after_timer endpoint) count []) (ready_of (env_seen env.now) (after_timer endpoint) (timed endpoint))) }
+    ensures turn { IfOk result.1 (λ turn. (result.0, turn) ≡ spoken (env_seen env.now) (serving (after_timer endpoint) count []) (ready_of (env_seen env.now) (after_timer endpoint) (timed endpoint))) }
+    ensures fits { IfOk result.1 IsTurn }
 {
     let ready = endpoint.timer();
     match ready_of(alloc, env, &endpoint, ready) {

@@ -11,6 +11,7 @@ pub mod asking;
 mod ended;
 pub mod handing;
 pub mod hearing;
+pub mod joining;
 pub mod passing;
 pub mod place;
 pub mod placing;
@@ -18,6 +19,8 @@ pub mod reading;
 pub mod receiving;
 pub mod releasing;
 pub mod seats;
+pub mod step;
 #[cfg(test)]
 mod tests;
+pub mod told;
 pub mod turns;

@@ -5,6 +5,7 @@ ghost use Rattle.std.specs.FinMap as table;
 ghost use Rattle.lard_base.specs.declared.limits.TheConstants.{MAX_SEGMENT_BYTES};
 ghost use Rattle.lard_front_rules.specs.Front.{front_taken};
 ghost use Rattle.lard_front_rules.specs.FrontPlace.{front_part};
+ghost use Rattle.lard_front_whole.specs.Bounds.{IsFrontTurn};
 ghost use Rattle.lard_front_whole.specs.Hand.{deed_turn};
 ghost use Rattle.lard_front_whole.specs.Told.{telling};
 ghost use Rattle.lard_message.specs.Message.{IsOfTable};
@@ -25,7 +26,8 @@ pub fn telling(
     body: Body,
 ) -> Result<FrontTurn, NoMemory>
     requires { IsOfTable body }
-    ensures { IfOk result (λ turn. turn ≡ telling c epoch.0 node body) }
+    ensures turn { IfOk result (λ turn. turn ≡ telling c epoch.0 node body) }
+    ensures fits { IfOk result IsFrontTurn }
 {
     let bytes = encode(alloc, &Message { c, epoch, body })?;
     let mut messages = Sends::new(alloc);
@@ -43,7 +45,8 @@ pub fn forward(
 ) -> Result<FrontTurn, NoMemory>
     requires some { 20 ≤ length bytes.now }
     requires short { length bytes.now ≤ MAX_SEGMENT_BYTES }
-    ensures { IfOk result (λ turn. turn ≡ telling c epoch.0 node (Body.Forward bytes.now)) }
+    ensures turn { IfOk result (λ turn. turn ≡ telling c epoch.0 node (Body.Forward bytes.now)) }
+    ensures fits { IfOk result IsFrontTurn }
 {
     let copy = Bytes::from_slice(alloc, bytes)?;
     telling(alloc, c, epoch, node, Body::Forward(copy))
@@ -52,7 +55,8 @@ pub fn forward(
 /// A Taken comes. The connection is moved where its Offer of this epoch has no answer yet, and the Offer is not told again.
 pub fn taken(state: &mut FrontState, alloc: Global, c: ConnId, epoch: Epoch) -> FrontTurn
     requires { table.get state.old.kept c ≡ Some [] → ⊥ }
-    ensures { (state.new, result) ≡ deed_turn state.old c (front_taken (front_part state.old c) epoch.0) }
+    ensures turn { (state.new, result) ≡ deed_turn state.old c (front_taken (front_part state.old c) epoch.0) }
+    ensures fits { IsFrontTurn result }
 {
     if !state.conns.on_taken(c, epoch) {
         return silent(alloc);

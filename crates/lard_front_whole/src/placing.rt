@@ -7,6 +7,7 @@ ghost use Rattle.lard_endpoint.specs.Moving.{may_freeze};
 ghost use Rattle.lard_front_rules.specs.Front.{leaves_by, rest_of};
 ghost use Rattle.lard_front_rules.specs.FrontPlace.{front_part};
 ghost use Rattle.lard_handoff_front.specs.Front.{may_put};
+ghost use Rattle.lard_front_whole.specs.Bounds.{IsFrontTurn};
 ghost use Rattle.lard_front_whole.specs.Hand.{IsFree, Lends, deed_turn, env_of, read_deed, waits_at};
 ghost use Rattle.lard_dispatch.specs.Laws.{after_calls};
 ghost use Rattle.lard_serving.specs.Serving.{IsCounted, service_of};
@@ -35,7 +36,8 @@ fn wait(
 ) -> Result<FrontTurn, NoMemory>
     requires lends { Lends state.old around.now.serve.c }
     requires counted { IsCounted endpoint service }
-    ensures { IfOk result (λ turn. (state.new, turn) ≡ waits_at (env_of around.now state.old) state.old (service_of endpoint service) path (table.get state.old.conns around.now.serve.c)) }
+    ensures turn { IfOk result (λ turn. (state.new, turn) ≡ waits_at (env_of around.now state.old) state.old (service_of endpoint service) path (table.get state.old.conns around.now.serve.c)) }
+    ensures fits { IfOk result IsFrontTurn }
 {
     let c = around.serve.c;
     set_target(&mut state.rests, alloc, c, path);
@@ -87,8 +89,10 @@ pub fn place(
     requires may { may_freeze endpoint ≡ true }
     requires counted { IsCounted endpoint service }
     requires few { service.count < 2 ^ 31 }
+    requires answered { service.answered ≤ MAX_STREAM_BYTES }
     requires asked { service.count ≤ endpoint.recv.got - length endpoint.recv.unread }
-    ensures { IfOk result (λ turn. (state.new, turn) ≡ deed_turn state.old around.now.serve.c (read_deed (env_of around.now state.old) (front_part state.old around.now.serve.c) (service_of endpoint service) (Some path) (table.get state.old.conns around.now.serve.c))) }
+    ensures turn { IfOk result (λ turn. (state.new, turn) ≡ deed_turn state.old around.now.serve.c (read_deed (env_of around.now state.old) (front_part state.old around.now.serve.c) (service_of endpoint service) (Some path) (table.get state.old.conns around.now.serve.c))) }
+    ensures fits { IfOk result IsFrontTurn }
 {
     let c = around.serve.c;
     match state.dispatch.first(c, &path, around.time) {

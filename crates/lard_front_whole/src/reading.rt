@@ -6,8 +6,8 @@ ghost use Rattle.lard_answers.specs.Answers.{good_path};
 ghost use Rattle.lard_base.specs.declared.limits.TheConstants.{MAX_STREAM_BYTES};
 ghost use Rattle.lard_block.specs.Blocks.{cut_of};
 ghost use Rattle.lard_files.specs.Files.{file_at};
-ghost use Rattle.lard_front_rules.specs.Reading.{block_at, reads, reads_block, reads_found};
-ghost use Rattle.lard_front_whole.specs.Hand.{MayGo, MayMove, reading_of, step_seen};
+ghost use Rattle.lard_front_rules.specs.Reading.{MayMove, block_at, reads, reads_block, reads_found};
+ghost use Rattle.lard_front_whole.specs.Hand.{MayGo, reading_of, step_seen};
 ghost use Rattle.lard_request.specs.Verdict.{verdict};
 ghost use Rattle.lard_serving.specs.Serving.{IsCounted, env_seen, service_of};
 

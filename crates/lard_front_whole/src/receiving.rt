@@ -7,8 +7,9 @@ ghost use Rattle.lard_dispatch.specs.Sound.{AreBefore};
 ghost use Rattle.lard_front_rules.specs.Front.{begun, front_gets, front_hears, front_timer};
 ghost use Rattle.lard_front_rules.specs.FrontPlace.{front_deed, front_part};
 ghost use Rattle.lard_front_rules.specs.Sound.{IsFrontSound};
+ghost use Rattle.lard_front_whole.specs.Bounds.{AreMessages, IsFrontOut, IsFrontTurn};
 ghost use Rattle.lard_front_whole.specs.Hand.{deed_turn, env_of};
-ghost use Rattle.lard_resend.specs.Pending.{held, sent_of};
+ghost use Rattle.lard_resend.specs.Pending.{AreFit, held, sent_of};
 ghost use Rattle.lard_rules.specs.Front.{is_plain_syn};
 ghost use Rattle.lard_segment.specs.Segment.{decoded, said};
 
@@ -38,8 +39,9 @@ pub fn receive(
     requires clock { AreBefore around.now.time.0 state.old.dispatch.books.sets }
     requires stream { around.now.serve.stream ≤ MAX_STREAM_BYTES }
     requires short { length bytes.now ≤ MAX_SEGMENT_BYTES }
-    ensures { IfOk result (λ out. (state.new, out) ≡ front_deed state.old around.now.serve.c
+    ensures out { IfOk result (λ out. (state.new, out) ≡ front_deed state.old around.now.serve.c
         (front_gets (env_of around.now state.old) (front_part state.old around.now.serve.c) bytes.now (decoded bytes.now around.now.serve.c Dir.ToCluster))) }
+    ensures fits { IfOk result IsFrontOut }
 {
     let c = around.serve.c;
     let was = armed_at(state, c);
@@ -58,8 +60,9 @@ fn get(
     requires clock { AreBefore around.now.time.0 state.old.dispatch.books.sets }
     requires stream { around.now.serve.stream ≤ MAX_STREAM_BYTES }
     requires short { length bytes.now ≤ MAX_SEGMENT_BYTES }
-    ensures { IfOk result (λ turn. (state.new, turn) ≡ deed_turn state.old around.now.serve.c
+    ensures turn { IfOk result (λ turn. (state.new, turn) ≡ deed_turn state.old around.now.serve.c
         (front_gets (env_of around.now state.old) (front_part state.old around.now.serve.c) bytes.now (decoded bytes.now around.now.serve.c Dir.ToCluster))) }
+    ensures fits { IfOk result IsFrontTurn }
 {
     match decode(bytes, around.serve.c, Dir::ToCluster) {
         Ok(segment) => return hear(state, alloc, around, bytes, &segment),
@@ -80,8 +83,9 @@ fn hear(
     requires stream { around.now.serve.stream ≤ MAX_STREAM_BYTES }
     requires some { 20 ≤ length bytes.now }
     requires short { length bytes.now ≤ MAX_SEGMENT_BYTES }
-    ensures { IfOk result (λ turn. (state.new, turn) ≡ deed_turn state.old around.now.serve.c
+    ensures turn { IfOk result (λ turn. (state.new, turn) ≡ deed_turn state.old around.now.serve.c
         (front_hears (env_of around.now state.old) (front_part state.old around.now.serve.c) bytes.now (said segment.now) (table.get state.old.conns around.now.serve.c))) }
+    ensures fits { IfOk result IsFrontTurn }
 {
     let c = around.serve.c;
     let Some(row) = state.conns.row(c) else {
@@ -122,7 +126,8 @@ fn meet(
     requires none { held state.old.kept around.now.serve.c ≡ [] }
     requires some { table.get state.old.kept around.now.serve.c ≡ Some [] → ⊥ }
     requires plain { is_plain_syn (said segment.now) ≡ true }
-    ensures { IfOk result (λ turn. (state.new, turn) ≡ deed_turn state.old around.now.serve.c (begun (env_of around.now state.old) (front_part state.old around.now.serve.c) (said segment.now))) }
+    ensures turn { IfOk result (λ turn. (state.new, turn) ≡ deed_turn state.old around.now.serve.c (begun (env_of around.now state.old) (front_part state.old around.now.serve.c) (said segment.now))) }
+    ensures fits { IfOk result IsFrontTurn }
 {
     let c = around.serve.c;
     state.conns.listen(alloc, c, segment, around.iss)?;
@@ -141,7 +146,8 @@ fn meet(
 /// The timers of a connection fire.
 pub fn time_out(state: &mut FrontState, alloc: Global, around: &Around<'_>) -> Result<Out, NoMemory>
     requires sound { IsFrontSound state.old }
-    ensures { IfOk result (λ out. (state.new, out) ≡ front_deed state.old around.now.serve.c (front_timer (env_of around.now state.old) (front_part state.old around.now.serve.c))) }
+    ensures out { IfOk result (λ out. (state.new, out) ≡ front_deed state.old around.now.serve.c (front_timer (env_of around.now state.old) (front_part state.old around.now.serve.c))) }
+    ensures fits { IfOk result IsFrontOut }
 {
     let c = around.serve.c;
     let was = armed_at(state, c);
@@ -152,7 +158,8 @@ pub fn time_out(state: &mut FrontState, alloc: Global, around: &Around<'_>) -> R
 /// The endpoint's timer fires, or the Offer that awaits an answer is told again.
 fn fire(state: &mut FrontState, alloc: Global, around: &Around<'_>) -> Result<FrontTurn, NoMemory>
     requires sound { IsFrontSound state.old }
-    ensures { IfOk result (λ turn. (state.new, turn) ≡ deed_turn state.old around.now.serve.c (front_timer (env_of around.now state.old) (front_part state.old around.now.serve.c))) }
+    ensures turn { IfOk result (λ turn. (state.new, turn) ≡ deed_turn state.old around.now.serve.c (front_timer (env_of around.now state.old) (front_part state.old around.now.serve.c))) }
+    ensures fits { IfOk result IsFrontTurn }
 {
     let c = around.serve.c;
     let Some(row) = state.conns.row(c) else {
@@ -170,7 +177,9 @@ fn fire(state: &mut FrontState, alloc: Global, around: &Around<'_>) -> Result<Fr
 
 /// What is held is sent once more.
 fn again(alloc: Global, all: &[Kept]) -> Result<Sends, NoMemory>
-    ensures { IfOk result (λ sends. sends ≡ map sent_of all.now) }
+    requires { AreFit all.now }
+    ensures sends { IfOk result (λ sends. sends ≡ map sent_of all.now) }
+    ensures fits { IfOk result AreMessages }
 {
     let mut sends = Sends::new(alloc);
     for kept in all {

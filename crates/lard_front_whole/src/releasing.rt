@@ -7,6 +7,7 @@ ghost use Rattle.lard_dispatch.specs.Sound.{AreBefore};
 ghost use Rattle.lard_front_rules.specs.Front.{ack_sent, front_ended, saying};
 ghost use Rattle.lard_front_rules.specs.FrontPlace.{front_part};
 ghost use Rattle.lard_front_rules.specs.Sound.{IsFrontSound};
+ghost use Rattle.lard_front_whole.specs.Bounds.{IsFrontTurn};
 ghost use Rattle.lard_front_whole.specs.Hand.{deed_turn, env_of, next_by};
 ghost use Rattle.lard_loads.specs.Tally.{home};
 ghost use Rattle.lard_resend.specs.Pending.{settled};
@@ -45,6 +46,8 @@ pub fn end(
     requires sound { IsFrontSound state.old }
     requires clock { AreBefore around.now.time.0 state.old.dispatch.books.sets }
     ensures turn { IfOk result (λ x. (state.new, x.turn) ≡ deed_turn state.old around.now.serve.c (front_ended (env_of around.now state.old) (front_part state.old around.now.serve.c) from epoch.0 last)) }
+    ensures fits { IfOk result (λ x. IsFrontTurn x.turn) }
+    ensures quiet { IfOk result (λ x. x.turn.segments ≡ []) }
     ensures next { IfOk result (λ x. x.next ≡ next_by state.old.dispatch around.now.serve.c around.now.time (front_ended (env_of around.now state.old) (front_part state.old around.now.serve.c) from epoch.0 last)) }
 {
     let c = around.serve.c;
@@ -80,6 +83,8 @@ fn release(
       dispatch = after_ended state.old.dispatch around.now.serve.c around.now.time;
     }) }
     ensures turn { IfOk result (λ x. x.turn ≡ record (saying (ack_sent (env_of around.now state.old) from epoch.0)) { notes = Rec.Took Place.Front around.now.serve.c next ∷ Rec.Released around.now.serve.c ∷ [] }) }
+    ensures fits { IfOk result (λ x. IsFrontTurn x.turn) }
+    ensures quiet { IfOk result (λ x. x.turn.segments ≡ []) }
     ensures next { IfOk result (λ x. x.next ≡ ended_answer state.old.dispatch around.now.serve.c around.now.time) }
 {
     let c = around.serve.c;

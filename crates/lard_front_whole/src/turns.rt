@@ -5,11 +5,13 @@ ghost use Rattle.std.specs.FinMap as table;
 ghost use Rattle.std.specs.List.{list_any};
 ghost use Rattle.lard_base.specs.declared.place.TimerKind.TheVariants as kind;
 ghost use Rattle.lard_front_rules.specs.Front.{front_armed, row_armed, saying, stage_armed, turn_here};
-ghost use Rattle.lard_front_rules.specs.FrontPlace.{front_part};
+ghost use Rattle.lard_front_rules.specs.FrontPlace.{front_part, out_of};
+ghost use Rattle.lard_front_whole.specs.Bounds.{AreMessages, IsFrontOut, IsFrontTurn};
 ghost use Rattle.lard_front_whole.specs.Hand.{changes, armed_of, out_by, silent};
 ghost use Rattle.lard_resend.specs.Kept.{rank};
 ghost use Rattle.lard_rules.specs.Outs.{kind_change};
 ghost use Rattle.lard_rules.specs.Speaking.{listed};
+ghost use Rattle.lard_serving.specs.Bounds.{IsTurn};
 
 use lard_base::{ConnId, Millis, NoMemory, Place, Sends, TimerKind};
 use lard_front_rules::{FrontState, FrontTurn};
@@ -124,14 +126,17 @@ fn push(recs: &mut Recs, rec: Option<Rec>) -> Result<(), NoMemory>
 
 /// Nothing is done.
 pub fn silent(alloc: Global) -> FrontTurn
-    ensures { result ≡ silent }
+    ensures turn { result ≡ silent }
+    ensures fits { IsFrontTurn result }
 {
     saying(alloc, Sends::new(alloc))
 }
 
 /// These messages go out, and nothing else is done.
 pub fn saying(alloc: Global, messages: Sends) -> FrontTurn
-    ensures { result ≡ saying messages }
+    requires { AreMessages messages }
+    ensures turn { result ≡ saying messages }
+    ensures fits { IsFrontTurn result }
 {
     FrontTurn {
         notes: Recs::new(alloc),
@@ -144,7 +149,9 @@ pub fn saying(alloc: Global, messages: Sends) -> FrontTurn
 
 /// A turn of an endpoint that is here.
 pub fn turn_here(alloc: Global, turn: Turn) -> FrontTurn
-    ensures { result ≡ turn_here turn }
+    requires { IsTurn turn }
+    ensures turn { result ≡ turn_here turn }
+    ensures fits { IsFrontTurn result }
 {
     let Turn {
         notes,
@@ -168,9 +175,20 @@ pub fn out_by(
     was: Armed,
     turn: FrontTurn,
 ) -> Result<Out, NoMemory>
-    ensures { IfOk result (λ out. out ≡ out_by c was (armed_of (front_part state.now c)) turn) }
+    requires { IsFrontTurn turn }
+    ensures out { IfOk result (λ out. out ≡ out_by c was (armed_of (front_part state.now c)) turn) }
+    ensures fits { IfOk result IsFrontOut }
 {
     let timers = changes(alloc, c, was, armed_at(state, c))?;
+    Ok(out_of(turn, timers))
+}
+
+/// What a turn comes to, whose timers changed so.
+pub fn out_of(turn: FrontTurn, timers: Recs) -> Out
+    requires { IsFrontTurn turn }
+    ensures out { result ≡ out_of turn timers }
+    ensures fits { IsFrontOut result }
+{
     let FrontTurn {
         notes,
         segments,
@@ -178,12 +196,12 @@ pub fn out_by(
         messages,
         answered,
     } = turn;
-    Ok(Out {
+    Out {
         notes,
         segments,
         gave,
         messages,
         timers,
         answered,
-    })
+    }
 }

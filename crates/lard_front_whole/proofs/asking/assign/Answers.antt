@@ -4,7 +4,8 @@ use Rattle.std.proofs.lemmas.List.{length-map}
 use Rattle.lard_costs.specs.declared.later.LaterChoice.{LaterChoice}
 use Rattle.lard_dispatch.specs.Calls.{later_answer}
 use Rattle.lard_front_rules.specs.Front.{assigned_notes, over_note}
-use Rattle.lard_front_whole.proofs.Assigning.{assigned-with, many-choices}
+use Rattle.lard_front_rules.proofs.Deeds.{many-choices}
+use Rattle.lard_front_whole.proofs.Assigning.{assigned-with}
 use Rattle.lard_front_whole.proofs.asking.assign.Goals as goal
 use Rattle.lard_front_whole.specs.Hand.{env_of}
 
@@ -31,4 +32,4 @@ returns-clause-turn c =
     let many : c.in-Some.last ≡ c.args.assigned + length c.args.ask.paths = c.in-Some.ensures.1 ∙ ap (λ (n : ℕ). c.args.assigned + n) c.len.ensures in
     assigned-with (env_of c.args.around.now c.args.state.now) c.args.state.now c.args.epoch.0 c.args.ask c.args.assigned l c.keep.new.rests c.later.new.self c.in_ok-notes.notes
     c.in_ok-nodes.nodes c.in_ok-tag.tag c.in-Some.last c.in_ok-turn.turn (sym c.requires.number) c.keep.ensures (c.in_ok-tag.ensures ∙ c.as_slice-3.ensures)
-    each (many ∙ ap (λ (n : ℕ). c.args.assigned + n) (sym (many-choices d c.args.ask c.args.around.now.time))) c.in_ok-over.ensures.ok noted c.in_ok-turn.ensures
+    each (many ∙ ap (λ (n : ℕ). c.args.assigned + n) (sym (many-choices d c.args.ask c.args.around.now.time))) c.in_ok-over.ensures.ok noted c.in_ok-turn.ensures.turn

@@ -21,12 +21,12 @@ spoken-ending-requires-clause-counted c =
     let here = same_endpoint c.args.state.now c.args.around.now.serve.c true h c.take_out-endpoint.result c.take_out-endpoint.ensures.endpoint in
     let new = took h.block c.take_out-endpoint.result (said c.args.segment.now) c.arrive-arrival.new.self c.arrive-arrival.result c.arrive-arrival.ensures here in
     let many = count_is c.args.state.now c.args.around.now.serve.c true h c.count_of-count.result c.count_of-count.ensures in
-    let most = h.here.counted in
+    let most = h.here.serves.counted in
     counted_first c.arrive-arrival.new.self c.new-service.result c.count_of-count.result c.new-service.ensures
     (subst (λ (d : ControlBlock). c.count_of-count.result ≤ d.send.total) (sym new) (still_counted h.block (said c.args.segment.now) c.count_of-count.result (omega (arith, many, most))))
 
-pub returns : goal.returns
-returns c =
+pub returns-clause-turn : goal.returns-clause-turn
+returns-clause-turn c =
     let s : FrontState = c.args.state.now in
     let n = c.args.around.now.serve.c in
     let h = c.requires.holds in
@@ -39,5 +39,5 @@ returns c =
     (begins c.arrive-arrival.new.self (on_segment h.block (said c.args.segment.now)).1 c.new-service.result c.count_of-count.result (count_of (table.get s.rests n)) c.new-service.ensures c.count_of-count.ensures new i) (c.new.ensures i)) in
     waited_on (env_of c.args.around.now s) s c.put_back.new.state h c.leave_by.new.dispatch e turn c.turn_here.result
     (c.put_back.ensures ∙ ap (λ (t : FrontState). rested_in (record t { dispatch = c.leave_by.new.dispatch }) n true e) c.take_out-endpoint.ensures.after)
-    (c.leave_by.ensures ∙ ap (λ (t : FrontState). after_calls t.dispatch (leaves_by n e)) c.take_out-endpoint.ensures.after) c.turn_here.ensures
+    (c.leave_by.ensures ∙ ap (λ (t : FrontState). after_calls t.dispatch (leaves_by n e)) c.take_out-endpoint.ensures.after) c.turn_here.ensures.turn
     ∙ waits_heard_is c.args.around.now s true h (said c.args.segment.now) (e, turn) ruled

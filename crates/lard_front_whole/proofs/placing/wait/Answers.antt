@@ -20,8 +20,8 @@ put_back-requires-clause-rest c = there_after _ c.set_target.new.rests c.args.ar
 pub put_back-requires-2-clause-rest : goal.put_back-requires-2-clause-rest
 put_back-requires-2-clause-rest c = there_after _ c.set_target.new.rests c.args.around.now.serve.c _ c.set_target.ensures
 
-pub returns : goal.returns
-returns c =
+pub returns-clause-turn : goal.returns-clause-turn
+returns-clause-turn c =
     let s : FrontState = c.args.state.now in
     let n = c.args.around.now.serve.c in
     let env = env_of c.args.around.now s in
@@ -32,7 +32,7 @@ returns c =
     let told = subst (λ r. IfOk r (λ (t : Turn). (e, t) ≡ spoken (env_seen c.args.around.now.serve) (service_of c.args.endpoint (record c.args.service { notes = c.push.new.self })) c.new.result)) c.in_ok-turn.was c.spoken-ending.ensures.turn in
     let ruled : (e, turn) ≡ spoken env.serve (record w { notes = w.notes ++ rec.Waits n ∷ [] }) [] =
     told ∙ (λ i. spoken (env_seen c.args.around.now.serve) (service_of c.args.endpoint (record c.args.service { notes = notes i })) (c.new.ensures i)) in
-    (λ i. (c.put_back-2.ensures i, c.turn_here.ensures i))
+    (λ i. (c.put_back-2.ensures i, c.turn_here.ensures.turn i))
     ∙ ap (λ (t : FrontState). (t, turn_here turn)) (waited_is s n c.requires.lends c.args.path c.set_target.new.rests c.leave_by.new.dispatch c.set_target.ensures c.requires.lends.row c.requires.lends.found e)
     ∙ ap (λ d. (record (front_put s n (rests (front_part s n) c.requires.lends.row (record (rest_of (table.get s.rests n)) { target = Some c.args.path }) stage.Waiting e)) { dispatch = d }, turn_here turn)) c.leave_by.ensures
     ∙ ap (λ (x : Ending × Turn). waits_with env s w c.args.path c.requires.lends.row x) ruled

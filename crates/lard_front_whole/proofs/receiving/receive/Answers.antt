@@ -7,9 +7,9 @@ use Rattle.lard_segment.specs.declared.segment.Dir.TheVariants.{ToCluster}
 use Rattle.lard_segment.specs.Segment.{decoded}
 use Rattle.lard_front_whole.proofs.receiving.receive.Goals as goal
 
-pub returns : goal.returns
-returns c =
+pub returns-clause-out : goal.returns-clause-out
+returns-clause-out c =
     let s = c.args.state.now in
     let n = c.args.around.now.serve.c in
     out_is s c.get.new.state n (front_gets (env_of c.args.around.now s) (front_part s n) c.args.bytes.now (decoded c.args.bytes.now n ToCluster)) c.in_ok-turn.turn c.armed_at-was.result
-    c.in_ok-turn.ensures c.armed_at-was.ensures c.out_by.result c.out_by.ensures
+    c.in_ok-turn.ensures.turn c.armed_at-was.ensures c.out_by.result c.out_by.ensures.out

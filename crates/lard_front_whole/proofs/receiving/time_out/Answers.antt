@@ -5,9 +5,9 @@ use Rattle.lard_front_whole.specs.Hand.{env_of}
 use Rattle.lard_front_whole.proofs.Steps.{out_is}
 use Rattle.lard_front_whole.proofs.receiving.time_out.Goals as goal
 
-pub returns : goal.returns
-returns c =
+pub returns-clause-out : goal.returns-clause-out
+returns-clause-out c =
     let s = c.args.state.now in
     let n = c.args.around.now.serve.c in
     out_is s c.fire.new.state n (front_timer (env_of c.args.around.now s) (front_part s n)) c.in_ok-turn.turn c.armed_at-was.result
-    c.in_ok-turn.ensures c.armed_at-was.ensures c.out_by.result c.out_by.ensures
+    c.in_ok-turn.ensures.turn c.armed_at-was.ensures c.out_by.result c.out_by.ensures.out

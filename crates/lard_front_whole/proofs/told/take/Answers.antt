@@ -2,11 +2,11 @@
 use Rattle.lard_front_rules.specs.Front.{front_taken}
 use Rattle.lard_front_rules.specs.FrontPlace.{front_part}
 use Rattle.lard_front_whole.proofs.Steps.{out_is}
-use Rattle.lard_front_whole.proofs.place.take.Goals as goal
+use Rattle.lard_front_whole.proofs.told.take.Goals as goal
 
-pub returns : goal.returns
-returns c =
+pub returns-clause-out : goal.returns-clause-out
+returns-clause-out c =
     let s = c.args.state.now in
     let n = c.args.c in
     out_is s c.taken-turn.new.state n (front_taken (front_part s n) c.args.epoch.0) c.taken-turn.result c.armed_at-was.result
-    c.taken-turn.ensures c.armed_at-was.ensures c.out_by.result c.out_by.ensures
+    c.taken-turn.ensures.turn c.armed_at-was.ensures c.out_by.result c.out_by.ensures.out
