@@ -5,3 +5,5 @@ pub mod Serving
 pub mod Wide
 pub mod Working
 pub mod Stays
+pub mod Holding
+pub mod Fronts

@@ -134,6 +134,23 @@ module _ (env : ServeEnv) (w out : Stream) (vs : List Verdict) where
   go-on s pend h none unfinished keeps =
       record { none = none; unfinished = unfinished; keeps = keeps; read = subst (λ (o : Option ℕ). IsReading w h.vs_now pend s.block s.notes o) none h.reading }
 
+  -- notes that tell nothing of bytes
+  pub noted-serves : (notes : List Rec) (s : Service) (pend : List Verdict) → Each (IsNoteOf env.c) notes → served_in notes ≡ 0 → size_in notes ≡ 0 → So s pend → So (record s { notes = s.notes ++ notes }) pend
+  noted-serves notes s pend each served size h = record {
+    out_now = h.out_now;
+    vs_now = h.vs_now;
+    longer = h.longer;
+    says = h.says;
+    counted = h.counted;
+    between = h.between;
+    wide = h.wide;
+    noted = counts-more env.c out vs h.vs_now h.vs_now h.out_now.bytes h.out_now.bytes s.notes notes h.noted each (omega (arith, served)) (omega (arith, size)) (inr served);
+    reading = reading s.over h.reading;
+  } where
+    reading : (o : Option ℕ) → IsReading w h.vs_now pend s.block s.notes o → IsReading w h.vs_now pend s.block (s.notes ++ notes) o
+    reading None r = r
+    reading (Some total) r = list_any-append resets s.notes notes ∙ ap (λ b. b || list_any resets notes) r
+
   -- it would pass the stream limit
   passed-serves : (total : ℕ) (s : Service) (pend others : List Verdict) → So s pend → So (passed_over env total s) others
   passed-serves total s pend others h = record {

@@ -1,5 +1,5 @@
 -- The rules of a node keep the agreement of a connection that it has.
-use Rattle.std.proofs.Common.{◌≡◌, ◌-◌, ◌||◌, ◌==◌, ℕ, Bool, true, false, List, [], ◌∷◌, length, Option, Some, None, Ok, arith, refl, subst, inr}
+use Rattle.std.proofs.Common.{◌≡◌, ◌-◌, ◌||◌, ◌==◌, ℕ, Bool, true, false, List, [], ◌∷◌, Option, Some, None, Ok, arith, refl, subst, inr}
 use Rattle.std.specs.List.{find, list_any}
 use Rattle.std.proofs.lemmas.Bool.{cond_both}
 use Rattle.lard_base.specs.declared.limits.TheConstants.{RECEIVE_WINDOW}
@@ -7,18 +7,16 @@ use Rattle.lard_base.specs.declared.parts.EndpointParts.{EndpointParts}
 use Rattle.lard_base.specs.declared.place.Place.{Place}
 use Rattle.lard_base.specs.declared.place.Place.TheVariants as place
 use Rattle.lard_base.specs.declared.place.TimerKind.TheVariants as kind
-use Rattle.lard_cluster_bytes.specs.Agreement.{BackAgrees, EndAgrees, FrontHolds, HasRead, HoldsIt, IsWide, NodeAgrees, RowAgrees, StayAgrees}
+use Rattle.lard_cluster_bytes.specs.Agreement.{BackAgrees, EndAgrees, FrontHolds, HoldsIt, NodeAgrees, RowAgrees, StayAgrees}
 use Rattle.lard_cluster_bytes.specs.Keeping.{ContentsKeep, DeedKeeps, IsTalk, NodeHearsTruth, NodeTimerKeeps, NodeTurned, OffersKeep, ReadsKeep, TagsKeep}
-use Rattle.lard_cluster_bytes.specs.Turning.{Counts, EndTurned}
-use Rattle.lard_cluster_bytes.proofs.Ending.{settled-ends, spoken-ends}
-use Rattle.lard_cluster_bytes.proofs.Reading.{read-arrived, read-same}
-use Rattle.lard_cluster_bytes.proofs.Serving.{MayGo, So, counts-nothing, go-on}
-use Rattle.lard_cluster_bytes.proofs.Wide.{half-wide, segment-wide, timer-wide, wide-half}
+use Rattle.lard_cluster_bytes.specs.Turning.{EndTurned}
+use Rattle.lard_cluster_bytes.proofs.Ending.{settled-ends}
+use Rattle.lard_cluster_bytes.proofs.Holding.{begins-so, fired-ends, heard-so, same-so}
+use Rattle.lard_cluster_bytes.proofs.Serving.{MayGo, So, go-on}
 use Rattle.lard_cluster_bytes.proofs.Working.{Works, came-so, first-so, goes-so, tagged-so, verdicts_of}
-use Rattle.lard_segment.specs.declared.segment.Ready.{Ready}
 use Rattle.lard_endpoint.specs.Arriving.{on_segment}
 use Rattle.lard_endpoint.specs.Control.{ControlBlock}
-use Rattle.lard_endpoint.specs.Leaving.{after_timer, filled, timed}
+use Rattle.lard_endpoint.specs.Leaving.{after_timer, timed}
 use Rattle.lard_endpoint.specs.Moving.{adopted, may_freeze, parts_of}
 use Rattle.lard_endpoint.proofs.Adoption.{Stands, frozen_stands}
 use Rattle.lard_handoff_back.specs.declared.row.BackConn.{BackConn}
@@ -28,13 +26,10 @@ use Rattle.lard_handoff_back.specs.declared.table.Adopt.{Adopt}
 use Rattle.lard_handoff_back.specs.declared.table.Adopt.TheVariants.{New, Again, Stale}
 use Rattle.lard_handoff_back.specs.Back.{endpoint_of, offer_answer, staying}
 use Rattle.lard_handoff_back.specs.Row.{held_in}
-use Rattle.lard_journal.specs.declared.rec.Rec.{Rec}
 use Rattle.lard_journal.specs.declared.rec.Rec.TheVariants as rec
 use Rattle.lard_lateral.specs.Lateral.{is_from}
-use Rattle.lard_laws_bytes.specs.Agreement.{AreReplies, IsWord, SaysAnswers}
+use Rattle.lard_laws_bytes.specs.Agreement.{IsWord, SaysAnswers}
 use Rattle.lard_laws_bytes.specs.Keeping.{resets}
-use Rattle.lard_laws_bytes.proofs.FrontEndpoint.{IsBetween, between-arrived, between-timed}
-use Rattle.lard_laws_bytes.proofs.FrontSpeaking.{timed-reply}
 use Rattle.lard_node_rules.specs.declared.node.NodeTurn.{NodeTurn}
 use Rattle.lard_node_rules.specs.declared.stay.Stay.{Stay}
 use Rattle.lard_node_rules.specs.Node.{Deed, Drops, NodePart, again_sent, begins, both_of, come_by, fired, fired_by, heard_by, here, is_awaited, kept_after, node_offered, offered_by, read_by, rests, tagged_by, taken_sent, turn_by, with_work, work_of}
@@ -51,8 +46,6 @@ use Rattle.lard_rules.specs.Serving.{ready_of, serving, settled, spoken}
 use Rattle.lard_segment.specs.Segment.{Said}
 use Rattle.lard_send.specs.Send.{resumed}
 use Rattle.lard_truth.specs.Truth.{Stream}
-use Rattle.lard_truth.proofs.Endpoint.{timer-left}
-use Rattle.lard_truth.proofs.Growth.{goes_on-same}
 
 module _ (env : NodeEnv) (w out : Stream) (vs : List Verdict) (was_reset : Bool) where
   abbrev Turns : NodePart × NodeTurn → Type 0
@@ -84,32 +77,12 @@ module _ (env : NodeEnv) (w out : Stream) (vs : List Verdict) (was_reset : Bool)
   work-turns : (p : NodePart) (before : List (Place × List ℕ)) (k : Work) → Works env w out vs k → Keeps (with_work env p before k)
   work-turns p before k h = rests-turn p before k (settled env.serve k.service) (settled-ends env.serve w out vs was_reset k.service (verdicts_of k.batch) h)
 
-  -- ---- its beginning
-
-  held-between : (pend : List Verdict) (b : ControlBlock) (count : ℕ) → HoldsIt w out vs pend b count → IsBetween w out b
-  held-between pend b count h = record { same_irs = h.sound.same_irs; speaks = h.speaks; out_is = h.out_is; hears = h.hears }
-
-  works-begin : (pend : List Verdict) (b : ControlBlock) (count : ℕ) (notes : List Rec) → SaysAnswers env.serve.files w out vs → count ≡ length vs → IsBetween w out b → IsWide b → HasRead w b vs pend
-      → Counts env.serve.c out vs vs out.bytes notes → So env.serve w out vs (serving b count notes) pend
-  works-begin pend b count notes says counted between wide read counts = record {
-    out_now = out;
-    vs_now = vs;
-    longer = goes_on-same out;
-    says = says;
-    counted = counted;
-    between = between;
-    wide = wide;
-    noted = counts;
-    reading = read;
-  }
-
   -- a stay that agrees
   abbrev IsHeld : List Verdict → ControlBlock × Stay → Type 0
   IsHeld pend x = (pend ≡ verdicts_of x.1.batch) × HoldsIt w out vs pend x.0 x.1.served
 
   same-works : (pend : List Verdict) (x : ControlBlock × Stay) → SaysAnswers env.serve.files w out vs → IsHeld pend x → Works env w out vs (work_of x.0 x.1)
-  same-works pend x says h = subst (So env.serve w out vs (serving x.0 x.1.served [])) h.0
-      (works-begin pend x.0 x.1.served [] says h.1.counted (held-between pend x.0 x.1.served h.1) h.1.wide h.1.has_read (counts-nothing env.serve.c out vs))
+  same-works pend x says h = subst (So env.serve w out vs (serving x.0 x.1.served [])) h.0 (same-so env.serve w out vs says pend x.0 x.1.served h.1)
 
   -- ---- where the node has it
 
@@ -142,13 +115,8 @@ module _ (env : NodeEnv) (w out : Stream) (vs : List Verdict) (was_reset : Bool)
 
     hears-turn : (s : Said) → IsWord w s → Keeps (heard_by env p (Ok s) (here env.epoch p))
     hears-turn s word = at-epoch pend (λ x. Keeps (heard_by env p (Ok s) x)) tt
-        (λ x held.
-        let before = held-between pend x.0 x.1.served held.1 in
-        let after = between-arrived w out x.0 before s talk.stream word.true_of in
-        let wide = wide-half (on_segment x.0 s).1 (segment-wide x.0 s word.sendable (half-wide x.0 held.1.wide)) in
-        goes-turn p (work_of (on_segment x.0 s).1 x.1)
-        (subst (So env.serve w out vs (serving (on_segment x.0 s).1 x.1.served [])) held.0
-        (works-begin pend (on_segment x.0 s).1 x.1.served [] talk.says held.1.counted after wide (read-arrived w out x.0 vs pend s before after held.1.has_read) (counts-nothing env.serve.c out vs))))
+        (λ x held. goes-turn p (work_of (on_segment x.0 s).1 x.1)
+        (subst (So env.serve w out vs (serving (on_segment x.0 s).1 x.1.served [])) held.0 (heard-so env.serve w out vs talk.says pend x.0 x.1.served held.1 talk.stream s word)))
         p env.serve.c p.row h
 
     tags-turn : (number : ℕ) (nodes : List ℕ) → Keeps (tagged_by env number nodes p (here env.epoch p))
@@ -173,23 +141,13 @@ module _ (env : NodeEnv) (w out : Stream) (vs : List Verdict) (was_reset : Bool)
         p env.serve.c p.row h
 
     fires-turn : Keeps (fired_by env p (both_of (endpoint_of p.row) p.stay))
-    unfolding works-begin
     fires-turn = at-endpoint pend (λ x. Keeps (fired_by env p x)) tt (λ x held. fires x held) p env.serve.c p.row h where
       fires : (x : ControlBlock × Stay) → IsHeld pend x
           → Turns (fired env p x (spoken env.serve (serving (after_timer x.0) x.1.served []) (ready_of env.serve (after_timer x.0) (timed x.0))))
       fires x held =
-          let before = held-between pend x.0 x.1.served held.1 in
-          let after = between-timed w out x.0 before in
-          let read = read-same w out x.0 (after_timer x.0) vs pend before after (timer-left x.0 out.bytes held.1.speaks).2 held.1.has_read in
-          let wide = wide-half (after_timer x.0) (timer-wide x.0 (half-wide x.0 held.1.wide)) in
-          let so = works-begin pend (after_timer x.0) x.1.served [] talk.says held.1.counted after wide read (counts-nothing env.serve.c out vs) in
-          rests-turn p (again_sent p) (work_of (after_timer x.0) x.1) (spoken env.serve (serving (after_timer x.0) x.1.served []) (ready_of env.serve (after_timer x.0) (timed x.0)))
-          (subst (λ (us : List Verdict). EndTurned env.serve.files env.serve.c w out vs was_reset us (spoken env.serve (serving (after_timer x.0) x.1.served []) (ready_of env.serve (after_timer x.0) (timed x.0)))) held.0
-          (spoken-ends env.serve w out vs was_reset (serving (after_timer x.0) x.1.served []) pend so (ready_of env.serve (after_timer x.0) (timed x.0)) so.reading (replies (timed x.0) refl)))
-        where
-          replies : (o : Option Ready) → timed x.0 ≡ o → AreReplies env.serve.c w out (was_reset || false) (ready_of env.serve (after_timer x.0) o)
-          replies None e = tt
-          replies (Some q) e = (refl, (filled (after_timer x.0) q, refl, timed-reply env.serve.c w out (was_reset || false) x.0 q (held-between pend x.0 x.1.served held.1) e), tt)
+          let given : Ending × Turn = spoken env.serve (serving (after_timer x.0) x.1.served []) (ready_of env.serve (after_timer x.0) (timed x.0)) in
+          rests-turn p (again_sent p) (work_of (after_timer x.0) x.1) given
+          (subst (λ (us : List Verdict). EndTurned env.serve.files env.serve.c w out vs was_reset us given) held.0 (fired-ends env.serve w out vs talk.says pend x.0 x.1.served held.1 was_reset))
 
   -- ---- an Offer
 
@@ -216,12 +174,12 @@ module _ (env : NodeEnv) (w out : Stream) (vs : List Verdict) (was_reset : Bool)
     stands : Stands b
     stands = frozen_stands b h.holds.sound frozen
 
-    begins-so : Begins (adopted parts)
-    begins-so =
+    offered-so : Begins (adopted parts)
+    offered-so =
         let held = h.holds in
         let read = held.has_read in
         subst Begins (adopted-is b count stands h.holds.sound.same_irs)
-        (works-begin [] (moved b) count (rec.Took (place.Node env.n) env.serve.c (record { 0 = env.epoch }) ∷ []) talk.says held.counted
+        (begins-so env.serve w out vs talk.says [] (moved b) count (rec.Took (place.Node env.n) env.serve.c (record { 0 = env.epoch }) ∷ []) held.counted
         (record { same_irs = held.sound.same_irs; speaks = held.speaks; out_is = held.out_is; hears = held.hears })
         (record { wnd = held.wide.wnd; wl1 = held.wide.wl1; wl2 = held.wide.wl2 })
         (record { cut = read.cut; goes_on = read.goes_on; stops = read.stops; fronts = read.fronts })
@@ -230,8 +188,8 @@ module _ (env : NodeEnv) (w out : Stream) (vs : List Verdict) (was_reset : Bool)
     offers-turn : (a : Adopt) → Keeps (offered_by env parts p a)
     offers-turn New =
         let first : Work = begins env parts in
-        let may : MayGo w begins-so.vs_now [] first.service = go-on env.serve w out vs first.service [] begins-so refl refl refl in
-        let works = first-so env w out vs true first begins-so may refl in
+        let may : MayGo w offered-so.vs_now [] first.service = go-on env.serve w out vs first.service [] offered-so refl refl refl in
+        let works = first-so env w out vs true first offered-so may refl in
         work-turns p (taken_sent env) (goes_on env (state_of (reads_batch env true first))) (goes-so env w out vs talk.most (state_of (reads_batch env true first)) works)
     offers-turn Again = tt
     offers-turn Stale = tt

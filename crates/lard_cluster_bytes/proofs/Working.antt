@@ -1,20 +1,18 @@
 -- The turns of a stay keep the agreement: batches are read, requests start, come on, and are served in order.
-use Rattle.std.proofs.Common.{◌≡◌, ◌≤◌, ◌+◌, ◌-◌, ◌^◌, ◌==◌, ◌||◌, ℕ, zero, suc, Bool, true, false, cond, nat_lt, List, [], ◌∷◌, ◌++◌, map, length, slice_get, Option, Some, None, inr, arith, refl, ap, ◌∙◌, sym, subst, append_assoc, append-nil}
-use Rattle.std.specs.List.{list_any}
+use Rattle.std.proofs.Common.{◌≡◌, ◌≤◌, ◌+◌, ◌-◌, ◌^◌, ◌==◌, ℕ, zero, suc, Bool, true, false, cond, nat_lt, List, [], ◌∷◌, ◌++◌, map, length, slice_get, Option, Some, None, refl, ap, ◌∙◌, sym, subst, append_assoc, append-nil}
 use Rattle.std.proofs.lemmas.Bool.{cond_both}
 use Rattle.std.proofs.lemmas.List.{map-append}
-use Rattle.std.proofs.lemmas.List.Folds.{list_any-append}
 use Rattle.lard_answers.specs.Answers.{good_path}
 use Rattle.lard_base.specs.declared.place.Via.TheVariants as via
 use Rattle.lard_cluster_bytes.specs.Agreement.{HasRead}
-use Rattle.lard_cluster_bytes.specs.Turning.{IsNoteOf, IsReading}
+use Rattle.lard_cluster_bytes.specs.Turning.{IsNoteOf}
 use Rattle.lard_cluster_bytes.proofs.Reading.{batch-read}
-use Rattle.lard_cluster_bytes.proofs.Serving.{MayGo, So, answered-serves, consumed-serves, counts-more, ended-serves, go-on, left_of, may-go}
+use Rattle.lard_cluster_bytes.proofs.Serving.{MayGo, So, answered-serves, consumed-serves, ended-serves, go-on, left_of, may-go, noted-serves}
 use Rattle.lard_endpoint.specs.Control.{consuming}
 use Rattle.lard_history.proofs.Each.{Each, Each-append}
 use Rattle.lard_journal.specs.declared.rec.Rec.{Rec}
 use Rattle.lard_journal.specs.declared.rec.Rec.TheVariants as rec
-use Rattle.lard_laws_bytes.specs.Keeping.{resets, served_in, size_in}
+use Rattle.lard_laws_bytes.specs.Keeping.{served_in, size_in}
 use Rattle.lard_node_rules.specs.declared.stay.Entry.{Entry}
 use Rattle.lard_node_rules.specs.declared.stay.Next.{Next}
 use Rattle.lard_node_rules.specs.declared.stay.Next.TheVariants as next
@@ -150,21 +148,7 @@ module _ (env : NodeEnv) (w out : Stream) (vs : List Verdict) where
   Works k = So env.serve w out vs k.service (verdicts_of k.batch)
 
   noted-so : (notes : List Rec) (s : Service) (pend : List Verdict) → Each IsMute notes → So env.serve w out vs s pend → So env.serve w out vs (noted notes s) pend
-  noted-so notes s pend mute h = record {
-    out_now = h.out_now;
-    vs_now = h.vs_now;
-    longer = h.longer;
-    says = h.says;
-    counted = h.counted;
-    between = h.between;
-    wide = h.wide;
-    noted = counts-more env.serve.c out vs h.vs_now h.vs_now h.out_now.bytes h.out_now.bytes s.notes notes h.noted (mute-each env.serve.c notes mute)
-        (omega (arith, mute-served notes mute)) (omega (arith, mute-size notes mute)) (inr (mute-served notes mute));
-    reading = reading s.over h.reading;
-  } where
-    reading : (o : Option ℕ) → IsReading w h.vs_now pend s.block s.notes o → IsReading w h.vs_now pend s.block (s.notes ++ notes) o
-    reading None r = r
-    reading (Some total) r = list_any-append resets s.notes notes ∙ ap (λ b. b || list_any resets notes) r
+  noted-so notes s pend mute h = noted-serves env.serve w out vs notes s pend (mute-each env.serve.c notes mute) (mute-served notes mute) (mute-size notes mute) h
 
   entered-so : (k u : Work) (us pend : List Verdict) → Enters k u us → So env.serve w out vs k.service pend → So env.serve w out vs u.service pend
   entered-so k u us pend e h = subst (λ (s : Service). So env.serve w out vs s pend) (sym e.service) (noted-so e.notes k.service pend e.mute h)

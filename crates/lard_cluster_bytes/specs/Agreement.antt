@@ -13,6 +13,7 @@ use Rattle.lard_endpoint.specs.Control.{ControlBlock, IsControlBlock}
 use Rattle.lard_endpoint.specs.declared.control.moving.Final.{Final}
 use Rattle.lard_endpoint.specs.Moving.{may_freeze, parts_of}
 use Rattle.lard_front_rules.specs.Front.{message, rest_of}
+use Rattle.lard_front_rules.specs.Sound.{Serves}
 use Rattle.lard_handoff_back.specs.declared.row.BackConn.{BackConn}
 use Rattle.lard_handoff_back.specs.declared.row.BackConn.TheVariants as back
 use Rattle.lard_handoff_back.specs.declared.row.BackRow.{BackRow}
@@ -85,8 +86,12 @@ EndAgrees w out vs pend was_reset (ending.Over last) = EndedIt w was_reset last
 -- the front end holds it: each response was asked for by one that was read, and nothing more was read
 pub record FrontHolds (w out : Stream) (vs pend : List Verdict) (b : ControlBlock) (count : ℕ) : Type 0 where
   pub none : pend ≡ []
-  pub asked : count ≤ b.recv.got - length b.recv.unread
+  pub serves : Serves count b.recv b.send
   pub holds : HoldsIt w out vs [] b count
+
+-- and may move, while it waits to be admitted
+abbrev pub FrontWaits : Stream → Stream → List Verdict → List Verdict → ControlBlock → ℕ → Type 0
+FrontWaits w out vs pend b count = FrontHolds w out vs pend b count × (may_freeze b ≡ true)
 
 -- its Offer is kept, with the parts of an endpoint that was frozen
 pub record IsOffering (w out : Stream) (vs pend : List Verdict) (c n e : ℕ) (kept : List Kept) : Type 0 where
@@ -128,7 +133,7 @@ AwayAgrees w out vs pend was_reset c n e p =
 
 abbrev pub StageAgrees : Stream → Stream → List Verdict → List Verdict → Bool → ℕ → Part → ℕ → FrontConn → Type 0
 StageAgrees w out vs pend was_reset c p e (stage.Held b) = FrontHolds w out vs pend b (rest_of p.front.rest).count
-StageAgrees w out vs pend was_reset c p e (stage.Waiting b) = FrontHolds w out vs pend b (rest_of p.front.rest).count
+StageAgrees w out vs pend was_reset c p e (stage.Waiting b) = FrontWaits w out vs pend b (rest_of p.front.rest).count
 StageAgrees w out vs pend was_reset c p e stage.Lent = ⊥
 StageAgrees w out vs pend was_reset c p e (stage.Offering n d) = AwayAgrees w out vs pend was_reset c n e p
 StageAgrees w out vs pend was_reset c p e (stage.Moved n d) = IsDecided e (p.nodes n).row × NodeAgrees w out vs pend was_reset c (p.nodes n)

@@ -1,16 +1,24 @@
--- What a rule of a node keeps of the agreement of its connection.
-use Rattle.std.specs.Prelude.{◌≡◌, ℕ, ◌||◌, ◌≤◌, Bool, true, List, Ok}
+-- What the rules of a place keep of the agreement of its connection: those of a node, and those of the front end.
+use Rattle.std.specs.Prelude.{◌≡◌, ℕ, ◌||◌, ◌≤◌, Bool, false, true, List, [], Option, Some, None, Ok}
 use Rattle.std.specs.List.{list_any}
 use Rattle.lard_base.specs.declared.limits.TheConstants.{MAX_STREAM_BYTES}
-use Rattle.lard_cluster_bytes.specs.Agreement.{FrontHolds, NodeAgrees}
+use Rattle.lard_cluster_bytes.specs.Agreement.{EndedIt, FrontHolds, FrontWaits, IsOffering, NodeAgrees}
 use Rattle.lard_cluster_bytes.specs.Turning.{Counts}
+use Rattle.lard_endpoint.specs.declared.control.moving.Final.{Final}
 use Rattle.lard_endpoint.specs.Control.{ControlBlock}
 use Rattle.lard_endpoint.specs.Moving.{may_freeze, parts_of}
+use Rattle.lard_front_rules.specs.declared.front.FrontTurn.{FrontTurn}
+use Rattle.lard_front_rules.specs.Front.{FrontEnv, FrontPart, front_admitted, front_ended, front_gets, front_timer, rest_of}
+use Rattle.lard_front_rules.specs.Front as front
+use Rattle.lard_handoff_front.specs.declared.row.FrontConn.{FrontConn}
+use Rattle.lard_handoff_front.specs.declared.row.FrontConn.TheVariants as stage
+use Rattle.lard_handoff_front.specs.declared.row.FrontRow.{FrontRow}
 use Rattle.lard_laws_bytes.specs.Agreement.{AreReplies, IsWord, SaysAnswers}
 use Rattle.lard_laws_bytes.specs.Keeping.{resets}
 use Rattle.lard_node_rules.specs.declared.node.NodeTurn.{NodeTurn}
 use Rattle.lard_node_rules.specs.Node.{Deed, Drops, Says, Does, NodePart, node_content, node_forwarded, node_offered, node_read, node_tagged, node_timer}
 use Rattle.lard_node_rules.specs.Stay.{NodeEnv}
+use Rattle.lard_policy.specs.declared.first.FirstChoice.{FirstChoice}
 use Rattle.lard_request.specs.declared.verdict.Verdict.{Verdict}
 use Rattle.lard_segment.specs.Segment.{Said}
 use Rattle.lard_truth.specs.Truth.{GoesOn, IsStream, Stream}
@@ -67,3 +75,67 @@ NodeTimerKeeps = NodeKeeps node_timer
 abbrev pub OffersKeep : Type 0
 OffersKeep = (env : NodeEnv) (w out : Stream) (vs pend : List Verdict) (was_reset : Bool) (p : NodePart) (b : ControlBlock) (count : ℕ) → IsTalk env w out vs
     → FrontHolds w out vs pend b count → may_freeze b ≡ true → DeedKeeps env w out vs was_reset (node_offered env p (parts_of b count))
+
+-- ---- the front end
+
+-- What the front end keeps of a connection that it has, or that it offers. Of one that is away it keeps nothing that says anything.
+abbrev pub FrontStageAgrees : Stream → Stream → List Verdict → Bool → ℕ → ℕ → FrontPart → FrontConn → Type 0
+FrontStageAgrees w out vs was_reset c e p (stage.Held b) = FrontHolds w out vs [] b (rest_of p.rest).count
+FrontStageAgrees w out vs was_reset c e p (stage.Waiting b) = FrontWaits w out vs [] b (rest_of p.rest).count
+FrontStageAgrees w out vs was_reset c e p stage.Lent = ⊥
+FrontStageAgrees w out vs was_reset c e p (stage.Offering n d) = IsOffering w out vs [] c n e p.kept
+FrontStageAgrees w out vs was_reset c e p (stage.Moved n d) = Unit {0}
+FrontStageAgrees w out vs was_reset c e p (stage.Closed last) = EndedIt w was_reset last
+
+abbrev pub FrontRowAgrees : Stream → Stream → List Verdict → Bool → ℕ → FrontPart → Option FrontRow → Type 0
+FrontRowAgrees w out vs was_reset c p None = (vs ≡ []) × (out.ended ≡ false)
+FrontRowAgrees w out vs was_reset c p (Some row) = FrontStageAgrees w out vs was_reset c row.epoch.0 p row.stage
+
+abbrev pub FrontAgrees : Stream → Stream → List Verdict → Bool → ℕ → FrontPart → Type 0
+FrontAgrees w out vs was_reset c p = FrontRowAgrees w out vs was_reset c p p.row
+
+-- A turn of the front end: the cluster's stream goes on by the answers to more verdicts, as its notes count, all that was sent to
+-- the client is true of it, and what the front end keeps agrees with it again.
+pub record FrontTurned (env : FrontEnv) (w out : Stream) (vs : List Verdict) (was_reset : Bool) (part : FrontPart) (turn : FrontTurn) : Type 0 where
+  pub out_after : Stream
+  pub vs_after : List Verdict
+  pub longer : GoesOn out out_after
+  pub says : SaysAnswers env.serve.files w out_after vs_after
+  pub agrees : FrontAgrees w out_after vs_after (was_reset || list_any resets turn.notes) env.serve.c part
+  pub noted : Counts env.serve.c out vs vs_after out_after.bytes turn.notes
+  pub sent : AreReplies env.serve.c w out_after (was_reset || list_any resets turn.notes) turn.segments
+
+-- what a rule of the front end comes to; where it keeps what it kept, it notes nothing, and says what is true
+abbrev pub FrontDeedKeeps : FrontEnv → Stream → Stream → List Verdict → Bool → front.Deed → Type 0
+FrontDeedKeeps env w out vs was_reset front.Drops = Unit {0}
+FrontDeedKeeps env w out vs was_reset (front.Says turn) = (turn.notes ≡ []) × AreReplies env.serve.c w out was_reset turn.segments
+FrontDeedKeeps env w out vs was_reset (front.Does did) = FrontTurned env w out vs was_reset did.part did.turn
+
+pub record IsFrontTalk (env : FrontEnv) (w out : Stream) (vs : List Verdict) : Type 0 where
+  pub most : env.serve.stream ≤ MAX_STREAM_BYTES
+  pub begins : env.iss ≡ out.first
+  pub stream : IsStream w
+  pub says : SaysAnswers env.serve.files w out vs
+
+-- a true segment of the client comes
+abbrev pub FrontHearsTruth : Type 0
+FrontHearsTruth = (env : FrontEnv) (w out : Stream) (vs : List Verdict) (was_reset : Bool) (p : FrontPart) (bytes : List ℕ) (s : Said) → IsFrontTalk env w out vs
+    → FrontAgrees w out vs was_reset env.serve.c p → IsWord w s → FrontDeedKeeps env w out vs was_reset (front_gets env p bytes (Ok s))
+
+abbrev pub FrontTimerKeeps : Type 0
+FrontTimerKeeps = (env : FrontEnv) (w out : Stream) (vs : List Verdict) (was_reset : Bool) (p : FrontPart) → IsFrontTalk env w out vs
+    → FrontAgrees w out vs was_reset env.serve.c p → FrontDeedKeeps env w out vs was_reset (front_timer env p)
+
+-- a node tells how the connection ended there
+abbrev pub EndsKeep : Type 0
+EndsKeep = (env : FrontEnv) (w out : Stream) (vs : List Verdict) (was_reset : Bool) (p : FrontPart) (from epoch : ℕ) (last : Final) → IsFrontTalk env w out vs
+    → EndedIt w was_reset last → FrontDeedKeeps env w out vs was_reset (front_ended env p from epoch last)
+
+-- the head of the line is admitted, where there is one
+abbrev pub AdmittedKeeps : FrontEnv → Stream → Stream → List Verdict → Bool → Option (FrontPart × FrontTurn) → Type 0
+AdmittedKeeps env w out vs was_reset None = Unit {0}
+AdmittedKeeps env w out vs was_reset (Some given) = FrontTurned env w out vs was_reset given.0 given.1
+
+abbrev pub AdmissionsKeep : Type 0
+AdmissionsKeep = (env : FrontEnv) (w out : Stream) (vs : List Verdict) (was_reset : Bool) (p : FrontPart) (choice : FirstChoice) → IsFrontTalk env w out vs
+    → FrontAgrees w out vs was_reset env.serve.c p → AdmittedKeeps env w out vs was_reset (front_admitted env p choice)

@@ -1,11 +1,11 @@
 //! The law of bytes of the cluster: what a place that has a connection keeps of the agreement of its client and the cluster, across
 //! moves.
 //!
-//! It stands above `lard_cluster_places` and the laws of bytes of one place, whose streams it speaks of. It has no code. What a
-//! node's rules keep is proved; the front end's, the packets between places and every run are to come.
+//! It stands above `lard_cluster_places` and the laws of bytes of one place, whose streams it speaks of. It has no code. What the
+//! rules of each place keep is proved; the packets between places, and every run, are to come.
 #![tactic(auto)]
 
-ghost use Rattle.lard_cluster_bytes.specs.Keeping.{ContentsKeep, NodeHearsTruth, NodeTimerKeeps, OffersKeep, ReadsKeep, TagsKeep};
+ghost use Rattle.lard_cluster_bytes.specs.Keeping.{AdmissionsKeep, ContentsKeep, EndsKeep, FrontHearsTruth, FrontTimerKeeps, NodeHearsTruth, NodeTimerKeeps, OffersKeep, ReadsKeep, TagsKeep};
 
 /// A node that has a connection answers what its client wrote, in order, each request once, and says nothing else: after each
 /// rule all that it said is the answers to the requests that were read, in their order, and its batch is what was read and is not
@@ -18,4 +18,14 @@ pub fn a_node_keeps_the_agreement()
     ensures content { ContentsKeep }
     ensures disk { ReadsKeep }
     ensures timer { NodeTimerKeeps }
+{}
+
+/// The front end answers what its client wrote until a request is to be placed, in order, and says nothing else; then it freezes
+/// the endpoint, with all that it answered acknowledged and nothing else read, and offers its parts. So it is also of a connection
+/// that waits to be admitted. Of one that ended it says what its last numbers allow (RFC 9293, 3.10.7.1), whichever place ended it.
+pub fn the_front_end_keeps_the_agreement()
+    ensures segment { FrontHearsTruth }
+    ensures timer { FrontTimerKeeps }
+    ensures end { EndsKeep }
+    ensures admission { AdmissionsKeep }
 {}
