@@ -7,3 +7,4 @@ pub mod Working
 pub mod Stays
 pub mod Holding
 pub mod Fronts
+pub mod Later

@@ -1,9 +1,11 @@
--- What the rules of a place keep of the agreement of its connection: those of a node, and those of the front end.
+-- What the rules of a place keep of the agreement of its connection: those of a node, those of the front end, and what a client does.
 use Rattle.std.specs.Prelude.{◌≡◌, ℕ, ◌||◌, ◌≤◌, Bool, false, true, List, [], Option, Some, None, Ok}
 use Rattle.std.specs.List.{list_any}
+use Rattle.lard_answers.specs.Answers.{FilesAt}
 use Rattle.lard_base.specs.declared.limits.TheConstants.{MAX_STREAM_BYTES}
-use Rattle.lard_cluster_bytes.specs.Agreement.{EndedIt, FrontHolds, FrontWaits, IsOffering, NodeAgrees}
+use Rattle.lard_cluster_bytes.specs.Agreement.{EndedIt, FrontHolds, FrontWaits, IsOffering, NodeAgrees, SeatAgrees}
 use Rattle.lard_cluster_bytes.specs.Turning.{Counts}
+use Rattle.lard_cluster_view.specs.View.{Part}
 use Rattle.lard_endpoint.specs.declared.control.moving.Final.{Final}
 use Rattle.lard_endpoint.specs.Control.{ControlBlock}
 use Rattle.lard_endpoint.specs.Moving.{may_freeze, parts_of}
@@ -139,3 +141,14 @@ AdmittedKeeps env w out vs was_reset (Some given) = FrontTurned env w out vs was
 abbrev pub AdmissionsKeep : Type 0
 AdmissionsKeep = (env : FrontEnv) (w out : Stream) (vs : List Verdict) (was_reset : Bool) (p : FrontPart) (choice : FirstChoice) → IsFrontTalk env w out vs
     → FrontAgrees w out vs was_reset env.serve.c p → AdmittedKeeps env w out vs was_reset (front_admitted env p choice)
+
+-- ---- the client
+
+-- Where the client writes on, or closes, what is kept of the connection agrees with it still, wherever the connection is.
+abbrev pub SeatStays : Type 0
+SeatStays = (w w_after out : Stream) (vs pend : List Verdict) (was_reset : Bool) (c : ℕ) (p : Part) → GoesOn w w_after
+    → SeatAgrees w out vs pend was_reset c p p.front.row → SeatAgrees w_after out vs pend was_reset c p p.front.row
+
+-- and what was said so far answers what it wrote
+abbrev pub SaidStays : Type 0
+SaidStays = (files : FilesAt) (w w_after out : Stream) (vs : List Verdict) → GoesOn w w_after → SaysAnswers files w out vs → SaysAnswers files w_after out vs

@@ -5,7 +5,7 @@
 //! rules of each place keep is proved; the packets between places, and every run, are to come.
 #![tactic(auto)]
 
-ghost use Rattle.lard_cluster_bytes.specs.Keeping.{AdmissionsKeep, ContentsKeep, EndsKeep, FrontHearsTruth, FrontTimerKeeps, NodeHearsTruth, NodeTimerKeeps, OffersKeep, ReadsKeep, TagsKeep};
+ghost use Rattle.lard_cluster_bytes.specs.Keeping.{AdmissionsKeep, ContentsKeep, EndsKeep, FrontHearsTruth, FrontTimerKeeps, NodeHearsTruth, NodeTimerKeeps, OffersKeep, ReadsKeep, SaidStays, SeatStays, TagsKeep};
 
 /// A node that has a connection answers what its client wrote, in order, each request once, and says nothing else: after each
 /// rule all that it said is the answers to the requests that were read, in their order, and its batch is what was read and is not
@@ -28,4 +28,11 @@ pub fn the_front_end_keeps_the_agreement()
     ensures timer { FrontTimerKeeps }
     ensures end { EndsKeep }
     ensures admission { AdmissionsKeep }
+{}
+
+/// Where the client writes on or closes, all that the cluster keeps of its connection agrees with it still, wherever the connection
+/// is, also while its Offer is on the way.
+pub fn the_agreement_goes_on()
+    ensures kept { SeatStays }
+    ensures said { SaidStays }
 {}
