@@ -8,3 +8,4 @@ pub mod Stays
 pub mod Holding
 pub mod Fronts
 pub mod Later
+pub mod Messages

@@ -1,8 +1,11 @@
 -- What the rules of a place keep of the agreement of its connection: those of a node, those of the front end, and what a client does.
-use Rattle.std.specs.Prelude.{◌≡◌, ℕ, ◌||◌, ◌≤◌, Bool, false, true, List, [], Option, Some, None, Ok}
+use Rattle.std.specs.Prelude.{◌≡◌, ℕ, ◌^◌, ◌<◌, ◌||◌, ◌≤◌, Bool, false, true, List, [], Option, Some, None, Ok}
 use Rattle.std.specs.List.{list_any}
 use Rattle.lard_answers.specs.Answers.{FilesAt}
 use Rattle.lard_base.specs.declared.limits.TheConstants.{MAX_STREAM_BYTES}
+use Rattle.lard_base.specs.declared.parts.EndpointParts.{EndpointParts}
+use Rattle.lard_base.specs.declared.place.Reason.{Reason}
+use Rattle.lard_cluster.specs.Bounds.{IsNumber}
 use Rattle.lard_cluster_bytes.specs.Agreement.{EndedIt, FrontHolds, FrontWaits, IsOffering, NodeAgrees, SeatAgrees}
 use Rattle.lard_cluster_bytes.specs.Turning.{Counts}
 use Rattle.lard_cluster_view.specs.View.{Part}
@@ -10,13 +13,16 @@ use Rattle.lard_endpoint.specs.declared.control.moving.Final.{Final}
 use Rattle.lard_endpoint.specs.Control.{ControlBlock}
 use Rattle.lard_endpoint.specs.Moving.{may_freeze, parts_of}
 use Rattle.lard_front_rules.specs.declared.front.FrontTurn.{FrontTurn}
-use Rattle.lard_front_rules.specs.Front.{FrontEnv, FrontPart, front_admitted, front_ended, front_gets, front_timer, rest_of}
+use Rattle.lard_front_rules.specs.Front.{FrontEnv, FrontPart, front_admitted, front_ended, front_gets, front_timer, message, rest_of}
 use Rattle.lard_front_rules.specs.Front as front
 use Rattle.lard_handoff_front.specs.declared.row.FrontConn.{FrontConn}
 use Rattle.lard_handoff_front.specs.declared.row.FrontConn.TheVariants as stage
 use Rattle.lard_handoff_front.specs.declared.row.FrontRow.{FrontRow}
 use Rattle.lard_laws_bytes.specs.Agreement.{AreReplies, IsWord, SaysAnswers}
 use Rattle.lard_laws_bytes.specs.Keeping.{resets}
+use Rattle.lard_message.specs.declared.message.Body.TheVariants as body
+use Rattle.lard_message.specs.declared.message.Message.{Message}
+use Rattle.lard_message.specs.Reading.{decoded_message}
 use Rattle.lard_node_rules.specs.declared.node.NodeTurn.{NodeTurn}
 use Rattle.lard_node_rules.specs.Node.{Deed, Drops, Says, Does, NodePart, node_content, node_forwarded, node_offered, node_read, node_tagged, node_timer}
 use Rattle.lard_node_rules.specs.Stay.{NodeEnv}
@@ -152,3 +158,19 @@ SeatStays = (w w_after out : Stream) (vs pend : List Verdict) (was_reset : Bool)
 -- and what was said so far answers what it wrote
 abbrev pub SaidStays : Type 0
 SaidStays = (files : FilesAt) (w w_after out : Stream) (vs : List Verdict) → GoesOn w w_after → SaysAnswers files w out vs → SaysAnswers files w_after out vs
+
+-- ---- messages between places
+
+-- What a place reads of an Offer is the parts of the endpoint that was frozen.
+abbrev pub OffersAreRead : Type 0
+OffersAreRead = (c e : ℕ) (w out : Stream) (vs pend : List Verdict) (b : ControlBlock) (count : ℕ) → IsNumber c → e < 2 ^ 16 → IsStream w → FrontHolds w out vs pend b count → may_freeze b ≡ true
+    → (m : Message) (parts : EndpointParts) → decoded_message (message c e (body.Offer (parts_of b count))) ≡ Ok m → m.body ≡ body.Offer parts → parts ≡ parts_of b count
+
+-- What it reads of a Forward is the segment as it came.
+abbrev pub ForwardsAreRead : Type 0
+ForwardsAreRead = (c e : ℕ) (bytes segment : List ℕ) (m : Message) → decoded_message (message c e (body.Forward bytes)) ≡ Ok m → m.body ≡ body.Forward segment → segment ≡ bytes
+
+-- What it reads of an Ended is why and with which numbers the connection ended.
+abbrev pub EndsAreRead : Type 0
+EndsAreRead = (c e : ℕ) (w : Stream) (was_reset : Bool) (last : Final) (count : ℕ) → EndedIt w was_reset last → (m : Message) (why : Reason) (snd rcv n : ℕ)
+    → decoded_message (message c e (body.Ended last.reason last.snd.0 last.rcv.0 count)) ≡ Ok m → m.body ≡ body.Ended why snd rcv n → EndedIt w was_reset (record { reason = why; snd = record { 0 = snd }; rcv = record { 0 = rcv } })

@@ -5,7 +5,7 @@
 //! rules of each place keep is proved; the packets between places, and every run, are to come.
 #![tactic(auto)]
 
-ghost use Rattle.lard_cluster_bytes.specs.Keeping.{AdmissionsKeep, ContentsKeep, EndsKeep, FrontHearsTruth, FrontTimerKeeps, NodeHearsTruth, NodeTimerKeeps, OffersKeep, ReadsKeep, SaidStays, SeatStays, TagsKeep};
+ghost use Rattle.lard_cluster_bytes.specs.Keeping.{AdmissionsKeep, ContentsKeep, EndsAreRead, EndsKeep, ForwardsAreRead, FrontHearsTruth, FrontTimerKeeps, NodeHearsTruth, NodeTimerKeeps, OffersAreRead, OffersKeep, ReadsKeep, SaidStays, SeatStays, TagsKeep};
 
 /// A node that has a connection answers what its client wrote, in order, each request once, and says nothing else: after each
 /// rule all that it said is the answers to the requests that were read, in their order, and its batch is what was read and is not
@@ -35,4 +35,12 @@ pub fn the_front_end_keeps_the_agreement()
 pub fn the_agreement_goes_on()
     ensures kept { SeatStays }
     ensures said { SaidStays }
+{}
+
+/// What a place reads of a message of another one is what was said: the parts of the endpoint that was frozen, the segment as it came,
+/// and how a connection ended.
+pub fn messages_say_what_was_kept()
+    ensures offer { OffersAreRead }
+    ensures forward { ForwardsAreRead }
+    ensures end { EndsAreRead }
 {}

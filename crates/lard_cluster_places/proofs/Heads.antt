@@ -19,7 +19,7 @@ use Rattle.lard_message.proofs.Fields.{bind_then, some_same}
 abbrev pub head : Kind → ℕ → Head
 head k e = record { kind = k; epoch = e }
 
-named-again : (k : Kind) → kind_named (version_of k) (number_of k) ≡ Some k
+pub named-again : (k : Kind) → kind_named (version_of k) (number_of k) ≡ Some k
 named-again kind.Offer = refl
 named-again kind.Taken = refl
 named-again kind.Forward = refl
@@ -105,11 +105,11 @@ module _ (bytes : List ℕ) (b : Body) (rest : List ℕ) where
 
 -- ---- bytes that were decoded
 
-let-through : (t : Bool) (e : MsgFault) (x : Result Message MsgFault) (m : Message) → cond t (Err e) x ≡ Ok m → x ≡ Ok m
+pub let-through : (t : Bool) (e : MsgFault) (x : Result Message MsgFault) (m : Message) → cond t (Err e) x ≡ Ok m → x ≡ Ok m
 let-through true e x m h = absurd cc
 let-through false e x m h = h
 
-made : (t : Bool) (x m : Message) (e : MsgFault) → cond t (Ok x) (Err e) ≡ Ok m → x ≡ m
+pub made : (t : Bool) (x m : Message) (e : MsgFault) → cond t (Ok x) (Err e) ≡ Ok m → x ≡ m
 made true x m e h = cc
 made false x m e h = absurd cc
 
