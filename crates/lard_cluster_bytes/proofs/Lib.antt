@@ -9,3 +9,4 @@ pub mod Holding
 pub mod Fronts
 pub mod Later
 pub mod Messages
+pub mod Fair

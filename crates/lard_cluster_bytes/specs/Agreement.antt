@@ -1,14 +1,15 @@
 -- What holds of one connection of the cluster between any two steps, as far as bytes go: what its client and the place that has its
 -- endpoint keep, what the journal says of it, and what every packet that was ever sent says, agree.
 use Rattle.std.specs.Prelude.{◌≡◌, ◌⊎◌, ℕ, ◌+◌, ◌-◌, ◌^◌, ◌<◌, ◌≤◌, Bool, true, false, List, [], ◌∷◌, ◌++◌, map, length, take, Option, Some, None, Ok}
-use Rattle.lard_answers.specs.Answers.{IsPrefix, closes_any, verdicts, verdicts_on}
+use Rattle.lard_answers.specs.Answers.{FilesAt, IsPrefix, closes_any, verdicts, verdicts_on}
 use Rattle.lard_base.specs.declared.place.Place.{Place}
 use Rattle.lard_base.specs.declared.place.Place.TheVariants.{Client, Front, Node}
 use Rattle.lard_base.specs.declared.place.Reason.TheVariants as reason
 use Rattle.lard_base.specs.declared.place.TimerKind.TheVariants as kind
 use Rattle.lard_block.specs.Blocks.{blocks}
 use Rattle.lard_cluster_places.specs.Places.{HasEnded, IsDecided, IsPast}
-use Rattle.lard_cluster_view.specs.View.{Part}
+use Rattle.lard_cluster_view.specs.Carry.{tale_at}
+use Rattle.lard_cluster_view.specs.View.{Conn, Part}
 use Rattle.lard_endpoint.specs.Control.{ControlBlock, IsControlBlock}
 use Rattle.lard_endpoint.specs.declared.control.moving.Final.{Final}
 use Rattle.lard_endpoint.specs.Moving.{may_freeze, parts_of}
@@ -22,7 +23,8 @@ use Rattle.lard_handoff_front.specs.declared.row.FrontConn.TheVariants as stage
 use Rattle.lard_handoff_front.specs.declared.row.FrontRow.{FrontRow}
 use Rattle.lard_history.specs.Journal.{Tale}
 use Rattle.lard_history.specs.Own.{Letter}
-use Rattle.lard_laws_bytes.specs.Agreement.{IsReply, IsWord}
+use Rattle.lard_history.proofs.Each.{Each}
+use Rattle.lard_laws_bytes.specs.Agreement.{ClientAgrees, IsReply, IsWord, SaysAnswers}
 use Rattle.lard_laws_bytes.specs.Truthful.{Talk}
 use Rattle.lard_message.specs.declared.message.Body.{Body}
 use Rattle.lard_message.specs.declared.message.Body.TheVariants as body
@@ -33,6 +35,7 @@ use Rattle.lard_node_rules.specs.Node.{NodePart, ended_kept}
 use Rattle.lard_request.specs.declared.verdict.Verdict.{Verdict}
 use Rattle.lard_resend.specs.declared.kept.Kept.{Kept}
 use Rattle.lard_rules.specs.declared.places.Ending.{Ending}
+use Rattle.lard_rules.specs.declared.places.Station.{Station}
 use Rattle.lard_rules.specs.declared.places.Ending.TheVariants as ending
 use Rattle.lard_segment.specs.declared.segment.Dir.TheVariants.{ToClient, ToCluster}
 use Rattle.lard_segment.specs.Segment.{Said, spelled}
@@ -160,6 +163,10 @@ abbrev pub NodeTells : Part → ℕ → ℕ → List ℕ → Body → Type 0
 NodeTells p n e bytes (body.Ended reason snd rcv count) = HasEnded e p.front.row ⊎ IsKept (p.nodes n).kept bytes
 NodeTells p n e bytes _ = Unit {0}
 
+abbrev pub IsNode : Place → Type 0
+IsNode (Node n) = Unit {0}
+IsNode _ = ⊥
+
 -- what comes of a packet whenever it comes
 abbrev pub IsFairOn : Talk → ℕ → Part → Place → Place → List ℕ → Type 0
 IsFairOn k c p (Client d) Front bytes = (s : Said) × (bytes ≡ spelled c ToCluster s) × IsWord k.w s
@@ -174,7 +181,46 @@ IsFair k c p l = IsFairOn k c p l.from l.to l.bytes
 
 -- ---- the journal
 
--- It says what was written and accepted, and how much was answered.
-pub record TaleAgrees (w out : Stream) (vs : List Verdict) (accepted : ℕ) (t : Tale) : Type 0 where
-  pub wrote : t.wrote ≡ w.bytes
-  pub accepted_is : t.accepted ≡ take accepted out.bytes
+-- It says what was written, accepted and answered.
+pub record TaleAgrees (k : Talk) (accepted : ℕ) (t : Tale) : Type 0 where
+  pub numbers : t.numbers ≡ Some (record { isn = k.w.first; iss = k.out.first })
+  pub wrote : t.wrote ≡ k.w.bytes
+  pub accepted_is : t.accepted ≡ take accepted k.out.bytes
+  pub served : t.served ≡ length k.vs
+  pub served_bytes : t.served_bytes ≡ length k.out.bytes
+  pub was_reset : t.was_reset ≡ k.was_reset
+
+-- ---- one connection
+
+-- its client opened
+pub record IsOpen (files : FilesAt) (x : Conn) (k : Talk) (pend : List Verdict) (s : Station) : Type 0 where
+  pub client : ClientAgrees x.c k.w k.out s.client
+  pub begins : k.out.first ≡ s.iss
+  pub says : SaysAnswers files k.w k.out k.vs
+  pub seat : SeatAgrees k.w k.out k.vs pend k.was_reset x.c x.part x.part.front.row
+  pub fair : Each (IsFair k x.c x.part) x.letters
+  pub tale : TaleAgrees k s.client.accepted (tale_at x)
+
+-- a packet of no client, nor of the front end
+abbrev pub IsInner : Letter → Type 0
+IsInner l = IsNode l.from × IsNode l.to
+
+-- Before that, the front end knows nothing of it, and nothing was written, accepted or answered.
+pub record IsUnopened (x : Conn) : Type 0 where
+  pub front : x.part.front.row ≡ None
+  pub inner : Each IsInner x.letters
+  pub wrote : (tale_at x).wrote ≡ []
+  pub accepted : (tale_at x).accepted ≡ []
+  pub served : (tale_at x).served ≡ 0
+  pub served_bytes : (tale_at x).served_bytes ≡ 0
+  pub was_reset : (tale_at x).was_reset ≡ false
+
+abbrev pub ConnAgrees : FilesAt → Conn → Talk → List Verdict → Option Station → Type 0
+ConnAgrees files x k pend None = IsUnopened x
+ConnAgrees files x k pend (Some s) = IsOpen files x k pend s
+
+-- What its client, the place that has it, the journal and all its packets say agrees.
+pub record IsTruthful (files : FilesAt) (x : Conn) : Type 0 where
+  pub talk : Talk
+  pub pend : List Verdict
+  pub agrees : ConnAgrees files x talk pend x.part.station

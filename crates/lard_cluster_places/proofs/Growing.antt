@@ -48,18 +48,18 @@ decided-grows e None r g h = absurd h
 decided-grows e (Some row) None g h = absurd g
 decided-grows e (Some row) (Some next) g h = omega (arith, g.0, h)
 
-over-grows : (e : ℕ) (o r : Option BackRow) → BackGrows o r → IsOver e o → IsOver e r
+pub over-grows : (e : ℕ) (o r : Option BackRow) → BackGrows o r → IsOver e o → IsOver e r
 over-grows e None r g h = absurd h
 over-grows e (Some row) None g h = absurd g
 over-grows e (Some row) (Some next) g h =
     (omega (arith, g.0, h.0), λ is. let same : row.epoch.0 ≡ e = omega (arith, g.0, h.0, is) in g.1 (same ∙ sym is) (h.1 same))
 
-ended-grows : (nodes : ℕ → NodePart) (e : ℕ) (o r : Option FrontRow) → FrontGrows nodes o r → HasEnded e o → HasEnded e r
+pub ended-grows : (nodes : ℕ → NodePart) (e : ℕ) (o r : Option FrontRow) → FrontGrows nodes o r → HasEnded e o → HasEnded e r
 ended-grows nodes e None r g h = absurd h
 ended-grows nodes e (Some row) None g h = absurd g
 ended-grows nodes e (Some row) (Some next) g h = omega (arith, g.0, h)
 
-offered-grows : (nodes : ℕ → NodePart) (n e : ℕ) (o r : Option FrontRow) → FrontGrows nodes o r → IsOffered n e o → IsOffered n e r ⊎ IsDecided e (nodes n).row
+pub offered-grows : (nodes : ℕ → NodePart) (n e : ℕ) (o r : Option FrontRow) → FrontGrows nodes o r → IsOffered n e o → IsOffered n e r ⊎ IsDecided e (nodes n).row
 offered-grows nodes n e None r g h = absurd h
 offered-grows nodes n e (Some row) None g h = absurd g
 offered-grows nodes n e (Some row) (Some next) g h = g.1 n e h
