@@ -10,3 +10,4 @@ pub mod Fronts
 pub mod Later
 pub mod Messages
 pub mod Fair
+pub mod Told
