@@ -11,3 +11,4 @@ pub mod Later
 pub mod Messages
 pub mod Fair
 pub mod Told
+pub mod Moves
