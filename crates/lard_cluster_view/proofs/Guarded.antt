@@ -20,7 +20,7 @@ module _ (k : Setting) (P Q : Conn → Move → Type 0) where
   -- ---- less is so of each rule, where more is
 
   module _ (w : (x : Conn) (v : Move) → P x v → Q x v) where
-    client-weaker : ClientRules k P → ClientRules k Q
+    pub client-weaker : ClientRules k P → ClientRules k Q
     client-weaker R = record {
       opens = λ x isn iss wnd mss rule none. w x _ (R.opens x isn iss wnd mss rule none);
       gets = λ x s path there le. w x _ (R.gets x s path there le);
@@ -33,7 +33,7 @@ module _ (k : Setting) (P Q : Conn → Move → Type 0) where
       hears = λ x s from bytes there was. w x _ (R.hears x s from bytes there was);
     }
 
-    front-weaker : FrontRules k P → FrontRules k Q
+    pub front-weaker : FrontRules k P → FrontRules k Q
     front-weaker R = record {
       hears = λ x s env bytes there is iss was. w x _ (R.hears x s env bytes there is iss was);
       fires = λ x s env there is. w x _ (R.fires x s env there is);
@@ -43,7 +43,7 @@ module _ (k : Setting) (P Q : Conn → Move → Type 0) where
       admitted = λ x env choice given is e. w x _ (R.admitted x env choice given is e);
     }
 
-    node-weaker : NodeRules k P → NodeRules k Q
+    pub node-weaker : NodeRules k P → NodeRules k Q
     node-weaker R = record {
       offered = λ x n epoch env parts bytes is spells was. w x _ (R.offered x n epoch env parts bytes is spells was);
       forwarded = λ x n epoch env segment bytes is spells was. w x _ (R.forwarded x n epoch env segment bytes is spells was);
@@ -73,7 +73,7 @@ module _ (k : Setting) (P Q : Conn → Move → Type 0) where
 
   -- ---- two facts of each rule at once
 
-  client-both : ClientRules k P → ClientRules k Q → ClientRules k (λ x v. P x v × Q x v)
+  pub client-both : ClientRules k P → ClientRules k Q → ClientRules k (λ x v. P x v × Q x v)
   client-both R S = record {
     opens = λ x isn iss wnd mss rule none. (R.opens x isn iss wnd mss rule none, S.opens x isn iss wnd mss rule none);
     gets = λ x s path there le. (R.gets x s path there le, S.gets x s path there le);
@@ -86,7 +86,7 @@ module _ (k : Setting) (P Q : Conn → Move → Type 0) where
     hears = λ x s from bytes there was. (R.hears x s from bytes there was, S.hears x s from bytes there was);
   }
 
-  front-both : FrontRules k P → FrontRules k Q → FrontRules k (λ x v. P x v × Q x v)
+  pub front-both : FrontRules k P → FrontRules k Q → FrontRules k (λ x v. P x v × Q x v)
   front-both R S = record {
     hears = λ x s env bytes there is iss was. (R.hears x s env bytes there is iss was, S.hears x s env bytes there is iss was);
     fires = λ x s env there is. (R.fires x s env there is, S.fires x s env there is);
@@ -96,7 +96,7 @@ module _ (k : Setting) (P Q : Conn → Move → Type 0) where
     admitted = λ x env choice given is e. (R.admitted x env choice given is e, S.admitted x env choice given is e);
   }
 
-  node-both : NodeRules k P → NodeRules k Q → NodeRules k (λ x v. P x v × Q x v)
+  pub node-both : NodeRules k P → NodeRules k Q → NodeRules k (λ x v. P x v × Q x v)
   node-both R S = record {
     offered = λ x n epoch env parts bytes is spells was. (R.offered x n epoch env parts bytes is spells was, S.offered x n epoch env parts bytes is spells was);
     forwarded = λ x n epoch env segment bytes is spells was. (R.forwarded x n epoch env segment bytes is spells was, S.forwarded x n epoch env segment bytes is spells was);

@@ -27,3 +27,4 @@ pub mod InSteps
 pub mod Guarded
 pub mod Rows
 pub mod Acts
+pub mod Frames

@@ -1,0 +1,7 @@
+-- By what each step adds.
+use Rattle.lard_cluster_steps.proofs.Following.{follows}
+use Rattle.lard_cluster_steps.proofs.Linking.{reached-linked}
+use Rattle.lard_cluster_steps.proofs.journals_are_lawful.Goals as goal
+
+pub returns : goal.returns
+returns c = record { network = λ config files m r. (reached-linked config files m r).each; follows = follows }
