@@ -55,7 +55,7 @@ pub fn finish(state: NodeState) {
     fetches.finish();
 }
 
-/// What a node does with what comes to it. Without memory it is not said what it did, nor what of it.
+/// What a node does with what comes to it. Where memory runs out, the state is of no use any more but to be spent.
 pub fn step(
     state: &mut NodeState,
     alloc: Global,
