@@ -54,10 +54,10 @@ use Rattle.lard_truth.proofs.Pieces.{bare-true}
 
 module _ (env : FrontEnv) (w out : Stream) (vs : List Verdict) (was_reset : Bool) where
   abbrev Keeps : Deed → Type 0
-  Keeps d = FrontDeedKeeps env w out vs was_reset d
+  Keeps d = FrontDeedKeeps env.serve.files env.serve.c w out vs was_reset d
 
   abbrev Turns : FrontPart → FrontTurn → Type 0
-  Turns part turn = FrontTurned env w out vs was_reset part turn
+  Turns part turn = FrontTurned env.serve.files env.serve.c w out vs was_reset part turn
 
   abbrev Ends : Ending × Turn → Type 0
   Ends given = EndTurned env.serve.files env.serve.c w out vs was_reset [] given
@@ -252,13 +252,13 @@ module _ (env : FrontEnv) (w out : Stream) (vs : List Verdict) (was_reset : Bool
     ends-keep from epoch last h (Some row) Stale = tt
 
     with-keep : (row : FrontRow) (b : ControlBlock) (choice : FirstChoice) → FrontWaits w out vs [] b (rest_of p.rest).count → (target : Option (List ℕ))
-        → AdmittedKeeps env w out vs was_reset (admitted_with env row (rest_of p.rest) b choice target)
+        → AdmittedKeeps env.serve.files env.serve.c w out vs was_reset (admitted_with env row (rest_of p.rest) b choice target)
     with-keep row b choice h None = tt
     with-keep row b choice h (Some path) =
         let count = (rest_of p.rest).count in
         handed-turn (serving b count []) (same-so env.serve w out vs talk.says [] b count h.0.holds) refl h.0.serves h.1 row path choice
 
-    admits-keep : (choice : FirstChoice) (row : FrontRow) (at : FrontConn) → FrontStageAgrees w out vs was_reset env.serve.c row.epoch.0 p at → AdmittedKeeps env w out vs was_reset (admitted_at env p choice row at)
+    admits-keep : (choice : FirstChoice) (row : FrontRow) (at : FrontConn) → FrontStageAgrees w out vs was_reset env.serve.c row.epoch.0 p at → AdmittedKeeps env.serve.files env.serve.c w out vs was_reset (admitted_at env p choice row at)
     admits-keep choice row (stage.Waiting b) h = with-keep row b choice h (rest_of p.rest).target
     admits-keep choice row (stage.Held b) h = tt
     admits-keep choice row stage.Lent h = tt
@@ -266,7 +266,7 @@ module _ (env : FrontEnv) (w out : Stream) (vs : List Verdict) (was_reset : Bool
     admits-keep choice row (stage.Moved node epoch) h = tt
     admits-keep choice row (stage.Closed last) h = tt
 
-    head-keeps : (choice : FirstChoice) (o : Option FrontRow) → FrontRowAgrees w out vs was_reset env.serve.c p o → AdmittedKeeps env w out vs was_reset (admitted_by env p choice o)
+    head-keeps : (choice : FirstChoice) (o : Option FrontRow) → FrontRowAgrees w out vs was_reset env.serve.c p o → AdmittedKeeps env.serve.files env.serve.c w out vs was_reset (admitted_by env p choice o)
     head-keeps choice None h = tt
     head-keeps choice (Some row) h = admits-keep choice row row.stage h
 

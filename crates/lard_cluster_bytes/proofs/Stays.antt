@@ -49,10 +49,10 @@ use Rattle.lard_truth.specs.Truth.{Stream}
 
 module _ (env : NodeEnv) (w out : Stream) (vs : List Verdict) (was_reset : Bool) where
   abbrev Turns : NodePart × NodeTurn → Type 0
-  Turns given = NodeTurned env w out vs was_reset given
+  Turns given = NodeTurned env.serve.files env.serve.c w out vs was_reset given
 
   abbrev Keeps : Deed → Type 0
-  Keeps d = DeedKeeps env w out vs was_reset d
+  Keeps d = DeedKeeps env.serve.files env.serve.c w out vs was_reset d
 
   -- ---- the end of a turn
 

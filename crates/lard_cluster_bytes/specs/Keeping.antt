@@ -34,21 +34,21 @@ use Rattle.lard_truth.specs.Truth.{GoesOn, IsStream, Stream}
 -- A turn of a node that has a connection: the cluster's stream goes on by the answers to more verdicts, as its notes count, all that
 -- was sent to the client is true of it, and what the node keeps of the connection agrees with it again: it holds the endpoint, and
 -- its batch is what was read and is not answered, or it tells the front end how it ended.
-pub record NodeTurned (env : NodeEnv) (w out : Stream) (vs : List Verdict) (was_reset : Bool) (given : NodePart × NodeTurn) : Type 0 where
+pub record NodeTurned (files : FilesAt) (c : ℕ) (w out : Stream) (vs : List Verdict) (was_reset : Bool) (given : NodePart × NodeTurn) : Type 0 where
   pub out_after : Stream
   pub vs_after : List Verdict
   pub pend_after : List Verdict
   pub longer : GoesOn out out_after
-  pub says : SaysAnswers env.serve.files w out_after vs_after
-  pub agrees : NodeAgrees w out_after vs_after pend_after (was_reset || list_any resets given.1.notes) env.serve.c given.0
-  pub noted : Counts env.serve.c out vs vs_after out_after.bytes given.1.notes
-  pub sent : AreReplies env.serve.c w out_after (was_reset || list_any resets given.1.notes) given.1.segments
+  pub says : SaysAnswers files w out_after vs_after
+  pub agrees : NodeAgrees w out_after vs_after pend_after (was_reset || list_any resets given.1.notes) c given.0
+  pub noted : Counts c out vs vs_after out_after.bytes given.1.notes
+  pub sent : AreReplies c w out_after (was_reset || list_any resets given.1.notes) given.1.segments
 
 -- what a rule of a node comes to: what it drops or answers alone changes nothing
-abbrev pub DeedKeeps : NodeEnv → Stream → Stream → List Verdict → Bool → Deed → Type 0
-DeedKeeps env w out vs was_reset Drops = Unit {0}
-DeedKeeps env w out vs was_reset (Says messages) = Unit {0}
-DeedKeeps env w out vs was_reset (Does given) = NodeTurned env w out vs was_reset given
+abbrev pub DeedKeeps : FilesAt → ℕ → Stream → Stream → List Verdict → Bool → Deed → Type 0
+DeedKeeps files c w out vs was_reset Drops = Unit {0}
+DeedKeeps files c w out vs was_reset (Says messages) = Unit {0}
+DeedKeeps files c w out vs was_reset (Does given) = NodeTurned files c w out vs was_reset given
 
 -- the streams are those of a connection, and what was said so far answers what was read
 pub record IsTalk (env : NodeEnv) (w out : Stream) (vs : List Verdict) : Type 0 where
@@ -59,12 +59,12 @@ pub record IsTalk (env : NodeEnv) (w out : Stream) (vs : List Verdict) : Type 0 
 -- A rule keeps the agreement of a connection that the node has.
 abbrev pub NodeKeeps : (NodeEnv → NodePart → Deed) → Type 0
 NodeKeeps rule = (env : NodeEnv) (w out : Stream) (vs pend : List Verdict) (was_reset : Bool) (p : NodePart) → IsTalk env w out vs → NodeAgrees w out vs pend was_reset env.serve.c p
-    → DeedKeeps env w out vs was_reset (rule env p)
+    → DeedKeeps env.serve.files env.serve.c w out vs was_reset (rule env p)
 
 -- a true segment of the client is forwarded to it
 abbrev pub NodeHearsTruth : Type 0
 NodeHearsTruth = (env : NodeEnv) (w out : Stream) (vs pend : List Verdict) (was_reset : Bool) (p : NodePart) (s : Said) → IsTalk env w out vs → NodeAgrees w out vs pend was_reset env.serve.c p
-    → IsWord w s → DeedKeeps env w out vs was_reset (node_forwarded env p (Ok s))
+    → IsWord w s → DeedKeeps env.serve.files env.serve.c w out vs was_reset (node_forwarded env p (Ok s))
 
 -- a Tag, a content, a completed job of its disk
 abbrev pub TagsKeep : Type 0
@@ -82,7 +82,7 @@ NodeTimerKeeps = NodeKeeps node_timer
 -- The parts of an endpoint that the front end froze: the node goes on where the front end stopped, whatever it kept before.
 abbrev pub OffersKeep : Type 0
 OffersKeep = (env : NodeEnv) (w out : Stream) (vs pend : List Verdict) (was_reset : Bool) (p : NodePart) (b : ControlBlock) (count : ℕ) → IsTalk env w out vs
-    → FrontHolds w out vs pend b count → may_freeze b ≡ true → DeedKeeps env w out vs was_reset (node_offered env p (parts_of b count))
+    → FrontHolds w out vs pend b count → may_freeze b ≡ true → DeedKeeps env.serve.files env.serve.c w out vs was_reset (node_offered env p (parts_of b count))
 
 -- ---- the front end
 
@@ -104,20 +104,20 @@ FrontAgrees w out vs was_reset c p = FrontRowAgrees w out vs was_reset c p p.row
 
 -- A turn of the front end: the cluster's stream goes on by the answers to more verdicts, as its notes count, all that was sent to
 -- the client is true of it, and what the front end keeps agrees with it again.
-pub record FrontTurned (env : FrontEnv) (w out : Stream) (vs : List Verdict) (was_reset : Bool) (part : FrontPart) (turn : FrontTurn) : Type 0 where
+pub record FrontTurned (files : FilesAt) (c : ℕ) (w out : Stream) (vs : List Verdict) (was_reset : Bool) (part : FrontPart) (turn : FrontTurn) : Type 0 where
   pub out_after : Stream
   pub vs_after : List Verdict
   pub longer : GoesOn out out_after
-  pub says : SaysAnswers env.serve.files w out_after vs_after
-  pub agrees : FrontAgrees w out_after vs_after (was_reset || list_any resets turn.notes) env.serve.c part
-  pub noted : Counts env.serve.c out vs vs_after out_after.bytes turn.notes
-  pub sent : AreReplies env.serve.c w out_after (was_reset || list_any resets turn.notes) turn.segments
+  pub says : SaysAnswers files w out_after vs_after
+  pub agrees : FrontAgrees w out_after vs_after (was_reset || list_any resets turn.notes) c part
+  pub noted : Counts c out vs vs_after out_after.bytes turn.notes
+  pub sent : AreReplies c w out_after (was_reset || list_any resets turn.notes) turn.segments
 
 -- what a rule of the front end comes to; where it keeps what it kept, it notes nothing, and says what is true
-abbrev pub FrontDeedKeeps : FrontEnv → Stream → Stream → List Verdict → Bool → front.Deed → Type 0
-FrontDeedKeeps env w out vs was_reset front.Drops = Unit {0}
-FrontDeedKeeps env w out vs was_reset (front.Says turn) = (turn.notes ≡ []) × AreReplies env.serve.c w out was_reset turn.segments
-FrontDeedKeeps env w out vs was_reset (front.Does did) = FrontTurned env w out vs was_reset did.part did.turn
+abbrev pub FrontDeedKeeps : FilesAt → ℕ → Stream → Stream → List Verdict → Bool → front.Deed → Type 0
+FrontDeedKeeps files c w out vs was_reset front.Drops = Unit {0}
+FrontDeedKeeps files c w out vs was_reset (front.Says turn) = (turn.notes ≡ []) × AreReplies c w out was_reset turn.segments
+FrontDeedKeeps files c w out vs was_reset (front.Does did) = FrontTurned files c w out vs was_reset did.part did.turn
 
 pub record IsFrontTalk (env : FrontEnv) (w out : Stream) (vs : List Verdict) : Type 0 where
   pub most : env.serve.stream ≤ MAX_STREAM_BYTES
@@ -128,25 +128,25 @@ pub record IsFrontTalk (env : FrontEnv) (w out : Stream) (vs : List Verdict) : T
 -- a true segment of the client comes
 abbrev pub FrontHearsTruth : Type 0
 FrontHearsTruth = (env : FrontEnv) (w out : Stream) (vs : List Verdict) (was_reset : Bool) (p : FrontPart) (bytes : List ℕ) (s : Said) → IsFrontTalk env w out vs
-    → FrontAgrees w out vs was_reset env.serve.c p → IsWord w s → FrontDeedKeeps env w out vs was_reset (front_gets env p bytes (Ok s))
+    → FrontAgrees w out vs was_reset env.serve.c p → IsWord w s → FrontDeedKeeps env.serve.files env.serve.c w out vs was_reset (front_gets env p bytes (Ok s))
 
 abbrev pub FrontTimerKeeps : Type 0
 FrontTimerKeeps = (env : FrontEnv) (w out : Stream) (vs : List Verdict) (was_reset : Bool) (p : FrontPart) → IsFrontTalk env w out vs
-    → FrontAgrees w out vs was_reset env.serve.c p → FrontDeedKeeps env w out vs was_reset (front_timer env p)
+    → FrontAgrees w out vs was_reset env.serve.c p → FrontDeedKeeps env.serve.files env.serve.c w out vs was_reset (front_timer env p)
 
 -- a node tells how the connection ended there
 abbrev pub EndsKeep : Type 0
 EndsKeep = (env : FrontEnv) (w out : Stream) (vs : List Verdict) (was_reset : Bool) (p : FrontPart) (from epoch : ℕ) (last : Final) → IsFrontTalk env w out vs
-    → EndedIt w was_reset last → FrontDeedKeeps env w out vs was_reset (front_ended env p from epoch last)
+    → EndedIt w was_reset last → FrontDeedKeeps env.serve.files env.serve.c w out vs was_reset (front_ended env p from epoch last)
 
 -- the head of the line is admitted, where there is one
-abbrev pub AdmittedKeeps : FrontEnv → Stream → Stream → List Verdict → Bool → Option (FrontPart × FrontTurn) → Type 0
-AdmittedKeeps env w out vs was_reset None = Unit {0}
-AdmittedKeeps env w out vs was_reset (Some given) = FrontTurned env w out vs was_reset given.0 given.1
+abbrev pub AdmittedKeeps : FilesAt → ℕ → Stream → Stream → List Verdict → Bool → Option (FrontPart × FrontTurn) → Type 0
+AdmittedKeeps files c w out vs was_reset None = Unit {0}
+AdmittedKeeps files c w out vs was_reset (Some given) = FrontTurned files c w out vs was_reset given.0 given.1
 
 abbrev pub AdmissionsKeep : Type 0
 AdmissionsKeep = (env : FrontEnv) (w out : Stream) (vs : List Verdict) (was_reset : Bool) (p : FrontPart) (choice : FirstChoice) → IsFrontTalk env w out vs
-    → FrontAgrees w out vs was_reset env.serve.c p → AdmittedKeeps env w out vs was_reset (front_admitted env p choice)
+    → FrontAgrees w out vs was_reset env.serve.c p → AdmittedKeeps env.serve.files env.serve.c w out vs was_reset (front_admitted env p choice)
 
 -- ---- the client
 
