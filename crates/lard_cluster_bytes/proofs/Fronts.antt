@@ -17,7 +17,7 @@ use Rattle.lard_endpoint.specs.declared.control.moving.Final.{Final}
 use Rattle.lard_endpoint.specs.Arriving.{on_segment}
 use Rattle.lard_endpoint.specs.Control.{ControlBlock, listening}
 use Rattle.lard_endpoint.specs.Leaving.{after_timer, timed}
-use Rattle.lard_endpoint.specs.Moving.{may_freeze}
+use Rattle.lard_endpoint.specs.Moving.{may_freeze, parts_of}
 use Rattle.lard_endpoint.proofs.Adoption.{frozen_stands}
 use Rattle.lard_front_rules.specs.declared.front.FrontRest.{FrontRest}
 use Rattle.lard_front_rules.specs.declared.front.FrontTurn.{FrontTurn}
@@ -31,7 +31,7 @@ use Rattle.lard_handoff_front.specs.declared.row.FrontConn.TheVariants as stage
 use Rattle.lard_handoff_front.specs.declared.row.FrontRow.{FrontRow}
 use Rattle.lard_handoff_front.specs.declared.table.OnEnded.{OnEnded}
 use Rattle.lard_handoff_front.specs.declared.table.OnEnded.TheVariants.{New, Again, Stale}
-use Rattle.lard_handoff_front.specs.Front.{end_answer}
+use Rattle.lard_handoff_front.specs.Front.{end_answer, next_epoch}
 use Rattle.lard_journal.specs.declared.rec.Rec.{Rec}
 use Rattle.lard_journal.specs.declared.rec.Rec.TheVariants as rec
 use Rattle.lard_laws_bytes.specs.Agreement.{IsReply, IsWord}
@@ -41,6 +41,7 @@ use Rattle.lard_laws_bytes.proofs.Notes.{or-false}
 use Rattle.lard_dispatch.specs.declared.dispatch.First.{First}
 use Rattle.lard_dispatch.specs.declared.dispatch.First.TheVariants as first
 use Rattle.lard_policy.specs.declared.first.FirstChoice.{FirstChoice}
+use Rattle.lard_message.specs.declared.message.Body.TheVariants as body
 use Rattle.lard_request.specs.declared.verdict.Verdict.{Verdict}
 use Rattle.lard_rules.specs.declared.places.Ending.{Ending}
 use Rattle.lard_rules.specs.declared.places.Ending.TheVariants as ending
@@ -66,7 +67,7 @@ module _ (env : FrontEnv) (w out : Stream) (vs : List Verdict) (was_reset : Bool
 
   ends-turn : (part : FrontPart) (given : Ending × Turn) (h : Ends given) → FrontAgrees w h.out_after h.vs_after (was_reset || list_any resets given.1.notes) env.serve.c part → Turns part (turn_here given.1)
   ends-turn part given h agrees =
-      record { out_after = h.out_after; vs_after = h.vs_after; longer = h.longer; says = h.says; agrees = agrees; noted = h.noted; sent = h.sent }
+      record { out_after = h.out_after; vs_after = h.vs_after; longer = h.longer; says = h.says; agrees = agrees; noted = h.noted; sent = h.sent; said = tt }
 
   holds-keep : (p : FrontPart) (row : FrontRow) (rest : FrontRest) (given : Ending × Turn) → Ends given → EndsServing given.0 → Keeps (holds p row rest given)
   holds-keep p row rest given h serves = ends-turn (rests p row rest stage.Held given.0) given h (go given.0 h.agrees serves) where
@@ -114,6 +115,7 @@ module _ (env : FrontEnv) (w out : Stream) (vs : List Verdict) (was_reset : Bool
           agrees = record { block = s.block; count = s.count; frozen = may; holds = record { none = refl; serves = serves; holds = frozen-holds }; kept_is = refl };
           noted = counts-more env.serve.c out vs so.vs_now so.vs_now so.out_now.bytes so.out_now.bytes s.notes more so.noted (tt, (tt, tt)) (omega arith) (omega arith) (inr refl);
           sent = tt;
+          said = ((choice.node, (next_epoch row).0, body.Offer (parts_of s.block s.count), refl, (_, refl, refl)), tt);
         }
 
     waiting-turn : (p : FrontPart) (row : FrontRow) (rest : FrontRest) (path : List ℕ)
@@ -247,6 +249,7 @@ module _ (env : FrontEnv) (w out : Stream) (vs : List Verdict) (was_reset : Bool
       agrees = subst (λ (r : Bool). EndedIt w r last) (or-false was_reset) h;
       noted = record { each = (tt, (tt, tt)); served = omega arith; size = omega arith; unless_ended = inr refl };
       sent = tt;
+      said = ((from, epoch, body.EndedAck, refl, tt), tt);
     }
     ends-keep from epoch last h (Some row) Again = (refl, tt)
     ends-keep from epoch last h (Some row) Stale = tt

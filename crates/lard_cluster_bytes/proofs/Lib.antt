@@ -12,3 +12,4 @@ pub mod Messages
 pub mod Fair
 pub mod Told
 pub mod Moves
+pub mod ClientMoves

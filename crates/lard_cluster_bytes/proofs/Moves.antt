@@ -1,10 +1,10 @@
 -- A move of a place that serves leaves its connection in agreement, where the place's turn does.
-use Rattle.std.proofs.Common.{◌≡◌, ◌⊎◌, ◌≤◌, ◌+◌, ◌||◌, ℕ, Bool, true, false, List, [], ◌∷◌, ◌++◌, map, length, take, Option, Some, None, arith, refl, ap, ◌∙◌, sym, subst, inl, inr}
+use Rattle.std.proofs.Common.{◌≡◌, ◌⊎◌, ◌≤◌, ◌||◌, ℕ, Bool, true, false, List, [], ◌∷◌, map, length, Option, Some, arith, refl, ap, ◌∙◌, sym, subst, inl, inr}
 use Rattle.std.specs.List.{list_any}
 use Rattle.lard_answers.specs.Answers.{FilesAt}
 use Rattle.lard_base.specs.declared.place.Place.{Place}
-use Rattle.lard_base.specs.declared.place.Place.TheVariants.{Client, Front, Node}
-use Rattle.lard_client.specs.Control.{ClientBlock}
+use Rattle.lard_base.specs.declared.place.Place.TheVariants.{Front, Node}
+use Rattle.lard_cluster.specs.Bounds.{IsNumber}
 use Rattle.lard_cluster_bytes.specs.Agreement.{ConnAgrees, IsFair, IsOpen, IsTruthful, SeatAgrees}
 use Rattle.lard_cluster_bytes.specs.Turning.{Counts, IsNoteOf}
 use Rattle.lard_cluster_bytes.proofs.Fair.{GoesOnFairly, all-on}
@@ -12,16 +12,14 @@ use Rattle.lard_cluster_bytes.proofs.Told.{bytes_of, move-bytes, place-notes, se
 use Rattle.lard_cluster_places.specs.Places.{HasEnded, IsOffered, IsOver}
 use Rattle.lard_cluster_places.proofs.Turns.{IsPlaced, Owes}
 use Rattle.lard_cluster_view.specs.Carry.{tale_at}
-use Rattle.lard_cluster_view.specs.View.{Conn, Move, Part, grown, letter, letters_of}
+use Rattle.lard_cluster_view.specs.View.{Conn, IsSound, Move, Part, grown, letter, letters_of}
 use Rattle.lard_cluster_view.proofs.Fine.{IsItsOwn}
 use Rattle.lard_cluster_view.proofs.Rows.{tale_before}
 use Rattle.lard_history.specs.Journal.{told_on}
-use Rattle.lard_history.specs.Own.{Letter}
 use Rattle.lard_history.proofs.Each.{Each, Each-append}
-use Rattle.lard_laws_bytes.specs.Agreement.{AreReplies, ClientAgrees, SaysAnswers}
+use Rattle.lard_laws_bytes.specs.Agreement.{AreReplies, SaysAnswers}
 use Rattle.lard_laws_bytes.specs.Keeping.{resets, served_in, size_in}
 use Rattle.lard_laws_bytes.specs.Truthful.{Talk}
-use Rattle.lard_laws_bytes.proofs.Later.{TalksOn}
 use Rattle.lard_laws_bytes.proofs.Notes.{or-false}
 use Rattle.lard_request.specs.declared.verdict.Verdict.{Verdict}
 use Rattle.lard_rules.specs.declared.places.Station.{Station}
@@ -30,6 +28,8 @@ use Rattle.lard_truth.proofs.Growth.{accepted-grown, front-take, goes_on-same}
 
 -- what is known of a connection and of its move beside the bytes
 pub record Helps (x : Conn) (v : Move) : Type 0 where
+  pub number : IsNumber x.c
+  pub sound : IsSound x
   pub placed : IsPlaced x
   pub owes : Owes x v
   pub own : IsItsOwn x v

@@ -4,9 +4,11 @@ use Rattle.std.specs.List.{list_any}
 use Rattle.lard_answers.specs.Answers.{FilesAt}
 use Rattle.lard_base.specs.declared.limits.TheConstants.{MAX_STREAM_BYTES}
 use Rattle.lard_base.specs.declared.parts.EndpointParts.{EndpointParts}
+use Rattle.lard_base.specs.declared.place.Place.{Place}
+use Rattle.lard_base.specs.declared.place.Place.TheVariants.{Node}
 use Rattle.lard_base.specs.declared.place.Reason.{Reason}
 use Rattle.lard_cluster.specs.Bounds.{IsNumber}
-use Rattle.lard_cluster_bytes.specs.Agreement.{EndedIt, FrontHolds, FrontWaits, IsOffering, NodeAgrees, SeatAgrees}
+use Rattle.lard_cluster_bytes.specs.Agreement.{EndedIt, FrontHolds, FrontWaits, IsKept, IsOffering, NodeAgrees, SeatAgrees}
 use Rattle.lard_cluster_bytes.specs.Turning.{Counts}
 use Rattle.lard_cluster_view.specs.View.{Part}
 use Rattle.lard_endpoint.specs.declared.control.moving.Final.{Final}
@@ -18,8 +20,10 @@ use Rattle.lard_front_rules.specs.Front as front
 use Rattle.lard_handoff_front.specs.declared.row.FrontConn.{FrontConn}
 use Rattle.lard_handoff_front.specs.declared.row.FrontConn.TheVariants as stage
 use Rattle.lard_handoff_front.specs.declared.row.FrontRow.{FrontRow}
+use Rattle.lard_history.proofs.Each.{Each}
 use Rattle.lard_laws_bytes.specs.Agreement.{AreReplies, IsWord, SaysAnswers}
 use Rattle.lard_laws_bytes.specs.Keeping.{resets}
+use Rattle.lard_message.specs.declared.message.Body.{Body}
 use Rattle.lard_message.specs.declared.message.Body.TheVariants as body
 use Rattle.lard_message.specs.declared.message.Message.{Message}
 use Rattle.lard_message.specs.Reading.{decoded_message}
@@ -102,6 +106,15 @@ FrontRowAgrees w out vs was_reset c p (Some row) = FrontStageAgrees w out vs was
 abbrev pub FrontAgrees : Stream → Stream → List Verdict → Bool → ℕ → FrontPart → Type 0
 FrontAgrees w out vs was_reset c p = FrontRowAgrees w out vs was_reset c p p.row
 
+-- What it says to a node: an Offer is the one that it keeps, and it forwards nothing.
+abbrev pub SaysOffer : FrontPart → List ℕ → Body → Type 0
+SaysOffer p bytes (body.Offer parts) = IsKept p.kept bytes
+SaysOffer p bytes (body.Forward segment) = ⊥
+SaysOffer p bytes _ = Unit {0}
+
+abbrev pub FrontSays : ℕ → FrontPart → Place × List ℕ → Type 0
+FrontSays c p s = (n e : ℕ) × (b : Body) × (s ≡ (Node n, message c e b)) × SaysOffer p s.1 b
+
 -- A turn of the front end: the cluster's stream goes on by the answers to more verdicts, as its notes count, all that was sent to
 -- the client is true of it, and what the front end keeps agrees with it again.
 pub record FrontTurned (files : FilesAt) (c : ℕ) (w out : Stream) (vs : List Verdict) (was_reset : Bool) (part : FrontPart) (turn : FrontTurn) : Type 0 where
@@ -112,6 +125,7 @@ pub record FrontTurned (files : FilesAt) (c : ℕ) (w out : Stream) (vs : List V
   pub agrees : FrontAgrees w out_after vs_after (was_reset || list_any resets turn.notes) c part
   pub noted : Counts c out vs vs_after out_after.bytes turn.notes
   pub sent : AreReplies c w out_after (was_reset || list_any resets turn.notes) turn.segments
+  pub said : Each (FrontSays c part) turn.messages
 
 -- what a rule of the front end comes to; where it keeps what it kept, it notes nothing, and says what is true
 abbrev pub FrontDeedKeeps : FilesAt → ℕ → Stream → Stream → List Verdict → Bool → front.Deed → Type 0
