@@ -23,9 +23,12 @@ use Rattle.lard_handoff_front.specs.declared.row.FrontRow.{FrontRow}
 use Rattle.lard_history.proofs.Each.{Each}
 use Rattle.lard_laws_bytes.specs.Agreement.{AreReplies, IsWord, SaysAnswers}
 use Rattle.lard_laws_bytes.specs.Keeping.{resets}
+use Rattle.lard_message.specs.declared.kind.Kind.{Kind}
+use Rattle.lard_message.specs.declared.kind.Kind.TheVariants as kind
 use Rattle.lard_message.specs.declared.message.Body.{Body}
 use Rattle.lard_message.specs.declared.message.Body.TheVariants as body
 use Rattle.lard_message.specs.declared.message.Message.{Message}
+use Rattle.lard_message.specs.Message.{kind_of}
 use Rattle.lard_message.specs.Reading.{decoded_message}
 use Rattle.lard_node_rules.specs.declared.node.NodeTurn.{NodeTurn}
 use Rattle.lard_node_rules.specs.Node.{Deed, Drops, Says, Does, NodePart, node_content, node_forwarded, node_offered, node_read, node_tagged, node_timer}
@@ -90,13 +93,13 @@ OffersKeep = (env : NodeEnv) (w out : Stream) (vs pend : List Verdict) (was_rese
 
 -- ---- the front end
 
--- What the front end keeps of a connection that it has, or that it offers. Of one that is away it keeps nothing that says anything.
+-- What the front end keeps of a connection that it has, or that it offers. Of one that a node has nothing is said here.
 abbrev pub FrontStageAgrees : Stream → Stream → List Verdict → Bool → ℕ → ℕ → FrontPart → FrontConn → Type 0
 FrontStageAgrees w out vs was_reset c e p (stage.Held b) = FrontHolds w out vs [] b (rest_of p.rest).count
 FrontStageAgrees w out vs was_reset c e p (stage.Waiting b) = FrontWaits w out vs [] b (rest_of p.rest).count
 FrontStageAgrees w out vs was_reset c e p stage.Lent = ⊥
 FrontStageAgrees w out vs was_reset c e p (stage.Offering n d) = IsOffering w out vs [] c n e p.kept
-FrontStageAgrees w out vs was_reset c e p (stage.Moved n d) = Unit {0}
+FrontStageAgrees w out vs was_reset c e p (stage.Moved n d) = ⊥
 FrontStageAgrees w out vs was_reset c e p (stage.Closed last) = EndedIt w was_reset last
 
 abbrev pub FrontRowAgrees : Stream → Stream → List Verdict → Bool → ℕ → FrontPart → Option FrontRow → Type 0
@@ -107,13 +110,13 @@ abbrev pub FrontAgrees : Stream → Stream → List Verdict → Bool → ℕ →
 FrontAgrees w out vs was_reset c p = FrontRowAgrees w out vs was_reset c p p.row
 
 -- What it says to a node: an Offer is the one that it keeps, and it forwards nothing.
-abbrev pub SaysOffer : FrontPart → List ℕ → Body → Type 0
-SaysOffer p bytes (body.Offer parts) = IsKept p.kept bytes
-SaysOffer p bytes (body.Forward segment) = ⊥
-SaysOffer p bytes _ = Unit {0}
+abbrev pub SaysOfKind : FrontPart → List ℕ → Kind → Type 0
+SaysOfKind p bytes kind.Offer = IsKept p.kept bytes
+SaysOfKind p bytes kind.Forward = ⊥
+SaysOfKind p bytes _ = Unit {0}
 
 abbrev pub FrontSays : ℕ → FrontPart → Place × List ℕ → Type 0
-FrontSays c p s = (n e : ℕ) × (b : Body) × (s ≡ (Node n, message c e b)) × SaysOffer p s.1 b
+FrontSays c p s = (n e : ℕ) × (b : Body) × (s ≡ (Node n, message c e b)) × SaysOfKind p s.1 (kind_of b)
 
 -- A turn of the front end: the cluster's stream goes on by the answers to more verdicts, as its notes count, all that was sent to
 -- the client is true of it, and what the front end keeps agrees with it again.
