@@ -13,3 +13,4 @@ pub mod Fair
 pub mod Told
 pub mod Moves
 pub mod ClientMoves
+pub mod FrontMoves

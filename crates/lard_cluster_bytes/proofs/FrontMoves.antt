@@ -1,0 +1,225 @@
+-- What the front end does leaves its connection in agreement.
+use Rattle.std.proofs.Common.{◌≡◌, ◌⊎◌, ◌≤◌, ◌<◌, ◌+◌, ◌||◌, ◌==◌, ◌^◌, ℕ, Bool, false, true, cond, List, [], ◌∷◌, ◌++◌, map, length, Option, Some, None, Ok, Err, Result, arith, refl, ap, ◌∙◌, sym, subst, inl, inr, ⊎_elim, eqb-true}
+use Rattle.std.specs.List.{AllByRecursion, list_any}
+use Rattle.lard_answers.specs.Answers.{FilesAt}
+use Rattle.lard_base.specs.declared.ids.Epoch.{Epoch}
+use Rattle.lard_base.specs.declared.place.Place.{Place}
+use Rattle.lard_base.specs.declared.place.Place.TheVariants.{Client, Front, Node}
+use Rattle.lard_cluster_bytes.specs.Agreement.{AwayAgrees, ConnAgrees, FrontHolds, FrontTells, IsFair, IsFairOn, IsKept, IsOpen, IsTruthful, SeatAgrees, StageAgrees}
+use Rattle.lard_cluster_bytes.specs.Keeping.{FrontAgrees, FrontDeedKeeps, FrontRowAgrees, FrontSays, FrontStageAgrees, FrontTurned, IsFrontTalk, SaysOfKind}
+use Rattle.lard_cluster_bytes.specs.Turning.{Counts}
+use Rattle.lard_cluster_bytes.proofs.ClientMoves.{Mine, has-fair, open-at}
+use Rattle.lard_cluster_bytes.proofs.Fronts.{front-hears, timer-keeps}
+use Rattle.lard_cluster_bytes.proofs.Messages.{forwards-read}
+use Rattle.lard_cluster_bytes.proofs.Moves.{Frame, Helps, Idle, TurnGoes, idle-goes, move-goes, replies-fair, talk_after}
+use Rattle.lard_cluster_bytes.proofs.Told.{bytes_of}
+use Rattle.lard_cluster_places.specs.Places.{ArePast, EndedBefore, Head, IsComing, IsOffered, IsPast, IsThere, Offers, Owning, Sits, StageSits, owning}
+use Rattle.lard_cluster_places.proofs.Growing.{past-later}
+use Rattle.lard_cluster_places.proofs.Heads.{decoded-head, spelled-some}
+use Rattle.lard_cluster_view.specs.Carry.{tale_at}
+use Rattle.lard_cluster_view.specs.View.{AreSent, Conn, IsFrontEnv, Move, Part, Setting, Was, by_front, event_seen, front_does, grown, letter, letters_of, nothing_said, packet_seen, rows_of, stands, with_front}
+use Rattle.lard_cluster_view.proofs.Rows.{tale_before}
+use Rattle.lard_front_rules.specs.declared.front.FrontTurn.{FrontTurn}
+use Rattle.lard_front_rules.specs.Front.{Deed, Drops, Says, Does, Did, FrontEnv, FrontPart, front_gets, front_hears, front_timer, fired_by, fires_at, hears_at, message, rest_of, saying}
+use Rattle.lard_handoff_front.specs.declared.row.FrontConn.{FrontConn}
+use Rattle.lard_handoff_front.specs.declared.row.FrontConn.TheVariants as stage
+use Rattle.lard_handoff_front.specs.declared.row.FrontRow.{FrontRow}
+use Rattle.lard_history.specs.Own.{Has, Letter, Seen}
+use Rattle.lard_history.proofs.Each.{Each, Each-append}
+use Rattle.lard_laws_bytes.specs.Agreement.{AreReplies, IsWord, SaysAnswers}
+use Rattle.lard_laws_bytes.specs.Keeping.{resets, served_in, size_in}
+use Rattle.lard_laws_bytes.specs.Truthful.{Talk}
+use Rattle.lard_message.specs.declared.kind.Kind.{Kind}
+use Rattle.lard_message.specs.declared.kind.Kind.TheVariants as kind
+use Rattle.lard_message.specs.declared.message.Body.{Body}
+use Rattle.lard_message.specs.declared.message.Body.TheVariants as body
+use Rattle.lard_message.specs.declared.message.Message.{Message}
+use Rattle.lard_message.specs.Message.{kind_of, spelled_message}
+use Rattle.lard_message.specs.Reading.{decoded_message, epoch_at}
+use Rattle.lard_node_rules.specs.Node.{NodePart}
+use Rattle.lard_request.specs.declared.verdict.Verdict.{Verdict}
+use Rattle.lard_resend.specs.declared.kept.Kept.{Kept}
+use Rattle.lard_resend.specs.Pending.{sent_of}
+use Rattle.lard_rules.specs.declared.places.Station.{Station}
+use Rattle.lard_segment.specs.declared.segment.Dir.TheVariants.{ToCluster}
+use Rattle.lard_segment.specs.Segment.{Said, decoded, spelled}
+use Rattle.lard_segment.proofs.Again.{again}
+use Rattle.lard_truth.specs.Truth.{IsStream, Stream}
+use Rattle.lard_truth.proofs.Growth.{goes_on-same}
+use Rattle.lard_truth.proofs.Speaking.{speaks-stream}
+
+-- ---- messages of the front end
+
+-- what is read of a message has the kind with which it was spelled
+pub kinds-same : (x m : Message) → decoded_message (spelled_message x) ≡ Ok m → kind_of x.body ≡ kind_of m.body
+kinds-same x m d = ap head_kind (sym (spelled-some x) ∙ decoded-head (spelled_message x) m d) where
+  head_kind : Option Head → Kind
+  head_kind None = kind_of x.body
+  head_kind (Some h) = h.kind
+
+tells-kind : (k : Talk) (c : ℕ) (p : Part) (n e : ℕ) (bytes : List ℕ) (b : Body) → SaysOfKind p.front bytes (kind_of b) → FrontTells k c p n e bytes b
+tells-kind k c p n e bytes (body.Offer parts) h = inr h
+tells-kind k c p n e bytes (body.Forward segment) h = absurd h
+tells-kind k c p n e bytes body.Taken h = tt
+tells-kind k c p n e bytes (body.Ask number queue size paths) h = tt
+tells-kind k c p n e bytes (body.Tag number nodes) h = tt
+tells-kind k c p n e bytes (body.Fetch r path) h = tt
+tells-kind k c p n e bytes (body.Content r file) h = tt
+tells-kind k c p n e bytes (body.Ended reason snd rcv count) h = tt
+tells-kind k c p n e bytes body.EndedAck h = tt
+
+says-fair : (k : Talk) (c : ℕ) (p : Part) (s : Place × List ℕ) → FrontSays c p.front s → IsFair k c p (letter Front s)
+says-fair k c p s h =
+    let x : Message = record { c = c; epoch = record { 0 = h.1 }; body = h.2 } in
+    subst (λ (z : Place × List ℕ). IsFair k c p (letter Front z)) (sym h.3)
+    (λ m d. tells-kind k c p h.0 m.epoch.0 (spelled_message x) m.body (subst (SaysOfKind p.front (spelled_message x)) (kinds-same x m d) (subst (λ (z : Place × List ℕ). SaysOfKind p.front z.1 (kind_of h.2)) h.3 h.4)))
+
+pub all-say : (k : Talk) (c : ℕ) (p : Part) (ss : List (Place × List ℕ)) → Each (FrontSays c p.front) ss → Each (IsFair k c p) (map (letter Front) ss)
+all-say k c p [] h = tt
+all-say k c p (s ∷ ss) h = (says-fair k c p s h.0, all-say k c p ss h.1)
+
+-- what it forwards is what came
+forward-fair : (k : Talk) (c : ℕ) (p : Part) (n e : ℕ) (bytes : List ℕ) (s : Said) → bytes ≡ spelled c ToCluster s → IsWord k.w s → IsFair k c p (letter Front (Node n, message c e (body.Forward bytes)))
+forward-fair k c p n e bytes s is word m d = go m.body refl (kinds-same (record { c = c; epoch = record { 0 = e }; body = body.Forward bytes }) m d) where
+  go : (b : Body) → m.body ≡ b → kind.Forward ≡ kind_of m.body → FrontTells k c p n m.epoch.0 (message c e (body.Forward bytes)) b
+  go (body.Forward segment) f same = (s, forwards-read c e bytes segment m d f ∙ is, word)
+  go (body.Offer parts) f same = let no : kind.Forward ≡ kind.Offer = same ∙ ap kind_of f in absurd cc
+  go body.Taken f same = tt
+  go (body.Ask number queue size paths) f same = tt
+  go (body.Tag number nodes) f same = tt
+  go (body.Fetch r path) f same = tt
+  go (body.Content r file) f same = tt
+  go (body.Ended reason snd rcv count) f same = tt
+  go body.EndedAck f same = tt
+
+-- ---- what is kept, as the front end's or as the connection's
+
+-- the front end has it, or it ended, or nobody has it yet
+abbrev pub IsOurs : FrontConn → Type 0
+IsOurs (stage.Held b) = Unit {0}
+IsOurs (stage.Waiting b) = Unit {0}
+IsOurs stage.Lent = Unit {0}
+IsOurs (stage.Offering n d) = ⊥
+IsOurs (stage.Moved n d) = ⊥
+IsOurs (stage.Closed last) = Unit {0}
+
+abbrev pub RowIsOurs : Option FrontRow → Type 0
+RowIsOurs None = Unit {0}
+RowIsOurs (Some row) = IsOurs row.stage
+
+-- of what nobody else has no Offer is told
+ours-unoffered : (o : Option FrontRow) → RowIsOurs o → (n e : ℕ) → IsOffered n e o → ⊥
+ours-unoffered None h n e f = f
+ours-unoffered (Some row) h n e f = go row.stage h f where
+  go : (d : FrontConn) → IsOurs d → Offers n e d → ⊥
+  go (stage.Held b) h f = f
+  go (stage.Waiting b) h f = f
+  go stage.Lent h f = f
+  go (stage.Offering m d) h f = h
+  go (stage.Moved m d) h f = h
+  go (stage.Closed last) h f = f
+
+module _ (w out : Stream) (vs pend : List Verdict) (r : Bool) (c : ℕ) (p : Part) where
+  holds-alone : (b : _) (count : ℕ) → FrontHolds w out vs pend b count → FrontHolds w out vs [] b count
+  holds-alone b count h = record { none = refl; serves = h.serves; holds = h.holds }
+
+  stage-front : (e : ℕ) (d : FrontConn) → IsOurs d → StageAgrees w out vs pend r c p e d → FrontStageAgrees w out vs r c e p.front d
+  stage-front e (stage.Held b) ours h = holds-alone b _ h
+  stage-front e (stage.Waiting b) ours h = (holds-alone b _ h.0, h.1)
+  stage-front e stage.Lent ours h = h
+  stage-front e (stage.Offering n d) ours h = absurd ours
+  stage-front e (stage.Moved n d) ours h = absurd ours
+  stage-front e (stage.Closed last) ours h = h
+
+  pub seat-front : (o : Option FrontRow) → RowIsOurs o → SeatAgrees w out vs pend r c p o → FrontRowAgrees w out vs r c p.front o
+  seat-front None ours h = (h.0, h.2)
+  seat-front (Some row) ours h = stage-front row.epoch.0 row.stage ours h
+
+  -- and back, where no node has it
+  front-stage : (e : ℕ) (d : FrontConn) (own : Owning) → StageSits e own p.nodes d → ArePast 1 p.nodes → FrontStageAgrees w out vs r c e p.front d → StageAgrees w out vs [] r c p e d
+  front-stage e (stage.Held b) own sits past h = h
+  front-stage e (stage.Waiting b) own sits past h = h
+  front-stage e stage.Lent own sits past h = h
+  front-stage e (stage.Offering n d) own sits past h = inl (past-later 1 e (p.nodes n).row (omega (arith, sits.0)) (past n), h)
+  front-stage e (stage.Moved n d) own sits past h = absurd h
+  front-stage e (stage.Closed last) own sits past h = h
+
+  pub front-seat : (o : Option FrontRow) (own : Owning) → Sits own p.nodes o → ArePast 1 p.nodes → FrontRowAgrees w out vs r c p.front o → SeatAgrees w out vs [] r c p o
+  front-seat None own sits past h = (h.0, refl, h.1)
+  front-seat (Some row) own sits past h = front-stage row.epoch.0 row.stage own sits.0 past h
+
+-- ---- what it does
+
+module _ (k : Setting) (small : k.stream ≤ 2 ^ 30) (x : Conn) (s : Station) (there : x.part.station ≡ Some s) (l : Talk) (pend : List Verdict) (o : IsOpen k.files x l pend s) where
+  -- what goes out where nothing is kept anew
+  abbrev MessagesFair : Deed → Type 0
+  MessagesFair Drops = Unit {0}
+  MessagesFair (Says turn) = Each (IsFair l x.c x.part) (map (letter Front) turn.messages)
+  MessagesFair (Does did) = Unit {0}
+
+  abbrev IsQuiet : List Seen → Type 0
+  IsQuiet heads = (d : Deed) → bytes_of (tale_before x (front_does x heads d)) ≡ bytes_of (tale_at x)
+
+  says-goes : (heads : List Seen) (turn : FrontTurn) → bytes_of (tale_before x (front_does x heads (Says turn))) ≡ bytes_of (tale_at x) → turn.notes ≡ [] → AreReplies x.c l.w l.out l.was_reset turn.segments
+      → Each (IsFair l x.c x.part) (map (letter Front) turn.messages) → Helps x (front_does x heads (Says turn)) → IsTruthful k.files (grown x (front_does x heads (Says turn)))
+  says-goes heads turn quiet none replies fair help =
+      let v : Move = front_does x heads (Says turn) in
+      move-goes k.files x s there l pend o v help
+      (record { heads = quiet; station = refl; offers = λ n e a b. refl; ends = λ n e over. inl refl })
+      (idle-goes k.files x s there l pend o v (record {
+        each = subst (Each _) (sym none) tt;
+        served = ap served_in none;
+        size = ap size_in none;
+        reset = ap (list_any resets) none;
+        seat = o.seat;
+        letters = Each-append (IsFair l x.c x.part) (map (letter Front) turn.segments) (map (letter Front) turn.messages) (replies-fair l x.c x.part Front (inl refl) turn.segments replies) fair;
+      }))
+
+  does-goes : (heads : List Seen) (did : Did) → bytes_of (tale_before x (front_does x heads (Does did))) ≡ bytes_of (tale_at x) → ((n e : ℕ) → IsOffered n e x.part.front.row → ⊥) → ArePast 1 x.part.nodes
+      → FrontTurned k.files x.c l.w l.out l.vs l.was_reset did.part did.turn → Helps x (front_does x heads (Does did)) → IsTruthful k.files (grown x (front_does x heads (Does did)))
+  does-goes heads did quiet unoffered past t help =
+      let v : Move = front_does x heads (Does did) in
+      let r : Bool = l.was_reset || list_any resets did.turn.notes in
+      let after : Talk = talk_after k.files x s there l pend o v t.out_after t.vs_after in
+      move-goes k.files x s there l pend o v help
+      (record { heads = quiet; station = refl; offers = λ n e a b. absurd (unoffered n e a); ends = λ n e over. inl refl })
+      (record {
+        out_after = t.out_after;
+        vs_after = t.vs_after;
+        pend_after = [];
+        longer = t.longer;
+        says = t.says;
+        seat = front-seat l.w t.out_after t.vs_after [] r x.c v.part did.part.row _ help.owes.sits past t.agrees;
+        noted = t.noted;
+        letters = Each-append (IsFair after x.c v.part) (map (letter Front) did.turn.segments) (map (letter Front) did.turn.messages)
+            (replies-fair after x.c v.part Front (inl refl) did.turn.segments t.sent) (all-say after x.c v.part did.turn.messages t.said);
+      })
+
+  deed-goes : (heads : List Seen) (d : Deed) → IsQuiet heads → ((n e : ℕ) → IsOffered n e x.part.front.row → ⊥) → ArePast 1 x.part.nodes → MessagesFair d
+      → FrontDeedKeeps k.files x.c l.w l.out l.vs l.was_reset d → Helps x (front_does x heads d) → IsTruthful k.files (grown x (front_does x heads d))
+  deed-goes heads Drops quiet unoffered past fair t help = says-nothing help where
+    says-nothing : Helps x (stands x Front heads nothing_said) → IsTruthful k.files (grown x (stands x Front heads nothing_said))
+    says-nothing help = move-goes k.files x s there l pend o (stands x Front heads nothing_said) help
+        (record { heads = quiet Drops; station = refl; offers = λ n e a b. refl; ends = λ n e over. inl refl })
+        (idle-goes k.files x s there l pend o (stands x Front heads nothing_said) (record { each = tt; served = refl; size = refl; reset = refl; seat = o.seat; letters = tt }))
+  deed-goes heads (Says turn) quiet unoffered past fair t help = says-goes heads turn (quiet (Says turn)) t.0 t.1 fair help
+  deed-goes heads (Does did) quiet unoffered past fair t help = does-goes heads did (quiet (Does did)) unoffered past t help
+
+-- ---- a segment, and the timers
+
+-- the settings of the rules are the run's
+talk-of : (k : Setting) → k.stream ≤ 2 ^ 30 → (x : Conn) (env : FrontEnv) → IsFrontEnv k x.c env → (s : Station) (l : Talk) (pend : List Verdict) → IsOpen k.files x l pend s → env.iss ≡ s.iss → IsFrontTalk env l.w l.out l.vs
+talk-of k small x env is s l pend o iss = record {
+  most = subst (λ (n : ℕ). n ≤ 2 ^ 30) (sym is.stream) small;
+  begins = iss ∙ sym o.begins;
+  stream = subst IsStream (sym o.client.w_is) (speaks-stream s.client.send l.w.bytes o.client.speaks);
+  says = subst (λ (files : FilesAt). SaysAnswers files l.w l.out l.vs) (sym is.files) o.says;
+}
+
+module _ (k : Setting) (small : k.stream ≤ 2 ^ 30) (x : Conn) (s : Station) (there : x.part.station ≡ Some s) (env : FrontEnv) (is : IsFrontEnv k x.c env) (l : Talk) (pend : List Verdict) (o : IsOpen k.files x l pend s) where
+  -- for its own number and files
+  own-keeps : (d : Deed) → FrontDeedKeeps env.serve.files env.serve.c l.w l.out l.vs l.was_reset d → FrontDeedKeeps k.files x.c l.w l.out l.vs l.was_reset d
+  own-keeps d h = subst (λ (files : FilesAt). FrontDeedKeeps files x.c l.w l.out l.vs l.was_reset d) is.files (subst (λ (c : ℕ). FrontDeedKeeps env.serve.files c l.w l.out l.vs l.was_reset d) is.number h)
+
+  own-agrees : RowIsOurs x.part.front.row → FrontAgrees l.w l.out l.vs l.was_reset env.serve.c x.part.front
+  own-agrees ours = subst (λ (c : ℕ). FrontAgrees l.w l.out l.vs l.was_reset c x.part.front) (sym is.number) (seat-front l.w l.out l.vs pend l.was_reset x.c x.part x.part.front.row ours o.seat)
