@@ -1,6 +1,6 @@
 //! The machine of the whole cluster: its state, and one step of the whole as a function of the state and the event.
 //!
-//! It stands above the rules of the front end and of nodes. Nothing stands on it yet: the machine that runs is that of
+//! It stands above the rules of the front end and of nodes. `lard_cluster_world` follows it; the machine that runs is that of
 //! `lard_machine`, of one front end alone.
 #![tactic(auto)]
 

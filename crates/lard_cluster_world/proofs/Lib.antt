@@ -1,0 +1,5 @@
+pub mod Beginning
+pub mod Lent
+pub mod Numbered
+pub mod Runs
+pub mod Sound

@@ -1,0 +1,5 @@
+pub mod Acting
+pub mod Lent
+pub mod Sound
+pub mod World
+pub mod Runs

@@ -1,0 +1,40 @@
+-- What the code of the cluster relies on between two steps.
+use Rattle.std.specs.Prelude.{◌≡◌, ℕ, ◌*◌, ◌≤◌, ◌<◌, ◌^◌, length}
+use Rattle.std.specs.List.{AllByRecursion}
+use Rattle.lard_back.specs.Sound.{IsNodeSound}
+use Rattle.lard_base.specs.declared.config.Config.{Config}
+use Rattle.lard_base.specs.declared.limits.TheConstants.{MAX_PACKETS, MAX_RECORDS, MAX_RESPONSE_BYTES, MAX_STREAM_BYTES}
+use Rattle.lard_cluster.specs.declared.machine.Machine.{Machine}
+use Rattle.lard_dispatch.specs.Sound.{AreBefore}
+use Rattle.lard_front_rules.specs.Sound.{IsFrontSound}
+use Rattle.lard_node_rules.specs.declared.node.NodeState.{NodeState}
+
+-- no limit was reached
+pub record HasRoom (m : Machine) : Type 0 where
+  pub packets : length m.net < MAX_PACKETS
+  pub records : length m.journal < MAX_RECORDS
+  pub passed : m.events < MAX_RECORDS
+  pub queued : m.answered < MAX_RESPONSE_BYTES
+
+-- the numbers of the run that the code relies on
+pub record IsSet (c : Config) : Type 0 where
+  pub stream : c.stream ≤ MAX_STREAM_BYTES
+  pub nodes : c.nodes ≤ 64
+
+-- a node that its code can rely on, whose disk has at most so many jobs
+pub record IsNodeFit (most : ℕ) (s : NodeState) : Type 0 where
+  pub sound : IsNodeSound s
+  pub jobs : length s.disk ≤ most
+
+-- each place is one that its code can rely on; each event has a record, and moved the time by less than 2^32 milliseconds
+pub record IsSoundTo (most : ℕ) (m : Machine) : Type 0 where
+  pub front : IsFrontSound m.front
+  pub clock : AreBefore m.now m.front.dispatch.books.sets
+  pub count : length m.nodes ≡ m.config.nodes
+  pub nodes : AllByRecursion (IsNodeFit most) m.nodes
+  pub events : m.events ≤ length m.journal
+  pub time : m.now ≤ m.events * 2 ^ 32
+
+-- each job of a disk has a record, too
+abbrev pub IsSound : Machine → Type 0
+IsSound m = IsSoundTo (length m.journal) m

@@ -1,0 +1,188 @@
+//! The whole: a machine that takes its steps as long as memory suffices.
+
+ghost use Rattle.std.specs.Prelude.{◌≡◌, ◌∷◌, ◌++◌, [], false, replicate, Ok, IfOk, OnOk};
+ghost use Rattle.lard_base.specs.Config.{config_check};
+ghost use Rattle.lard_cluster.specs.Bounds.{HasRule};
+ghost use Rattle.lard_cluster.specs.Machine.{Steps, machine_step, start};
+ghost use Rattle.lard_cluster_world.specs.World.{is_short};
+ghost use Rattle.lard_node_rules.specs.NodePlace.{no_stays};
+
+use crate::steps;
+use lard_base::{Config, Event, NoMemory};
+use lard_cluster::{Machine, NodeList, StepFault};
+use lard_files::Files;
+use lard_journal::Journal;
+use lard_net::Net;
+use lard_rules::Station;
+use lard_table::Table;
+use std::alloc::Global;
+use std::marker::Model;
+
+/// The state of the whole. It holds endpoints, and so has to be spent, by `finish`.
+pub struct World {
+    machine: Machine,
+    spoiled: bool,
+}
+
+impl Model for World {
+    ghost use Rattle.std.specs.Prelude.{◌≡◌, false};
+    ghost use Rattle.lard_cluster_world.specs.Runs.{IsRun};
+    ghost use Rattle.lard_cluster_world.specs.World.{Standing, coded_standing};
+
+    ghost Value = { Standing };
+
+    ghost coded = { coded_standing };
+
+    ghost view = { λ w. record { machine = w.machine; spoiled = w.spoiled } };
+
+    // as long as memory sufficed, some events led to the machine, and its places are as they are to be
+    ghost invariant = { λ w. w.spoiled ≡ false → IsRun w.machine };
+}
+
+impl World {
+    /// Nobody has opened, and nothing was sent. The configuration passes its check.
+    pub fn new(alloc: Global, config: Config, files: Files) -> Result<World, NoMemory>
+        requires usable { config_check config ≡ Ok tt }
+        ensures machine { IfOk result (λ world. world.machine ≡ start config files) }
+        ensures usable { IfOk result (λ world. world.spoiled ≡ false) }
+    {
+        let front = lard_front_whole::place::begin(alloc, config)?;
+        match begin_nodes(alloc, config.nodes, config.cache) {
+            Ok(nodes) => {
+                return Ok(World {
+                    machine: Machine {
+                        config,
+                        files,
+                        clients: Table::new(alloc),
+                        front,
+                        nodes,
+                        net: Net::new(alloc),
+                        now: 0,
+                        answered: 0,
+                        events: 0,
+                        journal: Journal::new(alloc),
+                    },
+                    spoiled: false,
+                });
+            }
+            Err(fault) => {
+                lard_front_whole::place::finish(front);
+                return Err(fault);
+            }
+        }
+    }
+
+    /// Does the step of an event. After a fault, unless memory ran out, the world is as it was. If memory ran out it is
+    /// spoiled, and its journal is as it was.
+    pub fn step(&mut self, alloc: Global, event: Event) -> Result<(), StepFault>
+        requires usable { self.old.spoiled ≡ false }
+        requires ruled { HasRule event }
+        ensures step { Steps (machine_step self.old.machine event) self.old.machine self.new.machine result }
+        ensures spoiled { self.new.spoiled ≡ is_short result }
+    {
+        let done = steps::step(&mut self.machine, alloc, event);
+        self.spoiled = is_short(done);
+        done
+    }
+
+    /// What happened.
+    pub fn journal(&self) -> &Journal
+        ensures { result.now ≡ self.now.machine.journal }
+    {
+        &self.machine.journal
+    }
+
+    /// Whether memory ran out in a step.
+    pub fn spoiled(&self) -> bool
+        ensures { result ≡ self.now.spoiled }
+    {
+        self.spoiled
+    }
+
+    /// The numbers of the run.
+    pub fn config(&self) -> &Config
+        ensures { result.now ≡ self.now.machine.config }
+    {
+        &self.machine.config
+    }
+
+    /// The files of the run.
+    pub fn files(&self) -> &Files
+        ensures { result.now ≡ self.now.machine.files }
+    {
+        &self.machine.files
+    }
+
+    /// Spends the world, and keeps what happened.
+    pub fn finish(self) -> Journal
+        ensures { result ≡ self.machine.journal }
+    {
+        let World {
+            machine,
+            spoiled: _,
+        } = self;
+        let Machine {
+            config: _,
+            files: _,
+            clients,
+            front,
+            nodes,
+            net: _,
+            now: _,
+            answered: _,
+            events: _,
+            journal,
+        } = machine;
+        spend_clients(clients);
+        lard_front_whole::place::finish(front);
+        spend_nodes(nodes);
+        journal
+    }
+}
+
+/// Whether memory ran out.
+fn is_short(done: Result<(), StepFault>) -> bool
+    ensures { result ≡ is_short done }
+{
+    matches!(done, Err(StepFault::NoMemory))
+}
+
+/// So many nodes, each with a cache for so many bytes.
+fn begin_nodes(alloc: Global, count: u8, cache: u32) -> Result<NodeList, NoMemory>
+    ensures { IfOk result (λ nodes. nodes ≡ replicate count (no_stays cache)) }
+{
+    let mut nodes = NodeList::new(alloc);
+    for _made in 0..count {
+        if let Err(fault) = begin_node(&mut nodes, alloc, cache) {
+            spend_nodes(nodes);
+            return Err(fault);
+        }
+    }
+    Ok(nodes)
+}
+
+/// One node more.
+fn begin_node(nodes: &mut NodeList, alloc: Global, cache: u32) -> Result<(), NoMemory>
+    ensures { OnOk result (nodes.new ≡ nodes.old ++ no_stays cache ∷ []) }
+{
+    let node = lard_back::begin(alloc, cache)?;
+    match nodes.push(node) {
+        Ok(()) => return Ok(()),
+        Err(failed) => {
+            lard_back::finish(failed.value);
+            return Err(NoMemory);
+        }
+    }
+}
+
+fn spend_nodes(mut nodes: NodeList) {
+    while let Some(node) = nodes.pop() {
+        lard_back::finish(node);
+    }
+    nodes.destroy_empty();
+}
+
+fn spend_clients(mut clients: Table<Station>) {
+    while let Some(_station) = clients.pop() {}
+    clients.destroy_empty();
+}
