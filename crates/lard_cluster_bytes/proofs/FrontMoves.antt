@@ -2,6 +2,7 @@
 use Rattle.std.proofs.Common.{◌≡◌, ◌⊎◌, ◌≤◌, ◌<◌, ◌+◌, ◌||◌, ◌==◌, ◌^◌, ℕ, Bool, false, true, cond, List, [], ◌∷◌, ◌++◌, map, length, Option, Some, None, Ok, Err, Result, arith, refl, ap, ◌∙◌, sym, subst, inl, inr, ⊎_elim, eqb-true}
 use Rattle.std.specs.List.{AllByRecursion, list_any}
 use Rattle.lard_answers.specs.Answers.{FilesAt}
+use Rattle.lard_base.specs.declared.event.Event.TheVariants as event
 use Rattle.lard_base.specs.declared.ids.Epoch.{Epoch}
 use Rattle.lard_base.specs.declared.place.Place.{Place}
 use Rattle.lard_base.specs.declared.place.Place.TheVariants.{Client, Front, Node}
@@ -20,7 +21,11 @@ use Rattle.lard_cluster_view.specs.Carry.{tale_at}
 use Rattle.lard_cluster_view.specs.View.{AreSent, Conn, IsFrontEnv, Move, Part, Setting, Was, by_front, event_seen, front_does, grown, letter, letters_of, nothing_said, packet_seen, rows_of, stands, with_front}
 use Rattle.lard_cluster_view.proofs.Rows.{tale_before}
 use Rattle.lard_front_rules.specs.declared.front.FrontTurn.{FrontTurn}
-use Rattle.lard_front_rules.specs.Front.{Deed, Drops, Says, Does, Did, FrontEnv, FrontPart, front_gets, front_hears, front_timer, fired_by, fires_at, hears_at, message, rest_of, saying}
+use Rattle.lard_front_rules.specs.Front.{Deed, Did, Does, Drops, FrontEnv, FrontPart, Says, begun, fired_by, fires_at, forwarded, front_gets, front_hears, front_timer, hears_at, message, met, rest_of, saying, settled_by, turn_here}
+use Rattle.lard_front_rules.specs.declared.front.FrontRest.{FrontRest}
+use Rattle.lard_front_rules.specs.Reading.{Reading, reads}
+use Rattle.lard_endpoint.specs.Arriving.{on_segment}
+use Rattle.lard_rules.specs.Serving.{Service, serving}
 use Rattle.lard_handoff_front.specs.declared.row.FrontConn.{FrontConn}
 use Rattle.lard_handoff_front.specs.declared.row.FrontConn.TheVariants as stage
 use Rattle.lard_handoff_front.specs.declared.row.FrontRow.{FrontRow}
@@ -41,6 +46,8 @@ use Rattle.lard_request.specs.declared.verdict.Verdict.{Verdict}
 use Rattle.lard_resend.specs.declared.kept.Kept.{Kept}
 use Rattle.lard_resend.specs.Pending.{sent_of}
 use Rattle.lard_rules.specs.declared.places.Station.{Station}
+use Rattle.lard_rules.specs.Front.{is_plain_syn, last_words, tombstone}
+use Rattle.lard_segment.specs.declared.fault.SegFault.{SegFault}
 use Rattle.lard_segment.specs.declared.segment.Dir.TheVariants.{ToCluster}
 use Rattle.lard_segment.specs.Segment.{Said, decoded, spelled}
 use Rattle.lard_segment.proofs.Again.{again}
@@ -106,6 +113,12 @@ IsOurs (stage.Closed last) = Unit {0}
 abbrev pub RowIsOurs : Option FrontRow → Type 0
 RowIsOurs None = Unit {0}
 RowIsOurs (Some row) = IsOurs row.stage
+
+-- it is held here, or waits
+abbrev pub IsBefore : FrontConn → Type 0
+IsBefore (stage.Held b) = Unit {0}
+IsBefore (stage.Waiting b) = Unit {0}
+IsBefore _ = ⊥
 
 -- of what nobody else has no Offer is told
 ours-unoffered : (o : Option FrontRow) → RowIsOurs o → (n e : ℕ) → IsOffered n e o → ⊥
@@ -195,13 +208,14 @@ module _ (k : Setting) (small : k.stream ≤ 2 ^ 30) (x : Conn) (s : Station) (t
             (replies-fair after x.c v.part Front (inl refl) did.turn.segments t.sent) (all-say after x.c v.part did.turn.messages t.said);
       })
 
+  drops-goes : (heads : List Seen) → bytes_of (tale_before x (front_does x heads Drops)) ≡ bytes_of (tale_at x) → Helps x (front_does x heads Drops) → IsTruthful k.files (grown x (front_does x heads Drops))
+  drops-goes heads quiet help = move-goes k.files x s there l pend o (front_does x heads Drops) help
+      (record { heads = quiet; station = refl; offers = λ n e a b. refl; ends = λ n e over. inl refl })
+      (idle-goes k.files x s there l pend o (front_does x heads Drops) (record { each = tt; served = refl; size = refl; reset = refl; seat = o.seat; letters = tt }))
+
   deed-goes : (heads : List Seen) (d : Deed) → IsQuiet heads → ((n e : ℕ) → IsOffered n e x.part.front.row → ⊥) → ArePast 1 x.part.nodes → MessagesFair d
       → FrontDeedKeeps k.files x.c l.w l.out l.vs l.was_reset d → Helps x (front_does x heads d) → IsTruthful k.files (grown x (front_does x heads d))
-  deed-goes heads Drops quiet unoffered past fair t help = says-nothing help where
-    says-nothing : Helps x (stands x Front heads nothing_said) → IsTruthful k.files (grown x (stands x Front heads nothing_said))
-    says-nothing help = move-goes k.files x s there l pend o (stands x Front heads nothing_said) help
-        (record { heads = quiet Drops; station = refl; offers = λ n e a b. refl; ends = λ n e over. inl refl })
-        (idle-goes k.files x s there l pend o (stands x Front heads nothing_said) (record { each = tt; served = refl; size = refl; reset = refl; seat = o.seat; letters = tt }))
+  deed-goes heads Drops quiet unoffered past fair t help = drops-goes heads (quiet Drops) help
   deed-goes heads (Says turn) quiet unoffered past fair t help = says-goes heads turn (quiet (Says turn)) t.0 t.1 fair help
   deed-goes heads (Does did) quiet unoffered past fair t help = does-goes heads did (quiet (Does did)) unoffered past t help
 
@@ -223,3 +237,134 @@ module _ (k : Setting) (small : k.stream ≤ 2 ^ 30) (x : Conn) (s : Station) (t
 
   own-agrees : RowIsOurs x.part.front.row → FrontAgrees l.w l.out l.vs l.was_reset env.serve.c x.part.front
   own-agrees ours = subst (λ (c : ℕ). FrontAgrees l.w l.out l.vs l.was_reset c x.part.front) (sym is.number) (seat-front l.w l.out l.vs pend l.was_reset x.c x.part x.part.front.row ours o.seat)
+
+  -- what its Offer says was sent before
+  again-fair : (ks : List Kept) → AreSent x Front ks → Each (IsFair l x.c x.part) (map (letter Front) (map sent_of ks))
+  again-fair [] h = tt
+  again-fair (q ∷ ks) h = (has-fair (IsFair l x.c x.part) (record { from = Front; to = q.to; bytes = q.bytes }) x.letters h.0.1 o.fair, again-fair ks h.1)
+
+  -- where it is held, or waits, or nobody has it, no node has more than a stay that is over
+  home-past : (own : Owning) (row : FrontRow) (d : FrontConn) → row.stage ≡ d → IsBefore d → Sits own x.part.nodes (Some row) → ArePast 1 x.part.nodes
+  home-past own row (stage.Held b) at before sits = let h : StageSits row.epoch.0 own x.part.nodes (stage.Held b) = subst (StageSits row.epoch.0 own x.part.nodes) at sits.0 in subst (λ (e : ℕ). ArePast e x.part.nodes) h.0 h.1.1
+  home-past own row (stage.Waiting b) at before sits = let h : StageSits row.epoch.0 own x.part.nodes (stage.Waiting b) = subst (StageSits row.epoch.0 own x.part.nodes) at sits.0 in subst (λ (e : ℕ). ArePast e x.part.nodes) h.0 h.1.1
+  home-past own row _ at before sits = absurd before
+
+  module _ (bytes : List ℕ) (sd : Said) (is_spelled : bytes ≡ spelled x.c ToCluster sd) (word : IsWord l.w sd) (talk : IsFrontTalk env l.w l.out l.vs) (heads : List Seen) (quiet : IsQuiet k small x s there l pend o heads) where
+    abbrev p : FrontPart
+    p = x.part.front
+
+    abbrev Goes : Deed → Type 0
+    Goes d = Helps x (front_does x heads d) → IsTruthful k.files (grown x (front_does x heads d))
+
+    placed-fair : (row : FrontRow) (rest : FrontRest) (w : Service) (target : Option (List ℕ)) → MessagesFair k small x s there l pend o (settled_by env p row rest w target)
+    placed-fair row rest w None = tt
+    placed-fair row rest w (Some path) = tt
+
+    -- what front-hears says, where the connection is in this stage
+    stage-keeps : (row : FrontRow) (d : FrontConn) → p.row ≡ Some row → row.stage ≡ d → IsOurs d → FrontDeedKeeps k.files x.c l.w l.out l.vs l.was_reset (hears_at env p row bytes sd d)
+    stage-keeps row d found at ours =
+        let mine : RowIsOurs p.row = subst RowIsOurs (sym found) (subst IsOurs (sym at) ours) in
+        let all = front-hears env l.w l.out l.vs l.was_reset p bytes sd talk (own-agrees mine) word in
+        own-keeps (hears_at env p row bytes sd d)
+        (subst (λ (e : FrontConn). FrontDeedKeeps env.serve.files env.serve.c l.w l.out l.vs l.was_reset (hears_at env p row bytes sd e)) at
+        (subst (λ (r : Option FrontRow). FrontDeedKeeps env.serve.files env.serve.c l.w l.out l.vs l.was_reset (front_hears env p bytes sd r)) found all))
+
+    unoffered : (row : FrontRow) (d : FrontConn) → p.row ≡ Some row → row.stage ≡ d → IsOurs d → (n e : ℕ) → IsOffered n e p.row → ⊥
+    unoffered row d found at ours = ours-unoffered p.row (subst RowIsOurs (sym found) (subst IsOurs (sym at) ours))
+
+    at-home : (row : FrontRow) (d : FrontConn) → p.row ≡ Some row → row.stage ≡ d → IsBefore d → IsOurs d → MessagesFair k small x s there l pend o (hears_at env p row bytes sd d) → Goes (hears_at env p row bytes sd d)
+    at-home row d found at before ours fair help =
+        deed-goes k small x s there l pend o heads (hears_at env p row bytes sd d) quiet (unoffered row d found at ours)
+        (home-past (owning (tale_at x)) row d at before (subst (Sits (owning (tale_at x)) x.part.nodes) found help.placed.sits)) fair (stage-keeps row d found at ours) help
+
+    no-words : (w : Option Said) → Each (IsFair l x.c x.part) (map (letter Front) (turn_here (tombstone env.serve w)).messages)
+    no-words w = tt
+
+    forwards : (n : ℕ) (d : Epoch) → Goes (forwarded env n d bytes)
+    forwards n d help = says-goes k small x s there l pend o heads (saying ((Node n, message env.serve.c d.0 (body.Forward bytes)) ∷ [])) (quiet (forwarded env n d bytes)) refl tt
+        (subst (λ (c : ℕ). IsFair l x.c x.part (letter Front (Node n, message c d.0 (body.Forward bytes)))) (sym is.number) (forward-fair l x.c x.part n d.0 bytes sd is_spelled word), tt) help
+
+    hears-stage : (row : FrontRow) (d : FrontConn) → p.row ≡ Some row → row.stage ≡ d → Goes (hears_at env p row bytes sd d)
+    hears-stage row (stage.Held b) found at help = let y : Reading = reads env.serve (record { service = serving (on_segment b sd).1 (rest_of p.rest).count []; target = None }) in at-home row (stage.Held b) found at tt tt (placed-fair row (rest_of p.rest) y.service y.target) help
+    hears-stage row (stage.Waiting b) found at help = at-home row (stage.Waiting b) found at tt tt tt help
+    hears-stage row stage.Lent found at help = drops-goes k small x s there l pend o heads (quiet Drops) help
+    hears-stage row (stage.Offering n d) found at help = forwards n d help
+    hears-stage row (stage.Moved n d) found at help = forwards n d help
+    hears-stage row (stage.Closed last) found at help =
+        let t = stage-keeps row (stage.Closed last) found at tt in
+        says-goes k small x s there l pend o heads (turn_here (tombstone env.serve (last_words last.reason last sd))) (quiet (hears_at env p row bytes sd (stage.Closed last))) t.0 t.1 (no-words (last_words last.reason last sd)) help
+
+    -- nobody has it yet
+    begins-here : p.row ≡ None → Goes (met env p sd)
+    begins-here found help =
+        let mine : RowIsOurs p.row = subst RowIsOurs (sym found) tt in
+        let all = front-hears env l.w l.out l.vs l.was_reset p bytes sd talk (own-agrees mine) word in
+        let sits : Sits (owning (tale_at x)) x.part.nodes None = subst (Sits (owning (tale_at x)) x.part.nodes) found help.placed.sits in
+        deed-goes k small x s there l pend o heads (met env p sd) quiet (ours-unoffered p.row mine) (λ n. past-later 0 1 (x.part.nodes n).row (omega arith) (sits.1 n)) (met-fair (is_plain_syn sd) refl)
+        (own-keeps (met env p sd) (subst (λ (r : Option FrontRow). FrontDeedKeeps env.serve.files env.serve.c l.w l.out l.vs l.was_reset (front_hears env p bytes sd r)) found all)) help where
+          met-fair : (b : Bool) → is_plain_syn sd ≡ b → MessagesFair k small x s there l pend o (cond b (begun env p sd) Drops)
+          met-fair true e = tt
+          met-fair false e = tt
+
+    hears-row : (row : Option FrontRow) → p.row ≡ row → Goes (front_hears env p bytes sd row)
+    hears-row None found help = begins-here found help
+    hears-row (Some row) found help = hears-stage row row.stage found refl help
+
+  -- its timers fire
+  module _ (talk : IsFrontTalk env l.w l.out l.vs) (heads : List Seen) (quiet : IsQuiet k small x s there l pend o heads) where
+    abbrev q : FrontPart
+    q = x.part.front
+
+    abbrev Fires : Deed → Type 0
+    Fires d = Helps x (front_does x heads d) → IsTruthful k.files (grown x (front_does x heads d))
+
+    fires-home : (row : FrontRow) (d : FrontConn) → q.row ≡ Some row → row.stage ≡ d → IsBefore d → IsOurs d → MessagesFair k small x s there l pend o (fires_at env q row d) → Fires (fires_at env q row d)
+    fires-home row d found at before ours fair help =
+        let mine : RowIsOurs q.row = subst RowIsOurs (sym found) (subst IsOurs (sym at) ours) in
+        let all = timer-keeps env l.w l.out l.vs l.was_reset q talk (own-agrees mine) in
+        deed-goes k small x s there l pend o heads (fires_at env q row d) quiet (ours-unoffered q.row mine)
+        (home-past (owning (tale_at x)) row d at before (subst (Sits (owning (tale_at x)) x.part.nodes) found help.placed.sits)) fair
+        (own-keeps (fires_at env q row d)
+        (subst (λ (e : FrontConn). FrontDeedKeeps env.serve.files env.serve.c l.w l.out l.vs l.was_reset (fires_at env q row e)) at
+        (subst (λ (r : Option FrontRow). FrontDeedKeeps env.serve.files env.serve.c l.w l.out l.vs l.was_reset (fired_by env q r)) found all))) help
+
+    fires-stage : (row : FrontRow) (d : FrontConn) → q.row ≡ Some row → row.stage ≡ d → Fires (fires_at env q row d)
+    fires-stage row (stage.Held b) found at help = fires-home row (stage.Held b) found at tt tt tt help
+    fires-stage row (stage.Waiting b) found at help = fires-home row (stage.Waiting b) found at tt tt tt help
+    fires-stage row stage.Lent found at help = drops-goes k small x s there l pend o heads (quiet Drops) help
+    fires-stage row (stage.Offering n d) found at help =
+        says-goes k small x s there l pend o heads (saying (map sent_of q.kept)) (quiet (Says (saying (map sent_of q.kept)))) refl tt (again-fair q.kept help.sound.front) help
+    fires-stage row (stage.Moved n d) found at help = drops-goes k small x s there l pend o heads (quiet Drops) help
+    fires-stage row (stage.Closed last) found at help = drops-goes k small x s there l pend o heads (quiet Drops) help
+
+    fires-row : (row : Option FrontRow) → q.row ≡ row → Fires (fired_by env q row)
+    fires-row None found help = drops-goes k small x s there l pend o heads (quiet Drops) help
+    fires-row (Some row) found help = fires-stage row row.stage found refl help
+
+-- ---- two rules
+
+module _ (k : Setting) (small : k.stream ≤ 2 ^ 30) where
+  pub front-fires-mine : (x : Conn) (s : Station) (env : FrontEnv) → x.part.station ≡ Some s → IsFrontEnv k x.c env → Mine k x (front_does x (event_seen (event.Timer Front x.c)) (front_timer env x.part.front))
+  front-fires-mine x s env there is help h =
+      let o = open-at k.files x s there h in
+      let same : FrontEnv = record env { iss = s.iss } in
+      let mine : IsFrontEnv k x.c same = record { place = is.place; number = is.number; files = is.files; stream = is.stream } in
+      fires-row k small x s there same mine h.talk h.pend o (talk-of k small x same mine s h.talk h.pend o refl) (event_seen (event.Timer Front x.c)) (λ d. quiet-at d) x.part.front.row refl help where
+        quiet-at : (d : Deed) → bytes_of (tale_before x (front_does x (event_seen (event.Timer Front x.c)) d)) ≡ bytes_of (tale_at x)
+        quiet-at Drops = refl
+        quiet-at (Says turn) = refl
+        quiet-at (Does did) = refl
+
+  pub front-hears-mine : (x : Conn) (s : Station) (env : FrontEnv) (bytes : List ℕ) → x.part.station ≡ Some s → IsFrontEnv k x.c env → env.iss ≡ s.iss → Was x (Client x.c) Front bytes
+      → Mine k x (front_does x (packet_seen (Client x.c) Front bytes) (front_gets env x.part.front bytes (decoded bytes x.c ToCluster)))
+  front-hears-mine x s env bytes there is iss was help h =
+      let o = open-at k.files x s there h in
+      let f : IsFairOn h.talk x.c x.part (Client x.c) Front bytes = has-fair (IsFair h.talk x.c x.part) (record { from = Client x.c; to = Front; bytes = bytes }) x.letters was o.fair in
+      let heads : List Seen = packet_seen (Client x.c) Front bytes in
+      let same : decoded bytes x.c ToCluster ≡ Ok f.0 = ap (λ (b : List ℕ). decoded b x.c ToCluster) f.1 ∙ again x.c ToCluster f.0 f.2.sendable in
+      subst (λ (r : Result Said SegFault). Helps x (front_does x heads (front_gets env x.part.front bytes r)) → IsTruthful k.files (grown x (front_does x heads (front_gets env x.part.front bytes r)))) (sym same)
+      (hears-row k small x s there env is h.talk h.pend o bytes f.0 f.1 f.2 (talk-of k small x env is s h.talk h.pend o iss) heads (λ d. quiet-at d) x.part.front.row refl) help where
+        quiet-at : (d : Deed) → bytes_of (tale_before x (front_does x (packet_seen (Client x.c) Front bytes) d)) ≡ bytes_of (tale_at x)
+        quiet-at Drops = refl
+        quiet-at (Says turn) = refl
+        quiet-at (Does did) = refl
