@@ -7,9 +7,9 @@ use Rattle.lard_base.specs.declared.place.Place.TheVariants.{Client, Front, Node
 use Rattle.lard_client.specs.Control.{ClientBlock, written_len}
 use Rattle.lard_cluster.specs.Bounds.{HasRule}
 use Rattle.lard_cluster_bytes.specs.Agreement.{ConnAgrees, IsFair, IsFairOn, IsInner, IsNode, IsOpen, IsTruthful, IsUnopened, SeatAgrees, TaleAgrees}
+use Rattle.lard_cluster_bytes.specs.Law.{Helps, Mine}
 use Rattle.lard_cluster_bytes.proofs.Fair.{GoesOnFairly, all-on}
 use Rattle.lard_cluster_bytes.proofs.Later.{said-stays, seat-stays}
-use Rattle.lard_cluster_bytes.proofs.Moves.{Helps}
 use Rattle.lard_cluster_bytes.proofs.Told.{Bytes, bytes_of, move-bytes, tale-agrees}
 use Rattle.lard_cluster_view.specs.Carry.{tale_at}
 use Rattle.lard_cluster_view.specs.View.{AreBetween, ClientRules, Conn, GoesBetween, IsSound, Move, Setting, Was, client_begins, client_does, event_seen, grown, letter, letters_of, packet_seen}
@@ -32,10 +32,6 @@ use Rattle.lard_segment.specs.Segment.{Said, decoded, spelled}
 use Rattle.lard_segment.proofs.Again.{again}
 use Rattle.lard_truth.specs.Truth.{Stream}
 use Rattle.lard_truth.proofs.Growth.{goes_on-same}
-
--- what its rules leave in agreement
-abbrev pub Mine : Setting → Conn → Move → Type 0
-Mine k x v = Helps x v → IsTruthful k.files x → IsTruthful k.files (grown x v)
 
 pub open-at : (files : FilesAt) (x : Conn) (s : Station) → x.part.station ≡ Some s → (h : IsTruthful files x) → IsOpen files x h.talk h.pend s
 open-at files x s there h = subst (ConnAgrees files x h.talk h.pend) there h.agrees

@@ -1,24 +1,24 @@
 -- What the front end does leaves its connection in agreement.
-use Rattle.std.proofs.Common.{◌≡◌, ◌⊎◌, ◌≤◌, ◌<◌, ◌+◌, ◌||◌, ◌==◌, ◌^◌, ℕ, Bool, false, true, cond, List, [], ◌∷◌, ◌++◌, map, length, Option, Some, None, Ok, Err, Result, arith, refl, ap, ◌∙◌, sym, subst, inl, inr, ⊎_elim, eqb-true}
-use Rattle.std.specs.List.{AllByRecursion, list_any}
+use Rattle.std.proofs.Common.{◌≡◌, ◌≤◌, ◌||◌, ◌^◌, ℕ, Bool, false, true, cond, List, [], ◌∷◌, map, Option, Some, None, Ok, Result, arith, refl, ap, ◌∙◌, sym, subst, inl, inr}
+use Rattle.std.specs.List.{list_any}
 use Rattle.lard_answers.specs.Answers.{FilesAt}
 use Rattle.lard_base.specs.declared.event.Event.TheVariants as event
 use Rattle.lard_base.specs.declared.ids.Epoch.{Epoch}
 use Rattle.lard_base.specs.declared.place.Place.{Place}
 use Rattle.lard_base.specs.declared.place.Place.TheVariants.{Client, Front, Node}
-use Rattle.lard_cluster_bytes.specs.Agreement.{AwayAgrees, ConnAgrees, FrontHolds, FrontTells, IsFair, IsFairOn, IsKept, IsOpen, IsTruthful, SeatAgrees, StageAgrees}
+use Rattle.lard_cluster_bytes.specs.Agreement.{FrontHolds, FrontTells, IsFair, IsFairOn, IsOpen, IsTruthful, SeatAgrees, StageAgrees}
 use Rattle.lard_cluster_bytes.specs.Keeping.{FrontAgrees, FrontDeedKeeps, FrontRowAgrees, FrontSays, FrontStageAgrees, FrontTurned, IsFrontTalk, SaysOfKind}
-use Rattle.lard_cluster_bytes.specs.Turning.{Counts}
-use Rattle.lard_cluster_bytes.proofs.ClientMoves.{Mine, has-fair, open-at}
+use Rattle.lard_cluster_bytes.specs.Law.{Helps, Mine}
+use Rattle.lard_cluster_bytes.proofs.ClientMoves.{has-fair, open-at}
 use Rattle.lard_cluster_bytes.proofs.Fronts.{front-hears, timer-keeps}
 use Rattle.lard_cluster_bytes.proofs.Messages.{forwards-read}
-use Rattle.lard_cluster_bytes.proofs.Moves.{Frame, Helps, Idle, TurnGoes, idle-goes, move-goes, replies-fair, talk_after}
+use Rattle.lard_cluster_bytes.proofs.Moves.{idle-goes, move-goes, replies-fair, talk_after}
 use Rattle.lard_cluster_bytes.proofs.Told.{bytes_of}
-use Rattle.lard_cluster_places.specs.Places.{ArePast, EndedBefore, Head, IsComing, IsOffered, IsPast, IsThere, Offers, Owning, Sits, StageSits, owning}
+use Rattle.lard_cluster_places.specs.Places.{ArePast, Head, IsOffered, Offers, Owning, Sits, StageSits, owning}
 use Rattle.lard_cluster_places.proofs.Growing.{past-later}
 use Rattle.lard_cluster_places.proofs.Heads.{decoded-head, spelled-some}
 use Rattle.lard_cluster_view.specs.Carry.{tale_at}
-use Rattle.lard_cluster_view.specs.View.{AreSent, Conn, IsFrontEnv, Move, Part, Setting, Was, by_front, event_seen, front_does, grown, letter, letters_of, nothing_said, packet_seen, rows_of, stands, with_front}
+use Rattle.lard_cluster_view.specs.View.{AreSent, Conn, IsFrontEnv, Move, Part, Setting, Was, event_seen, front_does, grown, letter, packet_seen}
 use Rattle.lard_cluster_view.proofs.Rows.{tale_before}
 use Rattle.lard_front_rules.specs.declared.front.FrontTurn.{FrontTurn}
 use Rattle.lard_front_rules.specs.Front.{Deed, Did, Does, Drops, FrontEnv, FrontPart, Says, begun, fired_by, fires_at, forwarded, front_gets, front_hears, front_timer, hears_at, message, met, rest_of, saying, settled_by, turn_here}
@@ -29,7 +29,7 @@ use Rattle.lard_rules.specs.Serving.{Service, serving}
 use Rattle.lard_handoff_front.specs.declared.row.FrontConn.{FrontConn}
 use Rattle.lard_handoff_front.specs.declared.row.FrontConn.TheVariants as stage
 use Rattle.lard_handoff_front.specs.declared.row.FrontRow.{FrontRow}
-use Rattle.lard_history.specs.Own.{Has, Letter, Seen}
+use Rattle.lard_history.specs.Own.{Seen}
 use Rattle.lard_history.proofs.Each.{Each, Each-append}
 use Rattle.lard_laws_bytes.specs.Agreement.{AreReplies, IsWord, SaysAnswers}
 use Rattle.lard_laws_bytes.specs.Keeping.{resets, served_in, size_in}
@@ -40,8 +40,7 @@ use Rattle.lard_message.specs.declared.message.Body.{Body}
 use Rattle.lard_message.specs.declared.message.Body.TheVariants as body
 use Rattle.lard_message.specs.declared.message.Message.{Message}
 use Rattle.lard_message.specs.Message.{kind_of, spelled_message}
-use Rattle.lard_message.specs.Reading.{decoded_message, epoch_at}
-use Rattle.lard_node_rules.specs.Node.{NodePart}
+use Rattle.lard_message.specs.Reading.{decoded_message}
 use Rattle.lard_request.specs.declared.verdict.Verdict.{Verdict}
 use Rattle.lard_resend.specs.declared.kept.Kept.{Kept}
 use Rattle.lard_resend.specs.Pending.{sent_of}
@@ -52,7 +51,6 @@ use Rattle.lard_segment.specs.declared.segment.Dir.TheVariants.{ToCluster}
 use Rattle.lard_segment.specs.Segment.{Said, decoded, spelled}
 use Rattle.lard_segment.proofs.Again.{again}
 use Rattle.lard_truth.specs.Truth.{IsStream, Stream}
-use Rattle.lard_truth.proofs.Growth.{goes_on-same}
 use Rattle.lard_truth.proofs.Speaking.{speaks-stream}
 
 -- ---- messages of the front end

@@ -4,16 +4,14 @@ use Rattle.std.specs.List.{list_any}
 use Rattle.lard_answers.specs.Answers.{FilesAt}
 use Rattle.lard_base.specs.declared.place.Place.{Place}
 use Rattle.lard_base.specs.declared.place.Place.TheVariants.{Front, Node}
-use Rattle.lard_cluster.specs.Bounds.{IsNumber}
 use Rattle.lard_cluster_bytes.specs.Agreement.{ConnAgrees, IsFair, IsOpen, IsTruthful, SeatAgrees}
+use Rattle.lard_cluster_bytes.specs.Law.{Helps}
 use Rattle.lard_cluster_bytes.specs.Turning.{Counts, IsNoteOf}
 use Rattle.lard_cluster_bytes.proofs.Fair.{GoesOnFairly, all-on}
 use Rattle.lard_cluster_bytes.proofs.Told.{bytes_of, move-bytes, place-notes, served-tale, tale-agrees}
 use Rattle.lard_cluster_places.specs.Places.{HasEnded, IsOffered, IsOver}
-use Rattle.lard_cluster_places.proofs.Turns.{IsPlaced, Owes}
 use Rattle.lard_cluster_view.specs.Carry.{tale_at}
-use Rattle.lard_cluster_view.specs.View.{Conn, IsSound, Move, Part, grown, letter, letters_of}
-use Rattle.lard_cluster_view.proofs.Fine.{IsItsOwn}
+use Rattle.lard_cluster_view.specs.View.{Conn, Move, Part, grown, letter, letters_of}
 use Rattle.lard_cluster_view.proofs.Rows.{tale_before}
 use Rattle.lard_history.specs.Journal.{told_on}
 use Rattle.lard_history.proofs.Each.{Each, Each-append}
@@ -25,14 +23,6 @@ use Rattle.lard_request.specs.declared.verdict.Verdict.{Verdict}
 use Rattle.lard_rules.specs.declared.places.Station.{Station}
 use Rattle.lard_truth.specs.Truth.{GoesOn, Stream}
 use Rattle.lard_truth.proofs.Growth.{accepted-grown, front-take, goes_on-same}
-
--- what is known of a connection and of its move beside the bytes
-pub record Helps (x : Conn) (v : Move) : Type 0 where
-  pub number : IsNumber x.c
-  pub sound : IsSound x
-  pub placed : IsPlaced x
-  pub owes : Owes x v
-  pub own : IsItsOwn x v
 
 -- ---- packets that go out
 
