@@ -119,7 +119,7 @@ IsBefore (stage.Waiting b) = Unit {0}
 IsBefore _ = ⊥
 
 -- of what nobody else has no Offer is told
-ours-unoffered : (o : Option FrontRow) → RowIsOurs o → (n e : ℕ) → IsOffered n e o → ⊥
+pub ours-unoffered : (o : Option FrontRow) → RowIsOurs o → (n e : ℕ) → IsOffered n e o → ⊥
 ours-unoffered None h n e f = f
 ours-unoffered (Some row) h n e f = go row.stage h f where
   go : (d : FrontConn) → IsOurs d → Offers n e d → ⊥
@@ -206,7 +206,7 @@ module _ (k : Setting) (small : k.stream ≤ 2 ^ 30) (x : Conn) (s : Station) (t
             (replies-fair after x.c v.part Front (inl refl) did.turn.segments t.sent) (all-say after x.c v.part did.turn.messages t.said);
       })
 
-  drops-goes : (heads : List Seen) → bytes_of (tale_before x (front_does x heads Drops)) ≡ bytes_of (tale_at x) → Helps x (front_does x heads Drops) → IsTruthful k.files (grown x (front_does x heads Drops))
+  pub drops-goes : (heads : List Seen) → bytes_of (tale_before x (front_does x heads Drops)) ≡ bytes_of (tale_at x) → Helps x (front_does x heads Drops) → IsTruthful k.files (grown x (front_does x heads Drops))
   drops-goes heads quiet help = move-goes k.files x s there l pend o (front_does x heads Drops) help
       (record { heads = quiet; station = refl; offers = λ n e a b. refl; ends = λ n e over. inl refl })
       (idle-goes k.files x s there l pend o (front_does x heads Drops) (record { each = tt; served = refl; size = refl; reset = refl; seat = o.seat; letters = tt }))
@@ -220,7 +220,7 @@ module _ (k : Setting) (small : k.stream ≤ 2 ^ 30) (x : Conn) (s : Station) (t
 -- ---- a segment, and the timers
 
 -- the settings of the rules are the run's
-talk-of : (k : Setting) → k.stream ≤ 2 ^ 30 → (x : Conn) (env : FrontEnv) → IsFrontEnv k x.c env → (s : Station) (l : Talk) (pend : List Verdict) → IsOpen k.files x l pend s → env.iss ≡ s.iss → IsFrontTalk env l.w l.out l.vs
+pub talk-of : (k : Setting) → k.stream ≤ 2 ^ 30 → (x : Conn) (env : FrontEnv) → IsFrontEnv k x.c env → (s : Station) (l : Talk) (pend : List Verdict) → IsOpen k.files x l pend s → env.iss ≡ s.iss → IsFrontTalk env l.w l.out l.vs
 talk-of k small x env is s l pend o iss = record {
   most = subst (λ (n : ℕ). n ≤ 2 ^ 30) (sym is.stream) small;
   begins = iss ∙ sym o.begins;
@@ -242,7 +242,7 @@ module _ (k : Setting) (small : k.stream ≤ 2 ^ 30) (x : Conn) (s : Station) (t
   again-fair (q ∷ ks) h = (has-fair (IsFair l x.c x.part) (record { from = Front; to = q.to; bytes = q.bytes }) x.letters h.0.1 o.fair, again-fair ks h.1)
 
   -- where it is held, or waits, or nobody has it, no node has more than a stay that is over
-  home-past : (own : Owning) (row : FrontRow) (d : FrontConn) → row.stage ≡ d → IsBefore d → Sits own x.part.nodes (Some row) → ArePast 1 x.part.nodes
+  pub home-past : (own : Owning) (row : FrontRow) (d : FrontConn) → row.stage ≡ d → IsBefore d → Sits own x.part.nodes (Some row) → ArePast 1 x.part.nodes
   home-past own row (stage.Held b) at before sits = let h : StageSits row.epoch.0 own x.part.nodes (stage.Held b) = subst (StageSits row.epoch.0 own x.part.nodes) at sits.0 in subst (λ (e : ℕ). ArePast e x.part.nodes) h.0 h.1.1
   home-past own row (stage.Waiting b) at before sits = let h : StageSits row.epoch.0 own x.part.nodes (stage.Waiting b) = subst (StageSits row.epoch.0 own x.part.nodes) at sits.0 in subst (λ (e : ℕ). ArePast e x.part.nodes) h.0 h.1.1
   home-past own row _ at before sits = absurd before

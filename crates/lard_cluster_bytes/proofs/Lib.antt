@@ -14,3 +14,4 @@ pub mod Told
 pub mod Moves
 pub mod ClientMoves
 pub mod FrontMoves
+pub mod FrontMessages
