@@ -44,10 +44,10 @@ opened-at files x h not = go x.part.station refl h.agrees where
   go (Some s) e u = (s, e)
 
 -- of one that did not, nothing comes to the front end
-node-opens : (x : Conn) (n : ℕ) (bytes : List ℕ) → Was x (Node n) Front bytes → IsUnopened x → ⊥
+pub node-opens : (x : Conn) (n : ℕ) (bytes : List ℕ) → Was x (Node n) Front bytes → IsUnopened x → ⊥
 node-opens x n bytes was u = (has-fair IsInner (record { from = Node n; to = Front; bytes = bytes }) x.letters was u.inner).1
 
-past-undecided : (e : ℕ) (o : Option BackRow) → IsPast e o → IsDecided e o → ⊥
+pub past-undecided : (e : ℕ) (o : Option BackRow) → IsPast e o → IsDecided e o → ⊥
 past-undecided e None past h = h
 past-undecided e (Some row) past h = omega (arith, past.0, h)
 

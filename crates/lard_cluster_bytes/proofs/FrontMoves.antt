@@ -171,7 +171,7 @@ module _ (k : Setting) (small : k.stream ≤ 2 ^ 30) (x : Conn) (s : Station) (t
   abbrev IsQuiet : List Seen → Type 0
   IsQuiet heads = (d : Deed) → bytes_of (tale_before x (front_does x heads d)) ≡ bytes_of (tale_at x)
 
-  says-goes : (heads : List Seen) (turn : FrontTurn) → bytes_of (tale_before x (front_does x heads (Says turn))) ≡ bytes_of (tale_at x) → turn.notes ≡ [] → AreReplies x.c l.w l.out l.was_reset turn.segments
+  pub says-goes : (heads : List Seen) (turn : FrontTurn) → bytes_of (tale_before x (front_does x heads (Says turn))) ≡ bytes_of (tale_at x) → turn.notes ≡ [] → AreReplies x.c l.w l.out l.was_reset turn.segments
       → Each (IsFair l x.c x.part) (map (letter Front) turn.messages) → Helps x (front_does x heads (Says turn)) → IsTruthful k.files (grown x (front_does x heads (Says turn)))
   says-goes heads turn quiet none replies fair help =
       let v : Move = front_does x heads (Says turn) in

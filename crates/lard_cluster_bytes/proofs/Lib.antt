@@ -15,3 +15,4 @@ pub mod Moves
 pub mod ClientMoves
 pub mod FrontMoves
 pub mod FrontMessages
+pub mod FrontEnds
