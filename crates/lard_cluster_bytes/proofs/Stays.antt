@@ -1,5 +1,5 @@
 -- The rules of a node keep the agreement of a connection that it has.
-use Rattle.std.proofs.Common.{◌≡◌, ◌-◌, ◌||◌, ◌==◌, ℕ, Bool, true, false, List, [], ◌∷◌, Option, Some, None, Ok, arith, refl, subst, inr}
+use Rattle.std.proofs.Common.{Bool, List, None, Ok, Option, Some, [], ap, append-nil, append_assoc, arith, false, inl, inr, refl, subst, sym, true, ℕ, ◌++◌, ◌-◌, ◌==◌, ◌||◌, ◌∙◌, ◌∷◌, ◌≡◌, ◌⊎◌}
 use Rattle.std.specs.List.{find, list_any}
 use Rattle.std.proofs.lemmas.Bool.{cond_both}
 use Rattle.lard_base.specs.declared.limits.TheConstants.{RECEIVE_WINDOW}
@@ -8,7 +8,7 @@ use Rattle.lard_base.specs.declared.place.Place.{Place}
 use Rattle.lard_base.specs.declared.place.Place.TheVariants as place
 use Rattle.lard_base.specs.declared.place.TimerKind.TheVariants as kind
 use Rattle.lard_cluster_bytes.specs.Agreement.{BackAgrees, EndAgrees, FrontHolds, HoldsIt, NodeAgrees, RowAgrees, StayAgrees}
-use Rattle.lard_cluster_bytes.specs.Keeping.{ContentsKeep, DeedKeeps, IsTalk, NodeHearsTruth, NodeTimerKeeps, NodeTurned, OffersKeep, ReadsKeep, TagsKeep}
+use Rattle.lard_cluster_bytes.specs.Keeping.{ContentsKeep, DeedKeeps, IsTalk, NodeHearsTruth, NodeTimerKeeps, NodeSays, NodeTurned, OffersKeep, ReadsKeep, TagsKeep}
 use Rattle.lard_cluster_bytes.specs.Turning.{EndTurned}
 use Rattle.lard_cluster_bytes.proofs.Ending.{settled-ends}
 use Rattle.lard_cluster_bytes.proofs.Holding.{begins-so, fired-ends, heard-so, same-so}
@@ -31,8 +31,13 @@ use Rattle.lard_lateral.specs.Lateral.{is_from}
 use Rattle.lard_laws_bytes.specs.Agreement.{IsWord, SaysAnswers}
 use Rattle.lard_laws_bytes.specs.Keeping.{resets}
 use Rattle.lard_node_rules.specs.declared.node.NodeTurn.{NodeTurn}
+use Rattle.lard_node_rules.specs.declared.stay.Asked.{Asked}
 use Rattle.lard_node_rules.specs.declared.stay.Stay.{Stay}
-use Rattle.lard_node_rules.specs.Node.{Deed, Drops, NodePart, again_sent, begins, both_of, come_by, fired, fired_by, heard_by, here, is_awaited, kept_after, node_offered, offered_by, read_by, rests, tagged_by, taken_sent, turn_by, with_work, work_of}
+use Rattle.lard_node_rules.specs.declared.stay.Want.{Want}
+use Rattle.lard_message.specs.declared.message.Body.TheVariants as body
+use Rattle.lard_history.proofs.Each.{Each, Each-append}
+use Rattle.lard_cluster_places.specs.Places.{IsDecided}
+use Rattle.lard_node_rules.specs.Node.{Deed, Drops, NodePart, again_sent, asked_sent, begins, both_of, come_by, ended_sent, fired, fired_by, heard_by, here, is_awaited, kept_after, node_offered, offered_by, read_by, rests, tagged_by, taken_sent, turn_by, wants_sent, with_work, work_of}
 use Rattle.lard_node_rules.specs.Node as node
 use Rattle.lard_node_rules.specs.Stay.{NodeEnv, Work, came_for, come_progress, goes_on, read_progress, reads_batch, tagged}
 use Rattle.lard_recv.specs.Recv.{restored}
@@ -48,11 +53,11 @@ use Rattle.lard_send.specs.Send.{resumed}
 use Rattle.lard_truth.specs.Truth.{Stream}
 
 module _ (env : NodeEnv) (w out : Stream) (vs : List Verdict) (was_reset : Bool) where
-  abbrev Turns : NodePart × NodeTurn → Type 0
-  Turns given = NodeTurned env.serve.files env.serve.c w out vs was_reset given
+  abbrev Turns : NodePart → NodePart × NodeTurn → Type 0
+  Turns p given = NodeTurned env.serve.files env.serve.c env.epoch p w out vs was_reset given
 
-  abbrev Keeps : Deed → Type 0
-  Keeps d = DeedKeeps env.serve.files env.serve.c w out vs was_reset d
+  abbrev Keeps : NodePart → Deed → Type 0
+  Keeps p d = DeedKeeps env.serve.files env.serve.c env.epoch p w out vs was_reset d
 
   -- ---- the end of a turn
 
@@ -61,9 +66,43 @@ module _ (env : NodeEnv) (w out : Stream) (vs : List Verdict) (was_reset : Bool)
   ends-agree p k now us r (ending.Here b count) h = (refl, h)
   ends-agree p k now us r (ending.Over last) h = record { last = last; count = node.count_of k.service.over; ended = h; kept_is = refl }
 
-  rests-turn : (p : NodePart) (before : List (Place × List ℕ)) (k : Work) (given : Ending × Turn) → EndTurned env.serve.files env.serve.c w out vs was_reset (verdicts_of k.batch) given
-      → Turns (kept_after env p k given.0, turn_by env before k given)
-  rests-turn p before k given h = record {
+  after-decided : (p : NodePart) (k : Work) (e : Ending) → IsDecided env.epoch (kept_after env p k e).row
+  after-decided p k (ending.Here b count) = omega arith
+  after-decided p k (ending.Over last) = omega arith
+
+  -- what it says
+  wants-say : (q : NodePart) (ws : List Want) → Each (NodeSays env.serve.c q) (wants_sent env ws)
+  wants-say q [] = tt
+  wants-say q (x ∷ xs) = (inl (x.node, refl), wants-say q xs)
+
+  asked-says : (q : NodePart) (o : Option Asked) → Each (NodeSays env.serve.c q) (asked_sent env o)
+  asked-says q None = tt
+  asked-says q (Some a) = (inr (env.epoch, body.Ask a.number a.queue a.size a.paths, refl, tt), tt)
+
+  ended-says : (p : NodePart) (k : Work) (e : Ending) → Each (NodeSays env.serve.c (kept_after env p k e)) (ended_sent env k.service.over e)
+  ended-says p k (ending.Here b count) = tt
+  ended-says p k (ending.Over last) = (inr (env.epoch, body.Ended last.reason last.snd.0 last.rcv.0 (node.count_of k.service.over), refl, (_, refl, refl)), tt)
+
+  abbrev rest_of_it : Work → Ending → List (Place × List ℕ)
+  rest_of_it k e = (asked_sent env k.asked ++ wants_sent env k.wants) ++ ended_sent env k.service.over e
+
+  rest-says : (p : NodePart) (k : Work) (e : Ending) → Each (NodeSays env.serve.c (kept_after env p k e)) (rest_of_it k e)
+  rest-says p k e =
+      let q : NodePart = kept_after env p k e in
+      Each-append (NodeSays env.serve.c q) (asked_sent env k.asked ++ wants_sent env k.wants) (ended_sent env k.service.over e)
+      (Each-append (NodeSays env.serve.c q) (asked_sent env k.asked) (wants_sent env k.wants) (asked-says q k.asked) (wants-say q k.wants)) (ended-says p k e)
+
+  -- what is said again stands before the rest, or what it says first is said as the rest is
+  pub record Before (p q : NodePart) (before : List (Place × List ℕ)) : Type 0 where
+    again : List (Place × List ℕ)
+    first : List (Place × List ℕ)
+    is : before ≡ again ++ first
+    told : (again ≡ []) ⊎ (again ≡ again_sent p)
+    said : Each (NodeSays env.serve.c q) first
+
+  rests-turn : (old p : NodePart) (before : List (Place × List ℕ)) (k : Work) (given : Ending × Turn) → Before old (kept_after env p k given.0) before
+      → EndTurned env.serve.files env.serve.c w out vs was_reset (verdicts_of k.batch) given → Turns old (kept_after env p k given.0, turn_by env before k given)
+  rests-turn old p before k given first h = record {
     out_after = h.out_after;
     vs_after = h.vs_after;
     pend_after = verdicts_of k.batch;
@@ -72,10 +111,21 @@ module _ (env : NodeEnv) (w out : Stream) (vs : List Verdict) (was_reset : Bool)
     agrees = ends-agree p k h.out_after h.vs_after (was_reset || list_any resets given.1.notes) given.0 h.agrees;
     noted = h.noted;
     sent = h.sent;
+    decided = after-decided p k given.0;
+    again = first.again;
+    more = first.first ++ rest_of_it k given.0;
+    messages = ap (λ (ms : List (Place × List ℕ)). ms ++ ended_sent env k.service.over given.0) (append_assoc before (asked_sent env k.asked) (wants_sent env k.wants))
+        ∙ append_assoc before (asked_sent env k.asked ++ wants_sent env k.wants) (ended_sent env k.service.over given.0)
+        ∙ ap (λ (ms : List (Place × List ℕ)). ms ++ rest_of_it k given.0) first.is ∙ append_assoc first.again first.first (rest_of_it k given.0);
+    told = first.told;
+    said = Each-append (NodeSays env.serve.c (kept_after env p k given.0)) first.first (rest_of_it k given.0) first.said (rest-says p k given.0);
   }
 
-  work-turns : (p : NodePart) (before : List (Place × List ℕ)) (k : Work) → Works env w out vs k → Keeps (with_work env p before k)
-  work-turns p before k h = rests-turn p before k (settled env.serve k.service) (settled-ends env.serve w out vs was_reset k.service (verdicts_of k.batch) h)
+  none-before : (old q : NodePart) → Before old q []
+  none-before old q = record { again = []; first = []; is = refl; told = inl refl; said = tt }
+
+  work-turns : (old p : NodePart) (before : List (Place × List ℕ)) (k : Work) → ((q : NodePart) → Before old q before) → Works env w out vs k → Keeps old (with_work env p before k)
+  work-turns old p before k first h = rests-turn old p before k (settled env.serve k.service) (first _) (settled-ends env.serve w out vs was_reset k.service (verdicts_of k.batch) h)
 
   -- a stay that agrees
   abbrev IsHeld : List Verdict → ControlBlock × Stay → Type 0
@@ -110,43 +160,43 @@ module _ (env : NodeEnv) (w out : Stream) (vs : List Verdict) (was_reset : Bool)
   -- ---- the rules
 
   module _ (talk : IsTalk env w out vs) (pend : List Verdict) (p : NodePart) (h : NodeAgrees w out vs pend was_reset env.serve.c p) where
-    goes-turn : (p_kept : NodePart) (k : Work) → Works env w out vs k → Keeps (with_work env p_kept [] (goes_on env k))
-    goes-turn p_kept k works = work-turns p_kept [] (goes_on env k) (goes-so env w out vs talk.most k works)
+    goes-turn : (p_kept : NodePart) (k : Work) → Works env w out vs k → Keeps p (with_work env p_kept [] (goes_on env k))
+    goes-turn p_kept k works = work-turns p p_kept [] (goes_on env k) (none-before p) (goes-so env w out vs talk.most k works)
 
-    hears-turn : (s : Said) → IsWord w s → Keeps (heard_by env p (Ok s) (here env.epoch p))
-    hears-turn s word = at-epoch pend (λ x. Keeps (heard_by env p (Ok s) x)) tt
+    hears-turn : (s : Said) → IsWord w s → Keeps p (heard_by env p (Ok s) (here env.epoch p))
+    hears-turn s word = at-epoch pend (λ x. Keeps p (heard_by env p (Ok s) x)) tt
         (λ x held. goes-turn p (work_of (on_segment x.0 s).1 x.1)
         (subst (So env.serve w out vs (serving (on_segment x.0 s).1 x.1.served [])) held.0 (heard-so env.serve w out vs talk.says pend x.0 x.1.served held.1 talk.stream s word)))
         p env.serve.c p.row h
 
-    tags-turn : (number : ℕ) (nodes : List ℕ) → Keeps (tagged_by env number nodes p (here env.epoch p))
-    tags-turn number nodes = at-epoch pend (λ x. Keeps (tagged_by env number nodes p x)) tt
-        (λ x held. cond_both (is_awaited env number nodes p x.1) (with_work env (record p { kept = without kind.Ask 0 p.kept }) [] (goes_on env (tagged env nodes (work_of x.0 x.1)))) Drops Keeps
+    tags-turn : (number : ℕ) (nodes : List ℕ) → Keeps p (tagged_by env number nodes p (here env.epoch p))
+    tags-turn number nodes = at-epoch pend (λ x. Keeps p (tagged_by env number nodes p x)) tt
+        (λ x held. cond_both (is_awaited env number nodes p x.1) (with_work env (record p { kept = without kind.Ask 0 p.kept }) [] (goes_on env (tagged env nodes (work_of x.0 x.1)))) Drops (Keeps p)
         (λ t. goes-turn (record p { kept = without kind.Ask 0 p.kept }) (tagged env nodes (work_of x.0 x.1)) (tagged-so env w out vs nodes (work_of x.0 x.1) (same-works pend x talk.says held)))
         (λ t. tt))
         p env.serve.c p.row h
 
-    comes-turn : (from r : ℕ) → Keeps (come_by env from r p (here env.epoch p))
-    comes-turn from r = at-epoch pend (λ x. Keeps (come_by env from r p x)) tt
+    comes-turn : (from r : ℕ) → Keeps p (come_by env from r p (here env.epoch p))
+    comes-turn from r = at-epoch pend (λ x. Keeps p (come_by env from r p x)) tt
         (λ x held. cond_both (is_from from env.epoch (find (is_under kind.Fetch r) p.fetches))
-        (with_work env (record p { fetches = without kind.Fetch r p.fetches }) [] (goes_on env (came_for (come_progress from) r (work_of x.0 x.1)))) Drops Keeps
+        (with_work env (record p { fetches = without kind.Fetch r p.fetches }) [] (goes_on env (came_for (come_progress from) r (work_of x.0 x.1)))) Drops (Keeps p)
         (λ t. goes-turn (record p { fetches = without kind.Fetch r p.fetches }) (came_for (come_progress from) r (work_of x.0 x.1))
         (came-so env w out vs (come_progress from) r (work_of x.0 x.1) (same-works pend x talk.says held)))
         (λ t. tt))
         p env.serve.c p.row h
 
-    reads-turn : (r : ℕ) → Keeps (read_by env r p (here env.epoch p))
-    reads-turn r = at-epoch pend (λ x. Keeps (read_by env r p x)) tt
+    reads-turn : (r : ℕ) → Keeps p (read_by env r p (here env.epoch p))
+    reads-turn r = at-epoch pend (λ x. Keeps p (read_by env r p x)) tt
         (λ x held. goes-turn p (came_for read_progress r (work_of x.0 x.1)) (came-so env w out vs read_progress r (work_of x.0 x.1) (same-works pend x talk.says held)))
         p env.serve.c p.row h
 
-    fires-turn : Keeps (fired_by env p (both_of (endpoint_of p.row) p.stay))
-    fires-turn = at-endpoint pend (λ x. Keeps (fired_by env p x)) tt (λ x held. fires x held) p env.serve.c p.row h where
+    fires-turn : Keeps p (fired_by env p (both_of (endpoint_of p.row) p.stay))
+    fires-turn = at-endpoint pend (λ x. Keeps p (fired_by env p x)) tt (λ x held. fires x held) p env.serve.c p.row h where
       fires : (x : ControlBlock × Stay) → IsHeld pend x
-          → Turns (fired env p x (spoken env.serve (serving (after_timer x.0) x.1.served []) (ready_of env.serve (after_timer x.0) (timed x.0))))
+          → Turns p (fired env p x (spoken env.serve (serving (after_timer x.0) x.1.served []) (ready_of env.serve (after_timer x.0) (timed x.0))))
       fires x held =
           let given : Ending × Turn = spoken env.serve (serving (after_timer x.0) x.1.served []) (ready_of env.serve (after_timer x.0) (timed x.0)) in
-          rests-turn p (again_sent p) (work_of (after_timer x.0) x.1) given
+          rests-turn p p (again_sent p) (work_of (after_timer x.0) x.1) given (record { again = again_sent p; first = []; is = sym (append-nil (again_sent p)); told = inr refl; said = tt })
           (subst (λ (us : List Verdict). EndTurned env.serve.files env.serve.c w out vs was_reset us given) held.0 (fired-ends env.serve w out vs talk.says pend x.0 x.1.served held.1 was_reset))
 
   -- ---- an Offer
@@ -185,12 +235,12 @@ module _ (env : NodeEnv) (w out : Stream) (vs : List Verdict) (was_reset : Bool)
         (record { cut = read.cut; goes_on = read.goes_on; stops = read.stops; fronts = read.fronts })
         (record { each = (tt, tt); served = omega arith; size = omega arith; unless_ended = inr refl }))
 
-    offers-turn : (a : Adopt) → Keeps (offered_by env parts p a)
+    offers-turn : (a : Adopt) → Keeps p (offered_by env parts p a)
     offers-turn New =
         let first : Work = begins env parts in
         let may : MayGo w offered-so.vs_now [] first.service = go-on env.serve w out vs first.service [] offered-so refl refl refl in
         let works = first-so env w out vs true first offered-so may refl in
-        work-turns p (taken_sent env) (goes_on env (state_of (reads_batch env true first))) (goes-so env w out vs talk.most (state_of (reads_batch env true first)) works)
+        work-turns p p (taken_sent env) (goes_on env (state_of (reads_batch env true first))) (λ q. record { again = []; first = taken_sent env; is = refl; told = inl refl; said = (inr (env.epoch, body.Taken, refl, tt), tt) }) (goes-so env w out vs talk.most (state_of (reads_batch env true first)) works)
     offers-turn Again = tt
     offers-turn Stale = tt
 

@@ -1,15 +1,16 @@
 -- What the rules of a place keep of the agreement of its connection: those of a node, those of the front end, and what a client does.
-use Rattle.std.specs.Prelude.{◌≡◌, ℕ, ◌^◌, ◌<◌, ◌||◌, ◌≤◌, Bool, false, true, List, [], Option, Some, None, Ok}
+use Rattle.std.specs.Prelude.{◌≡◌, ◌⊎◌, ℕ, ◌^◌, ◌<◌, ◌||◌, ◌≤◌, Bool, false, true, List, [], ◌++◌, Option, Some, None, Ok}
 use Rattle.std.specs.List.{list_any}
 use Rattle.lard_answers.specs.Answers.{FilesAt}
 use Rattle.lard_base.specs.declared.limits.TheConstants.{MAX_STREAM_BYTES}
 use Rattle.lard_base.specs.declared.parts.EndpointParts.{EndpointParts}
 use Rattle.lard_base.specs.declared.place.Place.{Place}
-use Rattle.lard_base.specs.declared.place.Place.TheVariants.{Node}
+use Rattle.lard_base.specs.declared.place.Place.TheVariants.{Front, Node}
 use Rattle.lard_base.specs.declared.place.Reason.{Reason}
 use Rattle.lard_cluster.specs.Bounds.{IsNumber}
 use Rattle.lard_cluster_bytes.specs.Agreement.{EndedIt, FrontHolds, FrontWaits, IsKept, IsOffering, NodeAgrees, SeatAgrees}
 use Rattle.lard_cluster_bytes.specs.Turning.{Counts}
+use Rattle.lard_cluster_places.specs.Places.{IsDecided}
 use Rattle.lard_cluster_view.specs.View.{Part}
 use Rattle.lard_endpoint.specs.declared.control.moving.Final.{Final}
 use Rattle.lard_endpoint.specs.Control.{ControlBlock}
@@ -31,17 +32,25 @@ use Rattle.lard_message.specs.declared.message.Message.{Message}
 use Rattle.lard_message.specs.Message.{kind_of}
 use Rattle.lard_message.specs.Reading.{decoded_message}
 use Rattle.lard_node_rules.specs.declared.node.NodeTurn.{NodeTurn}
-use Rattle.lard_node_rules.specs.Node.{Deed, Drops, Says, Does, NodePart, node_content, node_forwarded, node_offered, node_read, node_tagged, node_timer}
+use Rattle.lard_node_rules.specs.Node.{Deed, Does, Drops, NodePart, Says, again_sent, node_content, node_forwarded, node_offered, node_read, node_tagged, node_timer}
 use Rattle.lard_node_rules.specs.Stay.{NodeEnv}
 use Rattle.lard_policy.specs.declared.first.FirstChoice.{FirstChoice}
 use Rattle.lard_request.specs.declared.verdict.Verdict.{Verdict}
 use Rattle.lard_segment.specs.Segment.{Said}
 use Rattle.lard_truth.specs.Truth.{GoesOn, IsStream, Stream}
 
+-- What a node says: an Ended is the one that it keeps.
+abbrev pub EndsOfKind : NodePart → List ℕ → Kind → Type 0
+EndsOfKind p bytes kind.Ended = IsKept p.kept bytes
+EndsOfKind p bytes _ = Unit {0}
+
+abbrev pub NodeSays : ℕ → NodePart → Place × List ℕ → Type 0
+NodeSays c p s = ((m : ℕ) × (s.0 ≡ Node m)) ⊎ ((e : ℕ) × (b : Body) × (s ≡ (Front, message c e b)) × EndsOfKind p s.1 (kind_of b))
+
 -- A turn of a node that has a connection: the cluster's stream goes on by the answers to more verdicts, as its notes count, all that
 -- was sent to the client is true of it, and what the node keeps of the connection agrees with it again: it holds the endpoint, and
 -- its batch is what was read and is not answered, or it tells the front end how it ended.
-pub record NodeTurned (files : FilesAt) (c : ℕ) (w out : Stream) (vs : List Verdict) (was_reset : Bool) (given : NodePart × NodeTurn) : Type 0 where
+pub record NodeTurned (files : FilesAt) (c e : ℕ) (before : NodePart) (w out : Stream) (vs : List Verdict) (was_reset : Bool) (given : NodePart × NodeTurn) : Type 0 where
   pub out_after : Stream
   pub vs_after : List Verdict
   pub pend_after : List Verdict
@@ -50,12 +59,18 @@ pub record NodeTurned (files : FilesAt) (c : ℕ) (w out : Stream) (vs : List Ve
   pub agrees : NodeAgrees w out_after vs_after pend_after (was_reset || list_any resets given.1.notes) c given.0
   pub noted : Counts c out vs vs_after out_after.bytes given.1.notes
   pub sent : AreReplies c w out_after (was_reset || list_any resets given.1.notes) given.1.segments
+  pub decided : IsDecided e given.0.row
+  pub again : List (Place × List ℕ)
+  pub more : List (Place × List ℕ)
+  pub messages : given.1.messages ≡ again ++ more
+  pub told : (again ≡ []) ⊎ (again ≡ again_sent before)
+  pub said : Each (NodeSays c given.0) more
 
 -- what a rule of a node comes to: what it drops or answers alone changes nothing
-abbrev pub DeedKeeps : FilesAt → ℕ → Stream → Stream → List Verdict → Bool → Deed → Type 0
-DeedKeeps files c w out vs was_reset Drops = Unit {0}
-DeedKeeps files c w out vs was_reset (Says messages) = Unit {0}
-DeedKeeps files c w out vs was_reset (Does given) = NodeTurned files c w out vs was_reset given
+abbrev pub DeedKeeps : FilesAt → ℕ → ℕ → NodePart → Stream → Stream → List Verdict → Bool → Deed → Type 0
+DeedKeeps files c e before w out vs was_reset Drops = Unit {0}
+DeedKeeps files c e before w out vs was_reset (Says messages) = Unit {0}
+DeedKeeps files c e before w out vs was_reset (Does given) = NodeTurned files c e before w out vs was_reset given
 
 -- the streams are those of a connection, and what was said so far answers what was read
 pub record IsTalk (env : NodeEnv) (w out : Stream) (vs : List Verdict) : Type 0 where
@@ -66,12 +81,12 @@ pub record IsTalk (env : NodeEnv) (w out : Stream) (vs : List Verdict) : Type 0 
 -- A rule keeps the agreement of a connection that the node has.
 abbrev pub NodeKeeps : (NodeEnv → NodePart → Deed) → Type 0
 NodeKeeps rule = (env : NodeEnv) (w out : Stream) (vs pend : List Verdict) (was_reset : Bool) (p : NodePart) → IsTalk env w out vs → NodeAgrees w out vs pend was_reset env.serve.c p
-    → DeedKeeps env.serve.files env.serve.c w out vs was_reset (rule env p)
+    → DeedKeeps env.serve.files env.serve.c env.epoch p w out vs was_reset (rule env p)
 
 -- a true segment of the client is forwarded to it
 abbrev pub NodeHearsTruth : Type 0
 NodeHearsTruth = (env : NodeEnv) (w out : Stream) (vs pend : List Verdict) (was_reset : Bool) (p : NodePart) (s : Said) → IsTalk env w out vs → NodeAgrees w out vs pend was_reset env.serve.c p
-    → IsWord w s → DeedKeeps env.serve.files env.serve.c w out vs was_reset (node_forwarded env p (Ok s))
+    → IsWord w s → DeedKeeps env.serve.files env.serve.c env.epoch p w out vs was_reset (node_forwarded env p (Ok s))
 
 -- a Tag, a content, a completed job of its disk
 abbrev pub TagsKeep : Type 0
@@ -89,7 +104,7 @@ NodeTimerKeeps = NodeKeeps node_timer
 -- The parts of an endpoint that the front end froze: the node goes on where the front end stopped, whatever it kept before.
 abbrev pub OffersKeep : Type 0
 OffersKeep = (env : NodeEnv) (w out : Stream) (vs pend : List Verdict) (was_reset : Bool) (p : NodePart) (b : ControlBlock) (count : ℕ) → IsTalk env w out vs
-    → FrontHolds w out vs pend b count → may_freeze b ≡ true → DeedKeeps env.serve.files env.serve.c w out vs was_reset (node_offered env p (parts_of b count))
+    → FrontHolds w out vs pend b count → may_freeze b ≡ true → DeedKeeps env.serve.files env.serve.c env.epoch p w out vs was_reset (node_offered env p (parts_of b count))
 
 -- ---- the front end
 
