@@ -16,3 +16,4 @@ pub mod ClientMoves
 pub mod FrontMoves
 pub mod FrontMessages
 pub mod FrontEnds
+pub mod NodeMoves
