@@ -17,3 +17,4 @@ pub mod FrontMoves
 pub mod FrontMessages
 pub mod FrontEnds
 pub mod NodeMoves
+pub mod NodeTurns

@@ -191,7 +191,7 @@ module _ (env : NodeEnv) (w out : Stream) (vs : List Verdict) (was_reset : Bool)
         p env.serve.c p.row h
 
     fires-turn : Keeps p (fired_by env p (both_of (endpoint_of p.row) p.stay))
-    fires-turn = at-endpoint pend (λ x. Keeps p (fired_by env p x)) tt (λ x held. fires x held) p env.serve.c p.row h where
+    fires-turn = at-endpoint pend (λ x. Keeps p (fired_by env p x)) (inl refl) (λ x held. fires x held) p env.serve.c p.row h where
       fires : (x : ControlBlock × Stay) → IsHeld pend x
           → Turns p (fired env p x (spoken env.serve (serving (after_timer x.0) x.1.served []) (ready_of env.serve (after_timer x.0) (timed x.0))))
       fires x held =
@@ -241,7 +241,7 @@ module _ (env : NodeEnv) (w out : Stream) (vs : List Verdict) (was_reset : Bool)
         let may : MayGo w offered-so.vs_now [] first.service = go-on env.serve w out vs first.service [] offered-so refl refl refl in
         let works = first-so env w out vs true first offered-so may refl in
         work-turns p p (taken_sent env) (goes_on env (state_of (reads_batch env true first))) (λ q. record { again = []; first = taken_sent env; is = refl; told = inl refl; said = (inr (env.epoch, body.Taken, refl, tt), tt) }) (goes-so env w out vs talk.most (state_of (reads_batch env true first)) works)
-    offers-turn Again = tt
+    offers-turn Again = inr (inr (env.epoch, body.Taken, refl, tt), tt)
     offers-turn Stale = tt
 
 -- ---- what is kept

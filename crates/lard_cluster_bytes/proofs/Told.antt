@@ -1,5 +1,5 @@
 -- What a move tells of the bytes of its connection.
-use Rattle.std.proofs.Common.{◌≡◌, ◌⊎◌, ◌+◌, ◌||◌, ℕ, Bool, true, false, cond, List, [], ◌∷◌, map, length, take, Option, Some, arith, refl, ap, ◌∙◌, sym, subst, append-nil}
+use Rattle.std.proofs.Common.{◌≡◌, ◌+◌, ◌||◌, ℕ, Bool, true, false, cond, List, [], ◌∷◌, map, take, Option, Some, arith, refl, ap, ◌∙◌, sym, append-nil}
 use Rattle.std.specs.List.{list_any}
 use Rattle.lard_base.specs.declared.place.Place.{Place}
 use Rattle.lard_base.specs.declared.place.Place.TheVariants.{Client, Front, Node}
@@ -16,7 +16,6 @@ use Rattle.lard_journal.specs.declared.rec.Rec.TheVariants as rec
 use Rattle.lard_laws_bytes.specs.Keeping.{resets, served_in, size_in}
 use Rattle.lard_laws_bytes.specs.Truthful.{Talk}
 use Rattle.lard_laws_bytes.proofs.Notes.{Adds, adds-both, adds-none, or-false, same-number}
-use Rattle.lard_request.specs.declared.verdict.Verdict.{Verdict}
 use Rattle.lard_truth.specs.Truth.{Stream}
 
 -- ---- what is told of bytes
@@ -161,24 +160,23 @@ size_by _ n = n
 pub named-resets : (c : ℕ) (rs : List Rec) → Each (IsNoteOf c) rs → list_any resets (named rs) ≡ list_any resets rs
 named-resets = named-same (list_any resets) (λ r b. resets r || b) (λ r rs. refl) (λ n path b. refl)
 
-pub named-counts : (c : ℕ) (out : Stream) (vs us : List Verdict) (said : List ℕ) (rs : List Rec) → Counts c out vs us said rs → Counts c out vs us said (named rs)
-unfolding served_by size_by
-named-counts c out vs us said rs h =
-    let served : served_in (named rs) ≡ served_in rs = named-same served_in served_by served-more (λ n path a. refl) c rs h.each in
-    let size : size_in (named rs) ≡ size_in rs = named-same size_in size_by size-more (λ n path a. refl) c rs h.each in
-    record {
-      each = named-each c rs h.each;
-      served = h.served ∙ ap (λ n. length vs + n) (sym served);
-      size = h.size ∙ ap (λ n. length out.bytes + n) (sym size);
-      unless_ended = subst (λ (n : ℕ). (out.ended ≡ false) ⊎ (n ≡ 0)) (sym served) h.unless_ended;
-    } where
-      served-more : (r : Rec) (rs : List Rec) → served_in (r ∷ rs) ≡ served_by r (served_in rs)
-      served-more (rec.Served place d k code size via) rs = refl
-      served-more _ rs = refl
+served-more : (r : Rec) (rs : List Rec) → served_in (r ∷ rs) ≡ served_by r (served_in rs)
+unfolding served_by
+served-more (rec.Served place d k code size via) rs = refl
+served-more _ rs = refl
 
-      size-more : (r : Rec) (rs : List Rec) → size_in (r ∷ rs) ≡ size_by r (size_in rs)
-      size-more (rec.Served place d k code size via) rs = refl
-      size-more _ rs = refl
+size-more : (r : Rec) (rs : List Rec) → size_in (r ∷ rs) ≡ size_by r (size_in rs)
+unfolding size_by
+size-more (rec.Served place d k code size via) rs = refl
+size-more _ rs = refl
+
+pub named-served : (c : ℕ) (rs : List Rec) → Each (IsNoteOf c) rs → served_in (named rs) ≡ served_in rs
+unfolding served_by
+named-served = named-same served_in served_by served-more (λ n path a. refl)
+
+pub named-size : (c : ℕ) (rs : List Rec) → Each (IsNoteOf c) rs → size_in (named rs) ≡ size_in rs
+unfolding size_by
+named-size = named-same size_in size_by size-more (λ n path a. refl)
 
 -- ---- what a turn adds, by what it counted
 

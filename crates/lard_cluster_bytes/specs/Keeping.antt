@@ -66,10 +66,10 @@ pub record NodeTurned (files : FilesAt) (c e : ℕ) (before : NodePart) (w out :
   pub told : (again ≡ []) ⊎ (again ≡ again_sent before)
   pub said : Each (NodeSays c given.0) more
 
--- what a rule of a node comes to: what it drops or answers alone changes nothing
+-- what a rule of a node comes to: what it drops or answers alone changes nothing, and it says what it said before, or an answer
 abbrev pub DeedKeeps : FilesAt → ℕ → ℕ → NodePart → Stream → Stream → List Verdict → Bool → Deed → Type 0
 DeedKeeps files c e before w out vs was_reset Drops = Unit {0}
-DeedKeeps files c e before w out vs was_reset (Says messages) = Unit {0}
+DeedKeeps files c e before w out vs was_reset (Says messages) = (messages ≡ again_sent before) ⊎ Each (NodeSays c before) messages
 DeedKeeps files c e before w out vs was_reset (Does given) = NodeTurned files c e before w out vs was_reset given
 
 -- the streams are those of a connection, and what was said so far answers what was read
