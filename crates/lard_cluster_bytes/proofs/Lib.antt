@@ -18,3 +18,5 @@ pub mod FrontMessages
 pub mod FrontEnds
 pub mod NodeMoves
 pub mod NodeTurns
+pub mod NodeRest
+pub mod Runs

@@ -131,13 +131,13 @@ module _ (k : Setting) (small : k.stream ≤ 2 ^ 30) (x : Conn) (s : Station) (t
   agrees-by : It env.epoch → IsPlaced x → NodeAgrees l.w l.out l.vs pend l.was_reset env.serve.c p
   agrees-by it placed = own-agrees (it placed).0.agrees
 
-  forwards-goes : (heads : List Seen) → IsQuiet heads → (sd : Said) → IsWord l.w sd → Goes heads (node_forwarded env p (Ok sd))
+  pub forwards-goes : (heads : List Seen) → IsQuiet heads → (sd : Said) → IsWord l.w sd → Goes heads (node_forwarded env p (Ok sd))
   forwards-goes heads quiet sd word = by-here heads quiet (heard_by env p (Ok sd)) refl (λ it placed. own-keeps (node_forwarded env p (Ok sd)) (node-hears env l.w l.out l.vs pend l.was_reset p sd talk-of (agrees-by it placed) word))
 
-  tags-goes : (heads : List Seen) → IsQuiet heads → (number : ℕ) (nodes : List ℕ) → Goes heads (node_tagged env p number nodes)
+  pub tags-goes : (heads : List Seen) → IsQuiet heads → (number : ℕ) (nodes : List ℕ) → Goes heads (node_tagged env p number nodes)
   tags-goes heads quiet number nodes = by-here heads quiet (tagged_by env number nodes p) refl (λ it placed. own-keeps (node_tagged env p number nodes) (tags-keep number nodes env l.w l.out l.vs pend l.was_reset p talk-of (agrees-by it placed)))
 
-  contents-goes : (heads : List Seen) → IsQuiet heads → (from r : ℕ) → Goes heads (node_content env p from r)
+  pub contents-goes : (heads : List Seen) → IsQuiet heads → (from r : ℕ) → Goes heads (node_content env p from r)
   contents-goes heads quiet from r = by-here heads quiet (come_by env from r p) refl (λ it placed. own-keeps (node_content env p from r) (contents-keep from r env l.w l.out l.vs pend l.was_reset p talk-of (agrees-by it placed)))
 
   -- ---- its timers
@@ -146,7 +146,7 @@ module _ (k : Setting) (small : k.stream ≤ 2 ^ 30) (x : Conn) (s : Station) (t
   endpoint-or None found same = inl refl
   endpoint-or (Some row) found same = stage-or row found (held_in row.stage) refl (sym same)
 
-  fires-goes : (heads : List Seen) → IsQuiet heads → env.epoch ≡ epoch_in p → Goes heads (node_timer env p)
+  pub fires-goes : (heads : List Seen) → IsQuiet heads → env.epoch ≡ epoch_in p → Goes heads (node_timer env p)
   fires-goes heads quiet same help = ⊎_elim
       (λ (e : both_of (endpoint_of p.row) p.stay ≡ None). subst (Goes heads) (sym (ap (fired_by env p) e))
       (λ h. stands-goes k small x s there l pend o n heads [] (again_sent p) tt refl refl refl (quiet (Says (again_sent p))) (again-fair k small x s there l pend o n heads (node_does x n heads (Says (again_sent p))) h) h) help)
@@ -174,7 +174,7 @@ module _ (k : Setting) (small : k.stream ≤ 2 ^ 30) (x : Conn) (s : Station) (t
         does-goes k small x s there l pend o n [] (read_row ∷ named given.1.notes) given env.epoch
         (record { each = λ e. (tt, named-each x.c given.1.notes e); served = named-served x.c given.1.notes; size = named-size x.c given.1.notes; reset = named-resets x.c given.1.notes }) refl keeps has.0.row has.0.found has.0.at has.0.same has.1 help
 
-    read-goes : GoesFirst (node_read env p r)
+    pub read-goes : GoesFirst (node_read env p r)
     read-goes help = ⊎_elim
         (λ (e : here env.epoch p ≡ None). subst GoesFirst (sym (ap (read_by env r p) e)) first-drops help)
         (λ (it : It env.epoch). first-goes (node_read env p r) (own-keeps (node_read env p r) (reads-keep r env l.w l.out l.vs pend l.was_reset p talk-of (agrees-by it help.placed))) it help)
@@ -194,9 +194,9 @@ module _ (k : Setting) (small : k.stream ≤ 2 ^ 30) (x : Conn) (s : Station) (t
         subst (StageAgrees l.w l.out l.vs pend l.was_reset x.c x.part row.epoch.0) at (subst (SeatAgrees l.w l.out l.vs pend l.was_reset x.c x.part) found o.seat) in
         let kept : IsKept x.part.front.kept bytes = ⊎_elim (λ f. absurd (not f)) (λ f. f) told in
         let offering : IsOffering l.w l.out l.vs pend x.c m row.epoch.0 x.part.front.kept = ⊎_elim
-            (λ (a : IsPast row.epoch.0 (x.part.nodes m).row × IsOffering l.w l.out l.vs pend x.c m row.epoch.0 x.part.front.kept). a.1)
-            (λ (a : IsDecided row.epoch.0 (x.part.nodes m).row × NodeAgrees l.w l.out l.vs pend l.was_reset x.c (x.part.nodes m)).
-            absurd (not (subst (λ (e : ℕ). IsDecided e p.row) now (subst (λ (i : ℕ). IsDecided row.epoch.0 (x.part.nodes i).row) mine a.0)))) away in
+        (λ (a : IsPast row.epoch.0 (x.part.nodes m).row × IsOffering l.w l.out l.vs pend x.c m row.epoch.0 x.part.front.kept). a.1)
+        (λ (a : IsDecided row.epoch.0 (x.part.nodes m).row × NodeAgrees l.w l.out l.vs pend l.was_reset x.c (x.part.nodes m)).
+        absurd (not (subst (λ (e : ℕ). IsDecided e p.row) now (subst (λ (i : ℕ). IsDecided row.epoch.0 (x.part.nodes i).row) mine a.0)))) away in
         let spelled : message x.c row.epoch.0 (body.Offer (parts_of offering.block offering.count)) ≡ bytes = ap first_bytes (sym offering.kept_is ∙ kept.1) ∙ kept.2 in
         let same : parts ≡ parts_of offering.block offering.count = offers-read x.c row.epoch.0 l.w l.out l.vs pend offering.block offering.count help.number (omega (arith, sits.0)) talk-of.stream offering.holds offering.frozen _ parts
         (ap decoded_message spelled ∙ spells) refl in
@@ -242,5 +242,5 @@ module _ (k : Setting) (small : k.stream ≤ 2 ^ 30) (x : Conn) (s : Station) (t
             go false true c h e = h refl
             go false false c h e = let no : Stale ≡ New = e in absurd cc
 
-    offers-goes : Goes heads (node_offered env p parts)
+    pub offers-goes : Goes heads (node_offered env p parts)
     offers-goes = offer-back p.row refl (offer_answer env.epoch p.row) refl refl

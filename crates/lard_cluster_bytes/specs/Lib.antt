@@ -2,3 +2,4 @@ pub mod Agreement
 pub mod Turning
 pub mod Keeping
 pub mod Law
+pub mod Runs

@@ -1,13 +1,11 @@
 //! The law of bytes of the cluster: what a place that has a connection keeps of the agreement of its client and the cluster, across
 //! moves.
 //!
-//! It stands above `lard_cluster_places` and the laws of bytes of one place, whose streams it speaks of. It has no code. What the
-//! rules of each place keep is proved, and of some rules that their moves keep the agreement of a whole connection; the other
-//! moves, and every run, are to come.
+//! It stands above `lard_cluster_places` and the laws of bytes of one place, whose streams it speaks of. It has no code.
 #![tactic(auto)]
 
 ghost use Rattle.lard_cluster_bytes.specs.Keeping.{AdmissionsKeep, ContentsKeep, EndsAreRead, EndsKeep, ForwardsAreRead, FrontHearsTruth, FrontTimerKeeps, NodeHearsTruth, NodeTimerKeeps, OffersAreRead, OffersKeep, ReadsKeep, SaidStays, SeatStays, TagsKeep};
-ghost use Rattle.lard_cluster_bytes.specs.Law.{ClientsStayTruthful, SegmentsStayTruthful, TimersStayTruthful};
+ghost use Rattle.lard_cluster_bytes.specs.Runs.{ClientsAcceptAnswers, StatesAreTruthful};
 
 /// A node that has a connection answers what its client wrote, in order, each request once, and says nothing else: after each
 /// rule all that it said is the answers to the requests that were read, in their order, and its batch is what was read and is not
@@ -47,11 +45,10 @@ pub fn messages_say_what_was_kept()
     ensures end { EndsAreRead }
 {}
 
-/// What a client does, what comes to it, what comes from it to the front end, and the front end's timer leave a connection that the
-/// schedule did not touch in agreement: its client, the place that has it, the journal, and every packet that was ever sent,
-/// between clients and places and between places. The other rules' moves are to come.
-pub fn moves_keep_the_agreement()
-    ensures clients { ClientsStayTruthful }
-    ensures segments { SegmentsStayTruthful }
-    ensures timers { TimersStayTruthful }
+/// In every run of the cluster's machine, whatever is lost, repeated or comes out of order, and wherever connections move: what a
+/// client whose connection the schedule did not touch accepted is a prefix of the right responses to what it wrote, in every state
+/// that events lead to. Its client, the place that has it, the journal, and every packet that was ever sent agree.
+pub fn every_run_is_true()
+    ensures states { StatesAreTruthful }
+    ensures prefix { ClientsAcceptAnswers }
 {}
