@@ -7,7 +7,7 @@ use Rattle.lard_base.specs.declared.place.Place.TheVariants.{Client, Front, Node
 use Rattle.lard_client.specs.Control.{ClientBlock, written_len}
 use Rattle.lard_cluster.specs.Bounds.{HasRule}
 use Rattle.lard_cluster_bytes.specs.Agreement.{ConnAgrees, IsFair, IsFairOn, IsInner, IsNode, IsOpen, IsTruthful, IsUnopened, SeatAgrees, TaleAgrees}
-use Rattle.lard_cluster_bytes.specs.Law.{Helps, Mine}
+use Rattle.lard_cluster_bytes.specs.Law.{Helps, StaysTruthful}
 use Rattle.lard_cluster_bytes.proofs.Fair.{GoesOnFairly, all-on}
 use Rattle.lard_cluster_bytes.proofs.Later.{said-stays, seat-stays}
 use Rattle.lard_cluster_bytes.proofs.Told.{Bytes, bytes_of, move-bytes, tale-agrees}
@@ -154,13 +154,13 @@ module _ (files : FilesAt) (x : Conn) (isn iss wnd mss : ℕ) (rule : HasRule (e
 
 module _ (k : Setting) (small : k.stream ≤ 2 ^ 30) where
   by-rule : (x : Conn) (s : Station) → x.part.station ≡ Some s → (heads : List Seen) (rule : ClientBlock → ClientBlock × Turn) → ClientKeeps rule
-      → bytes_of (tale_before x (client_does x s heads (rule s.client))) ≡ bytes_of (tale_at x) → Mine k x (client_does x s heads (rule s.client))
+      → bytes_of (tale_before x (client_does x s heads (rule s.client))) ≡ bytes_of (tale_at x) → StaysTruthful k x (client_does x s heads (rule s.client))
   by-rule x s there heads rule keeps quiet help h =
       let o = open-at k.files x s there h in
       client-goes k.files x s there heads (rule s.client) help h.talk h.pend o quiet (keeps x.c h.talk.w h.talk.out s.client o.says.most o.client)
 
   by-writing : (x : Conn) (s : Station) → x.part.station ≡ Some s → (heads : List Seen) (bytes : List ℕ) → nat_lt k.stream (written_len s.client bytes) ≡ false
-      → bytes_of (tale_before x (client_does x s heads (client_writes s.client bytes))) ≡ bytes_of (tale_at x) → Mine k x (client_does x s heads (client_writes s.client bytes))
+      → bytes_of (tale_before x (client_does x s heads (client_writes s.client bytes))) ≡ bytes_of (tale_at x) → StaysTruthful k x (client_does x s heads (client_writes s.client bytes))
   by-writing x s there heads bytes fits quiet help h =
       let o = open-at k.files x s there h in
       let le : written_len s.client bytes ≤ k.stream = ltb-false k.stream (written_len s.client bytes) fits in
@@ -173,7 +173,7 @@ module _ (k : Setting) (small : k.stream ≤ 2 ^ 30) where
   reply-in x l (Client d) bytes n f = absurd n
 
   client-hears : (x : Conn) (s : Station) (from : Place) (bytes : List ℕ) → x.part.station ≡ Some s → Was x from (Client x.c) bytes
-      → Mine k x (client_does x s (packet_seen from (Client x.c) bytes) (client_gets s.client (decoded bytes x.c ToClient)))
+      → StaysTruthful k x (client_does x s (packet_seen from (Client x.c) bytes) (client_gets s.client (decoded bytes x.c ToClient)))
   client-hears x s from bytes there was help h =
       let o = open-at k.files x s there h in
       let l = h.talk in
@@ -182,7 +182,7 @@ module _ (k : Setting) (small : k.stream ≤ 2 ^ 30) where
       (subst (λ (r : Result Said SegFault). ClientTurned x.c l.w l.out s.client (client_gets s.client r)) (sym (ap (λ (b : List ℕ). decoded b x.c ToClient) f.1 ∙ again x.c ToClient f.0 f.2.sendable))
       (hears-turned x.c l.w l.out s.client f.0 o.says.most o.says.number f.2.sendable.seq_fits f.2.sendable.ack_fits o.client f.2.true_of))
 
-  pub clients : ClientRules k (Mine k)
+  pub clients : ClientRules k (StaysTruthful k)
   clients = record {
     opens = λ x isn iss wnd mss rule none help h. opens-goes k.files x isn iss wnd mss rule none h help;
     gets = λ x s path there fits. by-writing x s there (event_seen (event.Get x.c path)) (request path) fits refl;

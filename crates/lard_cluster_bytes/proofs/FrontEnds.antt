@@ -5,7 +5,7 @@ use Rattle.lard_base.specs.declared.place.Place.TheVariants.{Front, Node}
 use Rattle.lard_base.specs.declared.place.Reason.{Reason}
 use Rattle.lard_cluster_bytes.specs.Agreement.{AwayAgrees, BackAgrees, EndedIt, IsEnding, IsFair, IsKept, IsOpen, IsTruthful, NodeAgrees, NodeTells, RowAgrees, SeatAgrees, StageAgrees}
 use Rattle.lard_cluster_bytes.specs.Keeping.{FrontSays}
-use Rattle.lard_cluster_bytes.specs.Law.{Helps, Mine}
+use Rattle.lard_cluster_bytes.specs.Law.{Helps, StaysTruthful}
 use Rattle.lard_cluster_bytes.specs.Turning.{IsNoteOf}
 use Rattle.lard_cluster_bytes.proofs.ClientMoves.{has-fair, open-at}
 use Rattle.lard_cluster_bytes.proofs.FrontMessages.{node-opens, opened-at, past-undecided}
@@ -234,15 +234,15 @@ packet-quiet x n bytes (Says turn) = refl
 packet-quiet x n bytes (Does did) = refl
 
 module _ (k : Setting) (small : k.stream ≤ 2 ^ 30) where
-  pub asked-mine : (x : Conn) (env : FrontEnv) (n epoch number queue size : ℕ) (paths : List (List ℕ)) (bytes : List ℕ) → IsFrontEnv k x.c env → Spells x.c epoch (body.Ask number queue size paths) bytes → Was x (Node n) Front bytes
-      → Mine k x (front_does x (packet_seen (Node n) Front bytes) (front_asked env x.part.front n epoch (ask_of x.c n number queue size paths)))
-  asked-mine x env n epoch number queue size paths bytes is spells was help h =
+  pub asked-stays : (x : Conn) (env : FrontEnv) (n epoch number queue size : ℕ) (paths : List (List ℕ)) (bytes : List ℕ) → IsFrontEnv k x.c env → Spells x.c epoch (body.Ask number queue size paths) bytes → Was x (Node n) Front bytes
+      → StaysTruthful k x (front_does x (packet_seen (Node n) Front bytes) (front_asked env x.part.front n epoch (ask_of x.c n number queue size paths)))
+  asked-stays x env n epoch number queue size paths bytes is spells was help h =
       let opened = opened-at k.files x h (node-opens x n bytes was) in
       asks-goes k small x opened.0 opened.1 h.talk h.pend (open-at k.files x opened.0 opened.1 h) (packet_seen (Node n) Front bytes) (packet-quiet x n bytes) env is n epoch (ask_of x.c n number queue size paths) help
 
-  pub ended-mine : (x : Conn) (env : FrontEnv) (n epoch : ℕ) (why : Reason) (snd rcv count : ℕ) (bytes : List ℕ) → IsFrontEnv k x.c env → Spells x.c epoch (body.Ended why snd rcv count) bytes → Was x (Node n) Front bytes
-      → Mine k x (front_does x (packet_seen (Node n) Front bytes) (front_ended env x.part.front n epoch (record { reason = why; snd = record { 0 = snd }; rcv = record { 0 = rcv } })))
-  ended-mine x env n epoch why snd rcv count bytes is spells was help h =
+  pub ended-stays : (x : Conn) (env : FrontEnv) (n epoch : ℕ) (why : Reason) (snd rcv count : ℕ) (bytes : List ℕ) → IsFrontEnv k x.c env → Spells x.c epoch (body.Ended why snd rcv count) bytes → Was x (Node n) Front bytes
+      → StaysTruthful k x (front_does x (packet_seen (Node n) Front bytes) (front_ended env x.part.front n epoch (record { reason = why; snd = record { 0 = snd }; rcv = record { 0 = rcv } })))
+  ended-stays x env n epoch why snd rcv count bytes is spells was help h =
       let opened = opened-at k.files x h (node-opens x n bytes was) in
       end-row k small x opened.0 opened.1 h.talk h.pend (open-at k.files x opened.0 opened.1 h) (packet_seen (Node n) Front bytes) (packet-quiet x n bytes) env is n epoch why snd rcv count bytes spells was
       (came-says x (Node n) Front epoch (body.Ended why snd rcv count) bytes help.placed.letters was spells) x.part.front.row refl help

@@ -6,7 +6,7 @@ use Rattle.lard_base.specs.declared.ids.Epoch.{Epoch}
 use Rattle.lard_base.specs.declared.place.Place.TheVariants.{Front, Node}
 use Rattle.lard_cluster_bytes.specs.Agreement.{AwayAgrees, ConnAgrees, IsFair, IsInner, IsOpen, IsTruthful, IsUnopened, NodeAgrees, SeatAgrees, StageAgrees}
 use Rattle.lard_cluster_bytes.specs.Keeping.{AdmittedKeeps, FrontAgrees, FrontTurned}
-use Rattle.lard_cluster_bytes.specs.Law.{Helps, Mine}
+use Rattle.lard_cluster_bytes.specs.Law.{Helps, StaysTruthful}
 use Rattle.lard_cluster_bytes.proofs.ClientMoves.{has-fair, open-at}
 use Rattle.lard_cluster_bytes.proofs.FrontMoves.{IsOurs, RowIsOurs, all-say, drops-goes, front-seat, home-past, ours-unoffered, seat-front, talk-of}
 use Rattle.lard_cluster_bytes.proofs.Fronts.{admissions-keep}
@@ -95,9 +95,9 @@ module _ (k : Setting) (small : k.stream ≤ 2 ^ 30) (x : Conn) (s : Station) (t
 -- ---- the rules
 
 module _ (k : Setting) (small : k.stream ≤ 2 ^ 30) where
-  pub taken-mine : (x : Conn) (env : FrontEnv) (n epoch : ℕ) (bytes : List ℕ) → IsFrontEnv k x.c env → Spells x.c epoch body.Taken bytes → Was x (Node n) Front bytes
-      → Mine k x (front_does x (packet_seen (Node n) Front bytes) (front_taken x.part.front epoch))
-  taken-mine x env n epoch bytes is spells was help h =
+  pub taken-stays : (x : Conn) (env : FrontEnv) (n epoch : ℕ) (bytes : List ℕ) → IsFrontEnv k x.c env → Spells x.c epoch body.Taken bytes → Was x (Node n) Front bytes
+      → StaysTruthful k x (front_does x (packet_seen (Node n) Front bytes) (front_taken x.part.front epoch))
+  taken-stays x env n epoch bytes is spells was help h =
       let opened = opened-at k.files x h (node-opens x n bytes was) in
       let o = open-at k.files x opened.0 opened.1 h in
       taken-row k small x opened.0 opened.1 h.talk h.pend o (packet_seen (Node n) Front bytes) (λ d. quiet-at d) epoch n
@@ -167,5 +167,5 @@ module _ (k : Setting) (small : k.stream ≤ 2 ^ 30) where
     admits-goes : Admits
     admits-goes = by-row x.part.front.row refl admitted
 
-  pub admitted-mine : (x : Conn) (env : FrontEnv) (choice : FirstChoice) (given : FrontPart × FrontTurn) → IsFrontEnv k x.c env → front_admitted env x.part.front choice ≡ Some given → Mine k x (front_admits x given)
-  admitted-mine x env choice given is admitted help h = admits-goes x env choice given is admitted help h
+  pub admitted-stays : (x : Conn) (env : FrontEnv) (choice : FirstChoice) (given : FrontPart × FrontTurn) → IsFrontEnv k x.c env → front_admitted env x.part.front choice ≡ Some given → StaysTruthful k x (front_admits x given)
+  admitted-stays x env choice given is admitted help h = admits-goes x env choice given is admitted help h

@@ -8,7 +8,7 @@ use Rattle.lard_base.specs.declared.place.Place.{Place}
 use Rattle.lard_base.specs.declared.place.Place.TheVariants.{Client, Front, Node}
 use Rattle.lard_cluster_bytes.specs.Agreement.{FrontHolds, FrontTells, IsFair, IsFairOn, IsOpen, IsTruthful, SeatAgrees, StageAgrees}
 use Rattle.lard_cluster_bytes.specs.Keeping.{FrontAgrees, FrontDeedKeeps, FrontRowAgrees, FrontSays, FrontStageAgrees, FrontTurned, IsFrontTalk, SaysOfKind}
-use Rattle.lard_cluster_bytes.specs.Law.{Helps, Mine}
+use Rattle.lard_cluster_bytes.specs.Law.{Helps, StaysTruthful}
 use Rattle.lard_cluster_bytes.proofs.ClientMoves.{has-fair, open-at}
 use Rattle.lard_cluster_bytes.proofs.Fronts.{front-hears, timer-keeps}
 use Rattle.lard_cluster_bytes.proofs.Messages.{forwards-read}
@@ -342,8 +342,8 @@ module _ (k : Setting) (small : k.stream ≤ 2 ^ 30) (x : Conn) (s : Station) (t
 -- ---- two rules
 
 module _ (k : Setting) (small : k.stream ≤ 2 ^ 30) where
-  pub front-fires-mine : (x : Conn) (s : Station) (env : FrontEnv) → x.part.station ≡ Some s → IsFrontEnv k x.c env → Mine k x (front_does x (event_seen (event.Timer Front x.c)) (front_timer env x.part.front))
-  front-fires-mine x s env there is help h =
+  pub front-fires-stays : (x : Conn) (s : Station) (env : FrontEnv) → x.part.station ≡ Some s → IsFrontEnv k x.c env → StaysTruthful k x (front_does x (event_seen (event.Timer Front x.c)) (front_timer env x.part.front))
+  front-fires-stays x s env there is help h =
       let o = open-at k.files x s there h in
       let same : FrontEnv = record env { iss = s.iss } in
       let mine : IsFrontEnv k x.c same = record { place = is.place; number = is.number; files = is.files; stream = is.stream } in
@@ -353,9 +353,9 @@ module _ (k : Setting) (small : k.stream ≤ 2 ^ 30) where
         quiet-at (Says turn) = refl
         quiet-at (Does did) = refl
 
-  pub front-hears-mine : (x : Conn) (s : Station) (env : FrontEnv) (bytes : List ℕ) → x.part.station ≡ Some s → IsFrontEnv k x.c env → env.iss ≡ s.iss → Was x (Client x.c) Front bytes
-      → Mine k x (front_does x (packet_seen (Client x.c) Front bytes) (front_gets env x.part.front bytes (decoded bytes x.c ToCluster)))
-  front-hears-mine x s env bytes there is iss was help h =
+  pub front-hears-stays : (x : Conn) (s : Station) (env : FrontEnv) (bytes : List ℕ) → x.part.station ≡ Some s → IsFrontEnv k x.c env → env.iss ≡ s.iss → Was x (Client x.c) Front bytes
+      → StaysTruthful k x (front_does x (packet_seen (Client x.c) Front bytes) (front_gets env x.part.front bytes (decoded bytes x.c ToCluster)))
+  front-hears-stays x s env bytes there is iss was help h =
       let o = open-at k.files x s there h in
       let f : IsFairOn h.talk x.c x.part (Client x.c) Front bytes = has-fair (IsFair h.talk x.c x.part) (record { from = Client x.c; to = Front; bytes = bytes }) x.letters was o.fair in
       let heads : List Seen = packet_seen (Client x.c) Front bytes in

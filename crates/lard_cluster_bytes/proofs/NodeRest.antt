@@ -12,7 +12,7 @@ use Rattle.lard_base.specs.declared.place.Place.{Place}
 use Rattle.lard_base.specs.declared.place.Place.TheVariants.{Front, Node}
 use Rattle.lard_base.specs.declared.place.TimerKind.TheVariants as timer
 use Rattle.lard_cluster_bytes.specs.Agreement.{ConnAgrees, IsFair, IsInner, IsOffering, IsOpen, IsTruthful, IsUnopened, NodeAgrees, SeatAgrees, StageAgrees}
-use Rattle.lard_cluster_bytes.specs.Law.{Helps, Mine}
+use Rattle.lard_cluster_bytes.specs.Law.{Helps, StaysTruthful}
 use Rattle.lard_cluster_bytes.proofs.ClientMoves.{has-fair, open-at}
 use Rattle.lard_cluster_bytes.proofs.FrontMessages.{opened-at}
 use Rattle.lard_cluster_bytes.proofs.Moves.{idle-goes, move-goes}
@@ -170,15 +170,15 @@ module _ (k : Setting) (small : k.stream ≤ 2 ^ 30) where
     go None e = none e
     go (Some s) e = opened s e
 
-  offered-mine : (x : Conn) (n epoch : ℕ) (env : NodeEnv) (parts : EndpointParts) (bytes : List ℕ) → IsNodeEnv k x.c n epoch env → Spells x.c epoch (body.Offer parts) bytes → Was x Front (Node n) bytes
-      → Mine k x (node_does x n (packet_seen Front (Node n) bytes) (node_offered env (x.part.nodes n) parts))
-  offered-mine x n epoch env parts bytes is spells was help h =
+  offered-stays : (x : Conn) (n epoch : ℕ) (env : NodeEnv) (parts : EndpointParts) (bytes : List ℕ) → IsNodeEnv k x.c n epoch env → Spells x.c epoch (body.Offer parts) bytes → Was x Front (Node n) bytes
+      → StaysTruthful k x (node_does x n (packet_seen Front (Node n) bytes) (node_offered env (x.part.nodes n) parts))
+  offered-stays x n epoch env parts bytes is spells was help h =
       let opened = opened-at k.files x h (front-opens x n bytes was) in
       offers-goes k small x opened.0 opened.1 h.talk h.pend (open-at k.files x opened.0 opened.1 h) n env epoch is (packet_seen Front (Node n) bytes) (node-quiet x Front n bytes) parts bytes spells was help
 
-  forwarded-mine : (x : Conn) (n epoch : ℕ) (env : NodeEnv) (segment bytes : List ℕ) → IsNodeEnv k x.c n epoch env → Spells x.c epoch (body.Forward segment) bytes → Was x Front (Node n) bytes
-      → Mine k x (node_does x n (packet_seen Front (Node n) bytes) (node_forwarded env (x.part.nodes n) (decoded segment x.c ToCluster)))
-  forwarded-mine x n epoch env segment bytes is spells was help h =
+  forwarded-stays : (x : Conn) (n epoch : ℕ) (env : NodeEnv) (segment bytes : List ℕ) → IsNodeEnv k x.c n epoch env → Spells x.c epoch (body.Forward segment) bytes → Was x Front (Node n) bytes
+      → StaysTruthful k x (node_does x n (packet_seen Front (Node n) bytes) (node_forwarded env (x.part.nodes n) (decoded segment x.c ToCluster)))
+  forwarded-stays x n epoch env segment bytes is spells was help h =
       let opened = opened-at k.files x h (front-opens x n bytes was) in
       let o = open-at k.files x opened.0 opened.1 h in
       let f = (has-fair (IsFair h.talk x.c x.part) (record { from = Front; to = Node n; bytes = bytes }) x.letters was o.fair) _ spells in
@@ -187,67 +187,67 @@ module _ (k : Setting) (small : k.stream ≤ 2 ^ 30) where
       (sym (ap (λ (b : List ℕ). decoded b x.c ToCluster) f.1 ∙ again x.c ToCluster f.0 f.2.sendable))
       (forwards-goes k small x opened.0 opened.1 h.talk h.pend o n env epoch is heads (node-quiet x Front n bytes) f.0 f.2) help
 
-  tagged-mine : (x : Conn) (n epoch number : ℕ) (nodes : List ℕ) (env : NodeEnv) (bytes : List ℕ) → IsNodeEnv k x.c n epoch env → Spells x.c epoch (body.Tag number nodes) bytes → Was x Front (Node n) bytes
-      → Mine k x (node_does x n (packet_seen Front (Node n) bytes) (node_tagged env (x.part.nodes n) number nodes))
-  tagged-mine x n epoch number nodes env bytes is spells was help h =
+  tagged-stays : (x : Conn) (n epoch number : ℕ) (nodes : List ℕ) (env : NodeEnv) (bytes : List ℕ) → IsNodeEnv k x.c n epoch env → Spells x.c epoch (body.Tag number nodes) bytes → Was x Front (Node n) bytes
+      → StaysTruthful k x (node_does x n (packet_seen Front (Node n) bytes) (node_tagged env (x.part.nodes n) number nodes))
+  tagged-stays x n epoch number nodes env bytes is spells was help h =
       let opened = opened-at k.files x h (front-opens x n bytes was) in
       tags-goes k small x opened.0 opened.1 h.talk h.pend (open-at k.files x opened.0 opened.1 h) n env epoch is (packet_seen Front (Node n) bytes) (node-quiet x Front n bytes) number nodes help
 
-  acknowledged-mine : (x : Conn) (n epoch : ℕ) (env : NodeEnv) (bytes : List ℕ) → IsNodeEnv k x.c n epoch env → Spells x.c epoch body.EndedAck bytes → Was x Front (Node n) bytes
-      → Mine k x (node_does x n (packet_seen Front (Node n) bytes) (node_acknowledged env (x.part.nodes n)))
-  acknowledged-mine x n epoch env bytes is spells was help h =
+  acknowledged-stays : (x : Conn) (n epoch : ℕ) (env : NodeEnv) (bytes : List ℕ) → IsNodeEnv k x.c n epoch env → Spells x.c epoch body.EndedAck bytes → Was x Front (Node n) bytes
+      → StaysTruthful k x (node_does x n (packet_seen Front (Node n) bytes) (node_acknowledged env (x.part.nodes n)))
+  acknowledged-stays x n epoch env bytes is spells was help h =
       let opened = opened-at k.files x h (front-opens x n bytes was) in
       acknowledged-goes k small x opened.0 opened.1 h.talk h.pend (open-at k.files x opened.0 opened.1 h) n (packet_seen Front (Node n) bytes) (node-quiet x Front n bytes) env
       (subst (λ (e : ℕ). HasEnded e x.part.front.row) (sym is.epoch_is) (came-says x Front (Node n) epoch body.EndedAck bytes help.placed.letters was spells)) help
 
-  content-mine : (x : Conn) (n from epoch r : ℕ) (env : NodeEnv) (file bytes : List ℕ) → IsNodeEnv k x.c n epoch env → Spells x.c epoch (body.Content r file) bytes → Was x (Node from) (Node n) bytes
-      → Mine k x (node_does x n (packet_seen (Node from) (Node n) bytes) (node_content env (x.part.nodes n) from r))
-  content-mine x n from epoch r env file bytes is spells was help h =
+  content-stays : (x : Conn) (n from epoch r : ℕ) (env : NodeEnv) (file bytes : List ℕ) → IsNodeEnv k x.c n epoch env → Spells x.c epoch (body.Content r file) bytes → Was x (Node from) (Node n) bytes
+      → StaysTruthful k x (node_does x n (packet_seen (Node from) (Node n) bytes) (node_content env (x.part.nodes n) from r))
+  content-stays x n from epoch r env file bytes is spells was help h =
       let heads : List Seen = packet_seen (Node from) (Node n) bytes in
       let Goes : Deed → Type 0 = λ d. Helps x (node_does x n heads d) → IsTruthful k.files (grown x (node_does x n heads d)) in
       by-station x (IsTruthful k.files (grown x (node_does x n heads (node_content env (x.part.nodes n) from r))))
       (λ s there. contents-goes k small x s there h.talk h.pend (open-at k.files x s there h) n env epoch is heads (node-quiet x (Node from) n bytes) from r help)
       (λ none. subst Goes (sym (ap (come_by env from r (x.part.nodes n)) (nothing-here k.files x none h n env.epoch help.placed.sits))) (unopened-goes k.files x none h (Node n) heads nothing_said refl tt) help)
 
-  read-mine : (x : Conn) (n epoch r : ℕ) (env : NodeEnv) (path : List ℕ) → IsNodeEnv k x.c n epoch env → Mine k x (reads_first (rec.Read n n x.c r path) (node_does x n [] (node_read env (x.part.nodes n) r)))
-  read-mine x n epoch r env path is help h =
+  read-stays : (x : Conn) (n epoch r : ℕ) (env : NodeEnv) (path : List ℕ) → IsNodeEnv k x.c n epoch env → StaysTruthful k x (reads_first (rec.Read n n x.c r path) (node_does x n [] (node_read env (x.part.nodes n) r)))
+  read-stays x n epoch r env path is help h =
       let Goes : Deed → Type 0 = λ d. Helps x (reads_first (rec.Read n n x.c r path) (node_does x n [] d)) → IsTruthful k.files (grown x (reads_first (rec.Read n n x.c r path) (node_does x n [] d))) in
       by-station x (IsTruthful k.files (grown x (reads_first (rec.Read n n x.c r path) (node_does x n [] (node_read env (x.part.nodes n) r)))))
       (λ s there. read-goes k small x s there h.talk h.pend (open-at k.files x s there h) n env epoch is r path help)
       (λ none. subst Goes (sym (ap (read_by env r (x.part.nodes n)) (nothing-here k.files x none h n env.epoch help.placed.sits)))
       (unopened-goes k.files x none h (Node n) [] (record nothing_said { notes = rec.Read n n x.c r path ∷ [] }) refl tt) help)
 
-  fires-mine : (x : Conn) (s : Station) (n : ℕ) (env : NodeEnv) → x.part.station ≡ Some s → IsNodeEnv k x.c n (epoch_in (x.part.nodes n)) env
-      → Mine k x (node_does x n (event_seen (event.Timer (Node n) x.c)) (node_timer env (x.part.nodes n)))
-  fires-mine x s n env there is help h =
+  fires-stays : (x : Conn) (s : Station) (n : ℕ) (env : NodeEnv) → x.part.station ≡ Some s → IsNodeEnv k x.c n (epoch_in (x.part.nodes n)) env
+      → StaysTruthful k x (node_does x n (event_seen (event.Timer (Node n) x.c)) (node_timer env (x.part.nodes n)))
+  fires-stays x s n env there is help h =
       fires-goes k small x s there h.talk h.pend (open-at k.files x s there h) n env (epoch_in (x.part.nodes n)) is (event_seen (event.Timer (Node n) x.c)) (event-quiet x n) is.epoch_is help
 
   -- what it does for another node
   for-others : (x : Conn) (n : ℕ) (heads : List Seen) (notes : List Rec) (messages : List (Place × List ℕ)) → Each (IsNoteOf x.c) notes → served_in notes ≡ 0 → size_in notes ≡ 0 → list_any resets notes ≡ false
       → ((t : Tale) → bytes_of (told_on x.c t notes) ≡ bytes_of t) → bytes_of (tale_before x (stands x (Node n) heads (record nothing_said { notes = notes; messages = messages }))) ≡ bytes_of (tale_at x)
-      → Each IsInner (map (letter (Node n)) messages) → ((l : Talk) → Each (IsFair l x.c x.part) (map (letter (Node n)) messages)) → Mine k x (stands x (Node n) heads (record nothing_said { notes = notes; messages = messages }))
+      → Each IsInner (map (letter (Node n)) messages) → ((l : Talk) → Each (IsFair l x.c x.part) (map (letter (Node n)) messages)) → StaysTruthful k x (stands x (Node n) heads (record nothing_said { notes = notes; messages = messages }))
   for-others x n heads notes messages each served size reset mute quiet inner fair help h =
       by-station x (IsTruthful k.files (grown x (stands x (Node n) heads (record nothing_said { notes = notes; messages = messages }))))
       (λ s there. stands-goes k small x s there h.talk h.pend (open-at k.files x s there h) n heads notes messages each served size reset quiet (fair h.talk) help)
       (λ none. unopened-goes k.files x none h (Node n) heads (record nothing_said { notes = notes; messages = messages }) (mute _ ∙ quiet) inner help)
 
-  pub nodes : NodeRules k (Mine k)
+  pub nodes : NodeRules k (StaysTruthful k)
   nodes = record {
-    offered = offered-mine;
-    forwarded = forwarded-mine;
-    tagged = tagged-mine;
-    content = content-mine;
-    acknowledged = acknowledged-mine;
-    read = read-mine;
-    fires = fires-mine;
+    offered = offered-stays;
+    forwarded = forwarded-stays;
+    tagged = tagged-stays;
+    content = content-stays;
+    acknowledged = acknowledged-stays;
+    read = read-stays;
+    fires = fires-stays;
     answers = λ x n from epoch r path file bytes there spells was. for-others x n (packet_seen (Node from) (Node n) bytes) [] (contents k n from x.c epoch r path).messages tt refl refl refl (λ t. refl) refl ((tt, tt), tt) (λ l. (tt, tt));
     queues = λ x n from epoch r path file bytes there spells was. for-others x n (packet_seen (Node from) (Node n) bytes) (rec.Queued n from x.c r path ∷ []) [] (tt, tt) refl refl refl (λ t. refl) refl tt (λ l. tt);
     brings = λ x n from epoch r path. for-others x n [] (rec.Read n from x.c r path ∷ []) (contents k n from x.c epoch r path).messages (tt, tt) refl refl refl (λ t. refl) refl ((tt, tt), tt) (λ l. (tt, tt));
   }
 
   -- a packet comes, and nothing is done
-  pub ignores-mine : (x : Conn) (from to : Place) (bytes : List ℕ) → Was x from to bytes → Mine k x (stands x to (packet_seen from to bytes) nothing_said)
-  ignores-mine x from to bytes was help h =
+  pub ignores-stays : (x : Conn) (from to : Place) (bytes : List ℕ) → Was x from to bytes → StaysTruthful k x (stands x to (packet_seen from to bytes) nothing_said)
+  ignores-stays x from to bytes was help h =
       let v : Move = stands x to (packet_seen from to bytes) nothing_said in
       by-station x (IsTruthful k.files (grown x v))
       (λ s there.

@@ -32,18 +32,6 @@ read-alone w b vs h = record {
   stops = λ e. let s = h.stops e in (s.0, s.1);
 }
 
-pub read-together : (w : Stream) (b : ControlBlock) (vs : List Verdict) → one.HasRead w b vs → ((z : List ℕ) → IsPrefix vs (verdicts (w.bytes ++ z))) → HasRead w b vs []
-read-together w b vs h fronts = record {
-  cut = λ e open_ z. subst (λ (us : List Verdict). verdicts_on (blocks (take (place b.recv) w.bytes ++ z)) ≡ us ++ verdicts_on (blocks z)) (sym (append-nil vs)) (h.cut e z);
-  goes_on = h.goes_on;
-  stops = λ e. let s = h.stops e in (s.0, s.1, refl);
-  fronts = λ z. subst (λ (us : List Verdict). IsPrefix us (verdicts (w.bytes ++ z))) (sym (append-nil vs)) (fronts z);
-}
-
--- those that were answered are the first, too
-pub answered-fronts : (w : Stream) (b : ControlBlock) (vs pend : List Verdict) → HasRead w b vs pend → (z : List ℕ) → IsPrefix vs (verdicts (w.bytes ++ z))
-answered-fronts w b vs pend h z = IsPrefix-trans vs (vs ++ pend) (verdicts (w.bytes ++ z)) (pend, refl) (h.fronts z)
-
 -- ---- another endpoint between the same streams
 
 pub read-carried : (w out : Stream) (b d : ControlBlock) (vs pend : List Verdict) → IsBetween w out b → IsBetween w out d → d.recv.discarding ≡ b.recv.discarding

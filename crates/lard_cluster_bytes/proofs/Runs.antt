@@ -2,13 +2,13 @@
 use Rattle.std.proofs.Common.{◌≡◌, ◌≤◌, ◌^◌, ℕ, false, List, [], take, Option, Some, None, refl, ap, ◌∙◌, sym, subst}
 use Rattle.lard_answers.specs.Answers.{FilesAt, IsPrefix, answer_bytes}
 use Rattle.lard_cluster_bytes.specs.Agreement.{ConnAgrees, IsTruthful}
-use Rattle.lard_cluster_bytes.specs.Law.{Mine}
+use Rattle.lard_cluster_bytes.specs.Law.{StaysTruthful}
 use Rattle.lard_cluster_bytes.specs.Runs.{ClientsAcceptAnswers, StatesAreTruthful}
 use Rattle.lard_cluster_bytes.proofs.ClientMoves.{clients}
-use Rattle.lard_cluster_bytes.proofs.FrontEnds.{asked-mine, ended-mine}
-use Rattle.lard_cluster_bytes.proofs.FrontMessages.{admitted-mine, taken-mine}
-use Rattle.lard_cluster_bytes.proofs.FrontMoves.{front-fires-mine, front-hears-mine}
-use Rattle.lard_cluster_bytes.proofs.NodeRest.{ignores-mine, nodes}
+use Rattle.lard_cluster_bytes.proofs.FrontEnds.{asked-stays, ended-stays}
+use Rattle.lard_cluster_bytes.proofs.FrontMessages.{admitted-stays, taken-stays}
+use Rattle.lard_cluster_bytes.proofs.FrontMoves.{front-fires-stays, front-hears-stays}
+use Rattle.lard_cluster_bytes.proofs.NodeRest.{ignores-stays, nodes}
 use Rattle.lard_cluster_places.proofs.Law.{owing}
 use Rattle.lard_cluster_places.proofs.Runs.{each-placed}
 use Rattle.lard_cluster_places.proofs.Turns.{IsPlaced, Owes}
@@ -29,32 +29,32 @@ use Rattle.lard_truth.specs.Truth.{Stream}
 -- ---- each rule keeps it
 
 module _ (k : Setting) (small : k.stream ≤ 2 ^ 30) where
-  mine : UntouchedRules k (Mine k)
+  mine : UntouchedRules k (StaysTruthful k)
   mine = record {
     client = clients k small;
     front = record {
-      hears = front-hears-mine k small;
-      fires = front-fires-mine k small;
-      taken = taken-mine k small;
-      asked = asked-mine k small;
-      ended = ended-mine k small;
-      admitted = admitted-mine k small;
+      hears = front-hears-stays k small;
+      fires = front-fires-stays k small;
+      taken = taken-stays k small;
+      asked = asked-stays k small;
+      ended = ended-stays k small;
+      admitted = admitted-stays k small;
     };
     node = nodes k small;
-    ignores = ignores-mine k small;
+    ignores = ignores-stays k small;
   }
 
   abbrev Owed : Conn → Move → Type 0
   Owed x v = MayMove IsPlaced x → IsPlaced x → Owes x v
 
   abbrev All : Conn → Move → Type 0
-  All x v = (IsFine x v × Owed x v) × Mine k x v
+  All x v = (IsFine x v × Owed x v) × StaysTruthful k x v
 
   abbrev Wanted : Conn → Move → Type 0
   Wanted x v = MayMove IsPlaced x → (tale_at x).touched ≡ false → IsTruthful k.files x → IsTruthful k.files (grown x v)
 
   all : UntouchedRules k All
-  all = untouched-both k (λ x v. IsFine x v × Owed x v) (Mine k) (untouched-both k IsFine Owed (fine k).untouched (owing k IsPlaced).untouched) mine
+  all = untouched-both k (λ x v. IsFine x v × Owed x v) (StaysTruthful k) (untouched-both k IsFine Owed (fine k).untouched (owing k IsPlaced).untouched) mine
 
   wanted : (x : Conn) (v : Move) → All x v → Wanted x v
   wanted x v h may untouched truthful = h.1 (record { number = may.number; sound = may.sound; placed = may.given; owes = h.0.1 may may.given; own = (h.0.0 may.number may.sound).0 }) truthful

@@ -14,5 +14,5 @@ pub record Helps (x : Conn) (v : Move) : Type 0 where
   pub own : IsItsOwn x v
 
 -- the move leaves its connection in agreement
-abbrev pub Mine : Setting → Conn → Move → Type 0
-Mine k x v = Helps x v → IsTruthful k.files x → IsTruthful k.files (grown x v)
+abbrev pub StaysTruthful : Setting → Conn → Move → Type 0
+StaysTruthful k x v = Helps x v → IsTruthful k.files x → IsTruthful k.files (grown x v)
