@@ -1,28 +1,37 @@
 -- What a client does leaves its connection in agreement.
-use Rattle.std.proofs.Common.{◌≡◌, ◌≤◌, ◌+◌, ◌||◌, ◌^◌, ℕ, nat_lt, Bool, false, true, cond, List, [], ◌∷◌, ◌++◌, map, take, Some, None, Result, arith, refl, ap, ◌∙◌, sym, subst, inl, ⊎_elim, ltb-false}
-use Rattle.lard_answers.specs.Answers.{FilesAt, verdicts}
+use Rattle.std.proofs.Common.{◌≡◌, ◌≤◌, ◌+◌, ◌^◌, ℕ, nat_lt, Bool, false, true, cond, List, [], ◌∷◌, ◌++◌, map, take, drop, append-nil, Some, None, Result, arith, refl, ap, ◌∙◌, sym, subst, inl, ⊎_elim, ltb-false}
+use Rattle.std.proofs.lemmas.Bool.{both_ways}
+use Rattle.std.proofs.lemmas.List.{take-append-drop}
+use Rattle.lard_answers.specs.Answers.{FilesAt, IsPrefix, verdicts}
 use Rattle.lard_base.specs.declared.event.Event.TheVariants as event
 use Rattle.lard_base.specs.declared.place.Place.{Place}
 use Rattle.lard_base.specs.declared.place.Place.TheVariants.{Client, Front, Node}
 use Rattle.lard_client.specs.Control.{ClientBlock, written_len}
 use Rattle.lard_cluster.specs.Bounds.{HasRule}
-use Rattle.lard_cluster_bytes.specs.Agreement.{ConnAgrees, IsFair, IsFairOn, IsInner, IsNode, IsOpen, IsTruthful, IsUnopened, SeatAgrees, TaleAgrees}
-use Rattle.lard_cluster_bytes.specs.Law.{Helps, StaysTruthful}
+use Rattle.lard_cluster_bytes.specs.Agreement.{ConnAgrees, IsFair, IsFairOn, IsInner, IsNode, IsOpen, IsTruthful, IsUnopened, SeatAgrees, StayComesOn, TaleAgrees}
+use Rattle.lard_cluster_bytes.specs.Law.{Helps, IsSeenTrue, IsTrueMove, StaysTruthful}
+use Rattle.lard_cluster_bytes.specs.Records.{IsTrueAfter}
 use Rattle.lard_cluster_bytes.proofs.Fair.{GoesOnFairly, all-on}
 use Rattle.lard_cluster_bytes.proofs.Later.{said-stays, seat-stays}
-use Rattle.lard_cluster_bytes.proofs.Told.{Bytes, bytes_of, move-bytes, tale-agrees}
+use Rattle.lard_cluster_bytes.proofs.Telling.{Tells, client-tells, heads-true, timers-true, words-true}
+use Rattle.lard_cluster_bytes.proofs.Told.{Bytes, bytes_of, heads-fin, move-bytes, tale-agrees}
 use Rattle.lard_cluster_view.specs.Carry.{tale_at}
-use Rattle.lard_cluster_view.specs.View.{AreBetween, ClientRules, Conn, GoesBetween, IsSound, Move, Setting, Was, client_begins, client_does, event_seen, grown, letter, letters_of, packet_seen}
-use Rattle.lard_cluster_view.proofs.Rows.{tale_before}
-use Rattle.lard_history.specs.Journal.{request, told_on}
-use Rattle.lard_history.specs.Own.{Has, Letter, Seen}
+use Rattle.lard_cluster_view.specs.View.{AreBetween, ClientRules, Conn, GoesBetween, IsSound, Move, Setting, Was, client_begins, client_does, event_seen, grown, letter, letters_of, packet_seen, seen_in, timer_rows}
+use Rattle.lard_cluster_view.proofs.Rows.{grown-tale, move-lawful, tale_before}
+use Rattle.lard_cluster_view.proofs.Timers.{timer_rows-are}
+use Rattle.lard_history.specs.Journal.{Tale, request, told_on}
+use Rattle.lard_history.specs.Own.{EachRow, Has, Letter, Seen}
 use Rattle.lard_history.proofs.Each.{Each, Each-append}
+use Rattle.lard_journal.specs.declared.rec.Rec.{Rec}
 use Rattle.lard_laws_bytes.specs.Agreement.{AreWords, IsReply}
 use Rattle.lard_laws_bytes.specs.Keeping.{ClientKeeps, ClientOpened, ClientTurned, accepted_in, unwritten, written_in}
 use Rattle.lard_laws_bytes.specs.Truthful.{Talk}
 use Rattle.lard_laws_bytes.proofs.ClientHearing.{hears-turned}
 use Rattle.lard_laws_bytes.proofs.ClientTurns.{aborts-turned, holds-turned, opens-agreeing, shuts-turned, takes-turned, timer-turned, writes-turned}
-use Rattle.lard_laws_bytes.proofs.Notes.{client-notes, same-number}
+use Rattle.lard_laws_bytes.proofs.Moments.{client-true}
+use Rattle.lard_laws_bytes.proofs.Notes.{Adds, client-notes, or-false, same-number}
+use Rattle.lard_laws_bytes.proofs.Prefix.{said-front}
+use Rattle.lard_request.specs.declared.verdict.Verdict.{Verdict}
 use Rattle.lard_rules.specs.declared.places.Station.{Station}
 use Rattle.lard_rules.specs.declared.places.Turn.{Turn}
 use Rattle.lard_rules.specs.Client.{client_aborts, client_gets, client_holds, client_opens, client_shuts, client_takes, client_timer, client_writes}
@@ -32,6 +41,7 @@ use Rattle.lard_segment.specs.Segment.{Said, decoded, spelled}
 use Rattle.lard_segment.proofs.Again.{again}
 use Rattle.lard_truth.specs.Truth.{Stream}
 use Rattle.lard_truth.proofs.Growth.{goes_on-same}
+use Rattle.lard_view.proofs.Rows.{client-sends-tale}
 
 pub open-at : (files : FilesAt) (x : Conn) (s : Station) → x.part.station ≡ Some s → (h : IsTruthful files x) → IsOpen files x h.talk h.pend s
 open-at files x s there h = subst (ConnAgrees files x h.talk h.pend) there h.agrees
@@ -55,47 +65,84 @@ was-between x from to bytes sound was = has-between x.c (record { from = from; t
 
 -- ---- a client's turn
 
+plus-zero : (n m : ℕ) → n ≡ m + 0 → n ≡ m
+plus-zero n m e = omega (arith, e)
+
 module _ (files : FilesAt) (x : Conn) (s : Station) (there : x.part.station ≡ Some s) (heads : List Seen) (given : ClientBlock × Turn) where
   abbrev v : Move
   v = client_does x s heads given
 
-  client-goes : Helps x v → (k : Talk) (pend : _) (h : IsOpen files x k pend s) → bytes_of (tale_before x v) ≡ bytes_of (tale_at x) → ClientTurned x.c k.w k.out s.client given → IsTruthful files (grown x v)
-  client-goes help k pend h quiet t =
-      let l : Talk = record { w = t.w_after; out = k.out; vs = k.vs; was_reset = k.was_reset } in
-      let before : TaleAgrees k s.client.accepted (tale_before x v) = tale-agrees k s.client.accepted (tale_at x) (tale_before x v) quiet h.tale in
-      let adds = client-notes x.c (tale_before x v) given.1.notes t.notes in
-      let on : GoesOnFairly k l x.part v.part = record {
-        talk = record { w = t.longer; out = goes_on-same k.out; reset = λ e. e };
-        grows = help.owes.grows;
-        offers = λ n e a b. refl;
-        ends = λ n e o. inl refl;
-      } in
-      record {
-        talk = l;
-        pend = pend;
-        agrees = record {
-          client = t.agrees;
-          begins = h.begins;
-          says = said-stays files k.w t.w_after k.out k.vs t.longer h.says;
-          seat = seat-stays k.w t.w_after k.out k.vs pend k.was_reset x.c x.part t.longer h.seat;
-          fair = Each-append (IsFair l x.c v.part) x.letters (letters_of v) (all-on k l x.c x.part v.part on x.letters help.placed.letters h.fair)
-              (Each-append (IsFair l x.c v.part) (map (letter (Client x.c)) given.1.segments) [] (words-fair l x.c x.c (grown x v) given.1.segments t.sent) tt);
-          tale = tale-agrees l given.0.accepted (told_on x.c (tale_before x v) given.1.notes) (tale_at (grown x v)) (move-bytes x v help.own.messages help.own.gave) (record {
-            numbers = adds.numbers ∙ before.numbers ∙ ap (λ (n : ℕ). Some (record { isn = n; iss = k.out.first })) (sym t.longer.first);
-            wrote = adds.wrote ∙ ap (λ (b : List ℕ). b ++ written_in given.1.notes) before.wrote ∙ sym t.wrote;
-            accepted_is = adds.accepted ∙ ap (λ (b : List ℕ). b ++ accepted_in given.1.notes) before.accepted_is ∙ sym t.accepted;
-            served = plus-zero _ _ adds.served ∙ before.served;
-            served_bytes = plus-zero _ _ adds.served_bytes ∙ before.served_bytes;
-            was_reset = adds.was_reset ∙ or-none (tale_before x v).was_reset ∙ before.was_reset;
-          });
-        };
-      } where
-        plus-zero : (n m : ℕ) → n ≡ m + 0 → n ≡ m
-        plus-zero n m e = omega (arith, e)
+  module _ (help : Helps x v) (k : Talk) (pend : List Verdict) (h : IsOpen files x k pend s) (quiet : bytes_of (tale_before x v) ≡ bytes_of (tale_at x)) (t : ClientTurned x.c k.w k.out s.client given) where
+    abbrev l : Talk
+    l = record { w = t.w_after; out = k.out; vs = k.vs; was_reset = k.was_reset }
 
-        or-none : (b : Bool) → (b || false) ≡ b
-        or-none true = refl
-        or-none false = refl
+    abbrev before : Tale
+    before = tale_before x v
+
+    abbrev noted : Tale
+    noted = told_on x.c before given.1.notes
+
+    before-agrees : TaleAgrees k s.client.accepted before
+    before-agrees = tale-agrees k s.client.accepted (tale_at x) before quiet (λ e. h.tale.fin (sym (heads-fin x.c heads (tale_at x) help.heads) ∙ e)) h.tale
+
+    adds : Adds before (written_in given.1.notes) (accepted_in given.1.notes) 0 0 false noted
+    adds = client-notes x.c before given.1.notes t.notes
+
+    noted-fin : noted.fin_sent ≡ true → k.out.ended ≡ true
+    noted-fin e = before-agrees.fin (sym adds.fin_sent ∙ e)
+
+    end-fin : (tale_at (grown x v)).fin_sent ≡ true → k.out.ended ≡ true
+    end-fin e = noted-fin (sym (ap (λ (u : Tale). u.fin_sent) (grown-tale x v help.own.messages ∙ client-sends-tale x.c x.c given.1.segments noted)) ∙ e)
+
+    on : GoesOnFairly k l x.part v.part
+    on = record {
+      talk = record { w = t.longer; out = goes_on-same k.out; reset = λ e. e };
+      grows = help.owes.grows;
+      offers = λ n e a b. refl;
+      ends = λ n e o. inl refl;
+    }
+
+    truthful : IsTruthful files (grown x v)
+    truthful = record {
+      talk = l;
+      pend = pend;
+      agrees = record {
+        client = t.agrees;
+        begins = h.begins;
+        says = said-stays files k.w t.w_after k.out k.vs t.longer h.says;
+        seat = seat-stays k.w t.w_after k.out k.vs pend k.was_reset x.c x.part t.longer h.seat;
+        ways = h.ways;
+        fair = Each-append (IsFair l x.c v.part) x.letters (letters_of v) (all-on k l x.c x.part v.part on x.letters help.placed.letters h.fair)
+            (Each-append (IsFair l x.c v.part) (map (letter (Client x.c)) given.1.segments) [] (words-fair l x.c x.c (grown x v) given.1.segments t.sent) tt);
+        tale = tale-agrees l given.0.accepted noted (tale_at (grown x v)) (move-bytes x v help.own.messages help.own.gave) end-fin (record {
+          numbers = adds.numbers ∙ before-agrees.numbers ∙ ap (λ (n : ℕ). Some (record { isn = n; iss = k.out.first })) (sym t.longer.first);
+          wrote = adds.wrote ∙ ap (λ (b : List ℕ). b ++ written_in given.1.notes) before-agrees.wrote ∙ sym t.wrote;
+          accepted_is = adds.accepted ∙ ap (λ (b : List ℕ). b ++ accepted_in given.1.notes) before-agrees.accepted_is ∙ sym t.accepted;
+          served = plus-zero noted.served before.served adds.served ∙ before-agrees.served;
+          served_bytes = plus-zero noted.served_bytes before.served_bytes adds.served_bytes ∙ before-agrees.served_bytes;
+          was_reset = adds.was_reset ∙ sym (or-false before.was_reset) ∙ before-agrees.was_reset;
+          fin = noted-fin;
+        });
+      };
+    }
+
+    -- what it accepted begins what was said
+    wrote-so : IsPrefix k.w.bytes before.wrote
+    wrote-so = ([], before-agrees.wrote ∙ sym (append-nil k.w.bytes))
+
+    accepted-so : IsPrefix (before.accepted ++ accepted_in given.1.notes) k.out.bytes
+    accepted-so =
+        let same : take given.0.accepted k.out.bytes ≡ before.accepted ++ accepted_in given.1.notes = t.accepted ∙ ap (λ (b : List ℕ). b ++ accepted_in given.1.notes) (sym before-agrees.accepted_is) in
+        subst (λ (b : List ℕ). IsPrefix b k.out.bytes) same (drop given.0.accepted k.out.bytes, sym (take-append-drop given.0.accepted k.out.bytes))
+
+    seen-true : EachRow (IsSeenTrue files x.c) x.seen (seen_in x v)
+    seen-true = move-lawful (IsTrueAfter files x.c) x v (heads-true files x.c x.seen heads help.heads)
+        (client-tells files x.c before given.1.notes t.notes (client-true files x.c k.out.bytes k.w.bytes (said-front files k.w k.out k.vs h.says) before given.1.notes t.notes wrote-so accepted-so))
+        (words-true files x.c x.c noted given.1.segments) tt tt
+        (timers-true files x.c (Client x.c) x.c _ (timer_rows (Client x.c) x.c x.part v.part) (timer_rows-are (Client x.c) x.c x.part v.part))
+
+    client-goes : IsTrueMove files x v
+    client-goes = (truthful, seen-true)
 
 -- ---- a client opens
 
@@ -123,12 +170,28 @@ module _ (files : FilesAt) (x : Conn) (isn iss wnd mss : ℕ) (rule : HasRule (e
   unopened : IsUnopened x
   unopened = subst (ConnAgrees files x h.talk h.pend) none h.agrees
 
-  opens-goes : Helps x w → IsTruthful files (grown x w)
-  opens-goes help =
-      let given : ClientBlock × Turn = client_opens x.c isn wnd mss in
-      let it : ClientOpened x.c (unwritten isn) nobody given = opens-agreeing x.c isn wnd mss nobody rule.4 rule.3 rule.1 rule.2 in
+  abbrev given : ClientBlock × Turn
+  given = client_opens x.c isn wnd mss
+
+  it : ClientOpened x.c (unwritten isn) nobody given
+  it = opens-agreeing x.c isn wnd mss nobody rule.4 rule.3 rule.1 rule.2
+
+  opens-fin : Helps x w → (tale_at (grown x w)).fin_sent ≡ false
+  opens-fin help =
+      let before : Tale = tale_before x w in
+      ap (λ (t : Tale). t.fin_sent) (grown-tale x w help.own.messages ∙ client-sends-tale x.c x.c given.1.segments (told_on x.c before given.1.notes) ∙ ap (λ (ns : List Rec). told_on x.c before ns) it.notes)
+      ∙ heads-fin x.c w.heads (tale_at x) help.heads ∙ unopened.fin
+
+  opens-seen : Helps x w → EachRow (IsSeenTrue files x.c) x.seen (seen_in x w)
+  opens-seen help = move-lawful (IsTrueAfter files x.c) x w (heads-true files x.c x.seen w.heads help.heads)
+      (subst (λ (ns : List Rec). Tells files x.c (tale_before x w) ns) (sym it.notes) tt)
+      (words-true files x.c x.c (told_on x.c (tale_before x w) given.1.notes) given.1.segments) tt tt
+      (timers-true files x.c (Client x.c) x.c _ (timer_rows (Client x.c) x.c x.part w.part) (timer_rows-are (Client x.c) x.c x.part w.part))
+
+  opens-truthful : Helps x w → IsTruthful files (grown x w)
+  opens-truthful help =
       let u : IsUnopened x = unopened in
-      let told : bytes_of (tale_at (grown x w)) ≡ bytes_of (tale_before x w) = move-bytes x w help.own.messages help.own.gave ∙ ap (λ (ns : _). bytes_of (told_on x.c (tale_before x w) ns)) it.notes in
+      let told : bytes_of (tale_at (grown x w)) ≡ bytes_of (tale_before x w) = move-bytes x w help.own.messages help.own.gave ∙ ap (λ (ns : List Rec). bytes_of (told_on x.c (tale_before x w) ns)) it.notes in
       record {
         talk = begun;
         pend = [];
@@ -137,6 +200,7 @@ module _ (files : FilesAt) (x : Conn) (isn iss wnd mss : ℕ) (rule : HasRule (e
           begins = refl;
           says = record { spoken = refl; fronts = λ z. (verdicts z, refl); number = rule.5; most = omega arith };
           seat = subst (λ (o : _). SeatAgrees (unwritten isn) nobody [] [] false x.c w.part o) (sym u.front) (refl, refl, refl);
+          ways = λ n. subst (StayComesOn files) (sym (u.stays n)) tt;
           fair = Each-append (IsFair begun x.c w.part) x.letters (letters_of w) (inner-fair begun x.c (grown x w) x.letters u.inner)
               (Each-append (IsFair begun x.c w.part) (map (letter (Client x.c)) given.1.segments) [] (words-fair begun x.c x.c (grown x w) given.1.segments it.sent) tt);
           tale = record {
@@ -146,9 +210,13 @@ module _ (files : FilesAt) (x : Conn) (isn iss wnd mss : ℕ) (rule : HasRule (e
             served = ap (λ (b : Bytes). b.served) told ∙ u.served;
             served_bytes = ap (λ (b : Bytes). b.served_bytes) told ∙ u.served_bytes;
             was_reset = ap (λ (b : Bytes). b.was_reset) told ∙ u.was_reset;
+            fin = λ e. absurd (both_ways (tale_at (grown x w)).fin_sent (opens-fin help) e);
           };
         };
       }
+
+  opens-goes : Helps x w → IsTrueMove files x w
+  opens-goes help = (opens-truthful help, opens-seen help)
 
 -- ---- the rules
 

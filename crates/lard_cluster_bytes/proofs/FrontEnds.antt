@@ -3,9 +3,9 @@ use Rattle.std.proofs.Common.{◌≡◌, ◌≤◌, ◌+◌, ◌==◌, ◌&&◌,
 use Rattle.std.specs.List.{list_any}
 use Rattle.lard_base.specs.declared.place.Place.TheVariants.{Front, Node}
 use Rattle.lard_base.specs.declared.place.Reason.{Reason}
-use Rattle.lard_cluster_bytes.specs.Agreement.{AwayAgrees, BackAgrees, EndedIt, IsEnding, IsFair, IsKept, IsOpen, IsTruthful, NodeAgrees, NodeTells, RowAgrees, SeatAgrees, StageAgrees}
+use Rattle.lard_cluster_bytes.specs.Agreement.{AwayAgrees, BackAgrees, EndedIt, IsEnding, IsFair, IsKept, IsOpen, NodeAgrees, NodeTells, RowAgrees, SeatAgrees, StageAgrees}
 use Rattle.lard_cluster_bytes.specs.Keeping.{FrontSays}
-use Rattle.lard_cluster_bytes.specs.Law.{Helps, StaysTruthful}
+use Rattle.lard_cluster_bytes.specs.Law.{Helps, IsTrueMove, StaysTruthful}
 use Rattle.lard_cluster_bytes.specs.Turning.{IsNoteOf}
 use Rattle.lard_cluster_bytes.proofs.ClientMoves.{has-fair, open-at}
 use Rattle.lard_cluster_bytes.proofs.FrontMessages.{node-opens, opened-at, past-undecided}
@@ -17,7 +17,7 @@ use Rattle.lard_cluster_places.specs.Places.{HasEnded, IsDecided, IsLeft, Owning
 use Rattle.lard_cluster_places.proofs.FrontMessages.{came-says}
 use Rattle.lard_cluster_places.proofs.FrontRules.{decided-there, there-decided}
 use Rattle.lard_cluster_view.specs.Carry.{tale_at}
-use Rattle.lard_cluster_view.specs.View.{Conn, IsFrontEnv, Setting, Spells, Was, front_does, grown, packet_seen, with_front}
+use Rattle.lard_cluster_view.specs.View.{Conn, IsFrontEnv, Setting, Spells, Was, front_does, packet_seen, with_front}
 use Rattle.lard_cluster_view.proofs.Rows.{tale_before}
 use Rattle.lard_costs.specs.declared.later.LaterChoice.{LaterChoice}
 use Rattle.lard_dispatch.specs.declared.dispatch.Ask.{Ask}
@@ -101,7 +101,7 @@ module _ (k : Setting) (small : k.stream ≤ 2 ^ 30) (x : Conn) (s : Station) (t
   p = x.part.front
 
   abbrev Goes : Deed → Type 0
-  Goes d = Helps x (front_does x heads d) → IsTruthful k.files (grown x (front_does x heads d))
+  Goes d = Helps x (front_does x heads d) → IsTrueMove k.files x (front_does x heads d)
 
   ack-says : (q : FrontPart) (n epoch : ℕ) → Each (FrontSays x.c q) (ack_sent env n epoch)
   ack-says q n epoch = subst (λ (c : ℕ). Each (FrontSays c q) (ack_sent env n epoch)) is.number ((n, epoch, body.EndedAck, refl, tt), tt)
@@ -114,7 +114,7 @@ module _ (k : Setting) (small : k.stream ≤ 2 ^ 30) (x : Conn) (s : Station) (t
       let d : Deed = ended_by env p m epoch last (Some row) (New (next_epoch row)) in
       move-goes k.files x s there l pend o (front_does x heads d) help
       (record { heads = quiet d; station = refl; offers = λ i e a b. absurd b; ends = λ i e over. inl refl })
-      (idle-goes k.files x s there l pend o (front_does x heads d) (record { each = (tt, (tt, tt)); served = refl; size = refl; reset = refl; seat = ended; letters = all-say l x.c (front_does x heads d).part (ack_sent env m epoch) (ack-says (front_does x heads d).part.front m epoch) }))
+      (idle-goes k.files x s there l pend o (front_does x heads d) (record { each = (tt, (tt, tt)); served = refl; size = refl; reset = refl; seat = ended; ways = o.ways; sent = tt; letters = all-say l x.c (front_does x heads d).part (ack_sent env m epoch) (ack-says (front_does x heads d).part.front m epoch) }))
 
   -- ---- an Ask
 
@@ -146,6 +146,8 @@ module _ (k : Setting) (small : k.stream ≤ 2 ^ 30) (x : Conn) (s : Station) (t
         size = mute.size;
         reset = mute.reset;
         seat = row-seat (assigns env p rest n epoch ask (env.later ask)).part.rest n epoch p.row at o.seat;
+        ways = o.ways;
+        sent = tt;
         letters = all-say l x.c (front_does x heads d).part (assigns env p rest n epoch ask (env.later ask)).turn.messages (tag-says (front_does x heads d).part.front n epoch ask.number (map (λ y. y.node) (env.later ask).choices));
       }))
 

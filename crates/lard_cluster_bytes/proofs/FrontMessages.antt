@@ -6,7 +6,7 @@ use Rattle.lard_base.specs.declared.ids.Epoch.{Epoch}
 use Rattle.lard_base.specs.declared.place.Place.TheVariants.{Front, Node}
 use Rattle.lard_cluster_bytes.specs.Agreement.{AwayAgrees, ConnAgrees, IsFair, IsInner, IsOpen, IsTruthful, IsUnopened, NodeAgrees, SeatAgrees, StageAgrees}
 use Rattle.lard_cluster_bytes.specs.Keeping.{AdmittedKeeps, FrontAgrees, FrontTurned}
-use Rattle.lard_cluster_bytes.specs.Law.{Helps, StaysTruthful}
+use Rattle.lard_cluster_bytes.specs.Law.{Helps, IsTrueMove, StaysTruthful}
 use Rattle.lard_cluster_bytes.proofs.ClientMoves.{has-fair, open-at}
 use Rattle.lard_cluster_bytes.proofs.FrontMoves.{IsOurs, RowIsOurs, all-say, drops-goes, front-seat, home-past, ours-unoffered, seat-front, talk-of}
 use Rattle.lard_cluster_bytes.proofs.Fronts.{admissions-keep}
@@ -16,7 +16,7 @@ use Rattle.lard_cluster_places.specs.Places.{IsDecided, IsPast, IsThere, Sits, S
 use Rattle.lard_cluster_places.proofs.FrontMessages.{came-says}
 use Rattle.lard_cluster_places.proofs.FrontRules.{decided-there, there-decided}
 use Rattle.lard_cluster_view.specs.Carry.{tale_at}
-use Rattle.lard_cluster_view.specs.View.{Conn, IsFrontEnv, Move, Setting, Spells, Was, front_admits, front_does, grown, letter, packet_seen}
+use Rattle.lard_cluster_view.specs.View.{Conn, IsFrontEnv, Move, Setting, Spells, Was, front_admits, front_does, letter, packet_seen}
 use Rattle.lard_cluster_view.proofs.Rows.{tale_before}
 use Rattle.lard_endpoint.specs.Control.{ControlBlock}
 use Rattle.lard_front_rules.specs.declared.front.FrontTurn.{FrontTurn}
@@ -56,7 +56,7 @@ module _ (k : Setting) (small : k.stream ≤ 2 ^ 30) (x : Conn) (s : Station) (t
   p = x.part.front
 
   abbrev Goes : Deed → Type 0
-  Goes d = Helps x (front_does x heads d) → IsTruthful k.files (grown x (front_does x heads d))
+  Goes d = Helps x (front_does x heads d) → IsTrueMove k.files x (front_does x heads d)
 
   -- ---- a Taken
 
@@ -75,7 +75,7 @@ module _ (k : Setting) (small : k.stream ≤ 2 ^ 30) (x : Conn) (s : Station) (t
         (λ (a : IsDecided row.epoch.0 (x.part.nodes n).row × NodeAgrees l.w l.out l.vs pend l.was_reset x.c (x.part.nodes n)). a.1) seat in
         move-goes k.files x s there l pend o v help
         (record { heads = quiet (taken_by p epoch (Some row) (Some n)); station = refl; offers = λ i e a b. absurd b; ends = λ i e over. inl refl })
-        (idle-goes k.files x s there l pend o v (record { each = tt; served = refl; size = refl; reset = refl; seat = (here, node); letters = tt }))
+        (idle-goes k.files x s there l pend o v (record { each = tt; served = refl; size = refl; reset = refl; seat = (here, node); ways = o.ways; sent = tt; letters = tt }))
 
     taken-at : (row : FrontRow) (epoch m : ℕ) → p.row ≡ Some row → IsDecided epoch (x.part.nodes m).row → (d : FrontConn) → row.stage ≡ d → Goes (taken_by p epoch (Some row) (offered_to epoch d))
     taken-at row epoch m found decided (stage.Offering n d) at = go (d.0 == epoch) refl where
@@ -111,7 +111,7 @@ module _ (k : Setting) (small : k.stream ≤ 2 ^ 30) where
 
   admits-row : (x : Conn) (env : FrontEnv) (choice : FirstChoice) (given : FrontPart × FrontTurn) (s : Station) → x.part.station ≡ Some s → IsFrontEnv k x.c env → front_admitted env x.part.front choice ≡ Some given
       → (l : Talk) (pend : List Verdict) → IsOpen k.files x l pend s → (row : FrontRow) (b : ControlBlock) → x.part.front.row ≡ Some row → row.stage ≡ stage.Waiting b
-      → Helps x (front_admits x given) → IsTruthful k.files (grown x (front_admits x given))
+      → Helps x (front_admits x given) → IsTrueMove k.files x (front_admits x given)
   admits-row x env choice given s there is admitted l pend o row b found at help =
       let v : Move = front_admits x given in
       let same : FrontEnv = record env { iss = s.iss } in
@@ -141,14 +141,16 @@ module _ (k : Setting) (small : k.stream ≤ 2 ^ 30) where
         longer = t.longer;
         says = t.says;
         seat = front-seat l.w t.out_after t.vs_after [] r x.c v.part given.0.row _ help.owes.sits past t.agrees;
+        ways = o.ways;
         noted = t.noted;
+        sent = t.sent;
         letters = Each-append (IsFair after x.c v.part) (map (letter Front) given.1.segments) (map (letter Front) given.1.messages)
             (replies-fair after x.c v.part Front (inl refl) given.1.segments t.sent) (all-say after x.c v.part given.1.messages t.said);
       })
 
   module _ (x : Conn) (env : FrontEnv) (choice : FirstChoice) (given : FrontPart × FrontTurn) (is : IsFrontEnv k x.c env) (admitted : front_admitted env x.part.front choice ≡ Some given) (help : Helps x (front_admits x given)) (h : IsTruthful k.files x) where
     abbrev Admits : Type 0
-    Admits = IsTruthful k.files (grown x (front_admits x given))
+    Admits = IsTrueMove k.files x (front_admits x given)
 
     by-stage : (row : FrontRow) → x.part.front.row ≡ Some row → (d : FrontConn) → row.stage ≡ d → admitted_at env x.part.front choice row d ≡ Some given → Admits
     by-stage row found (stage.Waiting b) at e =

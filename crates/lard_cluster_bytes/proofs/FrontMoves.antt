@@ -6,9 +6,9 @@ use Rattle.lard_base.specs.declared.event.Event.TheVariants as event
 use Rattle.lard_base.specs.declared.ids.Epoch.{Epoch}
 use Rattle.lard_base.specs.declared.place.Place.{Place}
 use Rattle.lard_base.specs.declared.place.Place.TheVariants.{Client, Front, Node}
-use Rattle.lard_cluster_bytes.specs.Agreement.{FrontHolds, FrontTells, IsFair, IsFairOn, IsOpen, IsTruthful, SeatAgrees, StageAgrees}
+use Rattle.lard_cluster_bytes.specs.Agreement.{FrontHolds, FrontTells, IsFair, IsFairOn, IsOpen, SeatAgrees, StageAgrees}
 use Rattle.lard_cluster_bytes.specs.Keeping.{FrontAgrees, FrontDeedKeeps, FrontRowAgrees, FrontSays, FrontStageAgrees, FrontTurned, IsFrontTalk, SaysOfKind}
-use Rattle.lard_cluster_bytes.specs.Law.{Helps, StaysTruthful}
+use Rattle.lard_cluster_bytes.specs.Law.{Helps, IsTrueMove, StaysTruthful}
 use Rattle.lard_cluster_bytes.proofs.ClientMoves.{has-fair, open-at}
 use Rattle.lard_cluster_bytes.proofs.Fronts.{front-hears, timer-keeps}
 use Rattle.lard_cluster_bytes.proofs.Messages.{forwards-read}
@@ -18,7 +18,7 @@ use Rattle.lard_cluster_places.specs.Places.{ArePast, Head, IsOffered, Offers, O
 use Rattle.lard_cluster_places.proofs.Growing.{past-later}
 use Rattle.lard_cluster_places.proofs.Heads.{decoded-head, spelled-some}
 use Rattle.lard_cluster_view.specs.Carry.{tale_at}
-use Rattle.lard_cluster_view.specs.View.{AreSent, Conn, IsFrontEnv, Move, Part, Setting, Was, event_seen, front_does, grown, letter, packet_seen}
+use Rattle.lard_cluster_view.specs.View.{AreSent, Conn, IsFrontEnv, Move, Part, Setting, Was, event_seen, front_does, letter, packet_seen}
 use Rattle.lard_cluster_view.proofs.Rows.{tale_before}
 use Rattle.lard_front_rules.specs.declared.front.FrontTurn.{FrontTurn}
 use Rattle.lard_front_rules.specs.Front.{Deed, Did, Does, Drops, FrontEnv, FrontPart, Says, begun, fired_by, fires_at, forwarded, front_gets, front_hears, front_timer, hears_at, message, met, rest_of, saying, settled_by, turn_here}
@@ -172,7 +172,7 @@ module _ (k : Setting) (small : k.stream ≤ 2 ^ 30) (x : Conn) (s : Station) (t
   IsQuiet heads = (d : Deed) → bytes_of (tale_before x (front_does x heads d)) ≡ bytes_of (tale_at x)
 
   pub says-goes : (heads : List Seen) (turn : FrontTurn) → bytes_of (tale_before x (front_does x heads (Says turn))) ≡ bytes_of (tale_at x) → turn.notes ≡ [] → AreReplies x.c l.w l.out l.was_reset turn.segments
-      → Each (IsFair l x.c x.part) (map (letter Front) turn.messages) → Helps x (front_does x heads (Says turn)) → IsTruthful k.files (grown x (front_does x heads (Says turn)))
+      → Each (IsFair l x.c x.part) (map (letter Front) turn.messages) → Helps x (front_does x heads (Says turn)) → IsTrueMove k.files x (front_does x heads (Says turn))
   says-goes heads turn quiet none replies fair help =
       let v : Move = front_does x heads (Says turn) in
       move-goes k.files x s there l pend o v help
@@ -183,11 +183,13 @@ module _ (k : Setting) (small : k.stream ≤ 2 ^ 30) (x : Conn) (s : Station) (t
         size = ap size_in none;
         reset = ap (list_any resets) none;
         seat = o.seat;
+        ways = o.ways;
+        sent = replies;
         letters = Each-append (IsFair l x.c x.part) (map (letter Front) turn.segments) (map (letter Front) turn.messages) (replies-fair l x.c x.part Front (inl refl) turn.segments replies) fair;
       }))
 
   does-goes : (heads : List Seen) (did : Did) → bytes_of (tale_before x (front_does x heads (Does did))) ≡ bytes_of (tale_at x) → ((n e : ℕ) → IsOffered n e x.part.front.row → ⊥) → ArePast 1 x.part.nodes
-      → FrontTurned k.files x.c l.w l.out l.vs l.was_reset did.part did.turn → Helps x (front_does x heads (Does did)) → IsTruthful k.files (grown x (front_does x heads (Does did)))
+      → FrontTurned k.files x.c l.w l.out l.vs l.was_reset did.part did.turn → Helps x (front_does x heads (Does did)) → IsTrueMove k.files x (front_does x heads (Does did))
   does-goes heads did quiet unoffered past t help =
       let v : Move = front_does x heads (Does did) in
       let r : Bool = l.was_reset || list_any resets did.turn.notes in
@@ -201,18 +203,20 @@ module _ (k : Setting) (small : k.stream ≤ 2 ^ 30) (x : Conn) (s : Station) (t
         longer = t.longer;
         says = t.says;
         seat = front-seat l.w t.out_after t.vs_after [] r x.c v.part did.part.row _ help.owes.sits past t.agrees;
+        ways = o.ways;
         noted = t.noted;
+        sent = t.sent;
         letters = Each-append (IsFair after x.c v.part) (map (letter Front) did.turn.segments) (map (letter Front) did.turn.messages)
             (replies-fair after x.c v.part Front (inl refl) did.turn.segments t.sent) (all-say after x.c v.part did.turn.messages t.said);
       })
 
-  pub drops-goes : (heads : List Seen) → bytes_of (tale_before x (front_does x heads Drops)) ≡ bytes_of (tale_at x) → Helps x (front_does x heads Drops) → IsTruthful k.files (grown x (front_does x heads Drops))
+  pub drops-goes : (heads : List Seen) → bytes_of (tale_before x (front_does x heads Drops)) ≡ bytes_of (tale_at x) → Helps x (front_does x heads Drops) → IsTrueMove k.files x (front_does x heads Drops)
   drops-goes heads quiet help = move-goes k.files x s there l pend o (front_does x heads Drops) help
       (record { heads = quiet; station = refl; offers = λ n e a b. refl; ends = λ n e over. inl refl })
-      (idle-goes k.files x s there l pend o (front_does x heads Drops) (record { each = tt; served = refl; size = refl; reset = refl; seat = o.seat; letters = tt }))
+      (idle-goes k.files x s there l pend o (front_does x heads Drops) (record { each = tt; served = refl; size = refl; reset = refl; seat = o.seat; ways = o.ways; sent = tt; letters = tt }))
 
   deed-goes : (heads : List Seen) (d : Deed) → IsQuiet heads → ((n e : ℕ) → IsOffered n e x.part.front.row → ⊥) → ArePast 1 x.part.nodes → MessagesFair d
-      → FrontDeedKeeps k.files x.c l.w l.out l.vs l.was_reset d → Helps x (front_does x heads d) → IsTruthful k.files (grown x (front_does x heads d))
+      → FrontDeedKeeps k.files x.c l.w l.out l.vs l.was_reset d → Helps x (front_does x heads d) → IsTrueMove k.files x (front_does x heads d)
   deed-goes heads Drops quiet unoffered past fair t help = drops-goes heads (quiet Drops) help
   deed-goes heads (Says turn) quiet unoffered past fair t help = says-goes heads turn (quiet (Says turn)) t.0 t.1 fair help
   deed-goes heads (Does did) quiet unoffered past fair t help = does-goes heads did (quiet (Does did)) unoffered past t help
@@ -252,7 +256,7 @@ module _ (k : Setting) (small : k.stream ≤ 2 ^ 30) (x : Conn) (s : Station) (t
     p = x.part.front
 
     abbrev Goes : Deed → Type 0
-    Goes d = Helps x (front_does x heads d) → IsTruthful k.files (grown x (front_does x heads d))
+    Goes d = Helps x (front_does x heads d) → IsTrueMove k.files x (front_does x heads d)
 
     placed-fair : (row : FrontRow) (rest : FrontRest) (w : Service) (target : Option (List ℕ)) → MessagesFair k small x s there l pend o (settled_by env p row rest w target)
     placed-fair row rest w None = tt
@@ -314,7 +318,7 @@ module _ (k : Setting) (small : k.stream ≤ 2 ^ 30) (x : Conn) (s : Station) (t
     q = x.part.front
 
     abbrev Fires : Deed → Type 0
-    Fires d = Helps x (front_does x heads d) → IsTruthful k.files (grown x (front_does x heads d))
+    Fires d = Helps x (front_does x heads d) → IsTrueMove k.files x (front_does x heads d)
 
     fires-home : (row : FrontRow) (d : FrontConn) → q.row ≡ Some row → row.stage ≡ d → IsBefore d → IsOurs d → MessagesFair k small x s there l pend o (fires_at env q row d) → Fires (fires_at env q row d)
     fires-home row d found at before ours fair help =
@@ -360,7 +364,7 @@ module _ (k : Setting) (small : k.stream ≤ 2 ^ 30) where
       let f : IsFairOn h.talk x.c x.part (Client x.c) Front bytes = has-fair (IsFair h.talk x.c x.part) (record { from = Client x.c; to = Front; bytes = bytes }) x.letters was o.fair in
       let heads : List Seen = packet_seen (Client x.c) Front bytes in
       let same : decoded bytes x.c ToCluster ≡ Ok f.0 = ap (λ (b : List ℕ). decoded b x.c ToCluster) f.1 ∙ again x.c ToCluster f.0 f.2.sendable in
-      subst (λ (r : Result Said SegFault). Helps x (front_does x heads (front_gets env x.part.front bytes r)) → IsTruthful k.files (grown x (front_does x heads (front_gets env x.part.front bytes r)))) (sym same)
+      subst (λ (r : Result Said SegFault). Helps x (front_does x heads (front_gets env x.part.front bytes r)) → IsTrueMove k.files x (front_does x heads (front_gets env x.part.front bytes r))) (sym same)
       (hears-row k small x s there env is h.talk h.pend o bytes f.0 f.1 f.2 (talk-of k small x env is s h.talk h.pend o iss) heads (λ d. quiet-at d) x.part.front.row refl) help where
         quiet-at : (d : Deed) → bytes_of (tale_before x (front_does x (packet_seen (Client x.c) Front bytes) d)) ≡ bytes_of (tale_at x)
         quiet-at Drops = refl

@@ -11,6 +11,7 @@ use Rattle.lard_cluster_bytes.specs.Agreement.{HasRead}
 use Rattle.lard_cluster_bytes.specs.Turning.{IsReading}
 use Rattle.lard_cluster_bytes.proofs.Reading.{read-alone}
 use Rattle.lard_cluster_bytes.proofs.Serving.{MayGo, So, answered-serves, consumed-serves, ended-serves, go-on, left_of, may-go}
+use Rattle.lard_cluster_bytes.proofs.Ways.{own-way}
 use Rattle.lard_endpoint.specs.Control.{ControlBlock, consuming}
 use Rattle.lard_endpoint.specs.Moving.{may_freeze}
 use Rattle.lard_front_rules.specs.Reading.{Reading, block_at, left, reads, reads_block, reads_found, targeted, turn, with_service}
@@ -97,11 +98,11 @@ module _ (env : ServeEnv) (w out : Stream) (vs : List Verdict) (most : env.strea
     go None r = r
     go (Some total) r = r
 
-  answers-so : (v : Verdict) (n : ℕ) (s : Service) (h : Reads s) → MayGo w h.vs_now [] s → HasRead w (consuming s.block n) h.vs_now (v ∷ []) → Reads (answered env Own v (consumed n s))
-  answers-so v n s h may read =
+  answers-so : (v : Verdict) → good_path env.files v ≡ None → (n : ℕ) (s : Service) (h : Reads s) → MayGo w h.vs_now [] s → HasRead w (consuming s.block n) h.vs_now (v ∷ []) → Reads (answered env Own v (consumed n s))
+  answers-so v none n s h may read =
       let t : Service = consumed n s in
       let so : So env w out vs t (v ∷ []) = consumed-serves env w out vs n s (v ∷ []) h may.none read in
-      nothing-left (answered env Own v t) v (answered-serves env w out vs most Own v [] t so (go-on env w out vs t (v ∷ []) so may.none may.unfinished may.keeps))
+      nothing-left (answered env Own v t) v (answered-serves env w out vs most Own v [] t so (go-on env w out vs t (v ∷ []) so may.none may.unfinished may.keeps) (own-way env.files v none))
 
   targeted-so : (path : List ℕ) (x : Reading) → x.service.over ≡ None → IsOn x → HasStopped (targeted path x)
   targeted-so path x none h = cond_both (may_freeze x.service.block) (record x { target = Some path }) x HasStopped (λ t. (h.0, none)) (λ t. still x x.service h.0 h.1)
@@ -111,13 +112,13 @@ module _ (env : ServeEnv) (w out : Stream) (vs : List Verdict) (most : env.strea
       let t : Service = consumed skip x.service in
       let so : Reads t = consumed-serves env w out vs skip x.service [] h.0 may.none (pairs-read w x.service.block h.0.vs_now h.0.between.hears may.keeps may.read skip e) in
       still x (ended_at_fin t) (ended-serves env w out vs t so (go-on env w out vs t [] so may.none may.unfinished may.keeps)) h.1
-  found-so x h may (found.Block skip len) e = by_path (good_path env.files (block_at x skip len)) where
-    by_path : (o : Option (List ℕ)) → ReadsSo (reads_block env x (skip + len) (block_at x skip len) o)
-    by_path None = (answers-so (block_at x skip len) (skip + len) x.service h.0 may (block-read w x.service.block h.0.vs_now h.0.between.hears may.keeps may.read skip len e), h.1)
-    by_path (Some path) = targeted-so path x may.none h
+  found-so x h may (found.Block skip len) e = by_path (good_path env.files (block_at x skip len)) refl where
+    by_path : (o : Option (List ℕ)) → good_path env.files (block_at x skip len) ≡ o → ReadsSo (reads_block env x (skip + len) (block_at x skip len) o)
+    by_path None none = (answers-so (block_at x skip len) none (skip + len) x.service h.0 may (block-read w x.service.block h.0.vs_now h.0.between.hears may.keeps may.read skip len e), h.1)
+    by_path (Some path) good = targeted-so path x may.none h
   found-so x h may (found.TooLong skip) e =
       let all = length x.service.block.recv.unread in
-      (answers-so (Fault code.FieldsTooLarge) all x.service h.0 may (long-read w x.service.block h.0.vs_now h.0.between.hears may.keeps may.read skip all e), h.1)
+      (answers-so (Fault code.FieldsTooLarge) refl all x.service h.0 may (long-read w x.service.block h.0.vs_now h.0.between.hears may.keeps may.read skip all e), h.1)
 
   turn-so : (x : Reading) → IsOn x → ReadsSo (turn env x)
   turn-so x h = cond_both (may_read x.service) (reads_found env x (cut_of x.service.block.recv.unread)) (Done x) ReadsSo

@@ -12,7 +12,7 @@ use Rattle.lard_cluster_bytes.specs.Turning.{EndTurned, IsReading}
 use Rattle.lard_cluster_bytes.proofs.Ending.{settled-ends, spoken-ends}
 use Rattle.lard_cluster_bytes.proofs.FrontReading.{GoesOver, reads-so}
 use Rattle.lard_cluster_bytes.proofs.Holding.{begins-so, fired-ends, heard-so, same-so}
-use Rattle.lard_cluster_bytes.proofs.Serving.{So, counts-more, noted-serves}
+use Rattle.lard_cluster_bytes.proofs.Serving.{So, counts-mute, noted-serves}
 use Rattle.lard_endpoint.specs.declared.control.moving.Final.{Final}
 use Rattle.lard_endpoint.specs.Arriving.{on_segment}
 use Rattle.lard_endpoint.specs.Control.{ControlBlock, listening}
@@ -113,7 +113,7 @@ module _ (env : FrontEnv) (w out : Stream) (vs : List Verdict) (was_reset : Bool
           longer = so.longer;
           says = so.says;
           agrees = record { block = s.block; count = s.count; frozen = may; holds = record { none = refl; serves = serves; holds = frozen-holds }; kept_is = refl };
-          noted = counts-more env.serve.c out vs so.vs_now so.vs_now so.out_now.bytes so.out_now.bytes s.notes more so.noted (tt, (tt, tt)) (omega arith) (omega arith) (inr refl);
+          noted = counts-mute env.serve.files env.serve.c w out vs so.vs_now so.out_now.bytes s.notes more so.noted (tt, (tt, tt)) refl refl refl;
           sent = tt;
           said = ((choice.node, (next_epoch row).0, body.Offer (parts_of s.block s.count), refl, (_, refl, refl)), tt);
         }
@@ -123,7 +123,7 @@ module _ (env : FrontEnv) (w out : Stream) (vs : List Verdict) (was_reset : Bool
         (turn_here (spoken env.serve (record s { notes = s.notes ++ rec.Waits env.serve.c ∷ [] }) []).1)
     waiting-turn p row rest path =
         let v : Service = record s { notes = s.notes ++ rec.Waits env.serve.c ∷ [] } in
-        let more : So env.serve w out vs v [] = noted-serves env.serve w out vs (rec.Waits env.serve.c ∷ []) s [] (tt, tt) refl refl so in
+        let more : So env.serve w out vs v [] = noted-serves env.serve w out vs (rec.Waits env.serve.c ∷ []) s [] (tt, tt) refl refl refl so in
         waits-turn p row (record rest { target = Some path }) (spoken env.serve v []) (spoken-ends env.serve w out vs was_reset v [] more [] (subst (λ (o : Option ℕ). IsReading w more.vs_now [] v.block v.notes o) none more.reading) tt)
         (spoken-serves env.serve v [] serves) (spoken-idle env.serve v [] (idle-of s.block may serves.sent))
 
@@ -168,7 +168,7 @@ module _ (env : FrontEnv) (w out : Stream) (vs : List Verdict) (was_reset : Bool
         let none-read : HasRead w (listening s env.iss) vs [] = subst (λ (us : List Verdict). HasRead w (listening s env.iss) us []) (sym none)
         (record { cut = λ f g z. refl; goes_on = λ f. refl; stops = λ f. absurd cc; fronts = λ z. (_, refl) }) in
         let so : So env.serve w out vs start [] = begins-so env.serve w out vs talk.says [] (listening s env.iss) 0 (rec.Took place.Front env.serve.c (record { 0 = 1 }) ∷ []) (sym (ap length none)) between
-        (record { wnd = word.sendable.wnd_fits; wl1 = word.sendable.seq_fits; wl2 = number }) none-read (record { each = (tt, tt); served = omega arith; size = omega arith; unless_ended = inr refl }) in
+        (record { wnd = word.sendable.wnd_fits; wl1 = word.sendable.seq_fits; wl2 = number }) none-read (record { each = (tt, tt); served = omega arith; size = omega arith; unless_ended = inr refl; serve = λ t told. ((λ J e. tt), tt) }) in
         holds-keep p row (rest_of None) (spoken env.serve start []) (spoken-ends env.serve w out vs was_reset start [] so [] so.reading tt)
         (spoken-serves env.serve start [] (record { counted = omega arith; asked = omega arith; most = omega arith; sent = omega arith }))
 
@@ -247,7 +247,7 @@ module _ (env : FrontEnv) (w out : Stream) (vs : List Verdict) (was_reset : Bool
       longer = goes_on-same out;
       says = talk.says;
       agrees = subst (λ (r : Bool). EndedIt w r last) (or-false was_reset) h;
-      noted = record { each = (tt, (tt, tt)); served = omega arith; size = omega arith; unless_ended = inr refl };
+      noted = record { each = (tt, (tt, tt)); served = omega arith; size = omega arith; unless_ended = inr refl; serve = λ t told. ((λ J e. tt), ((λ J e. tt), tt)) };
       sent = tt;
       said = ((from, epoch, body.EndedAck, refl, tt), tt);
     }

@@ -20,3 +20,7 @@ pub mod NodeMoves
 pub mod NodeTurns
 pub mod NodeRest
 pub mod Runs
+pub mod Next
+pub mod Ways
+pub mod Telling
+pub mod Owners

@@ -1,13 +1,14 @@
 -- What a node does leaves its connection in agreement.
 use Rattle.std.proofs.Common.{◌≡◌, ◌⊎◌, ◌≤◌, ◌<◌, ◌+◌, ◌==◌, ◌||◌, ◌^◌, ℕ, Bool, false, true, cond, List, [], ◌∷◌, ◌++◌, map, length, Option, Some, None, arith, refl, ap, ◌∙◌, sym, subst, inl, inr, ⊎_elim, eqb-true, eq-eqb, nat_lt, ltb-true, ltb-false}
 use Rattle.std.specs.List.{list_any}
+use Rattle.lard_answers.specs.Answers.{FilesAt}
 use Rattle.std.proofs.lemmas.List.{map-append}
 use Rattle.lard_base.specs.declared.place.Place.{Place}
 use Rattle.lard_base.specs.declared.place.Place.TheVariants.{Front, Node}
-use Rattle.lard_cluster_bytes.specs.Agreement.{IsFair, IsOffering, IsOpen, IsTruthful, NodeAgrees, NodeTells, SeatAgrees, StageAgrees}
+use Rattle.lard_cluster_bytes.specs.Agreement.{IsFair, IsOffering, IsOpen, NodeAgrees, NodeTells, SeatAgrees, StageAgrees, StayComesOn}
 use Rattle.lard_cluster_bytes.specs.Keeping.{EndsOfKind, NodeSays, NodeTurned}
-use Rattle.lard_cluster_bytes.specs.Law.{Helps}
-use Rattle.lard_cluster_bytes.specs.Turning.{IsNoteOf}
+use Rattle.lard_cluster_bytes.specs.Law.{Helps, IsTrueMove}
+use Rattle.lard_cluster_bytes.specs.Turning.{AnswersAfter, IsNoteOf}
 use Rattle.lard_cluster_bytes.proofs.ClientMoves.{has-fair}
 use Rattle.lard_cluster_bytes.proofs.Fair.{GoesOnFairly, all-on}
 use Rattle.lard_cluster_bytes.proofs.FrontMoves.{kinds-same}
@@ -17,8 +18,8 @@ use Rattle.lard_cluster_places.specs.Places.{HasEnded, IsComing, IsDecided, IsLe
 use Rattle.lard_cluster_places.proofs.FrontRules.{has-each}
 use Rattle.lard_cluster_places.proofs.Growing.{put-same}
 use Rattle.lard_cluster_places.proofs.Turns.{IsPlaced}
-use Rattle.lard_cluster_view.specs.Carry.{tale_at}
-use Rattle.lard_cluster_view.specs.View.{AreSent, Conn, Move, Part, Setting, grown, letter, node_put, nothing_said, stands, with_node}
+use Rattle.lard_cluster_view.specs.Carry.{TellsBy, tale_at}
+use Rattle.lard_cluster_view.specs.View.{AreSent, Conn, Move, Part, Setting, letter, node_put, nothing_said, stands, with_node}
 use Rattle.lard_cluster_view.proofs.Rows.{tale_before}
 use Rattle.lard_endpoint.specs.Control.{ControlBlock}
 use Rattle.lard_front_rules.specs.Front.{message}
@@ -27,6 +28,7 @@ use Rattle.lard_handoff_back.specs.declared.row.BackRow.{BackRow}
 use Rattle.lard_handoff_front.specs.declared.row.FrontConn.{FrontConn}
 use Rattle.lard_handoff_front.specs.declared.row.FrontConn.TheVariants as stage
 use Rattle.lard_handoff_front.specs.declared.row.FrontRow.{FrontRow}
+use Rattle.lard_history.specs.Journal.{Tale}
 use Rattle.lard_history.specs.Own.{Seen}
 use Rattle.lard_history.proofs.Each.{Each, Each-append}
 use Rattle.lard_journal.specs.declared.rec.Rec.{Rec}
@@ -101,6 +103,13 @@ module _ (x : Conn) (n : ℕ) (q : NodePart) where
     go : (b : Bool) → (i == n) ≡ b → ((cond b q (x.part.nodes i)).kept ≡ (x.part.nodes i).kept) ⊎ HasEnded e x.part.front.row
     go true same = inr (known e (subst (λ (j : ℕ). IsOver e (x.part.nodes j).row) (eqb-true i n same) over))
     go false same = inl refl
+
+  -- and what it keeps of its batch is on its way
+  pub ways-put : (files : FilesAt) → ((i : ℕ) → StayComesOn files (x.part.nodes i).stay) → StayComesOn files q.stay → (i : ℕ) → StayComesOn files (node_put x.part.nodes n q i).stay
+  ways-put files ways mine i = go (i == n) where
+    go : (b : Bool) → StayComesOn files (cond b q (x.part.nodes i)).stay
+    go true = mine
+    go false = ways i
 
 -- ---- a node that has an endpoint of it
 
@@ -190,6 +199,7 @@ module _ (k : Setting) (small : k.stream ≤ 2 ^ 30) (x : Conn) (s : Station) (t
     pub served : Each (IsNoteOf c) notes → served_in all ≡ served_in notes
     pub size : Each (IsNoteOf c) notes → size_in all ≡ size_in notes
     pub reset : Each (IsNoteOf c) notes → list_any resets all ≡ list_any resets notes
+    pub serve : Each (IsNoteOf c) notes → (t : Tale) → TellsBy (AnswersAfter k.files c) c t notes → TellsBy (AnswersAfter k.files c) c t all
 
   abbrev pub does_with : List Rec → NodePart × NodeTurn → Move
   does_with notes given = record {
@@ -217,7 +227,7 @@ module _ (k : Setting) (small : k.stream ≤ 2 ^ 30) (x : Conn) (s : Station) (t
 
   pub does-goes : (notes : List Rec) (given : NodePart × NodeTurn) (e : ℕ) → Noted x.c notes given.1.notes → bytes_of (tale_before x (does_with notes given)) ≡ bytes_of (tale_at x)
       → NodeTurned k.files x.c e (x.part.nodes n) l.w l.out l.vs l.was_reset given → (row : FrontRow) → x.part.front.row ≡ Some row → IsAt n row.stage → row.epoch.0 ≡ e
-      → ((f : ℕ) → IsOver f (x.part.nodes n).row → HasEnded f x.part.front.row) → Helps x (does_with notes given) → IsTruthful k.files (grown x (does_with notes given))
+      → ((f : ℕ) → IsOver f (x.part.nodes n).row → HasEnded f x.part.front.row) → Helps x (does_with notes given) → IsTrueMove k.files x (does_with notes given)
   does-goes notes given e all quiet t row found at same known help =
       let v : Move = does_with notes given in
       let each = t.noted.each in
@@ -250,12 +260,15 @@ module _ (k : Setting) (small : k.stream ≤ 2 ^ 30) (x : Conn) (s : Station) (t
         says = t.says;
         seat = subst (λ (b : Bool). SeatAgrees l.w t.out_after t.vs_after t.pend_after b x.c v.part x.part.front.row) back
             (seat-with x n given.0 l.w t.out_after t.vs_after t.pend_after (l.was_reset || list_any resets given.1.notes) row found at (subst (λ (f : ℕ). IsDecided f given.0.row) (sym same) t.decided) t.agrees);
+        ways = ways-put x n given.0 k.files o.ways t.ways;
         noted = record {
           each = all.each each;
           served = t.noted.served ∙ ap (λ m. length l.vs + m) (sym (all.served each));
           size = t.noted.size ∙ ap (λ m. length l.out.bytes + m) (sym (all.size each));
           unless_ended = subst (λ (m : ℕ). (l.out.ended ≡ false) ⊎ (m ≡ 0)) (sym (all.served each)) t.noted.unless_ended;
+          serve = λ u told. all.serve each u (t.noted.serve u told);
         };
+        sent = subst (λ (b : Bool). AreReplies x.c l.w t.out_after b given.1.segments) back t.sent;
         letters = Each-append (IsFair after x.c v.part) (map (letter (Node n)) given.1.segments) (map (letter (Node n)) given.1.messages)
             (replies-fair after x.c v.part (Node n) (inr (n, refl)) given.1.segments (subst (λ (b : Bool). AreReplies x.c l.w t.out_after b given.1.segments) back t.sent)) messages;
       })
@@ -264,9 +277,9 @@ module _ (k : Setting) (small : k.stream ≤ 2 ^ 30) (x : Conn) (s : Station) (t
   pub stands-goes : (notes : List Rec) (messages : List (Place × List ℕ)) → Each (IsNoteOf x.c) notes → served_in notes ≡ 0 → size_in notes ≡ 0 → list_any resets notes ≡ false
       → bytes_of (tale_before x (stands x (Node n) heads (record nothing_said { notes = notes; messages = messages }))) ≡ bytes_of (tale_at x)
       → Each (IsFair l x.c x.part) (map (letter (Node n)) messages) → Helps x (stands x (Node n) heads (record nothing_said { notes = notes; messages = messages }))
-      → IsTruthful k.files (grown x (stands x (Node n) heads (record nothing_said { notes = notes; messages = messages })))
+      → IsTrueMove k.files x (stands x (Node n) heads (record nothing_said { notes = notes; messages = messages }))
   stands-goes notes messages each served size reset quiet fair help =
       let v : Move = stands x (Node n) heads (record nothing_said { notes = notes; messages = messages }) in
       move-goes k.files x s there l pend o v help
       (record { heads = quiet; station = refl; offers = λ i f a b. refl; ends = λ i f over. inl refl })
-      (idle-goes k.files x s there l pend o v (record { each = each; served = served; size = size; reset = reset; seat = o.seat; letters = fair }))
+      (idle-goes k.files x s there l pend o v (record { each = each; served = served; size = size; reset = reset; seat = o.seat; ways = o.ways; sent = tt; letters = fair }))

@@ -12,18 +12,22 @@ use Rattle.lard_base.specs.declared.place.Place.{Place}
 use Rattle.lard_base.specs.declared.place.Place.TheVariants.{Front, Node}
 use Rattle.lard_base.specs.declared.place.TimerKind.TheVariants as timer
 use Rattle.lard_cluster_bytes.specs.Agreement.{ConnAgrees, IsFair, IsInner, IsOffering, IsOpen, IsTruthful, IsUnopened, NodeAgrees, SeatAgrees, StageAgrees}
-use Rattle.lard_cluster_bytes.specs.Law.{Helps, StaysTruthful}
+use Rattle.lard_cluster_bytes.specs.Law.{Helps, IsSeenTrue, IsTrueMove, OwnerServes, StaysTruthful}
+use Rattle.lard_cluster_bytes.specs.Records.{IsTrueAfter}
+use Rattle.lard_cluster_bytes.proofs.Next.{mute-answers}
+use Rattle.lard_cluster_bytes.proofs.Telling.{Tells, gave-true, heads-true, messages-true, notes-true, timers-true}
 use Rattle.lard_cluster_bytes.proofs.ClientMoves.{has-fair, open-at}
 use Rattle.lard_cluster_bytes.proofs.FrontMessages.{opened-at}
 use Rattle.lard_cluster_bytes.proofs.Moves.{idle-goes, move-goes}
-use Rattle.lard_cluster_bytes.proofs.NodeMoves.{ends-put, stands-goes}
+use Rattle.lard_cluster_bytes.proofs.NodeMoves.{ends-put, stands-goes, ways-put}
 use Rattle.lard_cluster_bytes.proofs.NodeTurns.{contents-goes, fires-goes, forwards-goes, offers-goes, read-goes, tags-goes}
-use Rattle.lard_cluster_bytes.proofs.Told.{Bytes, bytes_of, move-bytes}
-use Rattle.lard_cluster_places.specs.Places.{HasEnded, IsDecided, IsOver, IsPast, Sits, owning}
+use Rattle.lard_cluster_bytes.proofs.Told.{Bytes, bytes_of, gave-fin, heads-fin, move-bytes, place-notes}
+use Rattle.lard_cluster_places.specs.Places.{HasEnded, IsDecided, IsOver, IsPast, Owning, Sits, owning}
 use Rattle.lard_cluster_places.proofs.FrontMessages.{came-says}
 use Rattle.lard_cluster_view.specs.Carry.{tale_at}
-use Rattle.lard_cluster_view.specs.View.{Conn, IsNodeEnv, Move, NodeRules, Said, Setting, Spells, Was, contents, epoch_in, event_seen, grown, letter, letters_of, node_does, node_put, nothing_said, packet_seen, reads_first, stands, with_node}
-use Rattle.lard_cluster_view.proofs.Rows.{tale_before}
+use Rattle.lard_cluster_view.specs.View.{Conn, IsNodeEnv, Move, NodeRules, Said, Setting, Spells, Was, contents, epoch_in, event_seen, grown, letter, letters_of, node_does, node_put, nothing_said, packet_seen, reads_first, seen_in, sending, stands, timer_rows, with_node}
+use Rattle.lard_cluster_view.proofs.Rows.{grown-tale, move-lawful, tale_before, tale_said}
+use Rattle.lard_cluster_view.proofs.Timers.{timer_rows-are}
 use Rattle.lard_handoff_back.specs.declared.row.BackConn.TheVariants as back
 use Rattle.lard_handoff_back.specs.declared.row.BackRow.{BackRow}
 use Rattle.lard_handoff_back.specs.Back.{awaits_ack, staying}
@@ -32,7 +36,7 @@ use Rattle.lard_handoff_front.specs.declared.row.FrontConn.{FrontConn}
 use Rattle.lard_handoff_front.specs.declared.row.FrontConn.TheVariants as stage
 use Rattle.lard_handoff_front.specs.declared.row.FrontRow.{FrontRow}
 use Rattle.lard_history.specs.Journal.{Tale, told_on}
-use Rattle.lard_history.specs.Own.{Seen}
+use Rattle.lard_history.specs.Own.{EachRow, Seen}
 use Rattle.lard_history.proofs.Each.{Each, Each-append}
 use Rattle.lard_journal.specs.declared.rec.Rec.{Rec}
 use Rattle.lard_journal.specs.declared.rec.Rec.TheVariants as rec
@@ -47,6 +51,7 @@ use Rattle.lard_segment.specs.declared.fault.SegFault.{SegFault}
 use Rattle.lard_segment.specs.declared.segment.Dir.TheVariants.{ToCluster}
 use Rattle.lard_segment.specs.Segment.{decoded}
 use Rattle.lard_segment.proofs.Again.{again}
+use Rattle.lard_truth.specs.Truth.{Stream}
 
 -- ---- the acknowledgement of an end
 
@@ -55,7 +60,7 @@ module _ (k : Setting) (small : k.stream ≤ 2 ^ 30) (x : Conn) (s : Station) (t
   p = x.part.nodes n
 
   abbrev Goes : Deed → Type 0
-  Goes d = Helps x (node_does x n heads d) → IsTruthful k.files (grown x (node_does x n heads d))
+  Goes d = Helps x (node_does x n heads d) → IsTrueMove k.files x (node_does x n heads d)
 
   module _ (row : BackRow) (found : p.row ≡ Some row) (ended : HasEnded row.epoch.0 x.part.front.row) where
     abbrev q : NodePart
@@ -99,7 +104,7 @@ module _ (k : Setting) (small : k.stream ≤ 2 ^ 30) (x : Conn) (s : Station) (t
     gone-goes : Goes (Does (q, saying []))
     gone-goes help = move-goes k.files x s there l pend o (node_does x n heads (Does (q, saying []))) help
         (record { heads = quiet (Does (q, saying [])); station = refl; offers = λ i f a b. refl; ends = ends-put x n q (λ f over. over-known f over x.part.front.row ended) })
-        (idle-goes k.files x s there l pend o (node_does x n heads (Does (q, saying []))) (record { each = tt; served = refl; size = refl; reset = refl; seat = row-put x.part.front.row ended o.seat; letters = tt }))
+        (idle-goes k.files x s there l pend o (node_does x n heads (Does (q, saying []))) (record { each = tt; served = refl; size = refl; reset = refl; seat = row-put x.part.front.row ended o.seat; ways = ways-put x n q k.files o.ways (o.ways n); sent = tt; letters = tt }))
 
   rest-drops : Goes Drops
   rest-drops help = stands-goes k small x s there l pend o n heads [] [] tt refl refl refl (quiet Drops) tt help
@@ -119,25 +124,61 @@ module _ (files : FilesAt) (x : Conn) (none : x.part.station ≡ None) (h : IsTr
   never : IsUnopened x
   never = subst (ConnAgrees files x h.talk h.pend) none h.agrees
 
-  unopened-goes : (place : Place) (heads : List Seen) (said : Said) → bytes_of (told_on x.c (tale_before x (stands x place heads said)) said.notes) ≡ bytes_of (tale_at x) → Each IsInner (letters_of (stands x place heads said))
-      → Helps x (stands x place heads said) → IsTruthful files (grown x (stands x place heads said))
-  unopened-goes place heads said told inner help =
-      let v : Move = stands x place heads said in
-      let u = never in
-      let same : bytes_of (tale_at (grown x v)) ≡ bytes_of (tale_at x) = move-bytes x v help.own.messages help.own.gave ∙ told in
-      record {
-        talk = h.talk;
-        pend = h.pend;
-        agrees = subst (ConnAgrees files (grown x v) h.talk h.pend) (sym none) (record {
-          front = u.front;
-          inner = Each-append IsInner x.letters (letters_of v) u.inner inner;
-          wrote = ap (λ (b : Bytes). b.wrote) same ∙ u.wrote;
-          accepted = ap (λ (b : Bytes). b.accepted) same ∙ u.accepted;
-          served = ap (λ (b : Bytes). b.served) same ∙ u.served;
-          served_bytes = ap (λ (b : Bytes). b.served_bytes) same ∙ u.served_bytes;
-          was_reset = ap (λ (b : Bytes). b.was_reset) same ∙ u.was_reset;
-        });
-      }
+  -- what is told then is of no stream
+  abbrev nobody : Stream
+  nobody = record { first = 0; bytes = []; ended = true }
+
+  module _ (place : Place) (heads : List Seen) (said : Said) (each : Each (IsNoteOf x.c) said.notes) (served : served_in said.notes ≡ 0) (calm : list_any resets said.notes ≡ false) (silent : said.segments ≡ []) (help : Helps x (stands x place heads said)) where
+    abbrev v : Move
+    v = stands x place heads said
+
+    abbrev before : Tale
+    before = tale_before x v
+
+    abbrev noted : Tale
+    noted = told_on x.c before said.notes
+
+    none-sent : told_on x.c noted (map (sending place) said.segments) ≡ noted
+    none-sent = ap (λ (ss : List (Place × List ℕ)). told_on x.c noted (map (sending place) ss)) silent
+
+    still-none : (tale_at (grown x v)).fin_sent ≡ false
+    still-none = ap (λ (u : Tale). u.fin_sent) (grown-tale x v help.own.messages)
+        ∙ gave-fin x.c x.c place said.gave (told_on x.c noted (map (sending place) said.segments)) help.own.gave
+        ∙ ap (λ (u : Tale). u.fin_sent) none-sent
+        ∙ (place-notes x.c before said.notes each).fin_sent
+        ∙ heads-fin x.c heads (tale_at x) help.heads
+        ∙ never.fin
+
+    seen-true : EachRow (IsSeenTrue files x.c) x.seen (seen_in x v)
+    seen-true = move-lawful (IsTrueAfter files x.c) x v (heads-true files x.c x.seen heads help.heads)
+        (notes-true files x.c nobody before said.notes each (inr served) (λ e. refl)
+        (subst (λ (o : Option Place). OwnerServes x.c o said.notes) (sym (ap (λ (w : Owning). w.owner) help.owes.same)) help.serves) (mute-answers files x.c before said.notes each served calm))
+        (subst (λ (ss : List (Place × List ℕ)). Tells files x.c noted (map (sending place) ss)) (sym silent) tt)
+        (gave-true files x.c place x.c _ said.gave help.own.gave)
+        (messages-true files x.c place x.c (tale_said x v before) said.messages help.own.messages)
+        (timers-true files x.c place x.c _ (timer_rows place x.c x.part x.part) (timer_rows-are place x.c x.part x.part))
+
+    unopened-goes : bytes_of noted ≡ bytes_of (tale_at x) → Each IsInner (letters_of v) → IsTrueMove files x v
+    unopened-goes told inner =
+        let u = never in
+        let same : bytes_of (tale_at (grown x v)) ≡ bytes_of (tale_at x) = move-bytes x v help.own.messages help.own.gave ∙ told in (
+          record {
+            talk = h.talk;
+            pend = h.pend;
+            agrees = subst (ConnAgrees files (grown x v) h.talk h.pend) (sym none) (record {
+              front = u.front;
+              stays = u.stays;
+              inner = Each-append IsInner x.letters (letters_of v) u.inner inner;
+              wrote = ap (λ (b : Bytes). b.wrote) same ∙ u.wrote;
+              accepted = ap (λ (b : Bytes). b.accepted) same ∙ u.accepted;
+              served = ap (λ (b : Bytes). b.served) same ∙ u.served;
+              served_bytes = ap (λ (b : Bytes). b.served_bytes) same ∙ u.served_bytes;
+              was_reset = ap (λ (b : Bytes). b.was_reset) same ∙ u.was_reset;
+              fin = still-none;
+            });
+          },
+          seen-true,
+        )
 
   -- no node has it
   nothing-here : (n e : ℕ) → Sits (owning (tale_at x)) x.part.nodes x.part.front.row → both_of (staying e (x.part.nodes n).row) (x.part.nodes n).stay ≡ None
@@ -183,7 +224,7 @@ module _ (k : Setting) (small : k.stream ≤ 2 ^ 30) where
       let o = open-at k.files x opened.0 opened.1 h in
       let f = (has-fair (IsFair h.talk x.c x.part) (record { from = Front; to = Node n; bytes = bytes }) x.letters was o.fair) _ spells in
       let heads : List Seen = packet_seen Front (Node n) bytes in
-      subst (λ (r : Result spelling.Said SegFault). Helps x (node_does x n heads (node_forwarded env (x.part.nodes n) r)) → IsTruthful k.files (grown x (node_does x n heads (node_forwarded env (x.part.nodes n) r))))
+      subst (λ (r : Result spelling.Said SegFault). Helps x (node_does x n heads (node_forwarded env (x.part.nodes n) r)) → IsTrueMove k.files x (node_does x n heads (node_forwarded env (x.part.nodes n) r)))
       (sym (ap (λ (b : List ℕ). decoded b x.c ToCluster) f.1 ∙ again x.c ToCluster f.0 f.2.sendable))
       (forwards-goes k small x opened.0 opened.1 h.talk h.pend o n env epoch is heads (node-quiet x Front n bytes) f.0 f.2) help
 
@@ -204,18 +245,18 @@ module _ (k : Setting) (small : k.stream ≤ 2 ^ 30) where
       → StaysTruthful k x (node_does x n (packet_seen (Node from) (Node n) bytes) (node_content env (x.part.nodes n) from r))
   content-stays x n from epoch r env file bytes is spells was help h =
       let heads : List Seen = packet_seen (Node from) (Node n) bytes in
-      let Goes : Deed → Type 0 = λ d. Helps x (node_does x n heads d) → IsTruthful k.files (grown x (node_does x n heads d)) in
-      by-station x (IsTruthful k.files (grown x (node_does x n heads (node_content env (x.part.nodes n) from r))))
+      let Goes : Deed → Type 0 = λ d. Helps x (node_does x n heads d) → IsTrueMove k.files x (node_does x n heads d) in
+      by-station x (IsTrueMove k.files x (node_does x n heads (node_content env (x.part.nodes n) from r)))
       (λ s there. contents-goes k small x s there h.talk h.pend (open-at k.files x s there h) n env epoch is heads (node-quiet x (Node from) n bytes) from r help)
-      (λ none. subst Goes (sym (ap (come_by env from r (x.part.nodes n)) (nothing-here k.files x none h n env.epoch help.placed.sits))) (unopened-goes k.files x none h (Node n) heads nothing_said refl tt) help)
+      (λ none. subst Goes (sym (ap (come_by env from r (x.part.nodes n)) (nothing-here k.files x none h n env.epoch help.placed.sits))) (λ o. unopened-goes k.files x none h (Node n) heads nothing_said tt refl refl refl o refl tt) help)
 
   read-stays : (x : Conn) (n epoch r : ℕ) (env : NodeEnv) (path : List ℕ) → IsNodeEnv k x.c n epoch env → StaysTruthful k x (reads_first (rec.Read n n x.c r path) (node_does x n [] (node_read env (x.part.nodes n) r)))
   read-stays x n epoch r env path is help h =
-      let Goes : Deed → Type 0 = λ d. Helps x (reads_first (rec.Read n n x.c r path) (node_does x n [] d)) → IsTruthful k.files (grown x (reads_first (rec.Read n n x.c r path) (node_does x n [] d))) in
-      by-station x (IsTruthful k.files (grown x (reads_first (rec.Read n n x.c r path) (node_does x n [] (node_read env (x.part.nodes n) r)))))
+      let Goes : Deed → Type 0 = λ d. Helps x (reads_first (rec.Read n n x.c r path) (node_does x n [] d)) → IsTrueMove k.files x (reads_first (rec.Read n n x.c r path) (node_does x n [] d)) in
+      by-station x (IsTrueMove k.files x (reads_first (rec.Read n n x.c r path) (node_does x n [] (node_read env (x.part.nodes n) r))))
       (λ s there. read-goes k small x s there h.talk h.pend (open-at k.files x s there h) n env epoch is r path help)
       (λ none. subst Goes (sym (ap (read_by env r (x.part.nodes n)) (nothing-here k.files x none h n env.epoch help.placed.sits)))
-      (unopened-goes k.files x none h (Node n) [] (record nothing_said { notes = rec.Read n n x.c r path ∷ [] }) refl tt) help)
+      (λ o. unopened-goes k.files x none h (Node n) [] (record nothing_said { notes = rec.Read n n x.c r path ∷ [] }) (tt, tt) refl refl refl o refl tt) help)
 
   fires-stays : (x : Conn) (s : Station) (n : ℕ) (env : NodeEnv) → x.part.station ≡ Some s → IsNodeEnv k x.c n (epoch_in (x.part.nodes n)) env
       → StaysTruthful k x (node_does x n (event_seen (event.Timer (Node n) x.c)) (node_timer env (x.part.nodes n)))
@@ -227,9 +268,9 @@ module _ (k : Setting) (small : k.stream ≤ 2 ^ 30) where
       → ((t : Tale) → bytes_of (told_on x.c t notes) ≡ bytes_of t) → bytes_of (tale_before x (stands x (Node n) heads (record nothing_said { notes = notes; messages = messages }))) ≡ bytes_of (tale_at x)
       → Each IsInner (map (letter (Node n)) messages) → ((l : Talk) → Each (IsFair l x.c x.part) (map (letter (Node n)) messages)) → StaysTruthful k x (stands x (Node n) heads (record nothing_said { notes = notes; messages = messages }))
   for-others x n heads notes messages each served size reset mute quiet inner fair help h =
-      by-station x (IsTruthful k.files (grown x (stands x (Node n) heads (record nothing_said { notes = notes; messages = messages }))))
+      by-station x (IsTrueMove k.files x (stands x (Node n) heads (record nothing_said { notes = notes; messages = messages })))
       (λ s there. stands-goes k small x s there h.talk h.pend (open-at k.files x s there h) n heads notes messages each served size reset quiet (fair h.talk) help)
-      (λ none. unopened-goes k.files x none h (Node n) heads (record nothing_said { notes = notes; messages = messages }) (mute _ ∙ quiet) inner help)
+      (λ none. unopened-goes k.files x none h (Node n) heads (record nothing_said { notes = notes; messages = messages }) each served reset refl help (mute _ ∙ quiet) inner)
 
   pub nodes : NodeRules k (StaysTruthful k)
   nodes = record {
@@ -249,9 +290,9 @@ module _ (k : Setting) (small : k.stream ≤ 2 ^ 30) where
   pub ignores-stays : (x : Conn) (from to : Place) (bytes : List ℕ) → Was x from to bytes → StaysTruthful k x (stands x to (packet_seen from to bytes) nothing_said)
   ignores-stays x from to bytes was help h =
       let v : Move = stands x to (packet_seen from to bytes) nothing_said in
-      by-station x (IsTruthful k.files (grown x v))
+      by-station x (IsTrueMove k.files x v)
       (λ s there.
       let o = open-at k.files x s there h in
       move-goes k.files x s there h.talk h.pend o v help (record { heads = refl; station = refl; offers = λ i f a b. refl; ends = λ i f over. inl refl })
-      (idle-goes k.files x s there h.talk h.pend o v (record { each = tt; served = refl; size = refl; reset = refl; seat = o.seat; letters = tt })))
-      (λ none. unopened-goes k.files x none h to (packet_seen from to bytes) nothing_said refl tt help)
+      (idle-goes k.files x s there h.talk h.pend o v (record { each = tt; served = refl; size = refl; reset = refl; seat = o.seat; ways = o.ways; sent = tt; letters = tt })))
+      (λ none. unopened-goes k.files x none h to (packet_seen from to bytes) nothing_said tt refl refl refl help refl tt)

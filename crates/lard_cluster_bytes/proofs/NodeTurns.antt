@@ -19,16 +19,18 @@ use Rattle.std.proofs.Common.{Bool, List, None, Ok, Option, Some, [], ap, arith,
 use Rattle.lard_answers.specs.Answers.{FilesAt}
 use Rattle.lard_base.specs.declared.place.Place.{Place}
 use Rattle.lard_base.specs.declared.place.Place.TheVariants.{Front, Node}
-use Rattle.lard_cluster_bytes.specs.Agreement.{AwayAgrees, IsFair, IsKept, IsOffering, IsOpen, IsTruthful, NodeAgrees, SeatAgrees, StageAgrees}
+use Rattle.lard_cluster_bytes.specs.Agreement.{AwayAgrees, IsFair, IsKept, IsOffering, IsOpen, NodeAgrees, SeatAgrees, StageAgrees, StayComesOn}
 use Rattle.lard_cluster_bytes.specs.Keeping.{DeedKeeps, IsTalk}
-use Rattle.lard_cluster_bytes.specs.Law.{Helps}
+use Rattle.lard_cluster_bytes.specs.Law.{Helps, IsTrueMove}
+use Rattle.lard_cluster_bytes.specs.Turning.{AnswersAfter}
+use Rattle.lard_cluster_bytes.proofs.Next.{named-tells}
 use Rattle.lard_cluster_bytes.proofs.NodeMoves.{HasIt, IsAt, Noted, again-fair, all-node, does-goes, has-it, known, stands-goes}
 use Rattle.lard_cluster_bytes.proofs.Stays.{contents-keep, node-hears, offers-keep, reads-keep, tags-keep, timer-keeps}
 use Rattle.lard_cluster_bytes.proofs.Told.{bytes_of, named-each, named-resets, named-served, named-size}
 use Rattle.lard_cluster_places.specs.Places.{HasEnded, IsDecided, IsOffered, IsOver, IsPast, Offers, Sits, StageSits, owning}
 use Rattle.lard_cluster_places.proofs.Turns.{IsPlaced}
 use Rattle.lard_cluster_view.specs.Carry.{tale_at}
-use Rattle.lard_cluster_view.specs.View.{Conn, IsNodeEnv, Setting, Spells, Was, epoch_in, grown, letter, named, node_does, reads_first}
+use Rattle.lard_cluster_view.specs.View.{Conn, IsNodeEnv, Setting, Spells, Was, epoch_in, letter, named, node_does, reads_first}
 use Rattle.lard_cluster_view.proofs.Rows.{tale_before}
 use Rattle.lard_endpoint.specs.Control.{ControlBlock}
 use Rattle.lard_handoff_back.specs.declared.row.BackConn.{BackConn}
@@ -52,7 +54,7 @@ use Rattle.lard_truth.proofs.Speaking.{speaks-stream}
 
 -- a node's notes that name a connection are counted as its notes
 named-noted : (c : ℕ) (notes : List Rec) (k : Setting) (small : k.stream ≤ 2 ^ 30) (x : Conn) (s : Station) (there : x.part.station ≡ Some s) (l : Talk) (pend : List Verdict) (o : IsOpen k.files x l pend s) (n : ℕ) (heads : List Seen) → Noted k small x s there l pend o n heads c (named notes) notes
-named-noted c notes k small x s there l pend o n heads = record { each = named-each c notes; served = named-served c notes; size = named-size c notes; reset = named-resets c notes }
+named-noted c notes k small x s there l pend o n heads = record { each = named-each c notes; served = named-served c notes; size = named-size c notes; reset = named-resets c notes; serve = λ e t f. named-tells (AnswersAfter k.files c) c t notes e f }
 
 module _ (k : Setting) (small : k.stream ≤ 2 ^ 30) (x : Conn) (s : Station) (there : x.part.station ≡ Some s) (l : Talk) (pend : List Verdict) (o : IsOpen k.files x l pend s) (n : ℕ) (env : NodeEnv) (epoch : ℕ) (is : IsNodeEnv k x.c n epoch env) where
   abbrev p : NodePart
@@ -75,7 +77,7 @@ module _ (k : Setting) (small : k.stream ≤ 2 ^ 30) (x : Conn) (s : Station) (t
   own-agrees h = subst (λ (c : ℕ). NodeAgrees l.w l.out l.vs pend l.was_reset c p) (sym is.number) h
 
   abbrev Goes : List Seen → Deed → Type 0
-  Goes heads d = Helps x (node_does x n heads d) → IsTruthful k.files (grown x (node_does x n heads d))
+  Goes heads d = Helps x (node_does x n heads d) → IsTrueMove k.files x (node_does x n heads d)
 
   abbrev IsQuiet : List Seen → Type 0
   IsQuiet heads = (d : Deed) → bytes_of (tale_before x (node_does x n heads d)) ≡ bytes_of (tale_at x)
@@ -131,14 +133,17 @@ module _ (k : Setting) (small : k.stream ≤ 2 ^ 30) (x : Conn) (s : Station) (t
   agrees-by : It env.epoch → IsPlaced x → NodeAgrees l.w l.out l.vs pend l.was_reset env.serve.c p
   agrees-by it placed = own-agrees (it placed).0.agrees
 
+  ways-here : StayComesOn env.serve.files p.stay
+  ways-here = subst (λ (files : FilesAt). StayComesOn files p.stay) (sym is.files) (o.ways n)
+
   pub forwards-goes : (heads : List Seen) → IsQuiet heads → (sd : Said) → IsWord l.w sd → Goes heads (node_forwarded env p (Ok sd))
-  forwards-goes heads quiet sd word = by-here heads quiet (heard_by env p (Ok sd)) refl (λ it placed. own-keeps (node_forwarded env p (Ok sd)) (node-hears env l.w l.out l.vs pend l.was_reset p sd talk-of (agrees-by it placed) word))
+  forwards-goes heads quiet sd word = by-here heads quiet (heard_by env p (Ok sd)) refl (λ it placed. own-keeps (node_forwarded env p (Ok sd)) (node-hears env l.w l.out l.vs pend l.was_reset p sd talk-of (agrees-by it placed) ways-here word))
 
   pub tags-goes : (heads : List Seen) → IsQuiet heads → (number : ℕ) (nodes : List ℕ) → Goes heads (node_tagged env p number nodes)
-  tags-goes heads quiet number nodes = by-here heads quiet (tagged_by env number nodes p) refl (λ it placed. own-keeps (node_tagged env p number nodes) (tags-keep number nodes env l.w l.out l.vs pend l.was_reset p talk-of (agrees-by it placed)))
+  tags-goes heads quiet number nodes = by-here heads quiet (tagged_by env number nodes p) refl (λ it placed. own-keeps (node_tagged env p number nodes) (tags-keep number nodes env l.w l.out l.vs pend l.was_reset p talk-of (agrees-by it placed) ways-here))
 
   pub contents-goes : (heads : List Seen) → IsQuiet heads → (from r : ℕ) → Goes heads (node_content env p from r)
-  contents-goes heads quiet from r = by-here heads quiet (come_by env from r p) refl (λ it placed. own-keeps (node_content env p from r) (contents-keep from r env l.w l.out l.vs pend l.was_reset p talk-of (agrees-by it placed)))
+  contents-goes heads quiet from r = by-here heads quiet (come_by env from r p) refl (λ it placed. own-keeps (node_content env p from r) (contents-keep from r env l.w l.out l.vs pend l.was_reset p talk-of (agrees-by it placed) ways-here))
 
   -- ---- its timers
 
@@ -150,7 +155,7 @@ module _ (k : Setting) (small : k.stream ≤ 2 ^ 30) (x : Conn) (s : Station) (t
   fires-goes heads quiet same help = ⊎_elim
       (λ (e : both_of (endpoint_of p.row) p.stay ≡ None). subst (Goes heads) (sym (ap (fired_by env p) e))
       (λ h. stands-goes k small x s there l pend o n heads [] (again_sent p) tt refl refl refl (quiet (Says (again_sent p))) (again-fair k small x s there l pend o n heads (node_does x n heads (Says (again_sent p))) h) h) help)
-      (λ (it : It env.epoch). deed-goes heads quiet (node_timer env p) (own-keeps (node_timer env p) (timer-keeps env l.w l.out l.vs pend l.was_reset p talk-of (agrees-by it help.placed))) it help)
+      (λ (it : It env.epoch). deed-goes heads quiet (node_timer env p) (own-keeps (node_timer env p) (timer-keeps env l.w l.out l.vs pend l.was_reset p talk-of (agrees-by it help.placed) ways-here)) it help)
       (endpoint-or p.row refl same)
 
   -- ---- a completed job, whose record stands first
@@ -160,7 +165,7 @@ module _ (k : Setting) (small : k.stream ≤ 2 ^ 30) (x : Conn) (s : Station) (t
     read_row = rec.Read n n x.c r path
 
     abbrev GoesFirst : Deed → Type 0
-    GoesFirst d = Helps x (reads_first read_row (node_does x n [] d)) → IsTruthful k.files (grown x (reads_first read_row (node_does x n [] d)))
+    GoesFirst d = Helps x (reads_first read_row (node_does x n [] d)) → IsTrueMove k.files x (reads_first read_row (node_does x n [] d))
 
     first-drops : GoesFirst Drops
     first-drops help = stands-goes k small x s there l pend o n [] (read_row ∷ []) [] (tt, tt) refl refl refl refl tt help
@@ -172,12 +177,12 @@ module _ (k : Setting) (small : k.stream ≤ 2 ^ 30) (x : Conn) (s : Station) (t
     first-goes (Does given) keeps it help =
         let has = it help.placed in
         does-goes k small x s there l pend o n [] (read_row ∷ named given.1.notes) given env.epoch
-        (record { each = λ e. (tt, named-each x.c given.1.notes e); served = named-served x.c given.1.notes; size = named-size x.c given.1.notes; reset = named-resets x.c given.1.notes }) refl keeps has.0.row has.0.found has.0.at has.0.same has.1 help
+        (record { each = λ e. (tt, named-each x.c given.1.notes e); served = named-served x.c given.1.notes; size = named-size x.c given.1.notes; reset = named-resets x.c given.1.notes; serve = λ e t f. ((λ J same. tt), named-tells (AnswersAfter k.files x.c) x.c t given.1.notes e f) }) refl keeps has.0.row has.0.found has.0.at has.0.same has.1 help
 
     pub read-goes : GoesFirst (node_read env p r)
     read-goes help = ⊎_elim
         (λ (e : here env.epoch p ≡ None). subst GoesFirst (sym (ap (read_by env r p) e)) first-drops help)
-        (λ (it : It env.epoch). first-goes (node_read env p r) (own-keeps (node_read env p r) (reads-keep r env l.w l.out l.vs pend l.was_reset p talk-of (agrees-by it help.placed))) it help)
+        (λ (it : It env.epoch). first-goes (node_read env p r) (own-keeps (node_read env p r) (reads-keep r env l.w l.out l.vs pend l.was_reset p talk-of (agrees-by it help.placed) ways-here)) it help)
         here-or
 
   -- ---- an Offer

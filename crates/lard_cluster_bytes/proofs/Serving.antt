@@ -7,20 +7,25 @@ use Rattle.std.proofs.lemmas.List.Folds.{concat-append, list_any-append}
 use Rattle.lard_answers.specs.Answers.{FilesAt, IsPrefix, answer, answer_code, verdicts}
 use Rattle.lard_base.specs.declared.place.Via.{Via}
 use Rattle.lard_cluster_bytes.specs.Agreement.{HasRead}
-use Rattle.lard_cluster_bytes.specs.Turning.{Counts, IsNoteOf, IsReading, Serves}
+use Rattle.lard_cluster_bytes.specs.Records.{IsWay}
+use Rattle.lard_cluster_bytes.specs.Turning.{AnswersAfter, Counts, IsNoteOf, IsReading, Serves}
+use Rattle.lard_cluster_bytes.proofs.Next.{answers-next, mute-answers, resets-next, tells-on}
 use Rattle.lard_cluster_bytes.proofs.Reading.{IsFirst, first-fronts, first-read}
 use Rattle.lard_cluster_bytes.proofs.Wide.{closed-wide, wide-half}
+use Rattle.lard_cluster_view.specs.Carry.{TellsBy}
 use Rattle.lard_endpoint.specs.Control.{ControlBlock, consuming, discarding_on, finishing, queueing}
+use Rattle.lard_history.specs.Journal.{Tale, told_on}
 use Rattle.lard_history.proofs.Each.{Each, Each-append}
 use Rattle.lard_journal.specs.declared.rec.Rec.{Rec}
 use Rattle.lard_journal.specs.declared.rec.Rec.TheVariants as rec
 use Rattle.lard_laws_bytes.specs.Agreement.{SaysAnswers}
-use Rattle.lard_laws_bytes.specs.Keeping.{resets, served_in, size_in}
+use Rattle.lard_laws_bytes.specs.Keeping.{TellsOf, resets, served_in, size_in}
 use Rattle.lard_laws_bytes.proofs.FrontEndpoint.{IsBetween, Onward, between-consumed, between-discarded, onward-finished, onward-queued}
 use Rattle.lard_request.specs.declared.verdict.Verdict.{Verdict}
 use Rattle.lard_request.specs.Verdict.{closes}
 use Rattle.lard_rules.specs.Serving.{ServeEnv, Service, answered, closed_behind, consumed, ended_at_fin, may_read, passed_over, queued}
 use Rattle.lard_truth.specs.Truth.{GoesOn, Stream}
+use Rattle.lard_view.proofs.Rows.{TellsBy-append}
 use Rattle.lard_truth.proofs.Growth.{goes_on-same}
 
 or-last : (b c : Bool) → c ≡ true → (b || c) ≡ true
@@ -55,21 +60,30 @@ size-append [] ys = omega arith
 size-append (rec.Served by c n code size via ∷ xs) ys = let e = size-append xs ys in omega arith
 size-append (other ∷ xs) ys = size-append xs ys
 
-pub counts-nothing : (c : ℕ) (out : Stream) (vs : List Verdict) → Counts c out vs vs out.bytes []
-counts-nothing c out vs = record { each = tt; served = omega arith; size = omega arith; unless_ended = inr refl }
+pub counts-nothing : (files : FilesAt) (c : ℕ) (w out : Stream) (vs : List Verdict) → Counts files c w out vs vs out.bytes []
+counts-nothing files c w out vs = record { each = tt; served = omega arith; size = omega arith; unless_ended = inr refl; serve = λ t told. tt }
 
 -- more notes
-pub counts-more : (c : ℕ) (out : Stream) (vs us us_next : List Verdict) (said said_next : List ℕ) (notes rs : List Rec) → Counts c out vs us said notes → Each (IsNoteOf c) rs
-    → length us_next ≡ length us + served_in rs → length said_next ≡ length said + size_in rs → (out.ended ≡ false) ⊎ (served_in rs ≡ 0) → Counts c out vs us_next said_next (notes ++ rs)
-counts-more c out vs us us_next said said_next notes rs h each served size unless =
-    let a = served-append notes rs in
-    let b = size-append notes rs in
-    record {
-      each = Each-append (IsNoteOf c) notes rs h.each each;
-      served = omega (arith, a, h.served, served);
-      size = omega (arith, b, h.size, size);
-      unless_ended = ⊎_elim (λ e. inl e) (λ e. ⊎_elim (λ f. inl f) (λ f. inr (omega (arith, a, e, f))) unless) h.unless_ended;
-    }
+module _ (files : FilesAt) (c : ℕ) (w out : Stream) (vs us us_next : List Verdict) (said said_next : List ℕ) (notes rs : List Rec) (h : Counts files c w out vs us said notes) where
+  pub counts-more : Each (IsNoteOf c) rs → length us_next ≡ length us + served_in rs → length said_next ≡ length said + size_in rs → (out.ended ≡ false) ⊎ (served_in rs ≡ 0)
+      → ((t : Tale) → TellsOf w.bytes said us t → TellsBy (AnswersAfter files c) c t rs) → Counts files c w out vs us_next said_next (notes ++ rs)
+  counts-more each served size unless answers =
+      let a = served-append notes rs in
+      let b = size-append notes rs in
+      record {
+        each = Each-append (IsNoteOf c) notes rs h.each each;
+        served = omega (arith, a, h.served, served);
+        size = omega (arith, b, h.size, size);
+        unless_ended = ⊎_elim (λ e. inl e) (λ e. ⊎_elim (λ f. inl f) (λ f. inr (omega (arith, a, e, f))) unless) h.unless_ended;
+        serve = λ t told. TellsBy-append (AnswersAfter files c) c t notes rs (h.serve t told)
+            (answers (told_on c t notes) (tells-on c w.bytes out.bytes said vs us notes h.each h.served h.size t told));
+      }
+
+-- more that serve and reset nothing
+pub counts-mute : (files : FilesAt) (c : ℕ) (w out : Stream) (vs us : List Verdict) (said : List ℕ) (notes rs : List Rec) → Counts files c w out vs us said notes → Each (IsNoteOf c) rs
+    → served_in rs ≡ 0 → size_in rs ≡ 0 → list_any resets rs ≡ false → Counts files c w out vs us said (notes ++ rs)
+counts-mute files c w out vs us said notes rs h each served size calm =
+    counts-more files c w out vs us us said said notes rs h each (omega (arith, served)) (omega (arith, size)) (inr served) (λ t told. mute-answers files c t rs each served calm)
 
 -- ---- what was said
 
@@ -135,8 +149,9 @@ module _ (env : ServeEnv) (w out : Stream) (vs : List Verdict) where
       record { none = none; unfinished = unfinished; keeps = keeps; read = subst (λ (o : Option ℕ). IsReading w h.vs_now pend s.block s.notes o) none h.reading }
 
   -- notes that tell nothing of bytes
-  pub noted-serves : (notes : List Rec) (s : Service) (pend : List Verdict) → Each (IsNoteOf env.c) notes → served_in notes ≡ 0 → size_in notes ≡ 0 → So s pend → So (record s { notes = s.notes ++ notes }) pend
-  noted-serves notes s pend each served size h = record {
+  pub noted-serves : (notes : List Rec) (s : Service) (pend : List Verdict) → Each (IsNoteOf env.c) notes → served_in notes ≡ 0 → size_in notes ≡ 0 → list_any resets notes ≡ false → So s pend
+      → So (record s { notes = s.notes ++ notes }) pend
+  noted-serves notes s pend each served size calm h = record {
     out_now = h.out_now;
     vs_now = h.vs_now;
     longer = h.longer;
@@ -144,31 +159,40 @@ module _ (env : ServeEnv) (w out : Stream) (vs : List Verdict) where
     counted = h.counted;
     between = h.between;
     wide = h.wide;
-    noted = counts-more env.c out vs h.vs_now h.vs_now h.out_now.bytes h.out_now.bytes s.notes notes h.noted each (omega (arith, served)) (omega (arith, size)) (inr served);
+    noted = counts-mute env.files env.c w out vs h.vs_now h.out_now.bytes s.notes notes h.noted each served size calm;
     reading = reading s.over h.reading;
   } where
     reading : (o : Option ℕ) → IsReading w h.vs_now pend s.block s.notes o → IsReading w h.vs_now pend s.block (s.notes ++ notes) o
     reading None r = r
     reading (Some total) r = list_any-append resets s.notes notes ∙ ap (λ b. b || list_any resets notes) r
 
+  -- the verdict on the first that waits is the next on what the client wrote
+  next-is : (v : Verdict) (rest : List Verdict) (s : Service) (h : So s (v ∷ rest)) → MayGo w h.vs_now (v ∷ rest) s → IsPrefix (h.vs_now ++ v ∷ []) (verdicts w.bytes)
+  next-is v rest s h may = subst (λ (l : List ℕ). IsPrefix (h.vs_now ++ v ∷ []) (verdicts l)) (append-nil w.bytes)
+      (first-fronts w h.vs_now v rest s.block (record { read = may.read; keeps = may.keeps }) [])
+
   -- it would pass the stream limit
-  passed-serves : (total : ℕ) (s : Service) (pend others : List Verdict) → So s pend → So (passed_over env total s) others
-  passed-serves total s pend others h = record {
-    out_now = h.out_now;
-    vs_now = h.vs_now;
-    longer = h.longer;
-    says = h.says;
-    counted = h.counted;
-    between = h.between;
-    wide = h.wide;
-    noted = counts-more env.c out vs h.vs_now h.vs_now h.out_now.bytes h.out_now.bytes s.notes (rec.Reset env.place env.c total ∷ []) h.noted (refl, tt) (omega arith) (omega arith) (inr refl);
-    reading = list_any-append resets s.notes (rec.Reset env.place env.c total ∷ []) ∙ or-last (list_any resets s.notes) true refl;
-  }
+  passed-serves : (v : Verdict) (rest others : List Verdict) (s : Service) (h : So s (v ∷ rest)) → MayGo w h.vs_now (v ∷ rest) s → So (passed_over env (s.block.send.total + length (answer env.files v)) s) others
+  passed-serves v rest others s h may =
+      let total : ℕ = s.block.send.total + length (answer env.files v) in
+      let same : total ≡ length h.out_now.bytes + length (answer env.files v) = ap (λ (n : ℕ). n + length (answer env.files v)) (sym h.between.speaks.part.count) in
+      record {
+        out_now = h.out_now;
+        vs_now = h.vs_now;
+        longer = h.longer;
+        says = h.says;
+        counted = h.counted;
+        between = h.between;
+        wide = h.wide;
+        noted = counts-more env.files env.c w out vs h.vs_now h.vs_now h.out_now.bytes h.out_now.bytes s.notes (rec.Reset env.place env.c total ∷ []) h.noted (refl, tt) (omega arith) (omega arith) (inr refl)
+            (λ t told. ((λ J e. resets-next env.files env.c w.bytes h.out_now.bytes h.vs_now J (subst (TellsOf w.bytes h.out_now.bytes h.vs_now) (sym e) told) v (next-is v rest s h may) total same), tt));
+        reading = list_any-append resets s.notes (rec.Reset env.place env.c total ∷ []) ∙ or-last (list_any resets s.notes) true refl;
+      }
 
   -- a response is queued
-  queued-serves : (via : Via) (v : Verdict) (rest : List Verdict) (s : Service) (h : So s (v ∷ rest)) → MayGo w h.vs_now (v ∷ rest) s → s.block.send.total + length (answer env.files v) ≤ 2 ^ 30
+  queued-serves : (via : Via) (v : Verdict) (rest : List Verdict) (s : Service) (h : So s (v ∷ rest)) → MayGo w h.vs_now (v ∷ rest) s → IsWay env.files v via → s.block.send.total + length (answer env.files v) ≤ 2 ^ 30
       → So (queued env via v (answer env.files v) s) rest
-  queued-serves via v rest s h may le =
+  queued-serves via v rest s h may way le =
       let bytes = answer env.files v in
       let first : IsFirst w h.vs_now v rest s.block = record { read = may.read; keeps = may.keeps } in
       let size : length (h.vs_now ++ v ∷ []) ≡ length h.vs_now + 1 = length-append h.vs_now (v ∷ []) in
@@ -178,6 +202,7 @@ module _ (env : ServeEnv) (w out : Stream) (vs : List Verdict) where
       let longer = goes_on-trans h.out_now one.next two.next one.longer two.longer in
       let said : two.next.bytes ≡ h.out_now.bytes ++ bytes = two.bytes_are ∙ one.bytes_are in
       let counted = h.counted in
+      let number : s.count + 1 ≡ length h.vs_now + 1 = ap (λ (n : ℕ). n + 1) counted in
       let open_ : out.ended ≡ false = still-open out h.out_now h.longer (ap (λ x. x.ended) h.between.out_is ∙ may.unfinished) in
       record {
         out_now = two.next;
@@ -187,8 +212,9 @@ module _ (env : ServeEnv) (w out : Stream) (vs : List Verdict) where
         counted = omega (arith, counted, size);
         between = two.between;
         wide = wide-half _ (closed-wide v (queueing s.block bytes) (record { wnd = h.wide.wnd; wl1 = h.wide.wl1; wl2 = h.wide.wl2 }));
-        noted = counts-more env.c out vs h.vs_now (h.vs_now ++ v ∷ []) h.out_now.bytes two.next.bytes s.notes (rec.Served env.place env.c (s.count + 1) (answer_code env.files v) (length bytes) via ∷ []) h.noted
-            (refl, tt) (omega (arith, size)) (omega (arith, ap length said, length-append h.out_now.bytes bytes)) (inl open_);
+        noted = counts-more env.files env.c w out vs h.vs_now (h.vs_now ++ v ∷ []) h.out_now.bytes two.next.bytes s.notes (rec.Served env.place env.c (s.count + 1) (answer_code env.files v) (length bytes) via ∷ []) h.noted
+            (refl, tt) (omega (arith, size)) (omega (arith, ap length said, length-append h.out_now.bytes bytes)) (inl open_)
+            (λ t told. ((λ J e. answers-next env.files env.c w.bytes h.out_now.bytes h.vs_now J (subst (TellsOf w.bytes h.out_now.bytes h.vs_now) (sym e) told) v (next-is v rest s h may) (s.count + 1) via number way), tt));
         reading = first-read w h.vs_now v rest s.block (queueing s.block bytes) first refl;
       }
 
@@ -197,13 +223,13 @@ module _ (env : ServeEnv) (w out : Stream) (vs : List Verdict) where
   left_of None v rest = rest
   left_of (Some total) v rest = v ∷ rest
 
-  pub answered-serves : env.stream ≤ 2 ^ 30 → (via : Via) (v : Verdict) (rest : List Verdict) (s : Service) (h : So s (v ∷ rest)) → MayGo w h.vs_now (v ∷ rest) s
+  pub answered-serves : env.stream ≤ 2 ^ 30 → (via : Via) (v : Verdict) (rest : List Verdict) (s : Service) (h : So s (v ∷ rest)) → MayGo w h.vs_now (v ∷ rest) s → IsWay env.files v via
       → So (answered env via v s) (left_of (answered env via v s).over v rest)
-  answered-serves most via v rest s h may =
+  answered-serves most via v rest s h may way =
       let total = s.block.send.total + length (answer env.files v) in
       cond_both (nat_lt env.stream total) (passed_over env total s) (queued env via v (answer env.files v) s) (λ t. So t (left_of t.over v rest))
-      (λ t. passed-serves total s (v ∷ rest) (v ∷ rest) h)
-      (λ t. let le : total ≤ env.stream = ltb-false env.stream total t in queued-serves via v rest s h may (omega (arith, le, most)))
+      (λ t. passed-serves v rest (v ∷ rest) s h may)
+      (λ t. let le : total ≤ env.stream = ltb-false env.stream total t in queued-serves via v rest s h may way (omega (arith, le, most)))
 
   -- behind the client's FIN the cluster's follows
   finished-serves : (s : Service) (h : So s []) → MayGo w h.vs_now [] s → So (record s { block = finishing s.block }) []
@@ -217,7 +243,7 @@ module _ (env : ServeEnv) (w out : Stream) (vs : List Verdict) where
         counted = h.counted;
         between = next.between;
         wide = record { wnd = h.wide.wnd; wl1 = h.wide.wl1; wl2 = h.wide.wl2 };
-        noted = subst (λ (said : List ℕ). Counts env.c out vs h.vs_now said s.notes) (sym next.bytes_are) h.noted;
+        noted = subst (λ (said : List ℕ). Counts env.files env.c w out vs h.vs_now said s.notes) (sym next.bytes_are) h.noted;
         reading = subst (λ (o : Option ℕ). IsReading w h.vs_now [] (finishing s.block) s.notes o) (sym may.none)
             (record { cut = may.read.cut; goes_on = may.read.goes_on; stops = λ e. (refl, (may.read.stops e).1, refl); fronts = may.read.fronts });
       }

@@ -7,13 +7,14 @@ use Rattle.lard_base.specs.declared.parts.EndpointParts.{EndpointParts}
 use Rattle.lard_base.specs.declared.place.Place.{Place}
 use Rattle.lard_base.specs.declared.place.Place.TheVariants as place
 use Rattle.lard_base.specs.declared.place.TimerKind.TheVariants as kind
-use Rattle.lard_cluster_bytes.specs.Agreement.{BackAgrees, EndAgrees, FrontHolds, HoldsIt, NodeAgrees, RowAgrees, StayAgrees}
+use Rattle.lard_cluster_bytes.specs.Agreement.{AreOnTheWay, BackAgrees, EndAgrees, FrontHolds, HoldsIt, NodeAgrees, RowAgrees, StayAgrees, StayComesOn}
 use Rattle.lard_cluster_bytes.specs.Keeping.{ContentsKeep, DeedKeeps, IsTalk, NodeHearsTruth, NodeTimerKeeps, NodeSays, NodeTurned, OffersKeep, ReadsKeep, TagsKeep}
 use Rattle.lard_cluster_bytes.specs.Turning.{EndTurned}
 use Rattle.lard_cluster_bytes.proofs.Ending.{settled-ends}
 use Rattle.lard_cluster_bytes.proofs.Holding.{begins-so, fired-ends, heard-so, same-so}
 use Rattle.lard_cluster_bytes.proofs.Serving.{MayGo, So, go-on}
-use Rattle.lard_cluster_bytes.proofs.Working.{Works, came-so, first-so, goes-so, tagged-so, verdicts_of}
+use Rattle.lard_cluster_bytes.proofs.Working.{Right, Works, came-so, first-so, goes-so, tagged-so, verdicts_of}
+use Rattle.lard_cluster_bytes.proofs.Ways.{batch-right, came-right, come_progress-on, goes-right, read_progress-on, tagged-right}
 use Rattle.lard_endpoint.specs.Arriving.{on_segment}
 use Rattle.lard_endpoint.specs.Control.{ControlBlock}
 use Rattle.lard_endpoint.specs.Leaving.{after_timer, timed}
@@ -66,6 +67,10 @@ module _ (env : NodeEnv) (w out : Stream) (vs : List Verdict) (was_reset : Bool)
   ends-agree p k now us r (ending.Here b count) h = (refl, h)
   ends-agree p k now us r (ending.Over last) h = record { last = last; count = node.count_of k.service.over; ended = h; kept_is = refl }
 
+  ends-way : (p : NodePart) (k : Work) (e : Ending) → Right env w out vs k → StayComesOn env.serve.files (kept_after env p k e).stay
+  ends-way p k (ending.Here b count) right = right
+  ends-way p k (ending.Over last) right = tt
+
   after-decided : (p : NodePart) (k : Work) (e : Ending) → IsDecided env.epoch (kept_after env p k e).row
   after-decided p k (ending.Here b count) = omega arith
   after-decided p k (ending.Over last) = omega arith
@@ -100,9 +105,9 @@ module _ (env : NodeEnv) (w out : Stream) (vs : List Verdict) (was_reset : Bool)
     told : (again ≡ []) ⊎ (again ≡ again_sent p)
     said : Each (NodeSays env.serve.c q) first
 
-  rests-turn : (old p : NodePart) (before : List (Place × List ℕ)) (k : Work) (given : Ending × Turn) → Before old (kept_after env p k given.0) before
+  rests-turn : (old p : NodePart) (before : List (Place × List ℕ)) (k : Work) (given : Ending × Turn) → Before old (kept_after env p k given.0) before → Right env w out vs k
       → EndTurned env.serve.files env.serve.c w out vs was_reset (verdicts_of k.batch) given → Turns old (kept_after env p k given.0, turn_by env before k given)
-  rests-turn old p before k given first h = record {
+  rests-turn old p before k given first right h = record {
     out_after = h.out_after;
     vs_after = h.vs_after;
     pend_after = verdicts_of k.batch;
@@ -110,6 +115,7 @@ module _ (env : NodeEnv) (w out : Stream) (vs : List Verdict) (was_reset : Bool)
     says = h.says;
     agrees = ends-agree p k h.out_after h.vs_after (was_reset || list_any resets given.1.notes) given.0 h.agrees;
     noted = h.noted;
+    ways = ends-way p k given.0 right;
     sent = h.sent;
     decided = after-decided p k given.0;
     again = first.again;
@@ -124,12 +130,12 @@ module _ (env : NodeEnv) (w out : Stream) (vs : List Verdict) (was_reset : Bool)
   none-before : (old q : NodePart) → Before old q []
   none-before old q = record { again = []; first = []; is = refl; told = inl refl; said = tt }
 
-  work-turns : (old p : NodePart) (before : List (Place × List ℕ)) (k : Work) → ((q : NodePart) → Before old q before) → Works env w out vs k → Keeps old (with_work env p before k)
-  work-turns old p before k first h = rests-turn old p before k (settled env.serve k.service) (first _) (settled-ends env.serve w out vs was_reset k.service (verdicts_of k.batch) h)
+  work-turns : (old p : NodePart) (before : List (Place × List ℕ)) (k : Work) → ((q : NodePart) → Before old q before) → Works env w out vs k → Right env w out vs k → Keeps old (with_work env p before k)
+  work-turns old p before k first h right = rests-turn old p before k (settled env.serve k.service) (first _) right (settled-ends env.serve w out vs was_reset k.service (verdicts_of k.batch) h)
 
   -- a stay that agrees
   abbrev IsHeld : List Verdict → ControlBlock × Stay → Type 0
-  IsHeld pend x = (pend ≡ verdicts_of x.1.batch) × HoldsIt w out vs pend x.0 x.1.served
+  IsHeld pend x = (pend ≡ verdicts_of x.1.batch) × HoldsIt w out vs pend x.0 x.1.served × AreOnTheWay env.serve.files x.1.batch
 
   same-works : (pend : List Verdict) (x : ControlBlock × Stay) → SaysAnswers env.serve.files w out vs → IsHeld pend x → Works env w out vs (work_of x.0 x.1)
   same-works pend x says h = subst (So env.serve w out vs (serving x.0 x.1.served [])) h.0 (same-so env.serve w out vs says pend x.0 x.1.served h.1)
@@ -138,65 +144,67 @@ module _ (env : NodeEnv) (w out : Stream) (vs : List Verdict) (was_reset : Bool)
 
   -- it is so of none, and of each stay that agrees
   module _ (pend : List Verdict) (P : Option (ControlBlock × Stay) → Type 0) (none : P None) (some : (x : ControlBlock × Stay) → IsHeld pend x → P (Some x)) where
-    of-stay : (b : ControlBlock) (o : Option Stay) → StayAgrees w out vs pend b o → P (both_of (Some b) o)
-    of-stay b None h = absurd h
-    of-stay b (Some s) h = some (b, s) h
+    of-stay : (b : ControlBlock) (o : Option Stay) → StayAgrees w out vs pend b o → StayComesOn env.serve.files o → P (both_of (Some b) o)
+    of-stay b None h ways = absurd h
+    of-stay b (Some s) h ways = some (b, s) (h.0, h.1, ways)
 
-    of-stage : (p : NodePart) (c e : ℕ) (d : BackConn) → BackAgrees w out vs pend was_reset c e p d → P (both_of (held_in d) p.stay)
-    of-stage p c e (back.Here b) h = of-stay b p.stay h
-    of-stage p c e back.Out h = none
-    of-stage p c e back.Ended h = none
-    of-stage p c e back.Gone h = none
+    of-stage : (p : NodePart) (c e : ℕ) (d : BackConn) → BackAgrees w out vs pend was_reset c e p d → StayComesOn env.serve.files p.stay → P (both_of (held_in d) p.stay)
+    of-stage p c e (back.Here b) h ways = of-stay b p.stay h ways
+    of-stage p c e back.Out h ways = none
+    of-stage p c e back.Ended h ways = none
+    of-stage p c e back.Gone h ways = none
 
-    at-endpoint : (p : NodePart) (c : ℕ) (o : Option BackRow) → RowAgrees w out vs pend was_reset c p o → P (both_of (endpoint_of o) p.stay)
-    at-endpoint p c None h = absurd h
-    at-endpoint p c (Some row) h = of-stage p c row.epoch.0 row.stage h
+    at-endpoint : (p : NodePart) (c : ℕ) (o : Option BackRow) → RowAgrees w out vs pend was_reset c p o → StayComesOn env.serve.files p.stay → P (both_of (endpoint_of o) p.stay)
+    at-endpoint p c None h ways = absurd h
+    at-endpoint p c (Some row) h ways = of-stage p c row.epoch.0 row.stage h ways
 
-    at-epoch : (p : NodePart) (c : ℕ) (o : Option BackRow) → RowAgrees w out vs pend was_reset c p o → P (both_of (staying env.epoch o) p.stay)
-    at-epoch p c None h = absurd h
-    at-epoch p c (Some row) h = cond_both (row.epoch.0 == env.epoch) (held_in row.stage) None (λ b. P (both_of b p.stay))
-        (λ t. of-stage p c row.epoch.0 row.stage h) (λ t. none)
+    at-epoch : (p : NodePart) (c : ℕ) (o : Option BackRow) → RowAgrees w out vs pend was_reset c p o → StayComesOn env.serve.files p.stay → P (both_of (staying env.epoch o) p.stay)
+    at-epoch p c None h ways = absurd h
+    at-epoch p c (Some row) h ways = cond_both (row.epoch.0 == env.epoch) (held_in row.stage) None (λ b. P (both_of b p.stay))
+        (λ t. of-stage p c row.epoch.0 row.stage h ways) (λ t. none)
 
   -- ---- the rules
 
-  module _ (talk : IsTalk env w out vs) (pend : List Verdict) (p : NodePart) (h : NodeAgrees w out vs pend was_reset env.serve.c p) where
-    goes-turn : (p_kept : NodePart) (k : Work) → Works env w out vs k → Keeps p (with_work env p_kept [] (goes_on env k))
-    goes-turn p_kept k works = work-turns p p_kept [] (goes_on env k) (none-before p) (goes-so env w out vs talk.most k works)
+  module _ (talk : IsTalk env w out vs) (pend : List Verdict) (p : NodePart) (h : NodeAgrees w out vs pend was_reset env.serve.c p) (ways : StayComesOn env.serve.files p.stay) where
+    goes-turn : (p_kept : NodePart) (k : Work) → Works env w out vs k → Right env w out vs k → Keeps p (with_work env p_kept [] (goes_on env k))
+    goes-turn p_kept k works right = work-turns p p_kept [] (goes_on env k) (none-before p) (goes-so env w out vs talk.most k works right) (goes-right env k right)
 
     hears-turn : (s : Said) → IsWord w s → Keeps p (heard_by env p (Ok s) (here env.epoch p))
     hears-turn s word = at-epoch pend (λ x. Keeps p (heard_by env p (Ok s) x)) tt
         (λ x held. goes-turn p (work_of (on_segment x.0 s).1 x.1)
-        (subst (So env.serve w out vs (serving (on_segment x.0 s).1 x.1.served [])) held.0 (heard-so env.serve w out vs talk.says pend x.0 x.1.served held.1 talk.stream s word)))
-        p env.serve.c p.row h
+        (subst (So env.serve w out vs (serving (on_segment x.0 s).1 x.1.served [])) held.0 (heard-so env.serve w out vs talk.says pend x.0 x.1.served held.1 talk.stream s word)) held.2)
+        p env.serve.c p.row h ways
 
     tags-turn : (number : ℕ) (nodes : List ℕ) → Keeps p (tagged_by env number nodes p (here env.epoch p))
     tags-turn number nodes = at-epoch pend (λ x. Keeps p (tagged_by env number nodes p x)) tt
         (λ x held. cond_both (is_awaited env number nodes p x.1) (with_work env (record p { kept = without kind.Ask 0 p.kept }) [] (goes_on env (tagged env nodes (work_of x.0 x.1)))) Drops (Keeps p)
-        (λ t. goes-turn (record p { kept = without kind.Ask 0 p.kept }) (tagged env nodes (work_of x.0 x.1)) (tagged-so env w out vs nodes (work_of x.0 x.1) (same-works pend x talk.says held)))
+        (λ t. goes-turn (record p { kept = without kind.Ask 0 p.kept }) (tagged env nodes (work_of x.0 x.1)) (tagged-so env w out vs nodes (work_of x.0 x.1) (same-works pend x talk.says held)) (tagged-right env nodes (work_of x.0 x.1) held.2))
         (λ t. tt))
-        p env.serve.c p.row h
+        p env.serve.c p.row h ways
 
     comes-turn : (from r : ℕ) → Keeps p (come_by env from r p (here env.epoch p))
     comes-turn from r = at-epoch pend (λ x. Keeps p (come_by env from r p x)) tt
         (λ x held. cond_both (is_from from env.epoch (find (is_under kind.Fetch r) p.fetches))
         (with_work env (record p { fetches = without kind.Fetch r p.fetches }) [] (goes_on env (came_for (come_progress from) r (work_of x.0 x.1)))) Drops (Keeps p)
         (λ t. goes-turn (record p { fetches = without kind.Fetch r p.fetches }) (came_for (come_progress from) r (work_of x.0 x.1))
-        (came-so env w out vs (come_progress from) r (work_of x.0 x.1) (same-works pend x talk.says held)))
+        (came-so env w out vs (come_progress from) r (work_of x.0 x.1) (same-works pend x talk.says held))
+        (came-right env.serve.files (come_progress from) (come_progress-on env.serve.files from) r (work_of x.0 x.1) held.2))
         (λ t. tt))
-        p env.serve.c p.row h
+        p env.serve.c p.row h ways
 
     reads-turn : (r : ℕ) → Keeps p (read_by env r p (here env.epoch p))
     reads-turn r = at-epoch pend (λ x. Keeps p (read_by env r p x)) tt
-        (λ x held. goes-turn p (came_for read_progress r (work_of x.0 x.1)) (came-so env w out vs read_progress r (work_of x.0 x.1) (same-works pend x talk.says held)))
-        p env.serve.c p.row h
+        (λ x held. goes-turn p (came_for read_progress r (work_of x.0 x.1)) (came-so env w out vs read_progress r (work_of x.0 x.1) (same-works pend x talk.says held))
+        (came-right env.serve.files read_progress (read_progress-on env.serve.files) r (work_of x.0 x.1) held.2))
+        p env.serve.c p.row h ways
 
     fires-turn : Keeps p (fired_by env p (both_of (endpoint_of p.row) p.stay))
-    fires-turn = at-endpoint pend (λ x. Keeps p (fired_by env p x)) (inl refl) (λ x held. fires x held) p env.serve.c p.row h where
+    fires-turn = at-endpoint pend (λ x. Keeps p (fired_by env p x)) (inl refl) (λ x held. fires x held) p env.serve.c p.row h ways where
       fires : (x : ControlBlock × Stay) → IsHeld pend x
           → Turns p (fired env p x (spoken env.serve (serving (after_timer x.0) x.1.served []) (ready_of env.serve (after_timer x.0) (timed x.0))))
       fires x held =
           let given : Ending × Turn = spoken env.serve (serving (after_timer x.0) x.1.served []) (ready_of env.serve (after_timer x.0) (timed x.0)) in
-          rests-turn p p (again_sent p) (work_of (after_timer x.0) x.1) given (record { again = again_sent p; first = []; is = sym (append-nil (again_sent p)); told = inr refl; said = tt })
+          rests-turn p p (again_sent p) (work_of (after_timer x.0) x.1) given (record { again = again_sent p; first = []; is = sym (append-nil (again_sent p)); told = inr refl; said = tt }) held.2
           (subst (λ (us : List Verdict). EndTurned env.serve.files env.serve.c w out vs was_reset us given) held.0 (fired-ends env.serve w out vs talk.says pend x.0 x.1.served held.1 was_reset))
 
   -- ---- an Offer
@@ -233,33 +241,34 @@ module _ (env : NodeEnv) (w out : Stream) (vs : List Verdict) (was_reset : Bool)
         (record { same_irs = held.sound.same_irs; speaks = held.speaks; out_is = held.out_is; hears = held.hears })
         (record { wnd = held.wide.wnd; wl1 = held.wide.wl1; wl2 = held.wide.wl2 })
         (record { cut = read.cut; goes_on = read.goes_on; stops = read.stops; fronts = read.fronts })
-        (record { each = (tt, tt); served = omega arith; size = omega arith; unless_ended = inr refl }))
+        (record { each = (tt, tt); served = omega arith; size = omega arith; unless_ended = inr refl; serve = λ t told. ((λ J e. tt), tt) }))
 
     offers-turn : (a : Adopt) → Keeps p (offered_by env parts p a)
     offers-turn New =
         let first : Work = begins env parts in
         let may : MayGo w offered-so.vs_now [] first.service = go-on env.serve w out vs first.service [] offered-so refl refl refl in
         let works = first-so env w out vs true first offered-so may refl in
-        work-turns p p (taken_sent env) (goes_on env (state_of (reads_batch env true first))) (λ q. record { again = []; first = taken_sent env; is = refl; told = inl refl; said = (inr (env.epoch, body.Taken, refl, tt), tt) }) (goes-so env w out vs talk.most (state_of (reads_batch env true first)) works)
+        let right = batch-right env true first tt in
+        work-turns p p (taken_sent env) (goes_on env (state_of (reads_batch env true first))) (λ q. record { again = []; first = taken_sent env; is = refl; told = inl refl; said = (inr (env.epoch, body.Taken, refl, tt), tt) }) (goes-so env w out vs talk.most (state_of (reads_batch env true first)) works right) (goes-right env (state_of (reads_batch env true first)) right)
     offers-turn Again = inr (inr (env.epoch, body.Taken, refl, tt), tt)
     offers-turn Stale = tt
 
 -- ---- what is kept
 
 pub node-hears : NodeHearsTruth
-node-hears env w out vs pend was_reset p s talk h word = hears-turn env w out vs was_reset talk pend p h s word
+node-hears env w out vs pend was_reset p s talk h ways word = hears-turn env w out vs was_reset talk pend p h ways s word
 
 pub tags-keep : TagsKeep
-tags-keep number nodes env w out vs pend was_reset p talk h = tags-turn env w out vs was_reset talk pend p h number nodes
+tags-keep number nodes env w out vs pend was_reset p talk h ways = tags-turn env w out vs was_reset talk pend p h ways number nodes
 
 pub contents-keep : ContentsKeep
-contents-keep from r env w out vs pend was_reset p talk h = comes-turn env w out vs was_reset talk pend p h from r
+contents-keep from r env w out vs pend was_reset p talk h ways = comes-turn env w out vs was_reset talk pend p h ways from r
 
 pub reads-keep : ReadsKeep
-reads-keep r env w out vs pend was_reset p talk h = reads-turn env w out vs was_reset talk pend p h r
+reads-keep r env w out vs pend was_reset p talk h ways = reads-turn env w out vs was_reset talk pend p h ways r
 
 pub timer-keeps : NodeTimerKeeps
-timer-keeps env w out vs pend was_reset p talk h = fires-turn env w out vs was_reset talk pend p h
+timer-keeps env w out vs pend was_reset p talk h ways = fires-turn env w out vs was_reset talk pend p h ways
 
 pub offers-keep : OffersKeep
 offers-keep env w out vs pend was_reset p b count talk h frozen = offers-turn env w out vs was_reset talk pend p b count h frozen (offer_answer env.epoch p.row)

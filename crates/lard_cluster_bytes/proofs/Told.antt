@@ -1,15 +1,17 @@
 -- What a move tells of the bytes of its connection.
-use Rattle.std.proofs.Common.{◌≡◌, ◌+◌, ◌||◌, ℕ, Bool, true, false, cond, List, [], ◌∷◌, map, take, Option, Some, arith, refl, ap, ◌∙◌, sym, append-nil}
-use Rattle.std.specs.List.{list_any}
+use Rattle.std.proofs.Common.{◌≡◌, ◌+◌, ◌||◌, ℕ, Bool, true, false, cond, List, [], ◌∷◌, map, length, take, Option, Some, arith, refl, ap, ◌∙◌, sym, append-nil}
+use Rattle.std.specs.List.{fold, list_any}
 use Rattle.lard_base.specs.declared.place.Place.{Place}
 use Rattle.lard_base.specs.declared.place.Place.TheVariants.{Client, Front, Node}
 use Rattle.lard_cluster_bytes.specs.Agreement.{TaleAgrees}
-use Rattle.lard_cluster_bytes.specs.Turning.{Counts, IsNoteOf}
+use Rattle.lard_cluster_bytes.specs.Law.{IsHead}
+use Rattle.lard_cluster_bytes.specs.Turning.{IsNoteOf}
 use Rattle.lard_cluster_view.specs.Carry.{tale_at}
 use Rattle.lard_cluster_view.specs.View.{Conn, Move, grown, named, sending}
 use Rattle.lard_cluster_view.proofs.Saying.{AreMessages, GaveAt}
 use Rattle.lard_cluster_view.proofs.Rows.{grown-tale, tale_before}
 use Rattle.lard_history.specs.Journal.{Numbers, Tale, tale_step, told_on}
+use Rattle.lard_history.specs.Own.{Came, Row, Seen, seen_step}
 use Rattle.lard_history.proofs.Each.{Each}
 use Rattle.lard_journal.specs.declared.rec.Rec.{Rec}
 use Rattle.lard_journal.specs.declared.rec.Rec.TheVariants as rec
@@ -31,14 +33,15 @@ pub record Bytes : Type 0 where
 abbrev pub bytes_of : Tale → Bytes
 bytes_of t = record { numbers = t.numbers; wrote = t.wrote; accepted = t.accepted; served = t.served; served_bytes = t.served_bytes; was_reset = t.was_reset }
 
-pub tale-agrees : (k : Talk) (n : ℕ) (t u : Tale) → bytes_of u ≡ bytes_of t → TaleAgrees k n t → TaleAgrees k n u
-tale-agrees k n t u e h = record {
+pub tale-agrees : (k : Talk) (n : ℕ) (t u : Tale) → bytes_of u ≡ bytes_of t → (u.fin_sent ≡ true → k.out.ended ≡ true) → TaleAgrees k n t → TaleAgrees k n u
+tale-agrees k n t u e fin h = record {
   numbers = ap (λ (b : Bytes). b.numbers) e ∙ h.numbers;
   wrote = ap (λ (b : Bytes). b.wrote) e ∙ h.wrote;
   accepted_is = ap (λ (b : Bytes). b.accepted) e ∙ h.accepted_is;
   served = ap (λ (b : Bytes). b.served) e ∙ h.served;
   served_bytes = ap (λ (b : Bytes). b.served_bytes) e ∙ h.served_bytes;
   was_reset = ap (λ (b : Bytes). b.was_reset) e ∙ h.was_reset;
+  fin = fin;
 }
 
 -- ---- segments, and what is given up, tell nothing of them
@@ -57,6 +60,25 @@ gave-step c d (Node n) _ t h = absurd h
 gave-bytes : (c d : ℕ) (place : Place) (rs : List Rec) (t : Tale) → Each (GaveAt place d) rs → bytes_of (told_on c t rs) ≡ bytes_of t
 gave-bytes c d place [] t h = refl
 gave-bytes c d place (r ∷ rs) t h = gave-bytes c d place rs (tale_step c t r) h.1 ∙ gave-step c d place r t h.0
+
+-- and no FIN
+pub gave-fin : (c d : ℕ) (place : Place) (rs : List Rec) (t : Tale) → Each (GaveAt place d) rs → (told_on c t rs).fin_sent ≡ t.fin_sent
+gave-fin c d place [] t h = refl
+gave-fin c d place (r ∷ rs) t h = gave-fin c d place rs (tale_step c t r) h.1 ∙ one place r h.0 where
+  one : (p : Place) (q : Rec) → GaveAt p d q → (tale_step c t q).fin_sent ≡ t.fin_sent
+  one Front (rec.Gave y e epoch) k = refl
+  one (Node n) (rec.Gave y e epoch) k = refl
+  one (Client n) q k = absurd k
+  one Front _ k = absurd k
+  one (Node n) _ k = absurd k
+
+-- nor does what is seen before the notes
+pub heads-fin : (c : ℕ) (heads : List Seen) (t : Tale) → Each IsHead heads → (fold (seen_step (tale_step c)) t heads).fin_sent ≡ t.fin_sent
+heads-fin c [] t h = refl
+heads-fin c (Came l ∷ ss) t h = heads-fin c ss t h.1
+heads-fin c (Row (rec.Event i e) ∷ ss) t h = heads-fin c ss (tale_step c t (rec.Event i e)) h.1
+heads-fin c (Row (rec.Opened d isn iss wnd mss) ∷ ss) t h = heads-fin c ss (tale_step c t (rec.Opened d isn iss wnd mss)) h.1
+heads-fin c (Row _ ∷ ss) t h = absurd h.0
 
 -- so a move tells what its heads and its notes tell
 pub move-bytes : (x : Conn) (v : Move) → AreMessages x.c v.place v.said.messages → Each (GaveAt v.place x.c) v.said.gave → bytes_of (tale_at (grown x v)) ≡ bytes_of (told_on x.c (tale_before x v) v.said.notes)
@@ -184,13 +206,14 @@ plus-zero : (n m : ℕ) → n ≡ m + 0 → n ≡ m
 plus-zero n m e = omega (arith, e)
 
 -- of a place that serves
-pub served-tale : (k l : Talk) (n : ℕ) (t u : Tale) (c : ℕ) (notes : List Rec) → TaleAgrees k n t → l.w ≡ k.w → l.out.first ≡ k.out.first → take n l.out.bytes ≡ take n k.out.bytes
-    → Counts c k.out k.vs l.vs l.out.bytes notes → l.was_reset ≡ (k.was_reset || list_any resets notes) → Adds t [] [] (served_in notes) (size_in notes) (list_any resets notes) u → TaleAgrees l n u
-served-tale k l n t u c notes h w first same counts reset adds = record {
+pub served-tale : (k l : Talk) (n : ℕ) (t u : Tale) (notes : List Rec) → TaleAgrees k n t → l.w ≡ k.w → l.out.first ≡ k.out.first → take n l.out.bytes ≡ take n k.out.bytes
+    → (k.out.ended ≡ true → l.out.ended ≡ true) → length l.vs ≡ length k.vs + served_in notes → length l.out.bytes ≡ length k.out.bytes + size_in notes → l.was_reset ≡ (k.was_reset || list_any resets notes) → Adds t [] [] (served_in notes) (size_in notes) (list_any resets notes) u → TaleAgrees l n u
+served-tale k l n t u notes h w first same ended served size reset adds = record {
   numbers = adds.numbers ∙ h.numbers ∙ (λ i. Some (record { isn = (sym w i).first; iss = sym first i }));
   wrote = adds.wrote ∙ append-nil t.wrote ∙ h.wrote ∙ ap (λ (s : Stream). s.bytes) (sym w);
   accepted_is = adds.accepted ∙ append-nil t.accepted ∙ h.accepted_is ∙ sym same;
-  served = adds.served ∙ ap (λ m. m + served_in notes) h.served ∙ sym counts.served;
-  served_bytes = adds.served_bytes ∙ ap (λ m. m + size_in notes) h.served_bytes ∙ sym counts.size;
+  served = adds.served ∙ ap (λ m. m + served_in notes) h.served ∙ sym served;
+  served_bytes = adds.served_bytes ∙ ap (λ m. m + size_in notes) h.served_bytes ∙ sym size;
   was_reset = adds.was_reset ∙ ap (λ b. b || list_any resets notes) h.was_reset ∙ sym reset;
+  fin = λ e. ended (h.fin (sym adds.fin_sent ∙ e));
 }

@@ -1,18 +1,20 @@
 -- The turns of a stay keep the agreement: batches are read, requests start, come on, and are served in order.
 use Rattle.std.proofs.Common.{◌≡◌, ◌≤◌, ◌+◌, ◌-◌, ◌^◌, ◌==◌, ℕ, zero, suc, Bool, true, false, cond, nat_lt, List, [], ◌∷◌, ◌++◌, map, length, slice_get, Option, Some, None, refl, ap, ◌∙◌, sym, subst, append_assoc, append-nil}
+use Rattle.std.specs.List.{list_any}
 use Rattle.std.proofs.lemmas.Bool.{cond_both}
 use Rattle.std.proofs.lemmas.List.{map-append}
 use Rattle.lard_answers.specs.Answers.{good_path}
 use Rattle.lard_base.specs.declared.place.Via.TheVariants as via
-use Rattle.lard_cluster_bytes.specs.Agreement.{HasRead}
+use Rattle.lard_cluster_bytes.specs.Agreement.{AreOnTheWay, ComesOn, HasRead}
 use Rattle.lard_cluster_bytes.specs.Turning.{IsNoteOf}
 use Rattle.lard_cluster_bytes.proofs.Reading.{batch-read}
 use Rattle.lard_cluster_bytes.proofs.Serving.{MayGo, So, answered-serves, consumed-serves, ended-serves, go-on, left_of, may-go, noted-serves}
+use Rattle.lard_cluster_bytes.proofs.Ways.{StepsRight, turn-right}
 use Rattle.lard_endpoint.specs.Control.{consuming}
 use Rattle.lard_history.proofs.Each.{Each, Each-append}
 use Rattle.lard_journal.specs.declared.rec.Rec.{Rec}
 use Rattle.lard_journal.specs.declared.rec.Rec.TheVariants as rec
-use Rattle.lard_laws_bytes.specs.Keeping.{served_in, size_in}
+use Rattle.lard_laws_bytes.specs.Keeping.{resets, served_in, size_in}
 use Rattle.lard_node_rules.specs.declared.stay.Entry.{Entry}
 use Rattle.lard_node_rules.specs.declared.stay.Next.{Next}
 use Rattle.lard_node_rules.specs.declared.stay.Next.TheVariants as next
@@ -134,6 +136,12 @@ mute-served (rec.Hit n path ∷ rs) h = mute-served rs h.1
 mute-served (rec.Queued n m d r path ∷ rs) h = mute-served rs h.1
 mute-served (_ ∷ rs) h = absurd h.0
 
+mute-resets : (rs : List Rec) → Each IsMute rs → list_any resets rs ≡ false
+mute-resets [] h = refl
+mute-resets (rec.Hit n path ∷ rs) h = mute-resets rs h.1
+mute-resets (rec.Queued n m d r path ∷ rs) h = mute-resets rs h.1
+mute-resets (_ ∷ rs) h = absurd h.0
+
 mute-size : (rs : List Rec) → Each IsMute rs → size_in rs ≡ 0
 mute-size [] h = refl
 mute-size (rec.Hit n path ∷ rs) h = mute-size rs h.1
@@ -148,7 +156,7 @@ module _ (env : NodeEnv) (w out : Stream) (vs : List Verdict) where
   Works k = So env.serve w out vs k.service (verdicts_of k.batch)
 
   noted-so : (notes : List Rec) (s : Service) (pend : List Verdict) → Each IsMute notes → So env.serve w out vs s pend → So env.serve w out vs (noted notes s) pend
-  noted-so notes s pend mute h = noted-serves env.serve w out vs notes s pend (mute-each env.serve.c notes mute) (mute-served notes mute) (mute-size notes mute) h
+  noted-so notes s pend mute h = noted-serves env.serve w out vs notes s pend (mute-each env.serve.c notes mute) (mute-served notes mute) (mute-size notes mute) (mute-resets notes mute) h
 
   entered-so : (k u : Work) (us pend : List Verdict) → Enters k u us → So env.serve w out vs k.service pend → So env.serve w out vs u.service pend
   entered-so k u us pend e h = subst (λ (s : Service). So env.serve w out vs s pend) (sym e.service) (noted-so e.notes k.service pend e.mute h)
@@ -198,48 +206,53 @@ module _ (env : NodeEnv) (w out : Stream) (vs : List Verdict) where
   first-so here k h may none = state-so (reads_batch env here k) (these-so here k h may none (batch_of 8 k.service.block.recv.unread) refl)
 
   -- the first request of the batch is served
-  serves-so : env.serve.stream ≤ 2 ^ 30 → (k : Work) (e : Entry) (rest : List Entry) → k.batch ≡ e ∷ rest → may_read k.service ≡ true → Works k → (p : Progress) → Works (serves_by env e rest k p)
-  serves-so most k e rest is may h (progress.Ready way) =
+  serves-so : env.serve.stream ≤ 2 ^ 30 → (k : Work) (e : Entry) (rest : List Entry) → k.batch ≡ e ∷ rest → may_read k.service ≡ true → Works k → (p : Progress) → ComesOn env.serve.files e.verdict p
+      → Works (serves_by env e rest k p)
+  serves-so most k e rest is may h (progress.Ready way) on =
       let so : So env.serve w out vs k.service (e.verdict ∷ verdicts_of rest) = subst (λ (es : List Entry). So env.serve w out vs k.service (verdicts_of es)) is h in
       let s : Service = answered env.serve way e.verdict k.service in
       let given : So env.serve w out vs s (left_of env.serve w out vs s.over e.verdict (verdicts_of rest)) =
-      answered-serves env.serve w out vs most way e.verdict (verdicts_of rest) k.service so (may-go w so.vs_now (e.verdict ∷ verdicts_of rest) k.service may so.reading) in
+      answered-serves env.serve w out vs most way e.verdict (verdicts_of rest) k.service so (may-go w so.vs_now (e.verdict ∷ verdicts_of rest) k.service may so.reading) on in
       left-so s.over given where
         left-so : (o : Option ℕ) → So env.serve w out vs (answered env.serve way e.verdict k.service) (left_of env.serve w out vs o e.verdict (verdicts_of rest))
             → So env.serve w out vs (answered env.serve way e.verdict k.service) (verdicts_of (left_by o e rest))
         left-so None g = g
         left-so (Some total) g = g
-  serves-so most k e rest is may h progress.Named = h
-  serves-so most k e rest is may h progress.Reading = h
-  serves-so most k e rest is may h (progress.Awaited node) = h
+  serves-so most k e rest is may h progress.Named on = h
+  serves-so most k e rest is may h progress.Reading on = h
+  serves-so most k e rest is may h (progress.Awaited node) on = h
 
-  in-order : env.serve.stream ≤ 2 ^ 30 → (k : Work) → may_read k.service ≡ true → Works k → (es : List Entry) → k.batch ≡ es → Works (serves_first env k es)
-  in-order most k may h [] is = h
-  in-order most k may h (e ∷ rest) is = serves-so most k e rest is may h e.progress
+  -- and each request of the batch is answered as it may be
+  abbrev pub Right : Work → Type 0
+  Right k = AreOnTheWay env.serve.files k.batch
 
-  next-so : env.serve.stream ≤ 2 ^ 30 → (k : Work) → may_read k.service ≡ true → Works k → (es : List Entry) → k.batch ≡ es → (n : Next) → next_in es ≡ n → StepsSo (turned env k n)
-  next-so most k may h es is next.Serve e = in-order most k may h k.batch refl
-  next-so most k may h [] is next.Read e = batch-so false k is may h
-  next-so most k may h (x ∷ rest) is next.Read e = absurd (serves-none x.progress e) where
+  in-order : env.serve.stream ≤ 2 ^ 30 → (k : Work) → may_read k.service ≡ true → Works k → Right k → (es : List Entry) → k.batch ≡ es → Works (serves_first env k es)
+  in-order most k may h right [] is = h
+  in-order most k may h right (e ∷ rest) is = serves-so most k e rest is may h e.progress (subst (AreOnTheWay env.serve.files) is right).0
+
+  next-so : env.serve.stream ≤ 2 ^ 30 → (k : Work) → may_read k.service ≡ true → Works k → Right k → (es : List Entry) → k.batch ≡ es → (n : Next) → next_in es ≡ n → StepsSo (turned env k n)
+  next-so most k may h right es is next.Serve e = in-order most k may h right k.batch refl
+  next-so most k may h right [] is next.Read e = batch-so false k is may h
+  next-so most k may h right (x ∷ rest) is next.Read e = absurd (serves-none x.progress e) where
     serves-none : (p : Progress) → next_by p ≡ next.Read → ⊥
     serves-none (progress.Ready way) f = cc
     serves-none progress.Named f = cc
     serves-none progress.Reading f = cc
     serves-none (progress.Awaited node) f = cc
-  next-so most k may h es is next.Stop e = h
+  next-so most k may h right es is next.Stop e = h
 
-  turn-so : env.serve.stream ≤ 2 ^ 30 → (k : Work) → Works k → StepsSo (turn env k)
-  turn-so most k h = go (may_read k.service) refl where
+  turn-so : env.serve.stream ≤ 2 ^ 30 → (k : Work) → Works k → Right k → StepsSo (turn env k)
+  turn-so most k h right = go (may_read k.service) refl where
     go : (b : Bool) → may_read k.service ≡ b → StepsSo (turned env k (cond b (next_in k.batch) next.Stop))
-    go true may = next-so most k may h k.batch refl (next_in k.batch) refl
+    go true may = next-so most k may h right k.batch refl (next_in k.batch) refl
     go false may = h
 
   -- the stay goes on
-  pub goes-so : env.serve.stream ≤ 2 ^ 30 → (k : Work) → Works k → Works (goes_on env k)
-  goes-so most k h = runs_keep (turn env) left Works (record {
-    more = λ y z e p. subst StepsSo e (turn-so most y p);
-    done = λ y z e p. subst StepsSo e (turn-so most y p);
-  }) k h
+  pub goes-so : env.serve.stream ≤ 2 ^ 30 → (k : Work) → Works k → Right k → Works (goes_on env k)
+  goes-so most k h right = (runs_keep (turn env) left (λ (u : Work). Works u × Right u) (record {
+    more = λ y z e p. (subst StepsSo e (turn-so most y p.0 p.1), subst (StepsRight env) e (turn-right env y p.1));
+    done = λ y z e p. (subst StepsSo e (turn-so most y p.0 p.1), subst (StepsRight env) e (turn-right env y p.1));
+  }) k (h, right)).0
 
   -- the nodes of an Ask come
   pub tagged-so : (nodes : List ℕ) (k : Work) → Works k → Works (tagged env nodes k)

@@ -1,12 +1,13 @@
 -- What holds of one connection of the cluster between any two steps, as far as bytes go: what its client and the place that has its
 -- endpoint keep, what the journal says of it, and what every packet that was ever sent says, agree.
-use Rattle.std.specs.Prelude.{◌≡◌, ◌⊎◌, ℕ, ◌+◌, ◌-◌, ◌^◌, ◌<◌, ◌≤◌, Bool, true, false, List, [], ◌∷◌, ◌++◌, map, length, take, Option, Some, None, Ok}
-use Rattle.lard_answers.specs.Answers.{FilesAt, IsPrefix, closes_any, verdicts, verdicts_on}
+use Rattle.std.specs.Prelude.{◌≡◌, ◌≢◌, ◌⊎◌, ℕ, ◌+◌, ◌-◌, ◌^◌, ◌<◌, ◌≤◌, Bool, true, false, List, [], ◌∷◌, ◌++◌, map, length, take, Option, Some, None, Ok}
+use Rattle.lard_answers.specs.Answers.{FilesAt, IsPrefix, closes_any, good_path, verdicts, verdicts_on}
 use Rattle.lard_base.specs.declared.place.Place.{Place}
 use Rattle.lard_base.specs.declared.place.Place.TheVariants.{Client, Front, Node}
 use Rattle.lard_base.specs.declared.place.Reason.TheVariants as reason
 use Rattle.lard_base.specs.declared.place.TimerKind.TheVariants as kind
 use Rattle.lard_block.specs.Blocks.{blocks}
+use Rattle.lard_cluster_bytes.specs.Records.{IsWay}
 use Rattle.lard_cluster_places.specs.Places.{HasEnded, IsDecided, IsPast}
 use Rattle.lard_cluster_view.specs.Carry.{tale_at}
 use Rattle.lard_cluster_view.specs.View.{Conn, Part}
@@ -30,6 +31,9 @@ use Rattle.lard_message.specs.declared.message.Body.{Body}
 use Rattle.lard_message.specs.declared.message.Body.TheVariants as body
 use Rattle.lard_message.specs.declared.message.Message.{Message}
 use Rattle.lard_message.specs.Reading.{decoded_message}
+use Rattle.lard_node_rules.specs.declared.stay.Entry.{Entry}
+use Rattle.lard_node_rules.specs.declared.stay.Progress.{Progress}
+use Rattle.lard_node_rules.specs.declared.stay.Progress.TheVariants as progress
 use Rattle.lard_node_rules.specs.declared.stay.Stay.{Stay}
 use Rattle.lard_node_rules.specs.Node.{NodePart, ended_kept}
 use Rattle.lard_request.specs.declared.verdict.Verdict.{Verdict}
@@ -108,6 +112,21 @@ pub record IsOffering (w out : Stream) (vs pend : List Verdict) (c n e : ℕ) (k
 abbrev pub StayAgrees : Stream → Stream → List Verdict → List Verdict → ControlBlock → Option Stay → Type 0
 StayAgrees w out vs pend b None = ⊥
 StayAgrees w out vs pend b (Some s) = (pend ≡ map (λ e. e.verdict) s.batch) × HoldsIt w out vs pend b s.served
+
+-- A request that is ready is answered as it may be; one that awaits its content, or its node, is for a file.
+abbrev pub ComesOn : FilesAt → Verdict → Progress → Type 0
+ComesOn files v (progress.Ready way) = IsWay files v way
+ComesOn files v progress.Named = good_path files v ≢ None
+ComesOn files v progress.Reading = good_path files v ≢ None
+ComesOn files v (progress.Awaited node) = good_path files v ≢ None
+
+abbrev pub AreOnTheWay : FilesAt → List Entry → Type 0
+AreOnTheWay files es = Each (λ e. ComesOn files e.verdict e.progress) es
+
+-- so it is of each request of a batch
+abbrev pub StayComesOn : FilesAt → Option Stay → Type 0
+StayComesOn files None = Unit {0}
+StayComesOn files (Some s) = AreOnTheWay files s.batch
 
 -- it ended there, and the node tells so until that is acknowledged
 pub record IsEnding (w : Stream) (was_reset : Bool) (c e : ℕ) (kept : List Kept) : Type 0 where
@@ -189,6 +208,7 @@ pub record TaleAgrees (k : Talk) (accepted : ℕ) (t : Tale) : Type 0 where
   pub served : t.served ≡ length k.vs
   pub served_bytes : t.served_bytes ≡ length k.out.bytes
   pub was_reset : t.was_reset ≡ k.was_reset
+  pub fin : t.fin_sent ≡ true → k.out.ended ≡ true
 
 -- ---- one connection
 
@@ -198,6 +218,7 @@ pub record IsOpen (files : FilesAt) (x : Conn) (k : Talk) (pend : List Verdict) 
   pub begins : k.out.first ≡ s.iss
   pub says : SaysAnswers files k.w k.out k.vs
   pub seat : SeatAgrees k.w k.out k.vs pend k.was_reset x.c x.part x.part.front.row
+  pub ways : (n : ℕ) → StayComesOn files (x.part.nodes n).stay
   pub fair : Each (IsFair k x.c x.part) x.letters
   pub tale : TaleAgrees k s.client.accepted (tale_at x)
 
@@ -208,12 +229,14 @@ IsInner l = IsNode l.from × IsNode l.to
 -- Before that, the front end knows nothing of it, and nothing was written, accepted or answered.
 pub record IsUnopened (x : Conn) : Type 0 where
   pub front : x.part.front.row ≡ None
+  pub stays : (n : ℕ) → (x.part.nodes n).stay ≡ None
   pub inner : Each IsInner x.letters
   pub wrote : (tale_at x).wrote ≡ []
   pub accepted : (tale_at x).accepted ≡ []
   pub served : (tale_at x).served ≡ 0
   pub served_bytes : (tale_at x).served_bytes ≡ 0
   pub was_reset : (tale_at x).was_reset ≡ false
+  pub fin : (tale_at x).fin_sent ≡ false
 
 abbrev pub ConnAgrees : FilesAt → Conn → Talk → List Verdict → Option Station → Type 0
 ConnAgrees files x k pend None = IsUnopened x

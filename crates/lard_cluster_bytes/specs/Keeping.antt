@@ -8,7 +8,7 @@ use Rattle.lard_base.specs.declared.place.Place.{Place}
 use Rattle.lard_base.specs.declared.place.Place.TheVariants.{Front, Node}
 use Rattle.lard_base.specs.declared.place.Reason.{Reason}
 use Rattle.lard_cluster.specs.Bounds.{IsNumber}
-use Rattle.lard_cluster_bytes.specs.Agreement.{EndedIt, FrontHolds, FrontWaits, IsKept, IsOffering, NodeAgrees, SeatAgrees}
+use Rattle.lard_cluster_bytes.specs.Agreement.{EndedIt, FrontHolds, FrontWaits, IsKept, IsOffering, NodeAgrees, SeatAgrees, StayComesOn}
 use Rattle.lard_cluster_bytes.specs.Turning.{Counts}
 use Rattle.lard_cluster_places.specs.Places.{IsDecided}
 use Rattle.lard_cluster_view.specs.View.{Part}
@@ -49,7 +49,7 @@ NodeSays c p s = ((m : ℕ) × (s.0 ≡ Node m)) ⊎ ((e : ℕ) × (b : Body) ×
 
 -- A turn of a node that has a connection: the cluster's stream goes on by the answers to more verdicts, as its notes count, all that
 -- was sent to the client is true of it, and what the node keeps of the connection agrees with it again: it holds the endpoint, and
--- its batch is what was read and is not answered, or it tells the front end how it ended.
+-- its batch is what was read and is not answered, each request to be answered as it may be, or it tells the front end how it ended.
 pub record NodeTurned (files : FilesAt) (c e : ℕ) (before : NodePart) (w out : Stream) (vs : List Verdict) (was_reset : Bool) (given : NodePart × NodeTurn) : Type 0 where
   pub out_after : Stream
   pub vs_after : List Verdict
@@ -57,7 +57,8 @@ pub record NodeTurned (files : FilesAt) (c e : ℕ) (before : NodePart) (w out :
   pub longer : GoesOn out out_after
   pub says : SaysAnswers files w out_after vs_after
   pub agrees : NodeAgrees w out_after vs_after pend_after (was_reset || list_any resets given.1.notes) c given.0
-  pub noted : Counts c out vs vs_after out_after.bytes given.1.notes
+  pub noted : Counts files c w out vs vs_after out_after.bytes given.1.notes
+  pub ways : StayComesOn files given.0.stay
   pub sent : AreReplies c w out_after (was_reset || list_any resets given.1.notes) given.1.segments
   pub decided : IsDecided e given.0.row
   pub again : List (Place × List ℕ)
@@ -81,12 +82,12 @@ pub record IsTalk (env : NodeEnv) (w out : Stream) (vs : List Verdict) : Type 0 
 -- A rule keeps the agreement of a connection that the node has.
 abbrev pub NodeKeeps : (NodeEnv → NodePart → Deed) → Type 0
 NodeKeeps rule = (env : NodeEnv) (w out : Stream) (vs pend : List Verdict) (was_reset : Bool) (p : NodePart) → IsTalk env w out vs → NodeAgrees w out vs pend was_reset env.serve.c p
-    → DeedKeeps env.serve.files env.serve.c env.epoch p w out vs was_reset (rule env p)
+    → StayComesOn env.serve.files p.stay → DeedKeeps env.serve.files env.serve.c env.epoch p w out vs was_reset (rule env p)
 
 -- a true segment of the client is forwarded to it
 abbrev pub NodeHearsTruth : Type 0
 NodeHearsTruth = (env : NodeEnv) (w out : Stream) (vs pend : List Verdict) (was_reset : Bool) (p : NodePart) (s : Said) → IsTalk env w out vs → NodeAgrees w out vs pend was_reset env.serve.c p
-    → IsWord w s → DeedKeeps env.serve.files env.serve.c env.epoch p w out vs was_reset (node_forwarded env p (Ok s))
+    → StayComesOn env.serve.files p.stay → IsWord w s → DeedKeeps env.serve.files env.serve.c env.epoch p w out vs was_reset (node_forwarded env p (Ok s))
 
 -- a Tag, a content, a completed job of its disk
 abbrev pub TagsKeep : Type 0
@@ -141,7 +142,7 @@ pub record FrontTurned (files : FilesAt) (c : ℕ) (w out : Stream) (vs : List V
   pub longer : GoesOn out out_after
   pub says : SaysAnswers files w out_after vs_after
   pub agrees : FrontAgrees w out_after vs_after (was_reset || list_any resets turn.notes) c part
-  pub noted : Counts c out vs vs_after out_after.bytes turn.notes
+  pub noted : Counts files c w out vs vs_after out_after.bytes turn.notes
   pub sent : AreReplies c w out_after (was_reset || list_any resets turn.notes) turn.segments
   pub said : Each (FrontSays c part) turn.messages
 

@@ -5,7 +5,7 @@
 #![tactic(auto)]
 
 ghost use Rattle.lard_cluster_bytes.specs.Keeping.{AdmissionsKeep, ContentsKeep, EndsAreRead, EndsKeep, ForwardsAreRead, FrontHearsTruth, FrontTimerKeeps, NodeHearsTruth, NodeTimerKeeps, OffersAreRead, OffersKeep, ReadsKeep, SaidStays, SeatStays, TagsKeep};
-ghost use Rattle.lard_cluster_bytes.specs.Runs.{ClientsAcceptAnswers, StatesAreTruthful};
+ghost use Rattle.lard_cluster_bytes.specs.Runs.{ClientsAcceptAnswers, JournalsServeTheAnswers, JournalsTellTheTruth, StatesAreTruthful};
 
 /// A node that has a connection answers what its client wrote, in order, each request once, and says nothing else: after each
 /// rule all that it said is the answers to the requests that were read, in their order, and its batch is what was read and is not
@@ -45,10 +45,14 @@ pub fn messages_say_what_was_kept()
     ensures end { EndsAreRead }
 {}
 
-/// In every run of the cluster's machine, whatever is lost, repeated or comes out of order, and wherever connections move: what a
-/// client whose connection the schedule did not touch accepted is a prefix of the right responses to what it wrote, in every state
-/// that events lead to. Its client, the place that has it, the journal, and every packet that was ever sent agree.
+/// In every run of the cluster's machine, whatever is lost, repeated or comes out of order, and wherever connections move: its client,
+/// the place that has it, the journal, and every packet that was ever sent agree on each connection that the schedule did not touch.
+/// All that is sent to its client is true, each response answers the next request and is of the place that owns the connection, a
+/// reset stands where the next response would be, and what the client accepted is at every moment a prefix of the right responses to
+/// what it wrote.
 pub fn every_run_is_true()
     ensures states { StatesAreTruthful }
+    ensures tells { JournalsTellTheTruth }
+    ensures serves { JournalsServeTheAnswers }
     ensures prefix { ClientsAcceptAnswers }
 {}

@@ -61,7 +61,7 @@ module _ (files : FilesAt) where
   tells-somebody J (rec.Served place d r code size via) c e h = λ u. let same : d ≡ c = cc in (says J (rec.Served place d r code size via) c d same h u).0 u
   tells-somebody J _ c e h = tt
 
-  tells-nobody : (J : List Rec) (r : Rec) → whose r ≡ None → MayTell files J r
+  pub tells-nobody : (J : List Rec) (r : Rec) → whose r ≡ None → MayTell files J r
   tells-nobody J (rec.Sent k from to bytes) e = told-nobody J from to bytes e
   tells-nobody J (rec.Served place d r code size via) e = let no : Some d ≡ None = e in absurd cc
   tells-nobody J _ e = tt
@@ -80,7 +80,7 @@ module _ (files : FilesAt) where
   accepts-somebody J (rec.Accepted d bytes) c e h = λ u. let same : d ≡ c = cc in (says J (rec.Accepted d bytes) c d same h u).2 u
   accepts-somebody J _ c e h = tt
 
-  accepts-nobody : (J : List Rec) (r : Rec) → whose r ≡ None → MayAccept files J r
+  pub accepts-nobody : (J : List Rec) (r : Rec) → whose r ≡ None → MayAccept files J r
   accepts-nobody J (rec.Accepted d bytes) e = let no : Some d ≡ None = e in absurd cc
   accepts-nobody J _ e = tt
 

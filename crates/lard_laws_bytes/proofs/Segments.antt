@@ -63,7 +63,7 @@ and-right true b e = e
 and-right false b e = absurd (both_ways false refl e)
 
 -- the moment after a segment
-moment-on : (c : ℕ) (w out : Stream) (vs : List Verdict) (reset : Bool) (t : Tale) (s : Said) (bytes : List ℕ) → bytes ≡ spelled c ToClient s → IsReply w out reset s
+pub moment-on : (c : ℕ) (w out : Stream) (vs : List Verdict) (reset : Bool) (t : Tale) (s : Said) (bytes : List ℕ) → bytes ≡ spelled c ToClient s → IsReply w out reset s
     → Moment w out vs reset t → Moment w out vs reset (tale_step c t (rec.Sent 0 Front (Client c) bytes))
 moment-on c w out vs reset t s bytes is r m = record {
   numbers = m.numbers;
@@ -76,7 +76,7 @@ moment-on c w out vs reset t s bytes is r m = record {
 }
 
 -- a segment may be told at such a moment
-told-one : (files : FilesAt) (c : ℕ) (w out : Stream) (vs : List Verdict) (reset : Bool) (past : List Rec) (s : Said) (bytes : List ℕ) → SaysAnswers files w out vs
+pub told-one : (files : FilesAt) (c : ℕ) (w out : Stream) (vs : List Verdict) (reset : Bool) (past : List Rec) (s : Said) (bytes : List ℕ) → SaysAnswers files w out vs
     → Moment w out vs reset (tale past c) → bytes ≡ spelled c ToClient s → IsReply w out reset s → IsTold files past c bytes
 told-one files c w out vs reset past s bytes says m is r =
     let wr : wrote past c ≡ w.bytes = wrote-tale past c ∙ m.wrote in

@@ -26,13 +26,13 @@ at-place (y ∷ xs) x ys = at-place xs x ys
 
 -- the verdict v comes next on what was written
 module _ (files : FilesAt) (c : ℕ) (w said : List ℕ) (vs : List Verdict) (past : List Rec) (t : TellsOf w said vs (tale past c)) (v : Verdict) (next : IsPrefix (vs ++ v ∷ []) (verdicts w)) where
-  verdict-is : next_verdict past c ≡ Some v
+  pub verdict-is : next_verdict past c ≡ Some v
   verdict-is =
       ap (λ (q : List ℕ). slice_get (verdicts q) (served past c)) (wrote-tale past c ∙ t.wrote)
       ∙ ap (slice_get (verdicts w)) (served-tale past c ∙ t.served)
       ∙ ap (λ (us : List Verdict). slice_get us (length vs)) next.1 ∙ at-place vs v next.0
 
-  answer-is : next_answer files past c ≡ Some (answer files v)
+  pub answer-is : next_answer files past c ≡ Some (answer files v)
   answer-is =
       ap (λ (all : List (List ℕ)). slice_get all (served past c)) (answers-are files (wrote past c))
       ∙ slice_get-map (answer files) (verdicts (wrote past c)) (served past c) ∙ ap (option_map (answer files)) verdict-is

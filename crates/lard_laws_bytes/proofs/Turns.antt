@@ -139,7 +139,7 @@ module _ (files : FilesAt) (c : ℕ) (w out : Stream) (vs : List Verdict) (x : S
 -- ---- the front end's notes are true
 
 -- a response is queued only before the FIN
-not-ended : (J : List Rec) (c : ℕ) (t : Tale) (out : Stream) → tale J c ≡ t → out.ended ≡ false → (t.fin_sent ≡ true → out.ended ≡ true) → fin_sent J c ≡ false
+pub not-ended : (J : List Rec) (c : ℕ) (t : Tale) (out : Stream) → tale J c ≡ t → out.ended ≡ false → (t.fin_sent ≡ true → out.ended ≡ true) → fin_sent J c ≡ false
 not-ended J c t out e open_ fin = fin-tale J c ∙ ap (λ (u : Tale). u.fin_sent) e ∙ go t.fin_sent fin where
   go : (b : Bool) → (b ≡ true → out.ended ≡ true) → b ≡ false
   go true h = absurd (both_ways out.ended open_ (h refl))
