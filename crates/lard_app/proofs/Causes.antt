@@ -7,15 +7,15 @@ use Rattle.lard_base.specs.Config.{config_check, range_check}
 use Rattle.lard_base.specs.declared.config.ConfigFault.{ConfigFault}
 use Rattle.lard_base.specs.declared.config.Key.{Key}
 use Rattle.lard_base.specs.declared.event.Event.{Event}
+use Rattle.lard_cluster.specs.Machine.{machine_step}
+use Rattle.lard_cluster.specs.declared.fault.StepFault.{StepFault}
+use Rattle.lard_cluster.specs.declared.fault.StepFault.TheVariants as fault
+use Rattle.lard_cluster.specs.declared.machine.Machine.{Machine}
 use Rattle.lard_files.specs.Files.{add_check, file_at, total}
 use Rattle.lard_files.specs.declared.fault.FileFault.{FileFault}
 use Rattle.lard_files.specs.declared.fault.FileFault.TheVariants as file_fault
-use Rattle.lard_machine.specs.Machine.{machine_step}
-use Rattle.lard_machine.specs.declared.fault.StepFault.{StepFault}
-use Rattle.lard_machine.specs.declared.fault.StepFault.TheVariants as fault
 use Rattle.lard_machine.specs.declared.fault.What.{What}
 use Rattle.lard_machine.specs.declared.fault.What.TheVariants as what
-use Rattle.lard_machine.specs.declared.machine.Machine.{Machine}
 use Rattle.lard_schedule.specs.declared.item.Item.{Item}
 use Rattle.lard_schedule.specs.declared.item.Item.TheVariants as item
 use Rattle.lard_schedule.specs.Reader.{item_of}
@@ -86,6 +86,8 @@ module _ (n bytes : ℕ) (s : Progress) (k : Knows n bytes s) (line : List ℕ) 
     fault-ends e (fault.WasLost j) t l h is = refused_here (why.WasLost j) (e, t, l, h) is
     fault-ends e (fault.NoClient c) t l h is = refused_here (why.NoClient c) (e, t, l, h) is
     fault-ends e (fault.Used c) t l h is = refused_here (why.Used c) (e, t, l, h) is
+    fault-ends e (fault.NoNode i nodes) t l h is = refused_here (why.NoNode i nodes) (e, t, l, h) is
+    fault-ends e (fault.NoJob i j len) t l h is = refused_here (why.NoJob i j len) (e, t, l, h) is
     fault-ends e (fault.Limit w) t l h is = limited_here w e t (inr (l, h.0, h.1)) is
     fault-ends e fault.NoMemory t l h is = absurd h
 
@@ -185,6 +187,8 @@ module _ (n bytes : ℕ) (s : Progress) (k : Knows n bytes s) (line : List ℕ) 
     refused (why.WasLost j) u = tried_by u.0 (fault.WasLost j) u.1 (fault-step s.machine told u.0 (fault.WasLost j) u.2 u.3)
     refused (why.NoClient c) u = tried_by u.0 (fault.NoClient c) u.1 (fault-step s.machine told u.0 (fault.NoClient c) u.2 u.3)
     refused (why.Used c) u = tried_by u.0 (fault.Used c) u.1 (fault-step s.machine told u.0 (fault.Used c) u.2 u.3)
+    refused (why.NoNode i nodes) u = tried_by u.0 (fault.NoNode i nodes) u.1 (fault-step s.machine told u.0 (fault.NoNode i nodes) u.2 u.3)
+    refused (why.NoJob i j len) u = tried_by u.0 (fault.NoJob i j len) u.1 (fault-step s.machine told u.0 (fault.NoJob i j len) u.2 u.3)
 
     reached : (w : What) (e : Event) → Tries s line e → Reaches s.machine e w → passed s line ≡ Err (Limit (s.lines + 1) w)
     reached w e t (inl l) = tried_by e (fault.Limit w) t (limit-step s.machine told e w l)

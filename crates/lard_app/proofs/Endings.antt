@@ -10,7 +10,7 @@ use Rattle.lard_schedule.specs.declared.reader.Stage.TheVariants as stage
 use Rattle.lard_schedule.proofs.Cuts.{first_part}
 use Rattle.lard_app.specs.declared.status.Status.{Status}
 use Rattle.lard_app.specs.declared.status.Status.TheVariants.{Done, Usage, Refused, ReadFault, WriteFault, NoMemory, Limit}
-use Rattle.lard_app.specs.declared.status.Why.TheVariants.{Syntax, Config, File, NotSent, WasLost, NoClient, Used, FormNotBuilt}
+use Rattle.lard_app.specs.declared.status.Why.TheVariants.{Syntax, Config, File, NotSent, WasLost, NoClient, Used, NoNode, NoJob, FormNotBuilt}
 use Rattle.lard_app.specs.Causes.{Ends, EndsRest, EndsText, Leads, bytes_in}
 use Rattle.lard_app.specs.Replay.{Progress, begin, ended_at, ending, passed, replayed, whole}
 use Rattle.lard_app.proofs.Causes.{ends-line, line-ends, next_number}
@@ -77,6 +77,8 @@ module _ (n bytes : ℕ) (s : Progress) (k : Knows n bytes s) where
   ends-text last (Refused line (WasLost j)) u = absurd u
   ends-text last (Refused line (NoClient c)) u = absurd u
   ends-text last (Refused line (Used c)) u = absurd u
+  ends-text last (Refused line (NoNode i nodes)) u = absurd u
+  ends-text last (Refused line (NoJob i j len)) u = absurd u
   ends-text last (Refused line (FormNotBuilt f)) u = absurd u
   ends-text last Usage u = absurd u
   ends-text last ReadFault u = absurd u

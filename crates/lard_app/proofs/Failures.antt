@@ -1,5 +1,5 @@
 -- A step is not done exactly where a limit was reached, or the event is not one that may come now.
-use Rattle.std.proofs.Common.{◌≡◌, ◌⊎◌, ℕ, zero, suc, ◌-◌, ◌≤◌, ◌<◌, List, [], ◌∷◌, length, Bool, true, false, cond, Option, Some, None, IsSome, Result, Ok, Err, refl, sym, ap, ◌∙◌, subst, inl, inr, ⊎_elim, arith, nat_eq}
+use Rattle.std.proofs.Common.{◌≡◌, ◌⊎◌, ℕ, zero, suc, ◌-◌, ◌≤◌, ◌<◌, List, [], ◌∷◌, length, Bool, true, false, cond, Option, Some, None, IsSome, Result, Ok, Err, refl, sym, ap, ◌∙◌, subst, inl, inr, ⊎_elim, arith, nat_eq, ◌==◌, ◌||◌}
 use Rattle.std.proofs.lemmas.Bool.Decides.{nat_tests}
 use Rattle.std.proofs.lemmas.Option.{slice_get_past, slice_get_within}
 use Rattle.std.specs.Prelude.{nat_lt, slice_get}
@@ -7,20 +7,27 @@ use Rattle.std.specs.FinMap as table
 use Rattle.lard_base.specs.declared.event.Event.{Event}
 use Rattle.lard_base.specs.declared.event.Event.TheVariants as event
 use Rattle.lard_base.specs.declared.place.Place.{Place}
-use Rattle.lard_client.specs.Control.{written_len}
+use Rattle.lard_base.specs.declared.place.Place.TheVariants.{Front, Node, Client}
+use Rattle.lard_client.specs.Control.{ClientBlock, written_len}
+use Rattle.lard_cluster.specs.Machine.{client_does, client_goes_on, completes, delivered, disk_at, happens, is_no_job, is_no_node, limit_reached, lost, machine_step, node_acts, node_at, node_gave, node_setting, opened, passed, timer, to_place, unless_limit, wrote}
+use Rattle.lard_cluster.specs.declared.fault.StepFault.{StepFault}
+use Rattle.lard_cluster.specs.declared.fault.StepFault.TheVariants as fault
+use Rattle.lard_cluster.specs.declared.machine.Machine.{Machine}
 use Rattle.lard_history.specs.Journal.{answered_bytes, numbers_of, packet_bytes, request}
+use Rattle.lard_journal.specs.declared.rec.Rec.{Rec}
 use Rattle.lard_journal.specs.declared.rec.Rec.TheVariants as rec
-use Rattle.lard_rules.specs.Client.{client_writes}
-use Rattle.lard_machine.specs.Machine.{aborts, client_goes_on, delivered, happens, holds, injects, limit_of, limit_reached, lost, machine_step, opened, passed, shut, takes, timer, to_place, unless_limit, wrote}
-use Rattle.lard_machine.specs.declared.fault.StepFault.{StepFault}
-use Rattle.lard_machine.specs.declared.fault.StepFault.TheVariants as fault
+use Rattle.lard_rules.specs.Client.{client_aborts, client_holds, client_injects, client_shuts, client_takes, client_writes}
 use Rattle.lard_machine.specs.declared.fault.What.{What}
 use Rattle.lard_machine.specs.declared.fault.What.TheVariants.{Stream}
-use Rattle.lard_machine.specs.declared.machine.Machine.{Machine}
+use Rattle.lard_machine.specs.Machine.{limit_of}
+use Rattle.lard_node_rules.specs.declared.node.BackIn.TheVariants as back
+use Rattle.lard_node_rules.specs.declared.node.NodeState.{NodeState}
+use Rattle.lard_node_rules.specs.NodePlace.{node_step}
 use Rattle.lard_rules.specs.declared.places.Station.{Station}
+use Rattle.lard_rules.specs.declared.places.Turn.{Turn}
 use Rattle.lard_net.specs.Net.{Packet, bytes_in, lose_at, packet_at}
 use Rattle.lard_app.specs.declared.status.Why.TheVariants as why
-use Rattle.lard_app.specs.Causes.{HasReached, IsOfClient, IsOfPacket, IsUntimely, IsWithinLimits, Opens, WritesTooMuch}
+use Rattle.lard_app.specs.Causes.{HasReached, IsOfClient, IsOfDisk, IsOfNode, IsOfPacket, IsUntimely, IsWithinLimits, Opens, WritesTooMuch}
 use Rattle.lard_app.proofs.Numbers.{found_limit, limit-reached, none-reached, reached-limit, within-none}
 use Rattle.lard_app.proofs.Reached.{Told}
 
@@ -56,14 +63,35 @@ some_there net k first last = go (packet_at net k) refl where
   go (Some p) e = (p, refl)
   go None e = absurd (⊎_elim (λ z. omega (arith, z, first)) (λ l. omega (arith, l, last)) (not_there net k e))
 
+-- a number that is none of 1 to n
+beyond : (n k : ℕ) → (k == 0 || nat_lt n k) ≡ true → (k ≡ 0) ⊎ (n < k)
+beyond n zero e = inl refl
+beyond n (suc i) e = inr (grind (arith, nat_tests, e))
+
+not_beyond : (n k : ℕ) → (k ≡ 0) ⊎ (n < k) → (k == 0 || nat_lt n k) ≡ true
+not_beyond n zero h = refl
+not_beyond n (suc i) (inl z) = cc
+not_beyond n (suc i) (inr l) = grind (arith, nat_tests, l)
+
+-- one of them
+is_there_node : (n k : ℕ) → (k == 0 || nat_lt n k) ≡ false → (1 ≤ k) × (k ≤ n)
+is_there_node n zero e = cc
+is_there_node n (suc i) e = (omega arith, grind (arith, nat_tests, e))
+
+not_past : (n k : ℕ) → 1 ≤ k → k ≤ n → (k == 0 || nat_lt n k) ≡ false
+not_past n zero first last = absurd (omega (arith, first))
+not_past n (suc i) first last = grind (arith, nat_tests, last)
+
 -- ---- faults, in words of the journal
 
 -- no limit was reached, and the step is not done
 abbrev pub IsFault : Machine → Event → StepFault → Type 0
-IsFault m e (fault.NotSent k sent) = IsUntimely m.journal e (why.NotSent k sent)
-IsFault m e (fault.WasLost k) = IsUntimely m.journal e (why.WasLost k)
-IsFault m e (fault.NoClient c) = IsUntimely m.journal e (why.NoClient c)
-IsFault m e (fault.Used c) = IsUntimely m.journal e (why.Used c)
+IsFault m e (fault.NotSent k sent) = IsUntimely m e (why.NotSent k sent)
+IsFault m e (fault.WasLost k) = IsUntimely m e (why.WasLost k)
+IsFault m e (fault.NoClient c) = IsUntimely m e (why.NoClient c)
+IsFault m e (fault.Used c) = IsUntimely m e (why.Used c)
+IsFault m e (fault.NoNode n nodes) = IsUntimely m e (why.NoNode n nodes)
+IsFault m e (fault.NoJob n j len) = IsUntimely m e (why.NoJob n j len)
 IsFault m e (fault.Limit w) = (w ≡ Stream) × WritesTooMuch m e
 IsFault m e fault.NoMemory = ⊥
 
@@ -75,6 +103,15 @@ passes_limit a b e = grind (arith, nat_tests, e)
 
 past_limit : (a b : ℕ) → a < b → nat_lt a b ≡ true
 past_limit a b l = grind (arith, nat_tests, l)
+
+-- a node that is one of those that are to be there is there
+no_such_node : (m : Machine) (t : Told m) (n : ℕ) → is_no_node m.config.nodes n ≡ false → ¬ (node_at m.nodes n ≡ None)
+no_such_node m t zero e none = cc
+no_such_node m t (suc i) e none = let past = all_past m.nodes i none in let same = t.nodes in grind (arith, nat_tests, e, past, same) where
+  all_past : (xs : List NodeState) (i : ℕ) → slice_get xs i ≡ None → length xs ≤ i
+  all_past [] i f = omega arith
+  all_past (x ∷ xs) zero f = cc
+  all_past (x ∷ xs) (suc i) f = omega (arith, all_past xs i f)
 
 module _ (m : Machine) (t : Told m) where
   -- ---- what a fault means
@@ -107,35 +144,41 @@ module _ (m : Machine) (t : Told m) where
     go true l h = fault_is e (fault.Limit Stream) f (refl, much x at (passes_limit m.config.stream (written_len x.client bytes) l)) h
     go false l h = cc
 
-  shut-fault : (c : ℕ) (f : StepFault) (o : Option Station) → table.get m.clients c ≡ o → shut m c o ≡ Err f → IsFault m (event.Shut c) f
-  unfolding shut
-  shut-fault c f None at is = no_client (event.Shut c) c f refl at is
-  shut-fault c f (Some x) at is = cc
+  does-fault : (e : Event) (own : List Rec) (c : ℕ) (rule : ClientBlock → ClientBlock × Turn) (f : StepFault) (o : Option Station) → IsOfClient e c → table.get m.clients c ≡ o → client_does m e own c rule o ≡ Err f → IsFault m e f
+  unfolding client_does
+  does-fault e own c rule f None of at is = no_client e c f of at is
+  does-fault e own c rule f (Some x) of at is = cc
 
-  aborts-fault : (c : ℕ) (f : StepFault) (o : Option Station) → table.get m.clients c ≡ o → aborts m c o ≡ Err f → IsFault m (event.Abort c) f
-  unfolding aborts
-  aborts-fault c f None at is = no_client (event.Abort c) c f refl at is
-  aborts-fault c f (Some x) at is = cc
-
-  holds-fault : (c : ℕ) (f : StepFault) (o : Option Station) → table.get m.clients c ≡ o → holds m c o ≡ Err f → IsFault m (event.Hold c) f
-  unfolding holds
-  holds-fault c f None at is = no_client (event.Hold c) c f refl at is
-  holds-fault c f (Some x) at is = cc
-
-  takes-fault : (c : ℕ) (f : StepFault) (o : Option Station) → table.get m.clients c ≡ o → takes m c o ≡ Err f → IsFault m (event.Take c) f
-  unfolding takes
-  takes-fault c f None at is = no_client (event.Take c) c f refl at is
-  takes-fault c f (Some x) at is = cc
-
-  injects-fault : (c : ℕ) (bytes : List ℕ) (f : StepFault) (o : Option Station) → table.get m.clients c ≡ o → injects m c bytes o ≡ Err f → IsFault m (event.Inject c bytes) f
-  unfolding injects
-  injects-fault c bytes f None at is = no_client (event.Inject c bytes) c f refl at is
-  injects-fault c bytes f (Some x) at is = cc
+  -- of a node that is not there
+  no_node : (e : Event) (n : ℕ) (f : StepFault) → IsOfNode m.journal e n → is_no_node m.config.nodes n ≡ true → ◌≡◌ {A = Result Machine StepFault} (Err (fault.NoNode n m.config.nodes)) (Err f) → IsFault m e f
+  no_node e n f of none is = fault_is e (fault.NoNode n m.config.nodes) f (of, refl, beyond m.config.nodes n none) is
 
   timer-fault : (p : Place) (c : ℕ) (f : StepFault) (o : Option Station) → table.get m.clients c ≡ o → timer m p c o ≡ Err f → IsFault m (event.Timer p c) f
   unfolding timer
   timer-fault p c f None at is = no_client (event.Timer p c) c f refl at is
-  timer-fault p c f (Some x) at is = cc
+  timer-fault Front c f (Some x) at is = cc
+  timer-fault (Client d) c f (Some x) at is = cc
+  timer-fault (Node n) c f (Some x) at is = go (is_no_node m.config.nodes n) refl is where
+    go : (b : Bool) → is_no_node m.config.nodes n ≡ b
+        → cond {A = Result Machine StepFault} b (Err (fault.NoNode n m.config.nodes)) (Ok (node_acts m (event.Timer (Node n) c) [] n (back.Timer c) (node_at m.nodes n))) ≡ Err f → IsFault m (event.Timer (Node n) c) f
+    go true none h = no_node (event.Timer (Node n) c) n f (refl, t.opened c x at) none h
+    go false none h = cc
+
+  -- of a job that is not there
+  disk-fault : (n j : ℕ) (f : StepFault) (o : Option NodeState) → is_no_node m.config.nodes n ≡ false → node_at m.nodes n ≡ o → disk_at m n j o ≡ Err f → IsFault m (event.Disk n j) f
+  disk-fault n j f None there at is = absurd (no_such_node m t n there at)
+  disk-fault n j f (Some s) there at is = go (is_no_job s j) refl is where
+    go : (b : Bool) → is_no_job s j ≡ b
+        → cond {A = Result Machine StepFault} b (Err (fault.NoJob n j (length s.disk))) (Ok (node_gave m (event.Disk n j) [] n (node_step (node_setting m n) s (back.Disk j)))) ≡ Err f → IsFault m (event.Disk n j) f
+    go true none h = fault_is (event.Disk n j) (fault.NoJob n j (length s.disk)) f ((refl, refl, (is_there_node m.config.nodes n there).0, (is_there_node m.config.nodes n there).1, sym (t.jobs n s at)), beyond (length s.disk) j none) h
+    go false none h = cc
+
+  completes-fault : (n j : ℕ) (f : StepFault) → completes m n j ≡ Err f → IsFault m (event.Disk n j) f
+  unfolding completes
+  completes-fault n j f is = go (is_no_node m.config.nodes n) refl is where
+    go : (b : Bool) → is_no_node m.config.nodes n ≡ b → cond {A = Result Machine StepFault} b (Err (fault.NoNode n m.config.nodes)) (disk_at m n j (node_at m.nodes n)) ≡ Err f → IsFault m (event.Disk n j) f
+    go true none h = no_node (event.Disk n j) n f refl none h
+    go false there h = disk-fault n j f (node_at m.nodes n) there refl h
 
   delivered-fault : (k : ℕ) (f : StepFault) (o : Option Packet) → packet_at m.net k ≡ o → delivered m k o ≡ Err f → IsFault m (event.Deliver k) f
   unfolding delivered
@@ -157,17 +200,17 @@ module _ (m : Machine) (t : Told m) where
   happens-fault (event.Open c isn iss wnd mss) f is = opened-fault c isn iss wnd mss f (table.get m.clients c) refl is
   happens-fault (event.Get c path) f is = wrote-fault (event.Get c path) c (request path) f (table.get m.clients c) refl (λ x at much. (x, at, much)) refl is
   happens-fault (event.Write c bytes) f is = wrote-fault (event.Write c bytes) c bytes f (table.get m.clients c) refl (λ x at much. (x, at, much)) refl is
-  happens-fault (event.Shut c) f is = shut-fault c f (table.get m.clients c) refl is
-  happens-fault (event.Abort c) f is = aborts-fault c f (table.get m.clients c) refl is
-  happens-fault (event.Hold c) f is = holds-fault c f (table.get m.clients c) refl is
-  happens-fault (event.Take c) f is = takes-fault c f (table.get m.clients c) refl is
+  happens-fault (event.Shut c) f is = does-fault (event.Shut c) [] c client_shuts f (table.get m.clients c) refl refl is
+  happens-fault (event.Abort c) f is = does-fault (event.Abort c) [] c client_aborts f (table.get m.clients c) refl refl is
+  happens-fault (event.Hold c) f is = does-fault (event.Hold c) [] c client_holds f (table.get m.clients c) refl refl is
+  happens-fault (event.Take c) f is = does-fault (event.Take c) [] c client_takes f (table.get m.clients c) refl refl is
   happens-fault (event.Deliver k) f is = delivered-fault k f (packet_at m.net k) refl is
   happens-fault (event.Lose k) f is = lost-fault k f (packet_at m.net k) refl is
   happens-fault (event.Timer p c) f is = timer-fault p c f (table.get m.clients c) refl is
-  happens-fault (event.Disk n j) f is = cc
+  happens-fault (event.Disk n j) f is = completes-fault n j f is
   happens-fault (event.Clock ms) f is = cc
   happens-fault (event.Settle rounds) f is = cc
-  happens-fault (event.Inject c bytes) f is = injects-fault c bytes f (table.get m.clients c) refl is
+  happens-fault (event.Inject c bytes) f is = does-fault (event.Inject c bytes) (rec.Injected c ∷ []) c (λ x. client_injects x bytes) f (table.get m.clients c) refl refl is
 
   -- ---- and back
 
@@ -186,14 +229,14 @@ module _ (m : Machine) (t : Told m) where
   fault-lost _ k p same at gone = absurd same
 
   fault-client : (e : Event) (c : ℕ) → IsOfClient e c → table.get m.clients c ≡ None → happens m e ≡ Err (fault.NoClient c)
-  unfolding wrote shut aborts holds takes timer injects
+  unfolding wrote client_does timer
   fault-client (event.Get d path) c same none = subst (λ i. happens m (event.Get i path) ≡ Err (fault.NoClient c)) (sym same) (ap (wrote m (event.Get c path) c (request path)) none)
   fault-client (event.Write d bytes) c same none = subst (λ i. happens m (event.Write i bytes) ≡ Err (fault.NoClient c)) (sym same) (ap (wrote m (event.Write c bytes) c bytes) none)
-  fault-client (event.Shut d) c same none = subst (λ i. happens m (event.Shut i) ≡ Err (fault.NoClient c)) (sym same) (ap (shut m c) none)
-  fault-client (event.Abort d) c same none = subst (λ i. happens m (event.Abort i) ≡ Err (fault.NoClient c)) (sym same) (ap (aborts m c) none)
-  fault-client (event.Hold d) c same none = subst (λ i. happens m (event.Hold i) ≡ Err (fault.NoClient c)) (sym same) (ap (holds m c) none)
-  fault-client (event.Inject d bytes) c same none = subst (λ i. happens m (event.Inject i bytes) ≡ Err (fault.NoClient c)) (sym same) (ap (injects m c bytes) none)
-  fault-client (event.Take d) c same none = subst (λ i. happens m (event.Take i) ≡ Err (fault.NoClient c)) (sym same) (ap (takes m c) none)
+  fault-client (event.Shut d) c same none = subst (λ i. happens m (event.Shut i) ≡ Err (fault.NoClient c)) (sym same) (ap (client_does m (event.Shut c) [] c client_shuts) none)
+  fault-client (event.Abort d) c same none = subst (λ i. happens m (event.Abort i) ≡ Err (fault.NoClient c)) (sym same) (ap (client_does m (event.Abort c) [] c client_aborts) none)
+  fault-client (event.Hold d) c same none = subst (λ i. happens m (event.Hold i) ≡ Err (fault.NoClient c)) (sym same) (ap (client_does m (event.Hold c) [] c client_holds) none)
+  fault-client (event.Inject d bytes) c same none = subst (λ i. happens m (event.Inject i bytes) ≡ Err (fault.NoClient c)) (sym same) (ap (client_does m (event.Inject c bytes) (rec.Injected c ∷ []) c (λ x. client_injects x bytes)) none)
+  fault-client (event.Take d) c same none = subst (λ i. happens m (event.Take i) ≡ Err (fault.NoClient c)) (sym same) (ap (client_does m (event.Take c) [] c client_takes) none)
   fault-client (event.Timer p d) c same none = subst (λ i. happens m (event.Timer p i) ≡ Err (fault.NoClient c)) (sym same) (ap (timer m p c) none)
   fault-client _ c same none = absurd same
 
@@ -201,17 +244,6 @@ module _ (m : Machine) (t : Told m) where
   unfolding opened
   fault-used (event.Open d isn iss wnd mss) c x same at = subst (λ i. happens m (event.Open i isn iss wnd mss) ≡ Err (fault.Used c)) (sym same) (ap (opened m c isn iss wnd mss) at)
   fault-used _ c x same at = absurd same
-
-  wrote-much : (e : Event) (c : ℕ) (bytes : List ℕ) (x : Station) → table.get m.clients c ≡ Some x → m.config.stream < written_len x.client bytes → wrote m e c bytes (table.get m.clients c) ≡ Err (fault.Limit Stream)
-  unfolding wrote
-  wrote-much e c bytes x at much =
-      ap (wrote m e c bytes) at
-      ∙ ap (λ b. cond {A = Result Machine StepFault} b (Err (fault.Limit Stream)) (Ok (client_goes_on m e [] c x (client_writes x.client bytes)))) (past_limit m.config.stream (written_len x.client bytes) much)
-
-  fault-stream : (e : Event) → WritesTooMuch m e → happens m e ≡ Err (fault.Limit Stream)
-  fault-stream (event.Get c path) h = wrote-much (event.Get c path) c (request path) h.0 h.1 h.2
-  fault-stream (event.Write c bytes) h = wrote-much (event.Write c bytes) c bytes h.0 h.1 h.2
-  fault-stream _ h = absurd h
 
   -- a client that the journal tells of
   client_there : (c : ℕ) → IsSome (numbers_of m.journal c) → (x : Station) × (table.get m.clients c ≡ Some x)
@@ -226,6 +258,55 @@ module _ (m : Machine) (t : Told m) where
     go None e = refl
     go (Some x) e = absurd (let both = subst (λ n. IsSome n) none (t.opened c x e) in cc)
 
+  fault-node : (e : Event) (n : ℕ) → IsOfNode m.journal e n → is_no_node m.config.nodes n ≡ true → happens m e ≡ Err (fault.NoNode n m.config.nodes)
+  unfolding timer completes
+  fault-node (event.Timer (Node k) c) n of none =
+      let x = client_there c of.1 in
+      subst (λ i. happens m (event.Timer (Node i) c) ≡ Err (fault.NoNode n m.config.nodes)) (sym of.0) (ap (timer m (Node n) c) x.1
+      ∙ ap (λ b. cond {A = Result Machine StepFault} b (Err (fault.NoNode n m.config.nodes)) (Ok (node_acts m (event.Timer (Node n) c) [] n (back.Timer c) (node_at m.nodes n)))) none)
+  fault-node (event.Disk k j) n of none = subst (λ i. happens m (event.Disk i j) ≡ Err (fault.NoNode n m.config.nodes)) (sym of)
+      (ap (λ b. cond {A = Result Machine StepFault} b (Err (fault.NoNode n m.config.nodes)) (disk_at m n j (node_at m.nodes n))) none)
+  fault-node (event.Timer Front c) n of none = absurd of.0
+  fault-node (event.Timer (Client d) c) n of none = absurd of.0
+  fault-node _ n of none = absurd of
+
+  -- a node whose number may be there is there
+  some_node : (n : ℕ) → is_no_node m.config.nodes n ≡ false → (s : NodeState) × (node_at m.nodes n ≡ Some s)
+  some_node n there = go (node_at m.nodes n) refl where
+    go : (o : Option NodeState) → node_at m.nodes n ≡ o → (s : NodeState) × (o ≡ Some s)
+    go (Some s) at = (s, refl)
+    go None at = absurd (no_such_node m t n there at)
+
+  fault-job : (e : Event) (n j len : ℕ) → IsOfDisk m.config.nodes m.journal e n j len → (j ≡ 0) ⊎ (len < j) → happens m e ≡ Err (fault.NoJob n j len)
+  unfolding completes
+  fault-job (event.Disk k i) n j len of beyond_ =
+      let there : is_no_node m.config.nodes n ≡ false = not_past m.config.nodes n of.2 of.3 in
+      let found = some_node n there in
+      let s : NodeState = found.0 in
+      let same : len ≡ length s.disk = of.4 ∙ t.jobs n s found.1 in
+      subst (λ d. happens m (event.Disk d i) ≡ Err (fault.NoJob n j len)) (sym of.0) (subst (λ d. happens m (event.Disk n d) ≡ Err (fault.NoJob n j len)) (sym of.1)
+      (ap (λ b. cond {A = Result Machine StepFault} b (Err (fault.NoNode n m.config.nodes)) (disk_at m n j (node_at m.nodes n))) there
+      ∙ ap (disk_at m n j) found.1
+      ∙ ap (λ b. cond {A = Result Machine StepFault} b (Err (fault.NoJob n j (length s.disk))) (Ok (node_gave m (event.Disk n j) [] n (node_step (node_setting m n) s (back.Disk j)))))
+      (not_beyond (length s.disk) j (subst (λ l. (j ≡ 0) ⊎ (l < j)) same beyond_))
+      ∙ ap (λ l. Err (fault.NoJob n j l)) (sym same)))
+  fault-job _ n j len of beyond_ = absurd of
+
+  wrote-much : (e : Event) (c : ℕ) (bytes : List ℕ) (x : Station) → table.get m.clients c ≡ Some x → m.config.stream < written_len x.client bytes → wrote m e c bytes (table.get m.clients c) ≡ Err (fault.Limit Stream)
+  unfolding wrote
+  wrote-much e c bytes x at much =
+      ap (wrote m e c bytes) at
+      ∙ ap (λ b. cond {A = Result Machine StepFault} b (Err (fault.Limit Stream)) (Ok (client_goes_on m e [] c x (client_writes x.client bytes)))) (past_limit m.config.stream (written_len x.client bytes) much)
+
+  fault-stream : (e : Event) → WritesTooMuch m e → happens m e ≡ Err (fault.Limit Stream)
+  fault-stream (event.Get c path) h = wrote-much (event.Get c path) c (request path) h.0 h.1 h.2
+  fault-stream (event.Write c bytes) h = wrote-much (event.Write c bytes) c bytes h.0 h.1 h.2
+  fault-stream _ h = absurd h
+
+  ap_node : (e : Event) (n nodes : ℕ) → IsUntimely m e (why.NoNode n nodes) → happens m e ≡ Err (fault.NoNode n nodes)
+  ap_node e n nodes h =
+      fault-node e n h.0 (not_beyond m.config.nodes n (subst (λ k. (n ≡ 0) ⊎ (k < n)) h.1 h.2)) ∙ ap (λ k. Err (fault.NoNode n k)) (sym h.1)
+
   fault-happens : (e : Event) (f : StepFault) → IsFault m e f → happens m e ≡ Err f
   fault-happens e (fault.NotSent k n) h =
       let there : n ≡ length m.net = h.1 ∙ t.sent in
@@ -235,6 +316,8 @@ module _ (m : Machine) (t : Told m) where
       fault-lost e k p.0 h.0 p.1 (sym (t.lost k p.0 p.1) ∙ h.3)
   fault-happens e (fault.NoClient c) h = fault-client e c h.0 (client_none c h.1)
   fault-happens e (fault.Used c) h = let x = client_there c h.1 in fault-used e c x.0 h.0 x.1
+  fault-happens e (fault.NoNode n nodes) h = ap_node e n nodes h
+  fault-happens e (fault.NoJob n j len) h = fault-job e n j len h.0 h.1
   fault-happens e (fault.Limit w) h = subst (λ v. happens m e ≡ Err (fault.Limit v)) (sym h.0) (fault-stream e h.1)
   fault-happens e fault.NoMemory h = absurd h
 

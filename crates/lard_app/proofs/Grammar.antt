@@ -6,6 +6,10 @@ use Rattle.lard_base.specs.declared.config.ConfigFault.{ConfigFault}
 use Rattle.lard_base.specs.declared.config.Key.{Key}
 use Rattle.lard_base.specs.declared.event.Event.{Event}
 use Rattle.lard_base.specs.declared.limits.TheConstants.{MAX_INPUT_BYTES}
+use Rattle.lard_cluster.specs.Machine.{machine_step}
+use Rattle.lard_cluster.specs.declared.fault.StepFault.{StepFault}
+use Rattle.lard_cluster.specs.declared.machine.Machine.{Machine}
+use Rattle.lard_cluster_world.proofs.Runs.{step-goes-on}
 use Rattle.lard_files.specs.Files.{add_check}
 use Rattle.lard_files.specs.declared.fault.FileFault.{FileFault}
 use Rattle.lard_grammar.proofs.Parts.{reads_on}
@@ -13,12 +17,7 @@ use Rattle.lard_grammar.proofs.Texts.{cut_again, front_joined, joined}
 use Rattle.lard_grammar.proofs.Wholes.{found_is}
 use Rattle.lard_grammar.specs.Schedule.{AreLines, Found, at_end, nothing, read_from, schedule_of, text_of, with_item}
 use Rattle.lard_lines.specs.Lines.{is_feed, lines_of}
-use Rattle.lard_machine.proofs.Runs.{step-set}
-use Rattle.lard_machine.specs.Bounds.{HasRule}
-use Rattle.lard_machine.specs.Machine.{machine_step}
-use Rattle.lard_machine.specs.declared.fault.StepFault.{StepFault}
 use Rattle.lard_machine.specs.declared.fault.What.TheVariants.{Input}
-use Rattle.lard_machine.specs.declared.machine.Machine.{Machine}
 use Rattle.lard_schedule.proofs.Cuts.{first_part}
 use Rattle.lard_schedule.specs.declared.item.Item.{Item}
 use Rattle.lard_schedule.specs.declared.item.Item.TheVariants as item
@@ -37,7 +36,6 @@ use Rattle.lard_app.specs.Run.{Passed}
 use Rattle.lard_app.proofs.Causes.{line-ends}
 use Rattle.lard_app.proofs.Keeping.{Keeps, begin-keeps, passed-keeps}
 use Rattle.lard_app.proofs.Passing.{ok_is, passed-took, took-fits, took-judged}
-use Rattle.lard_app.proofs.Steps.{ruled}
 
 -- ---- a line that passes
 
@@ -86,24 +84,24 @@ module _ (s t : Progress) (f : Found) where
   begun-follows (Err fault) b a e = cc
   begun-follows (Ok u) b a e = follows_as item.Go _ e (refl, before_agrees s.reader.stage s f b a)
 
-  moved-follows : (e : Event) (r : Result Machine StepFault) → HasRule e → machine_step s.machine e ≡ r → s.reader.stage ≡ Running → Agrees s.reader.stage s f → moved (followed s (item.Event e)) r ≡ Ok t → Follows s (item.Event e) f t
-  moved-follows e (Err fault) rule is at a h = cc
-  moved-follows e (Ok m) rule is at a h =
+  moved-follows : (e : Event) (r : Result Machine StepFault) → machine_step s.machine e ≡ r → s.reader.stage ≡ Running → Agrees s.reader.stage s f → moved (followed s (item.Event e)) r ≡ Ok t → Follows s (item.Event e) f t
+  moved-follows e (Err fault) is at a h = cc
+  moved-follows e (Ok m) is at a h =
       let here : Agrees Running s f = subst (λ st. Agrees st s f) at a in
-      let kept = step-set s.machine m e rule is in
-      let next : Agrees Running (record (followed s (item.Event e)) { machine = m }) (with_item f (item.Event e)) = (here.0 ∙ sym kept.0, here.1 ∙ sym kept.1) in
+      let kept = step-goes-on s.machine m e is in
+      let next : Agrees Running (record (followed s (item.Event e)) { machine = m }) (with_item f (item.Event e)) = (here.0 ∙ sym kept.config, here.1 ∙ sym kept.files) in
       follows_as (item.Event e) _ h (refl, subst (λ st. Agrees st (record (followed s (item.Event e)) { machine = m }) (with_item f (item.Event e))) (sym at) next)
 
-  event-follows : (e : Event) (o : Option Form) → missing e ≡ o → HasRange (item.Event e) → s.reader.stage ≡ Running → Agrees s.reader.stage s f → stepped (followed s (item.Event e)) e o ≡ Ok t → Follows s (item.Event e) f t
-  event-follows e (Some form) m range at a h = cc
-  event-follows e None m range at a h = moved-follows e (machine_step s.machine e) (ruled e m range) refl at a h
+  event-follows : (e : Event) (o : Option Form) → s.reader.stage ≡ Running → Agrees s.reader.stage s f → stepped (followed s (item.Event e)) e o ≡ Ok t → Follows s (item.Event e) f t
+  event-follows e (Some form) at a h = cc
+  event-follows e None at a h = moved-follows e (machine_step s.machine e) refl at a h
 
   item-follows : (x : Item) → MayStand s.reader x → HasRange x → Agrees s.reader.stage s f → taken (followed s x) x ≡ Ok t → Follows s x f t
   item-follows item.Header may range a e = follows_as item.Header _ e (refl, subst (λ st. Agrees st s f) may a)
   item-follows (item.Set key value) may range a e = set-follows key value (range_check key value) may.0 a e
   item-follows (item.File path bytes) may range a e = filed-follows path bytes (add_check s.files path (length bytes)) may a e
   item-follows item.Go may range a e = begun-follows (config_check s.config) may a e
-  item-follows (item.Event d) may range a e = event-follows d (missing d) refl range may a e
+  item-follows (item.Event d) may range a e = event-follows d (missing d) may a e
 
 -- the events with those of one more item
 events_more : (f : Found) (x : Item) → (with_item f x).events ≡ f.events ++ event_listed (Ok x)

@@ -5,23 +5,20 @@ use Rattle.lard_base.specs.Config.{config_check, range_check}
 use Rattle.lard_base.specs.declared.config.ConfigFault.{ConfigFault}
 use Rattle.lard_base.specs.declared.config.Key.{Key}
 use Rattle.lard_base.specs.declared.event.Event.{Event}
+use Rattle.lard_cluster.specs.Machine.{machine_step, start}
+use Rattle.lard_cluster.specs.declared.fault.StepFault.{StepFault}
+use Rattle.lard_cluster.specs.declared.machine.Machine.{Machine}
+use Rattle.lard_cluster_world.proofs.Runs.{step-goes-on}
 use Rattle.lard_files.specs.Files.{add_check}
 use Rattle.lard_files.specs.declared.fault.FileFault.{FileFault}
 use Rattle.lard_journal.specs.Report.{file_text, report, heading_line}
 use Rattle.lard_journal.proofs.Growth.{report-append}
-use Rattle.lard_machine.proofs.Runs.{step-set}
-use Rattle.lard_machine.specs.Bounds.{HasRule}
-use Rattle.lard_machine.specs.Machine.{machine_step, start}
-use Rattle.lard_machine.specs.declared.fault.StepFault.{StepFault}
 use Rattle.lard_machine.specs.declared.fault.What.TheVariants.{Input}
-use Rattle.lard_machine.specs.declared.machine.Machine.{Machine}
 use Rattle.lard_schedule.specs.declared.item.Item.{Item}
 use Rattle.lard_schedule.specs.declared.item.Item.TheVariants as item
 use Rattle.lard_schedule.specs.declared.reader.Stage.{Stage}
 use Rattle.lard_schedule.specs.declared.reader.Stage.TheVariants.{Start, Settings, Files, Running}
 use Rattle.lard_schedule.specs.Laws.{IsBefore, MayStand}
-use Rattle.lard_schedule.specs.Events.{IsInRange}
-use Rattle.lard_schedule.specs.Reader.{HasRange}
 use Rattle.lard_app.specs.declared.status.Form.{Form}
 use Rattle.lard_app.specs.declared.status.Status.{Status}
 use Rattle.lard_app.specs.declared.status.Status.TheVariants.{Limit}
@@ -30,7 +27,7 @@ use Rattle.lard_app.specs.Forms.{missing}
 use Rattle.lard_app.specs.Replay.{Progress, begun, config_set, counted, event_listed, filed, followed, gain, go_gain, is_past, item_gain, item_taken, judged, judged_gain, moved, passed, replayed, report_at, report_of, sizes, step_gain, stepped, taken}
 use Rattle.lard_app.proofs.Keeping.{Keeps, passed-keeps}
 use Rattle.lard_app.proofs.Passing.{ok_is, passed-took, took-fits, took-gain}
-use Rattle.lard_app.proofs.Steps.{ruled, step-grows}
+use Rattle.lard_app.proofs.Steps.{step-grows}
 
 -- ---- the report grows by what a line adds
 
@@ -57,31 +54,31 @@ module _ (s t : Progress) where
       ∙ ap (λ xs. xs ++ (heading_line s.config ++ s.listed)) (sym (before_none before s.machine b))
   begun-grown before (Err fault) running b listed e = cc
 
-  moved-grown : (e : Event) (r : Result Machine StepFault) → s.reader.stage ≡ Running → HasRule e → machine_step s.machine e ≡ r → moved s r ≡ Ok t → report_of t ≡ report_of s ++ step_gain s (moved s r)
-  moved-grown e (Err fault) running rule is h = cc
-  moved-grown e (Ok m) running rule is h =
-      ap report_of (sym (ok_is _ t h)) ∙ ap (λ st. report_at st m) running ∙ ap (λ c. report c (sizes m.files) m.journal) (step-set s.machine m e rule is).0
-      ∙ ap (λ fs. report s.machine.config (sizes fs) m.journal) (step-set s.machine m e rule is).1 ∙ ap (report s.machine.config (sizes s.machine.files)) (step-grows s.machine m e rule is)
+  moved-grown : (e : Event) (r : Result Machine StepFault) → s.reader.stage ≡ Running → machine_step s.machine e ≡ r → moved s r ≡ Ok t → report_of t ≡ report_of s ++ step_gain s (moved s r)
+  moved-grown e (Err fault) running is h = cc
+  moved-grown e (Ok m) running is h =
+      ap report_of (sym (ok_is _ t h)) ∙ ap (λ st. report_at st m) running ∙ ap (λ c. report c (sizes m.files) m.journal) (step-goes-on s.machine m e is).config
+      ∙ ap (λ fs. report s.machine.config (sizes fs) m.journal) (step-goes-on s.machine m e is).files ∙ ap (report s.machine.config (sizes s.machine.files)) (step-grows s.machine m e is)
       ∙ report-append s.machine.config (sizes s.machine.files) s.machine.journal (drop (length s.machine.journal) m.journal)
       ∙ ap (λ st. report_at st s.machine ++ step_gain s (moved s (Ok m))) (sym running)
 
-  event-grown : (e : Event) (o : Option Form) → s.reader.stage ≡ Running → IsInRange e → missing e ≡ o → stepped s e o ≡ Ok t → report_of t ≡ report_of s ++ step_gain s (stepped s e o)
-  event-grown e (Some form) running range m h = cc
-  event-grown e None running range m h = moved-grown e (machine_step s.machine e) running (ruled e m range) refl h
+  event-grown : (e : Event) (o : Option Form) → s.reader.stage ≡ Running → stepped s e o ≡ Ok t → report_of t ≡ report_of s ++ step_gain s (stepped s e o)
+  event-grown e (Some form) running h = cc
+  event-grown e None running h = moved-grown e (machine_step s.machine e) running refl h
 
 -- what an item adds, where it may stand
-item-grown : (s t : Progress) (x : Item) → s.listed ≡ flat_map file_text (sizes s.files) → MayStand s.reader x → HasRange x → taken (followed s x) x ≡ Ok t → report_of t ≡ report_of s ++ item_gain (followed s x) x
-item-grown s t item.Header listed stands range e = ap report_of (sym (ok_is _ t e)) ∙ ap (λ st. report_at st s.machine ++ []) (sym stands)
-item-grown s t (item.Set key value) listed stands range e = set-grown (followed s (item.Set key value)) t key value (range_check key value) e
-item-grown s t (item.File path bytes) listed stands range e = filed-grown (followed s (item.File path bytes)) t s.reader.stage path bytes (add_check s.files path (length bytes)) refl stands e
-item-grown s t item.Go listed stands range e = begun-grown (followed s item.Go) t s.reader.stage (config_check s.config) refl stands listed e
-item-grown s t (item.Event d) listed stands range e = event-grown (followed s (item.Event d)) t d (missing d) stands range refl e
+item-grown : (s t : Progress) (x : Item) → s.listed ≡ flat_map file_text (sizes s.files) → MayStand s.reader x → taken (followed s x) x ≡ Ok t → report_of t ≡ report_of s ++ item_gain (followed s x) x
+item-grown s t item.Header listed stands e = ap report_of (sym (ok_is _ t e)) ∙ ap (λ st. report_at st s.machine ++ []) (sym stands)
+item-grown s t (item.Set key value) listed stands e = set-grown (followed s (item.Set key value)) t key value (range_check key value) e
+item-grown s t (item.File path bytes) listed stands e = filed-grown (followed s (item.File path bytes)) t s.reader.stage path bytes (add_check s.files path (length bytes)) refl stands e
+item-grown s t item.Go listed stands e = begun-grown (followed s item.Go) t s.reader.stage (config_check s.config) refl stands listed e
+item-grown s t (item.Event d) listed stands e = event-grown (followed s (item.Event d)) t d (missing d) stands e
 
 -- a line that is passed
 pub passed-grown : (s t : Progress) (line : List ℕ) → s.listed ≡ flat_map file_text (sizes s.files) → passed s line ≡ Ok t → report_of t ≡ report_of s ++ gain s line
 passed-grown s t line listed e =
     let k = passed-took s t line e in
-    item-grown (counted s line) t k.item listed (took-fits s t line k).1 (took-fits s t line k).2 k.is ∙ ap (λ xs. report_of s ++ xs) (sym (took-gain s t line k))
+    item-grown (counted s line) t k.item listed (took-fits s t line k).1 k.is ∙ ap (λ xs. report_of s ++ xs) (sym (took-gain s t line k))
 
 -- ---- a line that ends the run adds nothing
 

@@ -11,19 +11,19 @@ use Rattle.lard_base.specs.declared.config.ConfigFault.TheVariants.{Range}
 use Rattle.lard_base.specs.declared.config.Key.{Key}
 use Rattle.lard_base.specs.declared.config.Key.TheVariants.{Nodes, Low, High, Age, Idle, Over, Miss, Cache, Stream}
 use Rattle.lard_base.specs.declared.event.Event.{Event}
+use Rattle.lard_cluster.specs.Bounds.{HasRule}
+use Rattle.lard_cluster.specs.Machine.{Passes, machine_step, start}
+use Rattle.lard_cluster.specs.declared.fault.StepFault.{StepFault}
+use Rattle.lard_cluster.specs.declared.machine.Machine.{Machine}
+use Rattle.lard_cluster_records.specs.Records.{IsFile, IsGiven}
+use Rattle.lard_cluster_view.proofs.Runs.{passes-more}
+use Rattle.lard_cluster_world.proofs.Runs.{step-goes-on}
 use Rattle.lard_files.specs.Files.{add_check}
 use Rattle.lard_files.specs.declared.fault.FileFault.{FileFault}
 use Rattle.lard_history.proofs.Each.{Each, Each-append}
 use Rattle.lard_journal.specs.Range.{IsConfigInRange}
 use Rattle.lard_journal.specs.Report.{file_text}
-use Rattle.lard_laws_records.specs.Records.{IsGiven}
 use Rattle.lard_lines.specs.Lines.{lines_of}
-use Rattle.lard_machine.proofs.Runs.{passes-more, step-set}
-use Rattle.lard_machine.specs.Bounds.{HasRule}
-use Rattle.lard_machine.specs.Machine.{machine_step, start}
-use Rattle.lard_machine.specs.Machine.{Passes}
-use Rattle.lard_machine.specs.declared.fault.StepFault.{StepFault}
-use Rattle.lard_machine.specs.declared.machine.Machine.{Machine}
 use Rattle.lard_schedule.specs.declared.item.Item.{Item}
 use Rattle.lard_schedule.specs.declared.item.Item.TheVariants as item
 use Rattle.lard_schedule.specs.declared.reader.Stage.{Stage}
@@ -36,7 +36,7 @@ use Rattle.lard_app.specs.declared.status.Form.{Form}
 use Rattle.lard_app.specs.declared.status.Status.{Status}
 use Rattle.lard_app.specs.Forms.{missing}
 use Rattle.lard_app.specs.Replay.{Progress, begin, begun, config_set, counted, event_listed, events_from, events_of, filed, followed, is_past, judged, moved, passed, replayed, sizes, stepped, taken, whole}
-use Rattle.lard_app.proofs.Ranges.{HasRanges, IsGivenFile, config_checked, event-given, file-given}
+use Rattle.lard_app.proofs.Ranges.{HasRanges, config_checked, event-given, file-given}
 use Rattle.lard_app.proofs.Passing.{ok_is, passed-took, took-fits, took-judged}
 use Rattle.lard_app.proofs.Steps.{ruled}
 
@@ -74,7 +74,7 @@ pub record Keeps (s : Progress) (es : List Event) : Type 0 where
   pub runs : Passes (start s.machine.config s.machine.files) es s.machine
   pub listed : s.listed ≡ flat_map file_text (sizes s.files)
   pub fits : IsConfigRanged s.config
-  pub stream : s.machine.config.stream ≤ 2 ^ 30
+  pub checked : config_check s.machine.config ≡ Ok tt
   pub ranges : HasRanges s.files s.machine es
   pub unseen : IsUnseen s.reader.stage s.machine
   pub lines : s.lines ≤ s.read
@@ -126,7 +126,7 @@ begin-keeps = record {
   runs = refl;
   listed = refl;
   fits = standard_fits;
-  stream = omega arith;
+  checked = refl;
   ranges = record { files = tt; config = (omega arith, omega arith, omega arith, omega arith, omega arith, omega arith, omega arith, omega arith, omega arith); taken = tt; events = tt };
   unseen = refl;
   lines = omega arith;
@@ -142,7 +142,7 @@ counted-keeps s line es p k = record {
   runs = k.runs;
   listed = k.listed;
   fits = k.fits;
-  stream = k.stream;
+  checked = k.checked;
   ranges = k.ranges;
   unseen = k.unseen;
   lines = omega (arith, k.lines);
@@ -168,7 +168,7 @@ module _ (s t : Progress) (es : List Event) (k : Keeps s es) where
     runs = same_events;
     listed = k.listed;
     fits = set_fits s.config key value k.fits (range_passed key value c);
-    stream = k.stream;
+    checked = k.checked;
     ranges = same_ranges;
     unseen = k.unseen;
     lines = k.lines;
@@ -182,7 +182,7 @@ module _ (s t : Progress) (es : List Event) (k : Keeps s es) where
     listed = refl;
     runs = subst (λ ds. Passes (start s.config s.files) ds (start s.config s.files)) (sym (append-nil es ∙ idle_before s.reader.stage es k.idle b)) refl;
     fits = k.fits;
-    stream = (config_checked s.config c).1;
+    checked = c;
     ranges = record { files = tt; config = (config_checked s.config c).0; taken = k.ranges.files; events = same_ranges.events };
     unseen = tt;
     lines = k.lines;
@@ -197,9 +197,9 @@ module _ (s t : Progress) (es : List Event) (k : Keeps s es) where
     runs = same_events;
     listed = ap (λ l. l ++ file_text (path, length bytes)) k.listed ∙ listed_more s.files path bytes;
     fits = k.fits;
-    stream = k.stream;
+    checked = k.checked;
     ranges = record {
-      files = Each-append IsGivenFile s.files ((path, bytes) ∷ []) k.ranges.files (file-given s.files words path bytes spelled fits c, tt);
+      files = Each-append IsFile s.files ((path, bytes) ∷ []) k.ranges.files (file-given s.files words path bytes spelled fits c, tt);
       config = k.ranges.config;
       taken = k.ranges.taken;
       events = same_ranges.events;
@@ -212,18 +212,18 @@ module _ (s t : Progress) (es : List Event) (k : Keeps s es) where
   moved-keeps : (e : Event) (r : Result Machine StepFault) → s.reader.stage ≡ Running → IsGiven e → HasRule e → machine_step s.machine e ≡ r → moved (followed s (item.Event e)) r ≡ Ok t → Keeps t (es ++ e ∷ [])
   moved-keeps e (Err fault) running given rule is h = cc
   moved-keeps e (Ok m) running given rule is h =
-      let kept = step-set s.machine m e rule is in
+      let kept = step-goes-on s.machine m e is in
       subst (λ (v : Progress). Keeps v (es ++ e ∷ [])) (ok_is _ t h) (record {
         idle = subst (λ st. IsIdle st (es ++ e ∷ [])) (sym running) tt;
-        runs = subst (λ (c : Config). Passes (start c m.files) (es ++ e ∷ []) m) (sym kept.0)
-            (subst (λ (fs : List (List ℕ × List ℕ)). Passes (start s.machine.config fs) (es ++ e ∷ []) m) (sym kept.1) (passes-more es (start s.machine.config s.machine.files) s.machine m e k.runs rule is));
+        runs = subst (λ (c : Config). Passes (start c m.files) (es ++ e ∷ []) m) (sym kept.config)
+            (subst (λ (fs : List (List ℕ × List ℕ)). Passes (start s.machine.config fs) (es ++ e ∷ []) m) (sym kept.files) (passes-more es (start s.machine.config s.machine.files) s.machine m e k.runs rule is));
         listed = k.listed;
         fits = k.fits;
-        stream = subst (λ (c : Config). c.stream ≤ 2 ^ 30) (sym kept.0) k.stream;
+        checked = subst (λ (c : Config). config_check c ≡ Ok tt) (sym kept.config) k.checked;
         ranges = record {
           files = k.ranges.files;
-          config = subst IsConfigInRange (sym kept.0) k.ranges.config;
-          taken = subst (Each IsGivenFile) (sym kept.1) k.ranges.taken;
+          config = subst IsConfigInRange (sym kept.config) k.ranges.config;
+          taken = subst (Each IsFile) (sym kept.files) k.ranges.taken;
           events = Each-append IsGiven es (e ∷ []) k.ranges.events (given, tt);
         };
         unseen = subst (λ st. IsUnseen st m) (sym running) tt;
@@ -241,7 +241,7 @@ module _ (s t : Progress) (es : List Event) (k : Keeps s es) where
     runs = same_events;
     listed = k.listed;
     fits = k.fits;
-    stream = k.stream;
+    checked = k.checked;
     ranges = same_ranges;
     unseen = subst (λ st. IsUnseen st s.machine) stands k.unseen;
     lines = k.lines;

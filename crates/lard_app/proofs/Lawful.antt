@@ -1,25 +1,20 @@
 -- The journal of a text's replay is that of the machine, and obeys its laws.
-use Rattle.std.proofs.Common.{◌≡◌, ◌≢◌, ℕ, Option, List, [], ◌++◌, length, ◌≤◌, ◌^◌, refl, sym, ap, ◌∙◌, subst, arith, length-append}
+use Rattle.std.proofs.Common.{◌≡◌, ◌≢◌, ℕ, Option, List, [], ◌++◌, length, refl, sym, ap, ◌∙◌, subst, arith, length-append}
 use Rattle.std.specs.List.{flat_map}
 use Rattle.lard_base.specs.declared.config.Config.{Config}
+use Rattle.lard_cluster.specs.declared.machine.Machine.{Machine}
+use Rattle.lard_cluster.specs.Machine.{IsReached, Passes, start}
+use Rattle.lard_cluster_laws.specs.Lawful.{IsLawful}
+use Rattle.lard_cluster_laws.proofs.Lawful.{journals-lawful}
+use Rattle.lard_cluster_records.specs.Records.{IsFile, IsGiven}
+use Rattle.lard_cluster_records.proofs.Reached.{records-ranges}
+use Rattle.lard_cluster_steps.proofs.Following.{follows}
 use Rattle.lard_files.specs.Files.{file_at}
-use Rattle.lard_history.specs.Laws.{AcceptsOnlyAnswers, ActsInPlace, Follows, IsNetwork, IsOwnership, IsSoleSender, MayOwn, MayReset, MaySend, MayWrite, ResetsAtTheLimit, ServesTheAnswers, TellsTheTruth, WritesWhileOpen}
-use Rattle.lard_history.proofs.Each.{Each-weaker}
+use Rattle.lard_history.specs.Laws.{Follows}
 use Rattle.lard_journal.specs.declared.rec.Rec.{Rec}
 use Rattle.lard_journal.specs.Range.{IsFileInRange, IsReportInRange}
 use Rattle.lard_journal.specs.Report.{file_text, heading_line, rec_line, report}
-use Rattle.lard_laws_bytes.specs.Runs.{ClientsAcceptAnswers, JournalsServeTheAnswers, JournalsTellTheTruth}
-use Rattle.lard_laws_clients.specs.Laws.{ClientsTakeInOrder, TakesInOrder}
-use Rattle.lard_laws_quiet.specs.Prompt.{IsPrompt, JournalsArePrompt}
-use Rattle.lard_laws_quiet.specs.Quiet.{IsCompleteWhenQuiet, JournalsAreComplete}
-use Rattle.lard_laws_places.proofs.Reached.{journals-follow, reached-holds, reached-may}
 use Rattle.lard_laws_records.proofs.Bytes.{each-all}
-use Rattle.lard_laws_records.specs.Records.{IsFile, IsGiven, RecordsAreInRange}
-use Rattle.lard_laws_steps.specs.Clients.{ClientsKeepTheirTables, KeepsTables}
-use Rattle.lard_laws_steps.specs.Fronts.{TakesOnce, TheFrontEndTakesOnce}
-use Rattle.lard_laws_steps.specs.Timers.{ChangesInSteps, TimersChangeInSteps}
-use Rattle.lard_machine.specs.declared.machine.Machine.{Machine}
-use Rattle.lard_machine.specs.Machine.{IsReached, Passes, start}
 use Rattle.lard_schedule.specs.declared.reader.Stage.{Stage}
 use Rattle.lard_schedule.specs.declared.reader.Stage.TheVariants.{Files, Running, Settings, Start}
 use Rattle.lard_app.specs.Replay.{begin, config_of, events_of, files_of, journal_of, machine_of, report_at, report_of, sizes, whole}
@@ -28,7 +23,7 @@ use Rattle.lard_app.specs.Run.{Ran, Reads}
 use Rattle.lard_app.proofs.Endings.{caused}
 use Rattle.lard_app.proofs.Grammar.{passed-stands}
 use Rattle.lard_app.proofs.Keeping.{IsUnseen, whole-keeps}
-use Rattle.lard_app.proofs.Ranges.{IsGivenFile, sizes-ranges}
+use Rattle.lard_app.proofs.Ranges.{sizes-ranges}
 
 -- what the law of reports says of two of them
 abbrev pub ReportsTellAll : Type 0
@@ -44,74 +39,23 @@ module _ (text : List ℕ) where
   reached : IsReached (config_of text) (files_of text) (machine_of text)
   reached = (events_of text, machine)
 
-  small : (config_of text).stream ≤ 2 ^ 30
-  small = (whole-keeps text).stream
+  pub follows_on : Follows 1 (events_of text) (journal_of text)
+  follows_on = follows (config_of text) (files_of text) (events_of text) (machine_of text) machine
 
-  pub follows : Follows 1 (events_of text) (journal_of text)
-  follows = journals-follow (config_of text) (files_of text) (events_of text) (machine_of text) machine
-
-  -- ---- laws of places
-
-  pub network : IsNetwork (journal_of text)
-  network = (reached-holds (config_of text) (files_of text) (machine_of text) reached).linked.each
-
-  pub places : ActsInPlace (journal_of text)
-  places = (reached-holds (config_of text) (files_of text) (machine_of text) reached).places
-
-  pub ownership : IsOwnership (journal_of text)
-  ownership = reached-may (config_of text) (files_of text) (machine_of text) reached MayOwn (λ past x l. l.0)
-
-  pub sole_sender : IsSoleSender (journal_of text)
-  sole_sender = reached-may (config_of text) (files_of text) (machine_of text) reached MaySend (λ past x l. l.1)
-
-  pub writers : WritesWhileOpen (journal_of text)
-  writers = reached-may (config_of text) (files_of text) (machine_of text) reached MayWrite (λ past x l. l.2)
-
-  pub resets : ResetsAtTheLimit (config_of text).stream (journal_of text)
-  resets = reached-may (config_of text) (files_of text) (machine_of text) reached (MayReset (config_of text).stream) (λ past x l. l.3)
-
-  pub takers : ClientsTakeInOrder → TakesInOrder (journal_of text)
-  takers law = law (config_of text) (files_of text) (machine_of text) small reached
-
-  -- ---- laws of steps
-
-  pub tables : ClientsKeepTheirTables → KeepsTables (journal_of text)
-  tables law = law (config_of text) (files_of text) (machine_of text) reached
-
-  pub taken_once : TheFrontEndTakesOnce → TakesOnce (journal_of text)
-  taken_once law = law (config_of text) (files_of text) (machine_of text) reached
-
-  pub timers : TimersChangeInSteps → ChangesInSteps (journal_of text)
-  timers law = law (config_of text) (files_of text) (machine_of text) reached
-
-  -- ---- laws of bytes
-
-  pub tells : JournalsTellTheTruth → TellsTheTruth (file_at (files_of text)) (journal_of text)
-  tells law = law (config_of text) (files_of text) (machine_of text) small reached
-
-  pub prefix : ClientsAcceptAnswers → AcceptsOnlyAnswers (file_at (files_of text)) (journal_of text)
-  prefix law = law (config_of text) (files_of text) (machine_of text) small reached
-
-  pub service : JournalsServeTheAnswers → ServesTheAnswers (file_at (files_of text)) (journal_of text)
-  service law = law (config_of text) (files_of text) (machine_of text) small reached
-
-  pub prompt : JournalsArePrompt → IsPrompt (journal_of text)
-  prompt law = law (config_of text) (files_of text) (machine_of text) small reached
-
-  pub quiet : JournalsAreComplete → IsCompleteWhenQuiet (file_at (files_of text)) (journal_of text)
-  quiet law = law (config_of text) (files_of text) (machine_of text) small reached
+  pub lawful : IsLawful (config_of text) (file_at (files_of text)) (journal_of text)
+  lawful = journals-lawful (config_of text) (files_of text) (machine_of text) (whole-keeps text).checked reached
 
   -- ---- the report tells the journal
 
   -- all that the report is made of is in range
-  pub ranges : RecordsAreInRange → IsReportInRange (config_of text) (sizes (files_of text)) (journal_of text)
-  ranges law =
-      let given = (whole-keeps text).ranges in
+  pub ranges : IsReportInRange (config_of text) (sizes (files_of text)) (journal_of text)
+  ranges =
+      let kept = whole-keeps text in
       record {
-        numbers = given.config;
-        paths = each-all IsFileInRange (sizes (files_of text)) (sizes-ranges (files_of text) given.taken);
-        records = law (config_of text) (files_of text) (events_of text) (machine_of text) small
-            (each-all IsFile (files_of text) (Each-weaker IsGivenFile IsFile (λ f h. h.1) (files_of text) given.taken)) (each-all IsGiven (events_of text) given.events) machine;
+        numbers = kept.ranges.config;
+        paths = each-all IsFileInRange (sizes (files_of text)) (sizes-ranges (files_of text) kept.ranges.taken);
+        records = records-ranges (config_of text) (files_of text) (events_of text) (machine_of text) kept.checked
+            (each-all IsFile (files_of text) kept.ranges.taken) (each-all IsGiven (events_of text) kept.ranges.events) machine;
       }
 
 -- ---- two texts with the same report
@@ -148,31 +92,17 @@ alike m n told Settings other u v e = both_unseen m n other u v e
 alike m n told Files other u v e = both_unseen m n other u v e
 
 -- equal reports are of the same run
-pub tells_all : RecordsAreInRange → ReportsTellAll → (text also : List ℕ) → report_of (whole text).0 ≡ report_of (whole also).0
+pub tells_all : ReportsTellAll → (text also : List ℕ) → report_of (whole text).0 ≡ report_of (whole also).0
     → (config_of text ≡ config_of also) × (sizes (files_of text) ≡ sizes (files_of also)) × (journal_of text ≡ journal_of also)
-tells_all law tells text also same =
+tells_all tells text also same =
     alike (machine_of text) (machine_of also)
-    (tells (config_of text) (config_of also) (sizes (files_of text)) (sizes (files_of also)) (journal_of text) (journal_of also) (ranges text law) (ranges also law))
+    (tells (config_of text) (config_of also) (sizes (files_of text)) (sizes (files_of also)) (journal_of text) (journal_of also) (ranges text) (ranges also))
     (whole text).0.reader.stage (whole also).0.reader.stage (whole-keeps text).unseen (whole-keeps also).unseen same
 
 -- ---- the whole of a run
 
--- the laws of all journals that a run's rests on
-pub record Laws : Type 0 where
-  pub takers : ClientsTakeInOrder
-  pub tables : ClientsKeepTheirTables
-  pub taken_once : TheFrontEndTakesOnce
-  pub timers : TimersChangeInSteps
-  pub tells : JournalsTellTheTruth
-  pub prefix : ClientsAcceptAnswers
-  pub service : JournalsServeTheAnswers
-  pub prompt : JournalsArePrompt
-  pub quiet : JournalsAreComplete
-  pub records : RecordsAreInRange
-  pub reports : ReportsTellAll
-
-pub ran : Laws → (status : Status) (left left_now old new : Option (List ℕ)) → Reads status left left_now old new → Ran status left left_now old new
-ran laws status left left_now old new r = record {
+pub ran : ReportsTellAll → (status : Status) (left left_now old new : Option (List ℕ)) → Reads status left left_now old new → Ran status left left_now old new
+ran tells status left left_now old new r = record {
   text = r.text;
   consumed = r.consumed;
   bounded = r.bounded;
@@ -185,21 +115,7 @@ ran laws status left left_now old new r = record {
   are = (refl, refl, refl, refl);
   passed = passed-stands r.text;
   machine = (machine_of r.text, machine r.text, refl);
-  follows = follows r.text;
-  network = network r.text;
-  places = places r.text;
-  ownership = ownership r.text;
-  sole_sender = sole_sender r.text;
-  writers = writers r.text;
-  takers = takers r.text laws.takers;
-  tables = tables r.text laws.tables;
-  taken_once = taken_once r.text laws.taken_once;
-  timers = timers r.text laws.timers;
-  tells = tells r.text laws.tells;
-  prefix = prefix r.text laws.prefix;
-  service = service r.text laws.service;
-  resets = resets r.text;
-  prompt = prompt r.text laws.prompt;
-  quiet = quiet r.text laws.quiet;
-  tells_all = tells_all laws.records laws.reports r.text;
+  follows = follows_on r.text;
+  laws = lawful r.text;
+  tells_all = tells_all tells r.text;
 }

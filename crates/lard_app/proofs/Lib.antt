@@ -16,3 +16,4 @@ mod Reading
 mod Reached
 mod Settled
 mod Steps
+mod Stopped

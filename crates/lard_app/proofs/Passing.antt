@@ -6,9 +6,9 @@ use Rattle.lard_base.specs.declared.config.Key.{Key}
 use Rattle.lard_base.specs.declared.event.Event.{Event}
 use Rattle.lard_files.specs.Files.{add_check}
 use Rattle.lard_files.specs.declared.fault.FileFault.{FileFault}
-use Rattle.lard_machine.specs.Machine.{machine_step}
-use Rattle.lard_machine.specs.declared.fault.StepFault.{StepFault}
-use Rattle.lard_machine.specs.declared.machine.Machine.{Machine}
+use Rattle.lard_cluster.specs.Machine.{machine_step}
+use Rattle.lard_cluster.specs.declared.fault.StepFault.{StepFault}
+use Rattle.lard_cluster.specs.declared.machine.Machine.{Machine}
 use Rattle.lard_machine.specs.declared.fault.What.TheVariants.{Input}
 use Rattle.lard_schedule.specs.declared.item.Item.{Item}
 use Rattle.lard_schedule.specs.declared.item.Item.TheVariants as item

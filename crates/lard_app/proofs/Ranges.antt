@@ -14,14 +14,14 @@ use Rattle.lard_base.specs.declared.event.Event.{Event}
 use Rattle.lard_base.specs.declared.event.Event.TheVariants as event
 use Rattle.lard_base.specs.declared.place.Place.{Place}
 use Rattle.lard_base.specs.declared.place.Place.TheVariants as place
+use Rattle.lard_cluster.specs.declared.machine.Machine.{Machine}
+use Rattle.lard_cluster_records.specs.Records.{IsFile, IsGiven}
 use Rattle.lard_files.specs.Files.{add_check, first_fault}
 use Rattle.lard_files.specs.declared.fault.FileFault.{FileFault}
 use Rattle.lard_files.specs.declared.fault.FileFault.TheVariants as file_fault
 use Rattle.lard_history.proofs.Each.{Each, Each-weaker}
 use Rattle.lard_journal.specs.Range.{IsConfigInRange, IsFileInRange, IsNumber, IsPlaceInRange, IsUnspaced}
 use Rattle.lard_laws_records.proofs.Bytes.{AreBytes, bytes-index, each-all}
-use Rattle.lard_laws_records.specs.Records.{IsFile, IsGiven}
-use Rattle.lard_machine.specs.declared.machine.Machine.{Machine}
 use Rattle.lard_schedule.specs.Events.{IsInRange, IsPlace, IsUpTo, is_path, is_visible}
 use Rattle.lard_schedule.specs.Files.{is_file_path}
 use Rattle.lard_schedule.specs.Laws.{Spells, SpellsFile}
@@ -93,6 +93,14 @@ visible-unspaced path h = each-all (λ b. 32 < b) path (Each-weaker IsVisible (�
 visible-bytes : (path : List ℕ) → Each IsVisible path → IsBytes path
 visible-bytes path h = bytes-index path (Each-weaker IsVisible (λ b. b < 256) (λ b v. v.1) path h)
 
+-- it has as many as a path may have
+path-short : (path : List ℕ) → is_path path ≡ true → (1 ≤ length path) × (length path ≤ 2 ^ 10)
+path-short [] e = cc
+path-short (b ∷ bs) e =
+    let first = (and_parts (nat_eq b 47 && nat_lt (length bs) 1024) (list_all is_visible bs) e).0 in
+    let short = (and_parts (nat_eq b 47) (nat_lt (length bs) 1024) first).1 in
+    (omega arith, grind (arith, nat_tests, short))
+
 -- ---- events
 
 -- numbers of a range, of clients, and of 32 bits
@@ -124,15 +132,11 @@ event-given words (event.Deliver k) s r = (word k r, tt)
 event-given words (event.Lose k) s r = (word k r, tt)
 event-given words (event.Timer p c) s r = ((place-given p r.0, client c r.1), tt)
 event-given words (event.Disk n j) s r = ((word n r.0, word j r.1), tt)
-event-given words (event.Clock ms) s r = (word ms r, tt)
+event-given words (event.Clock ms) s r = (word ms r, r)
 event-given words (event.Settle rounds) s r = (word rounds r.1, tt)
 event-given words (event.Inject c bytes) s r = ((client c r.0, (decode_of-ok s.0 bytes s.2).3), tt)
 
 -- ---- files
-
--- a file with a path without spaces
-abbrev pub IsGivenFile : List ℕ × List ℕ → Type 0
-IsGivenFile file = IsUnspaced file.0 × IsFile file
 
 -- a byte that is repeated
 replicate-bytes : (n byte : ℕ) → byte < 256 → AreBytes (replicate n byte)
@@ -155,20 +159,22 @@ short-file false count sum len e = go (nat_lt (2 ^ 20) len) refl e where
   go false t h = grind (arith, nat_tests, t)
 
 -- the file of a line, once it is added
-pub file-given : (files : List (List ℕ × List ℕ)) (words : List (List ℕ)) (path bytes : List ℕ) → SpellsFile words path bytes → is_file_path path ≡ true → add_check files path (length bytes) ≡ Ok tt → IsGivenFile (path, bytes)
+pub file-given : (files : List (List ℕ × List ℕ)) (words : List (List ℕ)) (path bytes : List ℕ) → SpellsFile words path bytes → is_file_path path ≡ true → add_check files path (length bytes) ≡ Ok tt → IsFile (path, bytes)
 file-given files words path bytes s fits e =
-    (visible-unspaced path (path-visible path (and_parts (is_path path) _ fits).0), (content-bytes words path bytes s, short-file _ _ _ (length bytes) e))
+    let is : is_path path ≡ true = (and_parts (is_path path) _ fits).0 in
+    let visible_ = path-visible path is in
+    ((path-short path is, short-file _ _ _ (length bytes) e), visible-unspaced path visible_, visible-bytes path visible_, content-bytes words path bytes s)
 
 -- ---- a replay
 
 -- What was given before `go`, and what the machine was given, is in range.
 pub record HasRanges (given : List (List ℕ × List ℕ)) (m : Machine) (es : List Event) : Type 0 where
-  pub files : Each IsGivenFile given
+  pub files : Each IsFile given
   pub config : IsConfigInRange m.config
-  pub taken : Each IsGivenFile m.files
+  pub taken : Each IsFile m.files
   pub events : Each IsGiven es
 
 -- the lines of files
-pub sizes-ranges : (files : List (List ℕ × List ℕ)) → Each IsGivenFile files → Each IsFileInRange (sizes files)
+pub sizes-ranges : (files : List (List ℕ × List ℕ)) → Each IsFile files → Each IsFileInRange (sizes files)
 sizes-ranges [] h = tt
-sizes-ranges (f ∷ fs) h = let most = h.0.1.1 in ((h.0.0, omega (arith, most)), sizes-ranges fs h.1)
+sizes-ranges (f ∷ fs) h = let most = h.0.0.1 in ((h.0.1, omega (arith, most)), sizes-ranges fs h.1)

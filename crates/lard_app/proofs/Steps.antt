@@ -5,17 +5,17 @@ use Rattle.std.proofs.Math.Seq.{drop-append_seam}
 use Rattle.lard_base.specs.declared.event.Event.{Event}
 use Rattle.lard_base.specs.declared.event.Event.TheVariants as event
 use Rattle.lard_base.specs.declared.place.Place.TheVariants as place
+use Rattle.lard_cluster.specs.Bounds.{HasRule}
+use Rattle.lard_cluster.specs.Machine.{machine_step}
+use Rattle.lard_cluster.specs.declared.machine.Machine.{Machine}
+use Rattle.lard_cluster_world.proofs.Runs.{step-goes-on}
 use Rattle.lard_journal.specs.declared.rec.Rec.{Rec}
-use Rattle.lard_machine.proofs.Forms.{IsPut, Parts, step-parts}
-use Rattle.lard_machine.specs.Bounds.{HasRule}
-use Rattle.lard_machine.specs.Machine.{acted, machine_step, passed}
-use Rattle.lard_machine.specs.declared.machine.Machine.{Machine}
 use Rattle.lard_schedule.specs.Events.{IsInRange}
 use Rattle.lard_app.specs.Forms.{missing}
 
 -- an event that a line can have, and that is built, has a rule
 pub ruled : (e : Event) → missing e ≡ None → IsInRange e → HasRule e
-ruled (event.Open c isn iss wnd mss) m r = (r.3.0, r.4.0, r.4.1, omega (arith, r.3.1), r.1, r.2)
+ruled (event.Open c isn iss wnd mss) m r = (r.3.0, r.4.0, r.4.1, omega (arith, r.3.1), r.1, r.2, (r.0.0, r.0.1))
 ruled (event.Get c path) m r = tt
 ruled (event.Write c bytes) m r = tt
 ruled (event.Shut c) m r = tt
@@ -26,9 +26,9 @@ ruled (event.Deliver k) m r = tt
 ruled (event.Lose k) m r = tt
 ruled (event.Timer place.Front c) m r = tt
 ruled (event.Timer (place.Client d) c) m r = let same = r.2 in grind (arith, nat_tests, same)
-ruled (event.Timer (place.Node n) c) m r = cc
-ruled (event.Disk n j) m r = cc
-ruled (event.Clock ms) m r = cc
+ruled (event.Timer (place.Node n) c) m r = tt
+ruled (event.Disk n j) m r = tt
+ruled (event.Clock ms) m r = tt
 ruled (event.Settle rounds) m r = cc
 ruled (event.Inject c bytes) m r = (r.1.0, r.1.1)
 
@@ -39,18 +39,11 @@ Grows old new = new.journal ≡ old.journal ++ drop (length old.journal) new.jou
 with_more : (J rs : List Rec) → J ++ rs ≡ J ++ drop (length J) (J ++ rs)
 with_more J rs = ap (λ xs. J ++ xs) (sym (drop-append_seam J rs))
 
-parts-grow : (m : Machine) → Parts m (Grows m)
-unfolding acted
-parts-grow m = record {
-  acts = λ w e own a put. as-before w (acted w e own a) put (with_more w.journal _);
-  passes = λ w e own put. as-before w (passed w e own) put (with_more w.journal _);
-} where
-  as-before : (w n : Machine) → IsPut m w → Grows w n → Grows m n
-  as-before w n put grows = subst (λ (J : List Rec). n.journal ≡ J ++ drop (length J) n.journal) put.journal grows
-
 -- a step that is done
-pub step-grows : (m t : Machine) (e : Event) → HasRule e → machine_step m e ≡ Ok t → Grows m t
-step-grows m t e rule is = step-parts m t e (Grows m) (parts-grow m) rule is
+pub step-grows : (m t : Machine) (e : Event) → machine_step m e ≡ Ok t → Grows m t
+step-grows m t e is =
+    let on = step-goes-on m t e is in
+    on.journal ∙ with_more m.journal on.more ∙ ap (λ (J : List Rec). m.journal ++ drop (length m.journal) J) (sym on.journal)
 
 -- so the journal is no shorter
 pub grows-longer : (m t : Machine) → Grows m t → length m.journal ≤ length t.journal

@@ -9,7 +9,11 @@ use Rattle.lard_base.specs.declared.config.Key.{Key}
 use Rattle.lard_base.specs.declared.config.Key.TheVariants as key
 use Rattle.lard_base.specs.declared.event.Event.{Event}
 use Rattle.lard_base.specs.declared.event.Event.TheVariants as event
+use Rattle.lard_base.specs.declared.place.Place.{Place}
+use Rattle.lard_base.specs.declared.place.Place.TheVariants.{Front, Node, Client}
 use Rattle.lard_client.specs.Control.{written_len}
+use Rattle.lard_cluster.specs.declared.machine.Machine.{Machine}
+use Rattle.lard_cluster_stores.specs.Stores.{jobs}
 use Rattle.lard_files.specs.Files.{file_at, total}
 use Rattle.lard_files.specs.declared.fault.FileFault.{FileFault}
 use Rattle.lard_files.specs.declared.fault.FileFault.TheVariants as file_fault
@@ -17,7 +21,6 @@ use Rattle.lard_history.specs.Journal.{answered_bytes, is_lost, numbers_of, pack
 use Rattle.lard_journal.specs.declared.rec.Rec.{Rec}
 use Rattle.lard_machine.specs.declared.fault.What.{What}
 use Rattle.lard_machine.specs.declared.fault.What.TheVariants as what
-use Rattle.lard_machine.specs.declared.machine.Machine.{Machine}
 use Rattle.lard_rules.specs.declared.places.Station.{Station}
 use Rattle.lard_schedule.specs.declared.item.Item.{Item}
 use Rattle.lard_schedule.specs.declared.item.Item.TheVariants as item
@@ -47,7 +50,7 @@ Stands s line x = IsLineOf line x × MayStand s.reader x × HasRange x
 abbrev pub StandsFor : Progress → List ℕ → Item → Type 0
 StandsFor s line x = (unbuilt line ≡ None) × Stands s line x
 
--- it is an event whose use is built, so that its step is tried
+-- it is an event whose form is built, so that its step is tried
 abbrev pub Tries : Progress → List ℕ → Event → Type 0
 Tries s line e = StandsFor s line (item.Event e) × (missing e ≡ None)
 
@@ -79,7 +82,7 @@ IsUnfit config (item.File path bytes) fault = ⊥
 IsUnfit config item.Go fault = DisagreesBy config fault
 IsUnfit config (item.Event e) fault = ⊥
 
--- it or this use of it is not built
+-- it is not built
 abbrev pub IsUnbuilt : Item → Form → Type 0
 IsUnbuilt item.Header f = ⊥
 IsUnbuilt (item.Set key value) f = ⊥
@@ -133,16 +136,34 @@ WritesTooMuch m (event.Get c path) = WouldPass m c (request path)
 WritesTooMuch m (event.Write c bytes) = WouldPass m c bytes
 WritesTooMuch m _ = ⊥
 
+-- a timer of node n, or a job of its disk; the client of a timer opened before
+abbrev pub IsNumbered : Place → ℕ → Type 0
+IsNumbered Front n = ⊥
+IsNumbered (Node k) n = k ≡ n
+IsNumbered (Client c) n = ⊥
+
+abbrev pub IsOfNode : List Rec → Event → ℕ → Type 0
+IsOfNode J (event.Timer place c) n = IsNumbered place n × IsSome (numbers_of J c)
+IsOfNode J (event.Disk k j) n = k ≡ n
+IsOfNode J _ n = ⊥
+
+-- job j of the disk of node n, one of so many nodes, where so many jobs wait
+abbrev pub IsOfDisk : ℕ → List Rec → Event → ℕ → ℕ → ℕ → Type 0
+IsOfDisk nodes J (event.Disk k i) n j len = (k ≡ n) × (i ≡ j) × (1 ≤ n) × (n ≤ nodes) × (len ≡ length (jobs J n))
+IsOfDisk nodes J _ n j len = ⊥
+
 -- the event is not one that may come now
-abbrev pub IsUntimely : List Rec → Event → Why → Type 0
-IsUntimely J e (why.NotSent k sent) = IsOfPacket e k × (sent ≡ sent_count J) × ((k ≡ 0) ⊎ (sent < k))
-IsUntimely J e (why.WasLost k) = IsOfPacket e k × (1 ≤ k) × (k ≤ sent_count J) × (is_lost J k ≡ true)
-IsUntimely J e (why.NoClient c) = IsOfClient e c × (numbers_of J c ≡ None)
-IsUntimely J e (why.Used c) = Opens e c × IsSome (numbers_of J c)
-IsUntimely J e why.Syntax = ⊥
-IsUntimely J e (why.Config fault) = ⊥
-IsUntimely J e (why.File fault) = ⊥
-IsUntimely J e (why.FormNotBuilt f) = ⊥
+abbrev pub IsUntimely : Machine → Event → Why → Type 0
+IsUntimely m e (why.NotSent k sent) = IsOfPacket e k × (sent ≡ sent_count m.journal) × ((k ≡ 0) ⊎ (sent < k))
+IsUntimely m e (why.WasLost k) = IsOfPacket e k × (1 ≤ k) × (k ≤ sent_count m.journal) × (is_lost m.journal k ≡ true)
+IsUntimely m e (why.NoClient c) = IsOfClient e c × (numbers_of m.journal c ≡ None)
+IsUntimely m e (why.Used c) = Opens e c × IsSome (numbers_of m.journal c)
+IsUntimely m e (why.NoNode n nodes) = IsOfNode m.journal e n × (nodes ≡ m.config.nodes) × ((n ≡ 0) ⊎ (nodes < n))
+IsUntimely m e (why.NoJob n j len) = IsOfDisk m.config.nodes m.journal e n j len × ((j ≡ 0) ⊎ (len < j))
+IsUntimely m e why.Syntax = ⊥
+IsUntimely m e (why.Config fault) = ⊥
+IsUntimely m e (why.File fault) = ⊥
+IsUntimely m e (why.FormNotBuilt f) = ⊥
 
 -- a limit was reached before the step, or the event would pass that on what a client writes
 abbrev pub Reaches : Machine → Event → What → Type 0
@@ -171,7 +192,7 @@ Refuses s line (why.FormNotBuilt f) = (unbuilt line ≡ Some f) ⊎ ((x : Item) 
 Refuses s line why.Syntax = (unbuilt line ≡ None) × ((x : Item) → ¬ (Stands s line x))
 Refuses s line (why.Config fault) = (x : Item) × StandsFor s line x × IsUnfit s.config x fault
 Refuses s line (why.File fault) = AddsNone s line fault
-Refuses s line cause = (e : Event) × Tries s line e × IsWithinLimits s.machine.journal × IsUntimely s.machine.journal e cause
+Refuses s line cause = (e : Event) × Tries s line e × IsWithinLimits s.machine.journal × IsUntimely s.machine e cause
 
 -- how a line ends the run, after n lines of so many bytes: it holds the byte after the limit, or it is refused, or a
 -- limit is reached

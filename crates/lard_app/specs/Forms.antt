@@ -1,12 +1,8 @@
--- Which lines of a schedule are not built yet: those of some forms, whatever follows their first word, and some uses of
--- the others.
+-- Which lines of a schedule are not built yet: those of some forms, whatever follows their first word.
 use Rattle.std.specs.Prelude.{ℕ, List, [], ◌∷◌, Option, Some, None, bytes_eq}
 use Rattle.std.specs.List.{find}
-use Rattle.lard_base.specs.declared.config.Key.TheVariants as key
 use Rattle.lard_base.specs.declared.event.Event.{Event}
 use Rattle.lard_base.specs.declared.event.Event.TheVariants.{Open, Get, Write, Shut, Abort, Hold, Take, Deliver, Lose, Timer, Disk, Clock, Settle, Inject}
-use Rattle.lard_base.specs.declared.place.Place.{Place}
-use Rattle.lard_base.specs.declared.place.Place.TheVariants.{Front, Node, Client}
 use Rattle.lard_schedule.specs.Words.{first_word}
 use Rattle.lard_app.specs.declared.status.Form.{Form}
 use Rattle.lard_app.specs.declared.status.Form.TheVariants as form
@@ -14,9 +10,7 @@ use Rattle.lard_app.specs.Status.{form_word}
 
 -- the forms of line that are not built
 abbrev pub unbuilt_forms : List Form
-unbuilt_forms =
-    form.Disk ∷ form.Clock ∷ form.Settle ∷ form.Key key.Nodes ∷ form.Key key.Low
-    ∷ form.Key key.High ∷ form.Key key.Age ∷ form.Key key.Idle ∷ form.Key key.Over ∷ form.Key key.Miss ∷ form.Key key.Cache ∷ []
+unbuilt_forms = form.Settle ∷ []
 
 -- the first of the forms whose lines begin with this word
 abbrev pub form_in : List Form → List ℕ → Option Form
@@ -26,13 +20,7 @@ form_in forms word = find (λ f. bytes_eq word (form_word f)) forms
 unfoldable pub unbuilt : List ℕ → Option Form
 unbuilt line = form_in unbuilt_forms (first_word line)
 
--- a node has no timers yet
-abbrev pub missing_timer : Place → Option Form
-missing_timer Front = None
-missing_timer (Node n) = Some form.Timer
-missing_timer (Client c) = None
-
--- the form of an event, where it or this use of it is not built
+-- the form of an event, where it is not built
 abbrev pub missing : Event → Option Form
 missing (Open c isn iss wnd mss) = None
 missing (Get c path) = None
@@ -43,8 +31,8 @@ missing (Hold c) = None
 missing (Take c) = None
 missing (Deliver k) = None
 missing (Lose k) = None
-missing (Timer place c) = missing_timer place
-missing (Disk n j) = Some form.Disk
-missing (Clock ms) = Some form.Clock
+missing (Timer place c) = None
+missing (Disk n j) = None
+missing (Clock ms) = None
 missing (Settle rounds) = Some form.Settle
 missing (Inject c bytes) = None

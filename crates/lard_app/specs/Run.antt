@@ -8,19 +8,14 @@ use Rattle.lard_base.specs.declared.config.Config.{Config}
 use Rattle.lard_base.specs.declared.event.Event.{Event}
 use Rattle.lard_base.specs.declared.limits.TheConstants.{MAX_INPUT_BYTES}
 use Rattle.lard_base.specs.Outside.{WrotePrefix}
+use Rattle.lard_cluster.specs.Machine.{Passes, start}
+use Rattle.lard_cluster.specs.declared.machine.Machine.{Machine}
+use Rattle.lard_cluster_laws.specs.Lawful.{IsLawful}
 use Rattle.lard_files.specs.Files.{file_at}
 use Rattle.lard_grammar.specs.Schedule.{IsSchedule, text_of}
-use Rattle.lard_history.specs.Laws.{AcceptsOnlyAnswers, ActsInPlace, Follows, IsNetwork, IsOwnership, IsSoleSender, ResetsAtTheLimit, ServesTheAnswers, TellsTheTruth, WritesWhileOpen}
+use Rattle.lard_history.specs.Laws.{Follows}
 use Rattle.lard_journal.specs.declared.rec.Rec.{Rec}
-use Rattle.lard_laws_clients.specs.Laws.{TakesInOrder}
-use Rattle.lard_laws_quiet.specs.Prompt.{IsPrompt}
-use Rattle.lard_laws_quiet.specs.Quiet.{IsCompleteWhenQuiet}
-use Rattle.lard_laws_steps.specs.Clients.{KeepsTables}
-use Rattle.lard_laws_steps.specs.Fronts.{TakesOnce}
-use Rattle.lard_laws_steps.specs.Timers.{ChangesInSteps}
 use Rattle.lard_lines.specs.Lines.{lines_of}
-use Rattle.lard_machine.specs.Machine.{Passes, start}
-use Rattle.lard_machine.specs.declared.machine.Machine.{Machine}
 use Rattle.lard_schedule.specs.declared.reader.Stage.TheVariants.{Running}
 use Rattle.lard_app.specs.Causes.{Ends, Leads}
 use Rattle.lard_app.specs.declared.status.Status.{Status}
@@ -97,22 +92,8 @@ pub record Ran (status : Status) (left left_now old new : Option (List ℕ)) : T
   -- the journal is the machine's, after these events, and each step of it is an event's
   pub machine : (m : Machine) × Passes (start config files) events m × (m.journal ≡ journal)
   pub follows : Follows 1 events journal
-  -- the laws that it obeys
-  pub network : IsNetwork journal
-  pub places : ActsInPlace journal
-  pub ownership : IsOwnership journal
-  pub sole_sender : IsSoleSender journal
-  pub writers : WritesWhileOpen journal
-  pub takers : TakesInOrder journal
-  pub tables : KeepsTables journal
-  pub taken_once : TakesOnce journal
-  pub timers : ChangesInSteps journal
-  pub tells : TellsTheTruth (file_at files) journal
-  pub prefix : AcceptsOnlyAnswers (file_at files) journal
-  pub service : ServesTheAnswers (file_at files) journal
-  pub resets : ResetsAtTheLimit config.stream journal
-  pub prompt : IsPrompt journal
-  pub quiet : IsCompleteWhenQuiet (file_at files) journal
+  -- the laws that it obeys, each a field of their record
+  pub laws : IsLawful config (file_at files) journal
   -- The report tells all of this: a text with the same report has the same configuration, files with the same paths and
   -- lengths, and the same journal.
   pub tells_all : (also : List ℕ) → report_of (whole text).0 ≡ report_of (whole also).0

@@ -10,7 +10,7 @@ use Rattle.lard_machine.specs.declared.fault.What.TheVariants.{Input, Packets, P
 use Rattle.lard_app.specs.declared.status.Form.{Form}
 use Rattle.lard_app.specs.declared.status.Form.TheVariants as form
 use Rattle.lard_app.specs.declared.status.Why.{Why}
-use Rattle.lard_app.specs.declared.status.Why.TheVariants.{Syntax, Config, File, NotSent, WasLost, NoClient, Used, FormNotBuilt}
+use Rattle.lard_app.specs.declared.status.Why.TheVariants.{Syntax, Config, File, NotSent, WasLost, NoClient, Used, NoNode, NoJob, FormNotBuilt}
 use Rattle.lard_app.specs.declared.status.Status.{Status}
 use Rattle.lard_app.specs.declared.status.Status.TheVariants.{Done, Usage, Refused, ReadFault, WriteFault, NoMemory, Limit}
 
@@ -69,6 +69,8 @@ why_text line (NotSent k sent) = line_prefix line ++ codes "packet " ++ decimal 
 why_text line (WasLost k) = line_prefix line ++ codes "packet " ++ decimal k ++ codes " was lost"
 why_text line (NoClient c) = line_prefix line ++ codes "client " ++ decimal c ++ codes " not opened"
 why_text line (Used c) = line_prefix line ++ codes "client " ++ decimal c ++ codes " opened before"
+why_text line (NoNode n nodes) = line_prefix line ++ codes "node " ++ decimal n ++ codes " above " ++ decimal nodes
+why_text line (NoJob n j len) = line_prefix line ++ codes "job " ++ decimal j ++ codes " of " ++ decimal len ++ codes " at node " ++ decimal n
 why_text line (FormNotBuilt form) = line_prefix line ++ codes "not built yet: " ++ form_word form
 
 abbrev pub what_word : What → List ℕ

@@ -12,11 +12,6 @@ use crate::replay::Replay;
 use crate::status::Status;
 use lard_base::{InputFault, NoMemory, Sink, Source};
 use lard_journal::report_tells_all;
-use lard_laws_bytes::every_run_is_true;
-use lard_laws_clients::clients_take_what_comes_next;
-use lard_laws_quiet::{acknowledged_requests_are_answered, quiet_connections_are_complete};
-use lard_laws_records::records_are_in_range;
-use lard_laws_steps::{clients_keep_their_tables, the_front_end_takes_once, timers_are_told};
 use lard_lines::Lines;
 use std::alloc::Global;
 
@@ -45,14 +40,6 @@ pub fn run<S: Source, K: Sink>(
     ensures complete { IsReplay words.now → ¬ Rose (S.faults source.old) (S.faults source.new) → ¬ Rose (K.faults sink.old) (K.faults sink.new)
         → IsSettled result (S.left source.old) }
 {
-    every_run_is_true();
-    clients_take_what_comes_next();
-    clients_keep_their_tables();
-    the_front_end_takes_once();
-    timers_are_told();
-    acknowledged_requests_are_answered();
-    quiet_connections_are_complete();
-    records_are_in_range();
     report_tells_all();
     if !asks_replay(words) {
         return Status::Usage;
@@ -86,7 +73,10 @@ fn replay<S: Source, K: Sink>(alloc: Global, source: &mut S, sink: &mut K) -> St
         Ok(lines) => lines,
         Err(NoMemory) => return Status::NoMemory,
     };
-    let mut replay = Replay::new(alloc);
+    let mut replay = match Replay::new(alloc) {
+        Ok(replay) => replay,
+        Err(NoMemory) => return Status::NoMemory,
+    };
     let status = replay_lines(&mut replay, alloc, &mut lines, source, sink);
     replay.finish();
     status

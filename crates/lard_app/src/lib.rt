@@ -2,7 +2,7 @@
 //! what a sink of standard output still holds back behind it.
 //!
 //! It stands at the top of the path. `run` reads its words and the input, the reader of `lard_schedule` makes an item
-//! of each line, the world of `lard_world` does the step of an event, and the step's records go to the sink as lines.
+//! of each line, the world of `lard_cluster_world` does the step of an event, and the step's records go to the sink as lines.
 #![tactic(auto)]
 
 mod commands;

@@ -1,26 +1,27 @@
 //! A replay: what was read of a schedule so far, and the world that its events have led to.
 
-ghost use Rattle.std.specs.Prelude.{◌≡◌, ◌+◌, ◌++◌, ◌≤◌, ◌<◌, ◌^◌, true, false, length, drop, IfOk, OnOk};
+ghost use Rattle.std.specs.Prelude.{◌≡◌, ◌+◌, ◌++◌, ◌≤◌, ◌<◌, ◌^◌, true, false, length, drop, Ok, IfOk, OnOk};
 ghost use Rattle.std.specs.List.{flat_map};
-ghost use Rattle.lard_base.specs.Config.{range_check};
+ghost use Rattle.lard_base.specs.Config.{config_check, range_check};
 ghost use Rattle.lard_files.specs.Files.{add_check};
 ghost use Rattle.lard_journal.specs.Report.{file_text, heading_line, rec_line};
 ghost use Rattle.lard_schedule.specs.Events.{IsInRange};
 ghost use Rattle.lard_schedule.specs.Files.{is_file_path};
 ghost use Rattle.lard_schedule.specs.Reader.{HasRange};
 ghost use Rattle.lard_app.specs.Forms.{missing};
-ghost use Rattle.lard_app.specs.Replay.{CountsFault, IsSound, Passes, Writes, begin, config_set, ended_by, ending, file_ends, filed, gain, item_gain, passed, stepped, taken};
+ghost use Rattle.lard_app.specs.Replay.{CountsFault, IsSound, Passes, Writes, begin, begun, config_set, ended_by, ending, file_ends, filed, gain, item_gain, passed, stepped, taken};
 ghost use Rattle.lard_app.specs.Seen.{Adds, Sets, seen};
 
 use crate::forms::{missing, unbuilt};
 use crate::status::{Status, Why};
 use lard_base::limits::MAX_INPUT_BYTES;
 use lard_base::{Bytes, Config, Event, Failed, Key, NoMemory, Path, Sink, write_all};
+use lard_cluster::StepFault;
+use lard_cluster_world::World;
 use lard_files::{FileFault, Files};
 use lard_journal::{Journal, Rec, file_line, heading, push_line};
-use lard_machine::{StepFault, What};
+use lard_machine::What;
 use lard_schedule::{Item, LineFault, Reader, Stage};
-use lard_world::World;
 use std::alloc::Global;
 use std::mem;
 
@@ -44,20 +45,21 @@ pub struct Replay {
 
 impl Replay {
     /// Nothing was read.
-    pub fn new(alloc: Global) -> Replay
-        ensures begin { seen result ≡ begin }
-        ensures usable { result.world.spoiled ≡ false }
+    pub fn new(alloc: Global) -> Result<Replay, NoMemory>
+        ensures begin { IfOk result (λ replay. seen replay ≡ begin) }
+        ensures usable { IfOk result (λ replay. replay.world.spoiled ≡ false) }
     {
         let config = Config::standard();
-        Replay {
+        let world = World::new(alloc, config, Files::new(alloc))?;
+        Ok(Replay {
             reader: Reader::new(),
             config,
             files: Files::new(alloc),
             listed: Vec::new(alloc),
             lines: 0,
             read: 0,
-            world: World::new(alloc, config, Files::new(alloc)),
-        }
+            world,
+        })
     }
 
     /// Takes a line, which is given without its line feed, and writes what the report gains.
@@ -144,14 +146,26 @@ impl Replay {
         if let Err(fault) = self.config.check() {
             return Err(refused(self.lines, Why::Config(fault)));
         }
-        let files = mem::replace(&mut self.files, Files::new(alloc));
-        let listed = mem::replace(&mut self.listed, Vec::new(alloc));
-        let before = mem::replace(&mut self.world, World::new(alloc, self.config, files));
-        let _empty = before.finish();
-        match preface(alloc, &self.config, listed.as_slice()) {
+        match self.begin(alloc) {
             Ok(text) => return write(sink, text.as_slice()),
             Err(NoMemory) => return Err(Status::NoMemory),
         }
+    }
+
+    /// The world begins with the files. What its report begins with is given back.
+    fn begin(&mut self, alloc: Global) -> Result<Vec<u8>, NoMemory>
+        requires usable { config_check self.old.config ≡ Ok tt }
+        ensures begun { IfOk result (λ text. begun (seen self.old) (Ok tt) ≡ Ok (seen self.new)) }
+        ensures text { IfOk result (λ text. text.items ≡ heading_line self.old.config ++ self.old.listed.items) }
+        ensures usable { IfOk result (λ text. self.new.world.spoiled ≡ false) }
+    {
+        let files = mem::replace(&mut self.files, Files::new(alloc));
+        let listed = mem::replace(&mut self.listed, Vec::new(alloc));
+        let world = World::new(alloc, self.config, files)?;
+        let before = mem::replace(&mut self.world, world);
+        let _empty = before.finish();
+        let text = preface(alloc, &self.config, listed.as_slice())?;
+        Ok(text)
     }
 
     /// Does the step of an event, and writes its records.
@@ -234,6 +248,8 @@ fn ended_by(line: u64, fault: StepFault) -> Status
         StepFault::WasLost(k) => refused(line, Why::WasLost(k)),
         StepFault::NoClient(c) => refused(line, Why::NoClient(c)),
         StepFault::Used(c) => refused(line, Why::Used(c)),
+        StepFault::NoNode { n, nodes } => refused(line, Why::NoNode { n, nodes }),
+        StepFault::NoJob { n, j, len } => refused(line, Why::NoJob { n, j, len }),
         StepFault::Limit(what) => Status::Limit { line, what },
         StepFault::NoMemory => Status::NoMemory,
     }

@@ -50,6 +50,10 @@ pub enum Why {
     NoClient(u32),
     /// It opens the client with this number, which opened before.
     Used(u32),
+    /// It names node `n` where only `nodes` are there.
+    NoNode { n: u32, nodes: u8 },
+    /// It completes the `j`-th job of the disk of node `n`, where only `len` are queued.
+    NoJob { n: u8, j: u32, len: u32 },
     /// It is a line of the schedule whose form, or this use of it, is not built yet.
     FormNotBuilt(Form),
 }
@@ -153,6 +157,8 @@ fn refusal(alloc: Global, line: u64, why: Why) -> Result<String, NoMemory>
         Why::WasLost(k) => return of_packet(text, k, " was lost"),
         Why::NoClient(c) => return of_client(text, c, " not opened"),
         Why::Used(c) => return of_client(text, c, " opened before"),
+        Why::NoNode { n, nodes } => return no_node(text, n, nodes),
+        Why::NoJob { n, j, len } => return no_job(text, n, j, len),
         Why::FormNotBuilt(form) => return not_built(text, form),
     }
 }
@@ -231,6 +237,23 @@ fn of_client(mut text: String, c: u32, words: &str) -> Result<String, NoMemory>
     push_number(&mut text, u64::from(c))?;
     text.push_str(words)?;
     Ok(text)
+}
+
+/// A text, and then that this node is not among those that are there.
+fn no_node(text: String, n: u32, nodes: u8) -> Result<String, NoMemory>
+    ensures { IfOk result (λ longer. string_bytes longer ≡ string_bytes text ++ codes "node " ++ decimal n ++ codes " above " ++ decimal nodes) }
+{
+    let longer = counted(text, "node ", u64::from(n))?;
+    counted(longer, " above ", u64::from(nodes))
+}
+
+/// A text, and then that this job is not among those that are queued at a node.
+fn no_job(text: String, n: u8, j: u32, len: u32) -> Result<String, NoMemory>
+    ensures { IfOk result (λ longer. string_bytes longer ≡ string_bytes text ++ codes "job " ++ decimal j ++ codes " of " ++ decimal len ++ codes " at node " ++ decimal n) }
+{
+    let job = counted(text, "job ", u64::from(j))?;
+    let longer = counted(job, " of ", u64::from(len))?;
+    counted(longer, " at node ", u64::from(n))
 }
 
 /// A text, and then a form that is not built.

@@ -1,23 +1,19 @@
 -- What is read of a message between places is what was said: of an Offer, a Forward and an Ended.
-use Rattle.std.proofs.Common.{◌≡◌, ◌≤◌, ◌<◌, ◌+◌, ◌-◌, ◌^◌, ℕ, not, ◌==◌, ◌&&◌, nat_le, nat_lt, List, [], ◌∷◌, ◌++◌, length, Option, Some, None, Result, Ok, arith, ap, ◌∙◌, sym, subst}
+use Rattle.std.proofs.Common.{◌≡◌, ◌≤◌, ◌<◌, ◌-◌, ◌^◌, ℕ, List, [], ◌∷◌, ◌++◌, length, Some, Result, Ok, arith, ap, ◌∙◌, sym, subst}
 use Rattle.std.specs.Int.{to_be_bytes, w32}
-use Rattle.lard_base.specs.declared.ids.TheConstants.ConnId.{MAX}
 use Rattle.lard_base.specs.declared.parts.EndpointParts.{EndpointParts}
 use Rattle.lard_base.specs.declared.place.Reason.{Reason}
 use Rattle.lard_cluster_bytes.specs.Agreement.{EndedIt}
 use Rattle.lard_cluster_bytes.specs.Keeping.{EndsAreRead, ForwardsAreRead, OffersAreRead}
-use Rattle.lard_cluster_places.proofs.Heads.{let-through, made, named-again}
+use Rattle.lard_cluster_places.proofs.Heads.{spelled-body}
 use Rattle.lard_endpoint.specs.Moving.{parts_of}
 use Rattle.lard_endpoint.proofs.Adoption.{parts-valid}
 use Rattle.lard_message.specs.declared.fault.MsgFault.{MsgFault}
-use Rattle.lard_message.specs.declared.fault.MsgFault.TheVariants as fault
-use Rattle.lard_message.specs.declared.kind.Kind.{Kind}
 use Rattle.lard_message.specs.declared.message.Body.{Body}
 use Rattle.lard_message.specs.declared.message.Body.TheVariants as body
 use Rattle.lard_message.specs.declared.message.Message.{Message}
-use Rattle.lard_message.specs.Kinds.{is_version, number_of, version_of}
-use Rattle.lard_message.specs.Message.{IsMessage, body_bytes, header_bytes, kind_of, reason_byte, spelled_message}
-use Rattle.lard_message.specs.Reading.{body_at, connection_at, decoded_message, ended_at, epoch_at, is_of_table, length_at, number_at, reason_at, version_at, with_body, with_kind}
+use Rattle.lard_message.specs.Message.{IsMessage, body_bytes, reason_byte}
+use Rattle.lard_message.specs.Reading.{ended_at, number_at, reason_at}
 use Rattle.lard_message.proofs.Fields.{bind_then, number_again, reason_again, some_same, wide32}
 use Rattle.lard_message.proofs.Whole.{again}
 
@@ -49,29 +45,6 @@ offers-read c e w out vs pend b count number small is h frozen m parts decodes o
     let one : x ≡ m = ok-same x m same in
     let bodies : body.Offer (parts_of b count) ≡ body.Offer parts = ap (λ (y : Message). y.body) one ∙ offer in
     sym (ap (offer_parts (parts_of b count)) bodies)
-
--- ---- what is read of what was spelled
-
-module _ (x m : Message) where
-  made-body : (o : Option (Body × List ℕ)) → with_body (connection_at (spelled_message x)) (epoch_at (spelled_message x)) o ≡ Ok m → (rest : List ℕ) × (o ≡ Some (m.body, rest))
-  made-body None h = absurd cc
-  made-body (Some (b, rest)) h =
-      let new : Message = record { c = connection_at (spelled_message x); epoch = record { 0 = epoch_at (spelled_message x) }; body = b } in
-      let is : new ≡ m = made (length rest == 0 && is_of_table b) new m fault.Field h in
-      (rest, ap (λ (y : Message). Some (y.body, rest)) is)
-
-  pub spelled-body : decoded_message (spelled_message x) ≡ Ok m → (rest : List ℕ) × (body_at (kind_of x.body) (body_bytes x.body) ≡ Some (m.body, rest))
-  unfolding decoded_message spelled_message
-  spelled-body h =
-      let k : Kind = kind_of x.body in
-      let bytes : List ℕ = header_bytes (version_of k) (number_of k) x.c x.epoch.0 (length (body_bytes x.body)) ++ body_bytes x.body in
-      let a = let-through (nat_lt (length bytes) 10) fault.Short _ m h in
-      let b = let-through (not (is_version (version_at bytes))) fault.Version _ m a in
-      let named : with_kind bytes (Some k) ≡ Ok m = subst (λ (o : Option Kind). with_kind bytes o ≡ Ok m) (named-again k) b in
-      let d = let-through (nat_lt (length bytes) (10 + length_at bytes)) fault.Length _ m named in
-      let f = let-through (nat_lt (10 + length_at bytes) (length bytes)) fault.Trailing _ m d in
-      let g = let-through (not (nat_le 1 (connection_at bytes) && nat_le (connection_at bytes) MAX)) fault.Field _ m f in
-      made-body (body_at k (body_bytes x.body)) g
 
 -- ---- a Forward
 

@@ -53,7 +53,7 @@ module _ (k : Setting) (small : k.stream ≤ 2 ^ 30) where
       admitted = admitted-stays k small;
     };
     node = nodes k small;
-    ignores = ignores-stays k small;
+    ignores = λ x from to bytes was. ignores-stays k small x from to bytes was.0;
   }
 
   abbrev Owed : Conn → Move → Type 0

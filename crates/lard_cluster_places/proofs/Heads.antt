@@ -1,5 +1,5 @@
 -- The head of a message that was spelled, and of bytes that were decoded.
-use Rattle.std.proofs.Common.{◌≡◌, ℕ, ◌+◌, ◌<◌, ◌^◌, Bool, true, false, cond, not, ◌==◌, ◌&&◌, nat_le, nat_lt, List, [], ◌++◌, drop, length, option_map, Option, Some, None, Result, Ok, Err, refl, sym, ap, ◌∙◌}
+use Rattle.std.proofs.Common.{◌≡◌, ℕ, ◌+◌, ◌<◌, ◌^◌, Bool, true, false, cond, not, ◌==◌, ◌&&◌, nat_le, nat_lt, List, [], ◌++◌, drop, length, option_map, Option, Some, None, Result, Ok, Err, refl, sym, ap, ◌∙◌, subst}
 use Rattle.std.specs.Int.{w32}
 use Rattle.std.proofs.lemmas.Nat.{from_be_bytes-to_be_bytes_2}
 use Rattle.lard_base.specs.declared.ids.TheConstants.ConnId.{MAX}
@@ -137,3 +137,26 @@ module _ (bytes : List ℕ) (m : Message) where
       let a = let-through (nat_lt (length bytes) 10) fault.Short _ m h in
       let b = let-through (not (is_version (version_at bytes))) fault.Version _ m a in
       by-kind (kind_named (version_at bytes) (number_byte bytes)) b
+
+-- ---- what is read of what was spelled
+
+module _ (x m : Message) where
+  made-body : (o : Option (Body × List ℕ)) → with_body (connection_at (spelled_message x)) (epoch_at (spelled_message x)) o ≡ Ok m → (rest : List ℕ) × (o ≡ Some (m.body, rest))
+  made-body None h = absurd cc
+  made-body (Some (b, rest)) h =
+      let new : Message = record { c = connection_at (spelled_message x); epoch = record { 0 = epoch_at (spelled_message x) }; body = b } in
+      let is : new ≡ m = made (length rest == 0 && is_of_table b) new m fault.Field h in
+      (rest, ap (λ (y : Message). Some (y.body, rest)) is)
+
+  pub spelled-body : decoded_message (spelled_message x) ≡ Ok m → (rest : List ℕ) × (body_at (kind_of x.body) (body_bytes x.body) ≡ Some (m.body, rest))
+  unfolding decoded_message spelled_message
+  spelled-body h =
+      let k : Kind = kind_of x.body in
+      let bytes : List ℕ = header_bytes (version_of k) (number_of k) x.c x.epoch.0 (length (body_bytes x.body)) ++ body_bytes x.body in
+      let a = let-through (nat_lt (length bytes) 10) fault.Short _ m h in
+      let b = let-through (not (is_version (version_at bytes))) fault.Version _ m a in
+      let named : with_kind bytes (Some k) ≡ Ok m = subst (λ (o : Option Kind). with_kind bytes o ≡ Ok m) (named-again k) b in
+      let d = let-through (nat_lt (length bytes) (10 + length_at bytes)) fault.Length _ m named in
+      let f = let-through (nat_lt (10 + length_at bytes) (length bytes)) fault.Trailing _ m d in
+      let g = let-through (not (nat_le 1 (connection_at bytes) && nat_le (connection_at bytes) MAX)) fault.Field _ m f in
+      made-body (body_at k (body_bytes x.body)) g

@@ -65,7 +65,7 @@ by-node n m P same other = go (m == n) refl where
   go false e = other (λ is. let yes : true ≡ false = sym (eq-eqb m n is) ∙ e in cc)
 
 -- a row that holds an endpoint is not past
-past-held : (e : ℕ) (o : Option BackRow) (row : BackRow) (b : ControlBlock) → o ≡ Some row → row.stage ≡ back.Here b → IsPast e o → ⊥
+pub past-held : (e : ℕ) (o : Option BackRow) (row : BackRow) (b : ControlBlock) → o ≡ Some row → row.stage ≡ back.Here b → IsPast e o → ⊥
 past-held e o row b is at h =
     let past : IsPast e (Some row) = subst (IsPast e) is h in subst IsLeft at past.1
 

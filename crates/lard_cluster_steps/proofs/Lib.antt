@@ -1,2 +1,4 @@
 pub mod Following
 pub mod Linking
+pub mod Places
+pub mod Timers

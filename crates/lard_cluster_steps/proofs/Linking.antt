@@ -174,7 +174,7 @@ module _ (m : Machine) (l : IsLinked m) where
     two = λ w e place a b rows c d heads p r act does too. told-linked w e place (both_out a b rows) act.put act.begins.acts
         (both-plain a b rows (said-plain place c a act.said (timers-idle place c (part_of m c) p a.timers act.timers))
         (said-plain place d (record b { answered = 0 }) act.said_too (timers-idle place d (part_of m d) r b.timers act.timers_too)) act.order);
-    nobody = λ k q at there. delivers m.journal m.net m.answered (m.events + 1) k q at there l;
+    nobody = λ k q at there. delivers m.journal m.net m.answered (m.events + 1) k q at there.0 l;
     loses = λ k q at there. loses m.journal m.net m.answered (m.events + 1) k q at there l;
     clocks = passed-linked;
   }

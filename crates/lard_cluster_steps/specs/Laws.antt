@@ -5,7 +5,7 @@ use Rattle.lard_base.specs.declared.event.Event.{Event}
 use Rattle.lard_cluster.specs.declared.machine.Machine.{Machine}
 use Rattle.lard_cluster.specs.Machine.{IsReached, Passes, start}
 use Rattle.lard_history.specs.Journal.{answered_bytes}
-use Rattle.lard_history.specs.Laws.{Follows, IsNetwork}
+use Rattle.lard_history.specs.Laws.{ActsInPlace, Follows, IsNetwork, KeepsTime}
 use Rattle.lard_laws_places.specs.Places.{IsNetOf}
 
 -- it is so of each state that events lead to
@@ -26,6 +26,14 @@ ResponsesAreCounted = Always (λ m. answered_bytes m.journal ≡ m.answered)
 -- lost.
 abbrev pub NetworksAreLawful : Type 0
 NetworksAreLawful = Always (λ m. IsNetwork m.journal)
+
+-- What a record says of a place, the place that acts in its step says.
+abbrev pub PlacesAreLawful : Type 0
+PlacesAreLawful = Always (λ m. ActsInPlace m.journal)
+
+-- The time is told in steps of the clock alone, and each tells the sum of all before.
+abbrev pub TimesAreLawful : Type 0
+TimesAreLawful = Always (λ m. KeepsTime m.journal)
 
 -- It is the steps of the events, each with its number.
 abbrev pub JournalsFollow : Type 0

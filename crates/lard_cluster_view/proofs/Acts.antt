@@ -1,5 +1,5 @@
 -- The connections that move in a step, and the step's records with the numbers that they have.
-use Rattle.std.proofs.Common.{◌≡◌, ◌≢◌, ℕ, ◌+◌, List, [], ◌∷◌, ◌++◌, length, Ok, refl, ap, ◌∙◌, inl, inr, ⊎_elim}
+use Rattle.std.proofs.Common.{◌≡◌, ◌≢◌, ℕ, ◌+◌, List, [], ◌∷◌, ◌++◌, map, length, Ok, refl, ap, ◌∙◌, inl, inr, ⊎_elim}
 use Rattle.std.specs.Prelude.{◌⊎◌}
 use Rattle.lard_base.specs.declared.event.Event.{Event}
 use Rattle.lard_base.specs.declared.event.Event.TheVariants as event
@@ -9,10 +9,10 @@ use Rattle.lard_cluster.specs.Bounds.{HasRule, IsNumber}
 use Rattle.lard_cluster.specs.Machine.{clocked, machine_step, told}
 use Rattle.lard_cluster_view.specs.View.{Conn, IsViewed, Move, Part, Rules, conn, part_of, setting_of, timer_rows}
 use Rattle.lard_cluster_view.proofs.Heads.{ActsAt}
-use Rattle.lard_cluster_view.proofs.Saying.{NotedAt}
+use Rattle.lard_cluster_view.proofs.Saying.{NotedAt, notes-all}
 use Rattle.lard_cluster_view.proofs.Shapes.{ActsOn, ActsOnTwo, Shapes, both_out, move_of}
 use Rattle.lard_cluster_view.proofs.Stepping.{step-has}
-use Rattle.lard_history.specs.Own.{Seen}
+use Rattle.lard_history.specs.Own.{Row, Seen, seen_on}
 use Rattle.lard_history.proofs.Each.{Each}
 use Rattle.lard_journal.specs.declared.rec.Rec.{Rec}
 use Rattle.lard_journal.specs.declared.rec.Rec.TheVariants as rec
@@ -34,6 +34,7 @@ pub record Moves (P : Conn → Move → Type 0) (m : Machine) (e : Event) (c : �
   pub event : Each (IsHead e) move.heads
   pub came : Each (IsDelivered m.net e) move.heads
   pub notes : Each (NotedAt move.place c) noted
+  pub seen : (net : List Packet) → seen_on c net noted ≡ map Row move.said.notes
 
 -- It moves alone, and its move's records stand behind those of the event.
 pub record ActsAlone (P : Conn → Move → Type 0) (m : Machine) (e : Event) (adds : List Rec) : Type 0 where
@@ -91,7 +92,7 @@ module _ (m : Machine) (P : Conn → Move → Type 0) where
       c = c;
       move = move_of place heads ns o p;
       noted = o.notes;
-      moves = record { number = act.number; does = does; event = act.begins.event; came = act.begins.came; notes = act.said.notes };
+      moves = record { number = act.number; does = does; event = act.begins.event; came = act.begins.came; notes = act.said.notes; seen = act.notes };
       acts = act.begins.acts;
       are = ap (λ (rs : List Rec). said_rows (behind e) m.net place o.notes o.segments o.gave o.messages rs) act.timers;
     }));
@@ -111,8 +112,15 @@ module _ (m : Machine) (P : Conn → Move → Type 0) where
       first = move_of place heads a.notes a p;
       second = move_of place [] b.notes b r;
       place = refl;
-      moves = record { number = act.number; does = does; event = act.begins.event; came = act.begins.came; notes = act.said.notes };
-      moves_too = record { number = act.number_too; does = too; event = tt; came = tt; notes = act.said_too.notes };
+      moves = record {
+        number = act.number;
+        does = does;
+        event = act.begins.event;
+        came = act.begins.came;
+        notes = act.said.notes;
+        seen = λ net. notes-all place c net a.notes act.names act.said.notes;
+      };
+      moves_too = record { number = act.number_too; does = too; event = tt; came = tt; notes = act.said_too.notes; seen = λ net. notes-all place d net b.notes act.names act.said_too.notes };
       acts = act.begins.acts;
       timers = rows;
       order = ordered act.order act.timers act.timers_too;

@@ -242,7 +242,8 @@ module _ (m : Machine) (known : net_of m.journal ≡ m.net) where
         (said-still place d (record b { answered = 0 }) 0 refl act.said_too (timers-still place d (part_of m d) r b.timers act.timers_too)) act.order);
     nobody = λ k l at there. passed-after m (event.Deliver k) (rec.Got k) refl refl refl (own-alone (event.Deliver k) (rec.Got k ∷ []) refl) (λ n. refl) refl refl refl refl refl;
     loses = λ k l at there. passed-after (record m { net = lose_at (k - 1) m.net }) (event.Lose k) (rec.Lost k) refl refl refl (own-alone (event.Lose k) (rec.Lost k ∷ []) refl) (λ n. refl) refl refl refl refl refl;
-    clocks = λ ms. passed-after (record m { now = m.now + ms }) (event.Clock ms) (rec.Clock (record { 0 = m.now + ms })) refl refl refl ([], rec.Clock (record { 0 = m.now + ms }) ∷ [], refl, refl, refl) (λ n. refl) refl refl refl refl refl;
+    clocks = λ ms. passed-after (record m { now = m.now + ms }) (event.Clock ms) (rec.Clock (record { 0 = m.now + ms })) refl refl refl
+        (own-alone (event.Clock ms) (rec.Clock (record { 0 = m.now + ms }) ∷ []) (record { 0 = m.now + ms }, refl)) (λ n. refl) refl refl refl refl refl;
   }
 
 pub step-after : (m : Machine) → IsViewed m → (e : Event) (n : Machine) → HasRule e → machine_step m e ≡ Ok n → IsAfter m e n

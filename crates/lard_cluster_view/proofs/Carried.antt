@@ -69,7 +69,7 @@ module _ (config : Config) (files : List (List ℕ × List ℕ)) where
     pub files_are : m.files ≡ files
 
   pub on-setting : (m : Machine) → IsOn m → setting config files ≡ setting_of m
-  on-setting m on = λ i. record { files = file_at (sym on.files_are i); stream = (sym on.config_is i).stream }
+  on-setting m on = λ i. record { files = file_at (sym on.files_are i); stream = (sym on.config_is i).stream; nodes = (sym on.config_is i).nodes }
 
   on-more : (m n : Machine) (e : Event) → IsOn m → HasRule e → machine_step m e ≡ Ok n → IsOn n
   on-more m n e on rule is = let after : IsAfter m e n = step-after m on.view e n rule is in record {

@@ -134,17 +134,17 @@ module _ (k : Setting) (P : Conn → Move → Type 0) where
   -- a law of clients: by their rules, and one lemma for all machines
   pub by_clients : ClientRules k (Owed P) → ((x : Conn) (v : Move) → ByMachine x v)
       → ((x : Conn) (from to : Place) (bytes : List ℕ) → Was x from to bytes → Owed P x (stands x to (packet_seen from to bytes) nothing_said)) → UntouchedRules k (Owed P)
-  by_clients clients others ignoring = record { client = clients; front = fronts-leave others; node = nodes-leave others; ignores = ignoring }
+  by_clients clients others ignoring = record { client = clients; front = fronts-leave others; node = nodes-leave others; ignores = λ x from to bytes was. ignoring x from to bytes was.0 }
 
   -- a law of the front end: by its rules, and one lemma for all clients and one for all nodes
   pub by_front : FrontRules k (Owed P) → ((x : Conn) (v : Move) → ByClient x v) → ((x : Conn) (v : Move) → ByMachine x v)
       → ((x : Conn) (from to : Place) (bytes : List ℕ) → Was x from to bytes → Owed P x (stands x to (packet_seen from to bytes) nothing_said)) → UntouchedRules k (Owed P)
-  by_front fronts clients others ignoring = record { client = clients-leave clients; front = fronts; node = nodes-leave others; ignores = ignoring }
+  by_front fronts clients others ignoring = record { client = clients-leave clients; front = fronts; node = nodes-leave others; ignores = λ x from to bytes was. ignoring x from to bytes was.0 }
 
   -- a law of nodes: by their rules, and one lemma for all clients and one for the front end
   pub by_nodes : NodeRules k (Owed P) → ((x : Conn) (v : Move) → ByClient x v) → ((x : Conn) (v : Move) → ByMachine x v)
       → ((x : Conn) (from to : Place) (bytes : List ℕ) → Was x from to bytes → Owed P x (stands x to (packet_seen from to bytes) nothing_said)) → UntouchedRules k (Owed P)
-  by_nodes nodes clients others ignoring = record { client = clients-leave clients; front = fronts-leave others; node = nodes; ignores = ignoring }
+  by_nodes nodes clients others ignoring = record { client = clients-leave clients; front = fronts-leave others; node = nodes; ignores = λ x from to bytes was. ignoring x from to bytes was.0 }
 
 -- a law may rest on the number and on what is sound
 module _ (k : Setting) (Given : Conn → Type 0) (P : Conn → Move → Type 0) where

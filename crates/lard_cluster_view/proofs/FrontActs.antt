@@ -22,7 +22,7 @@ use Rattle.lard_history.specs.Own.{Seen}
 use Rattle.lard_view.proofs.Shapes.{behind}
 
 pub front-put : (m : Machine) (s : FrontState) → IsPut m (record m { front = s })
-front-put m s = record { config = refl; files = refl; net = refl; journal = refl; events = refl; answered = refl; nodes = refl; jobs = λ h. h }
+front-put m s = record { config = refl; files = refl; net = refl; journal = refl; events = refl; answered = refl; now = refl; nodes = refl; jobs = λ h. h }
 
 module _ (m : Machine) (P : Conn → Move → Type 0) (Q : Event → Machine → Type 0) (shapes : Shapes m P Q) (e : Event) (c : ℕ) (heads : List Seen) (number : IsNumber c) (begins : Begins m e Front c heads)
     (own : AreOwn e (behind e)) where

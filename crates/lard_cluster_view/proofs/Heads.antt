@@ -18,10 +18,9 @@ use Rattle.lard_net.specs.Net.{Packet, packet_at}
 use Rattle.lard_view.proofs.Acts.{IsDelivered, IsHead}
 use Rattle.lard_view.proofs.Shapes.{IsAside, behind}
 
--- the place acts in the step of the event: it is named, a packet comes to it, or a job of its disk is completed
+-- the place acts in the step of the event: it is named, or a packet comes to it
 abbrev pub ActsAt : List Packet → Event → Place → Type 0
 ActsAt net (event.Deliver k) place = (l : Packet) × (packet_at net k ≡ Some l) × (l.lost ≡ false) × (l.to ≡ place)
-ActsAt net (event.Disk n j) place = Node n ≡ place
 ActsAt net e place = (J : List Rec) → acting_in J e ≡ Some place
 
 -- Connection c sees these heads of an event and of what stands directly behind it, and no other sees any of it. The place acts.
@@ -108,4 +107,4 @@ comes-to-none m k p at none i q = ap (λ o. came q o ++ []) at ∙ ap (λ o. one
 -- ---- of a job of a disk, which names none
 
 pub completes : (m : Machine) (n j c : ℕ) → Begins m (event.Disk n j) (Node n) c []
-completes m n j c = record { mine = λ i. refl; others = λ i q n. refl; still = tt; uncounted = λ n. refl; acts = refl; event = tt; came = tt }
+completes m n j c = record { mine = λ i. refl; others = λ i q n. refl; still = tt; uncounted = λ n. refl; acts = λ J. refl; event = tt; came = tt }

@@ -54,6 +54,7 @@ module _ (m : Machine) (n : ℕ) (s t : NodeState) (at : node_at m.nodes n ≡ S
     journal = refl;
     events = refl;
     answered = refl;
+    now = refl;
     nodes = length-set m.nodes (n - 1) t;
     jobs = jobs-put of;
   }

@@ -1,18 +1,20 @@
 -- The shapes of a step: a place acts on one connection, the front end acts on two, a packet comes and nothing is done, a packet is
 -- lost, or the time moves on.
-use Rattle.std.proofs.Common.{◌≡◌, ◌≢◌, ℕ, ◌-◌, List, [], ◌∷◌, ◌++◌, map, length, false, Some}
+use Rattle.std.proofs.Common.{◌≡◌, ◌≢◌, ℕ, ◌-◌, List, [], ◌∷◌, ◌++◌, map, length, false, Some, None}
 use Rattle.std.specs.Prelude.{◌⊎◌}
+use Rattle.std.specs.FinMap as table
 use Rattle.lard_base.specs.declared.event.Event.{Event}
 use Rattle.lard_base.specs.declared.event.Event.TheVariants as event
 use Rattle.lard_base.specs.declared.place.Place.{Place}
+use Rattle.lard_base.specs.declared.place.Place.TheVariants.{Client}
 use Rattle.lard_cluster.specs.declared.machine.Machine.{Machine}
 use Rattle.lard_cluster.specs.Bounds.{IsNumber}
 use Rattle.lard_cluster.specs.Machine.{clocked, node_at, passed, told}
-use Rattle.lard_cluster_view.specs.View.{AreNumbered, Conn, Move, Part, conn, part_of, timer_rows}
+use Rattle.lard_cluster_view.specs.View.{AreNumbered, Conn, Move, Part, conn, part_of, timer_rows, IsUnheard}
 use Rattle.lard_cluster_view.proofs.Heads.{Begins}
 use Rattle.lard_cluster_view.proofs.Saying.{NamesAll}
 use Rattle.lard_cluster_view.proofs.Turned.{IsSaid}
-use Rattle.lard_history.specs.Own.{Seen, Row, seen_on}
+use Rattle.lard_history.specs.Own.{Seen, Row, seen_on, conn_of}
 use Rattle.lard_journal.specs.declared.rec.Rec.{Rec}
 use Rattle.lard_journal.specs.declared.rec.Rec.TheVariants as rec
 use Rattle.lard_net.specs.Net.{Packet, lose_at, packet_at}
@@ -33,6 +35,7 @@ pub record IsPut (m w : Machine) : Type 0 where
   pub journal : w.journal ≡ m.journal
   pub events : w.events ≡ m.events
   pub answered : w.answered ≡ m.answered
+  pub now : w.now ≡ m.now
   pub nodes : length w.nodes ≡ length m.nodes
   pub jobs : HasJobs m → HasJobs w
 
@@ -74,12 +77,20 @@ pub record ActsOnTwo (m w : Machine) (e : Event) (place : Place) (a b : Out) (ro
   pub mine_too : part_of w d ≡ r
   pub others : (q : ℕ) → q ≢ c → q ≢ d → part_of w q ≡ part_of m q
 
+-- a packet that goes there comes to nobody who acts
+abbrev pub IsNobodyAt : Machine → Place → Type 0
+IsNobodyAt m to = (c : ℕ) → to ≡ Client c → table.get m.clients c ≡ None
+
+-- and no rule hears it
+abbrev pub IsUnheardAt : Machine → Packet → Type 0
+IsUnheardAt m l = (d : ℕ) → conn_of l.from l.to l.bytes ≡ Some d → IsUnheard m.config.nodes (table.get m.clients d) l.from l.to l.bytes
+
 -- Q is so of each shape that a step from m may have, where P is so of the moves that a place makes.
 pub record Shapes (m : Machine) (P : Conn → Move → Type 0) (Q : Event → Machine → Type 0) : Type 0 where
   pub one : (w : Machine) (e : Event) (place : Place) (o : Out) (c : ℕ) (heads : List Seen) (ns : List Rec) (p : Part) → ActsOn m w e place o c heads ns p
       → P (conn m c) (move_of place heads ns o p) → Q e (told w e (behind e) place o)
   pub two : (w : Machine) (e : Event) (place : Place) (a b : Out) (rows : List Rec) (c d : ℕ) (heads : List Seen) (p r : Part) → ActsOnTwo m w e place a b rows c d heads p r
       → P (conn m c) (move_of place heads a.notes a p) → P (conn m d) (move_of place [] b.notes b r) → Q e (told w e (behind e) place (both_out a b rows))
-  pub nobody : (k : ℕ) (l : Packet) → packet_at m.net k ≡ Some l → l.lost ≡ false → Q (event.Deliver k) (passed m (event.Deliver k) (rec.Got k ∷ []))
+  pub nobody : (k : ℕ) (l : Packet) → packet_at m.net k ≡ Some l → (l.lost ≡ false) × IsNobodyAt m l.to × IsUnheardAt m l → Q (event.Deliver k) (passed m (event.Deliver k) (rec.Got k ∷ []))
   pub loses : (k : ℕ) (l : Packet) → packet_at m.net k ≡ Some l → l.lost ≡ false → Q (event.Lose k) (passed (record m { net = lose_at (k - 1) m.net }) (event.Lose k) (rec.Lost k ∷ []))
   pub clocks : (ms : ℕ) → Q (event.Clock ms) (clocked m ms)

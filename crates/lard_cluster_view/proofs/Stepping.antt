@@ -1,5 +1,5 @@
 -- A step that is done has one of the shapes.
-use Rattle.std.proofs.Common.{◌≡◌, ℕ, ◌-◌, Bool, true, false, cond, nat_lt, List, [], ◌∷◌, length, Option, Some, None, Result, Ok, Err, refl, sym, ap, subst, ◌++◌}
+use Rattle.std.proofs.Common.{◌≡◌, ℕ, ◌-◌, Bool, true, false, cond, nat_lt, List, [], ◌∷◌, length, Option, Some, None, Result, Ok, Err, refl, sym, ap, ◌∙◌, subst, ◌++◌}
 use Rattle.std.specs.FinMap as table
 use Rattle.lard_base.specs.declared.event.Event.{Event}
 use Rattle.lard_base.specs.declared.event.Event.TheVariants as event
@@ -11,7 +11,7 @@ use Rattle.lard_cluster.specs.declared.fault.StepFault.TheVariants.{Limit, NoJob
 use Rattle.lard_cluster.specs.declared.machine.Machine.{Machine}
 use Rattle.lard_cluster.specs.Bounds.{HasRule}
 use Rattle.lard_cluster.specs.Machine.{client_does, client_goes_on, completes, delivered, disk_at, from_place, happens, is_no_job, is_no_node, limit_reached, lost, machine_step, node_acts, node_at, node_gave, node_setting, opened, passed, timer, to_client, to_front, to_place, unless_limit, wrote}
-use Rattle.lard_cluster_view.specs.View.{Conn, IsViewed, Move, Rules, conn, packet_seen, part_of, setting_of, station_armed}
+use Rattle.lard_cluster_view.specs.View.{Conn, IsUnheard, IsViewed, Move, Rules, conn, packet_seen, part_of, setting_of, station_armed}
 use Rattle.lard_cluster_view.specs.View as moves
 use Rattle.lard_cluster_view.proofs.Clients.{client-acts}
 use Rattle.lard_cluster_view.proofs.Heads.{Begins, comes, names, was}
@@ -110,14 +110,32 @@ module _ (m : Machine) (view : IsViewed m) (P : Conn → Move → Type 0) (R : R
     -- ---- packets
 
     module _ (k : ℕ) (p : Packet) (at : packet_at m.net k ≡ Some p) (there : p.lost ≡ false) where
+      -- a packet that no rule hears, by where it comes from and goes
+      unheard-as : (d : ℕ) (from to : Place) → p.from ≡ from → p.to ≡ to → IsUnheard m.config.nodes (table.get m.clients d) from to p.bytes → IsUnheard m.config.nodes (table.get m.clients d) p.from p.to p.bytes
+      unheard-as d from to is-from is-to h =
+          subst (λ (f : Place). IsUnheard m.config.nodes (table.get m.clients d) f p.to p.bytes) (sym is-from)
+          (subst (λ (t : Place). IsUnheard m.config.nodes (table.get m.clients d) from t p.bytes) (sym is-to) h)
+
+      number-same : (c d : ℕ) → Some c ≡ Some d → c ≡ d
+      number-same c d e = cc
+
       front-is : (c : ℕ) (o : Option Station) → p.from ≡ Client c → p.to ≡ Front → table.get m.clients c ≡ o → Q (event.Deliver k) (to_front m k p.bytes c o)
-      front-is c None from to is = shapes.nobody k p at there
+      front-is c None from to is = shapes.nobody k p at (
+        there,
+        (λ d goal. let no : Front ≡ Client d = sym to ∙ goal in absurd cc),
+        λ d named.
+            let same : c ≡ d = number-same c d (sym (ap (λ (f : Place). conn_of f p.to p.bytes) from) ∙ named) in
+            unheard-as d (Client c) Front from to (subst (λ (q : ℕ). table.get m.clients q ≡ None) same is),
+      )
       front-is c (Some x) from to is = front-gets m view P R Q shapes c x is k p at there from to
 
       from-is : (from : Place) → p.from ≡ from → p.to ≡ Front → Q (event.Deliver k) (from_place m k p.bytes from)
       from-is (Client c) from to = front-is c (table.get m.clients c) from to refl
-      from-is Front from to = shapes.nobody k p at there
+      from-is Front from to = shapes.nobody k p at (there, (λ d goal. let no : Front ≡ Client d = sym to ∙ goal in absurd cc), λ d named. unheard-as d Front Front from to tt)
       from-is (Node i) from to = front-message m view P R Q shapes k p at there i from to (decoded_message p.bytes) refl
+
+      one-client : (c d : ℕ) → Client c ≡ Client d → c ≡ d
+      one-client c d e = cc
 
       -- a packet that comes to a client is of its connection
       client-of : (c : ℕ) (from : Place) → p.from ≡ from → p.to ≡ Client c → conn_of from (Client c) p.bytes ≡ Some c
@@ -128,7 +146,12 @@ module _ (m : Machine) (view : IsViewed m) (P : Conn → Move → Type 0) (R : R
 
       client-is : (c : ℕ) (o : Option Station) → p.to ≡ Client c → table.get m.clients c ≡ o → Q (event.Deliver k) (to_client m k p.bytes c o)
       unfolding conn part_of
-      client-is c None to is = shapes.nobody k p at there
+      client-is c None to is =
+          shapes.nobody k p at (there, (λ d goal. let same : c ≡ d = one-client c d (sym to ∙ goal) in subst (λ (q : ℕ). table.get m.clients q ≡ None) same is), λ d named. unheard-as d p.from (Client c) refl to (to-client d p.from)) where
+            to-client : (d : ℕ) (from : Place) → IsUnheard m.config.nodes (table.get m.clients d) from (Client c) p.bytes
+            to-client d Front = tt
+            to-client d (Node i) = tt
+            to-client d (Client q) = tt
       client-is c (Some x) to is =
           let of : conn_of p.from (Client c) p.bytes ≡ Some c = client-of c p.from refl to in
           goes-on (event.Deliver k) c x (client_gets x.client (decoded p.bytes c ToClient)) _ is (comes m k c p at p.from (Client c) refl to of there)
@@ -136,7 +159,17 @@ module _ (m : Machine) (view : IsViewed m) (P : Conn → Move → Type 0) (R : R
           (rec.Got k ∷ [], (client_gets x.client (decoded p.bytes c ToClient)).1.notes, refl, refl, gets-others x.client (decoded p.bytes c ToClient)) (R.untouched.client.hears (conn m c) x p.from p.bytes is (was m k c p at p.from (Client c) refl to of))
 
       node-is : (i : ℕ) (o : Option NodeState) → node_at m.nodes i ≡ o → p.to ≡ Node i → Q (event.Deliver k) (node_acts m (event.Deliver k) (rec.Got k ∷ []) i (back.Message p.from p.bytes) o)
-      node-is i None here to = shapes.nobody k p at there
+      node-is i None here to = shapes.nobody k p at (there, (λ d goal. let no : Node i ≡ Client d = sym to ∙ goal in absurd cc), λ d named. unheard-as d p.from (Node i) refl to (to-none d p.from)) where
+        none : is_no_node m.config.nodes i ≡ true
+        none = go (is_no_node m.config.nodes i) refl where
+          go : (b : Bool) → is_no_node m.config.nodes i ≡ b → b ≡ true
+          go true t = refl
+          go false t = let got = node-there m.nodes m.config.nodes i view.nodes t in let no : Some got.0 ≡ None = sym got.1 ∙ here in absurd cc
+
+        to-none : (d : ℕ) (from : Place) → IsUnheard m.config.nodes (table.get m.clients d) from (Node i) p.bytes
+        to-none d Front = λ msg is for. none
+        to-none d (Node j) = tt
+        to-none d (Client q) = tt
       node-is i (Some s) here to = node-message m view P R Q shapes k p at there i s here to (decoded_message p.bytes) refl
 
       place-is : (to : Place) → p.to ≡ to → Q (event.Deliver k) (to_place m k p to)

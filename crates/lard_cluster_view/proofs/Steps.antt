@@ -1,21 +1,24 @@
 -- One step of the machine: each connection stays as it is, or makes one move of one rule.
 use Rattle.std.proofs.Common.{◌≡◌, ℕ, ◌+◌, ◌-◌, List, [], ◌∷◌, ◌++◌, map, Option, Some, None, refl, sym, ap, ◌∙◌, subst, append-nil, inl, inr, ⊎_elim, false}
 use Rattle.std.specs.Prelude.{◌⊎◌}
+use Rattle.std.specs.FinMap as table
 use Rattle.std.specs.List.{fold}
 use Rattle.std.proofs.lemmas.List.{map-append}
 use Rattle.lard_base.specs.declared.event.Event.{Event}
 use Rattle.lard_base.specs.declared.event.Event.TheVariants as event
 use Rattle.lard_base.specs.declared.place.Place.{Place}
+use Rattle.lard_base.specs.declared.place.Place.TheVariants.{Front, Node, Client}
 use Rattle.lard_cluster.specs.declared.machine.Machine.{Machine}
 use Rattle.lard_cluster.specs.Bounds.{IsNumber}
 use Rattle.lard_cluster.specs.Machine.{clocked, passed, told}
-use Rattle.lard_cluster_view.specs.View.{Conn, Goes, IsViewed, Move, Part, Rules, Said, conn, letter, nothing_said, part_of, sending, setting_of, timer_rows}
+use Rattle.lard_cluster_view.specs.View.{Conn, Goes, GoesBetween, IsNobody, IsViewed, Move, Part, Rules, Said, conn, letter, nothing_said, part_of, sending, setting_of, timer_rows}
 use Rattle.lard_cluster_view.proofs.Heads.{comes, comes-to-none, was}
 use Rattle.lard_cluster_view.proofs.Moving.{Shows, ignores, moved, passes, shows-mine, shows-others, stays}
 use Rattle.lard_cluster_view.proofs.Numbers.{letter-number}
 use Rattle.lard_cluster_view.proofs.Saying.{notes-all}
-use Rattle.lard_cluster_view.proofs.Shapes.{ActsOn, ActsOnTwo, Shapes, both_out, move_of}
+use Rattle.lard_cluster_view.proofs.Shapes.{ActsOn, ActsOnTwo, IsNobodyAt, IsUnheardAt, Shapes, both_out, move_of}
 use Rattle.lard_cluster_view.proofs.Timers.{timer_rows-of, timer_rows-same}
+use Rattle.lard_cluster_view.proofs.Turned.{between-has}
 use Rattle.lard_history.specs.Own.{Letter, Row, Seen, conn_of, letter_of, letters, net_step, seen_on}
 use Rattle.lard_history.proofs.Seeing.{AreOf, by_number, letters-append, letters-lost, seen_on-append}
 use Rattle.lard_journal.specs.declared.rec.Rec.{Rec}
@@ -144,8 +147,15 @@ module _ (m : Machine) (view : IsViewed m) (P : Conn → Move → Type 0) (R : R
       (shows-first q place a k nothing_said rows [] (λ net. either q net a.timers b.timers rows [] act.order of_c.timers of_d.timers) [] [] of_c of_d)))
 
   -- a packet comes, and nothing is done
-  ignored : (k : ℕ) (p : Packet) → packet_at m.net k ≡ Some p → p.lost ≡ false → To (passed m (event.Deliver k) (rec.Got k ∷ []))
-  unfolding conn
+  nobody-there : (d : ℕ) (from to : Place) (bytes : List ℕ) → GoesBetween d from to bytes → IsNobodyAt m to → IsNobody (table.get m.clients d) to
+  nobody-there d from Front bytes goes none = tt
+  nobody-there d from (Node n) bytes goes none = tt
+  nobody-there d Front (Client c) bytes goes none = subst (λ (q : ℕ). table.get m.clients q ≡ None) goes (none c refl)
+  nobody-there d (Node n) (Client c) bytes goes none = subst (λ (q : ℕ). table.get m.clients q ≡ None) goes (none c refl)
+  nobody-there d (Client q) (Client c) bytes goes none = absurd goes
+
+  ignored : (k : ℕ) (p : Packet) → packet_at m.net k ≡ Some p → (p.lost ≡ false) × IsNobodyAt m p.to × IsUnheardAt m p → To (passed m (event.Deliver k) (rec.Got k ∷ []))
+  unfolding conn part_of
   ignored k p at there q = go (conn_of p.from p.to p.bytes) refl where
     n : Machine
     n = passed m (event.Deliver k) (rec.Got k ∷ [])
@@ -153,12 +163,13 @@ module _ (m : Machine) (view : IsViewed m) (P : Conn → Move → Type 0) (R : R
     go : (o : Option ℕ) → conn_of p.from p.to p.bytes ≡ o → Goes Numbered (conn m q) (conn n q)
     go None e = passes Numbered m m (event.Deliver k) (rec.Got k ∷ []) q view.told refl refl refl (comes-to-none m k p at e (m.events + 1) q)
     go (Some d) e =
-        let b = comes m k d p at p.from p.to refl refl e there in
+        let b = comes m k d p at p.from p.to refl refl e there.0 in
         let sent = was m k d p at p.from p.to refl refl e in
+        let none : IsNobody (table.get m.clients d) p.to = nobody-there d p.from p.to p.bytes (between-has d (letter_of p) (conn m d).letters sent (view.sound d).between) there.1 in
         by_number (Goes Numbered (conn m q) (conn n q)) q d
         (λ same. subst (λ (z : ℕ). Goes Numbered (conn m z) (conn n z)) (sym same)
         (ignores Numbered m m (event.Deliver k) (rec.Got k ∷ []) d view.told refl refl refl p.from p.to p.bytes (timer_rows-same p.to d (part_of m d)) (b.mine (m.events + 1))
-        (letter-number (conn m d) (letter_of p) (view.sound d) sent, R.untouched.ignores (conn m d) p.from p.to p.bytes sent)))
+        (letter-number (conn m d) (letter_of p) (view.sound d) sent, R.untouched.ignores (conn m d) p.from p.to p.bytes (sent, none, there.2 d e))))
         (λ other. passes Numbered m m (event.Deliver k) (rec.Got k ∷ []) q view.told refl refl refl (b.others (m.events + 1) q other))
 
   pub shapes-go : Shapes m P (λ e n. To n)

@@ -14,7 +14,7 @@ use Rattle.lard_journal.specs.declared.rec.Rec.TheVariants as rec
 pub use Rattle.lard_view.specs.Carry.{TellsBy, WhileUntouched}
 
 abbrev pub setting : Config → List (List ℕ × List ℕ) → Setting
-setting config files = record { files = file_at files; stream = config.stream }
+setting config files = record { files = file_at files; stream = config.stream; nodes = config.nodes }
 
 -- it is so of each connection in every state that events lead to
 abbrev pub OfEach : Config → List (List ℕ × List ℕ) → (Conn → Type 0) → Type 0

@@ -1,6 +1,6 @@
 -- The machine of the cluster seen from one connection: its part of the state, its packets, and what it sees of the journal; and
 -- what one move makes of them.
-use Rattle.std.specs.Prelude.{◌≡◌, ◌⊎◌, ℕ, nat_lt, ◌==◌, Bool, false, if◌then◌else◌, List, [], ◌∷◌, ◌++◌, length, map, filter, is_some, Option, Some, None, Ok}
+use Rattle.std.specs.Prelude.{◌≡◌, ◌⊎◌, ℕ, nat_lt, ◌==◌, Bool, true, false, if◌then◌else◌, List, [], ◌∷◌, ◌++◌, length, map, filter, is_some, Option, Some, None, Ok}
 use Rattle.std.specs.FinMap as table
 use Rattle.std.specs.List.{AllByRecursion}
 use Rattle.lard_answers.specs.Answers.{FilesAt}
@@ -13,7 +13,7 @@ use Rattle.lard_base.specs.declared.place.Reason.{Reason}
 use Rattle.lard_client.specs.Control.{ClientBlock, is_armed, written_len}
 use Rattle.lard_cluster.specs.declared.machine.Machine.{Machine}
 use Rattle.lard_cluster.specs.Bounds.{HasRule, IsNumber}
-use Rattle.lard_cluster.specs.Machine.{node_at}
+use Rattle.lard_cluster.specs.Machine.{is_no_node, node_at}
 use Rattle.lard_disk.specs.declared.disk.Job.{Job}
 use Rattle.lard_files.specs.Files.{file_at}
 use Rattle.lard_front_rules.specs.declared.front.FrontTurn.{FrontTurn}
@@ -25,8 +25,12 @@ use Rattle.lard_history.specs.Journal.{request}
 use Rattle.lard_history.specs.Own.{Has, Letter, Seen, Row, Came, letters, named_in, net_of, own, whose}
 use Rattle.lard_journal.specs.declared.rec.Rec.{Rec}
 use Rattle.lard_journal.specs.declared.rec.Rec.TheVariants as rec
+use Rattle.lard_message.specs.declared.kind.Kind.{Kind}
+use Rattle.lard_message.specs.declared.kind.Kind.TheVariants as kind
 use Rattle.lard_message.specs.declared.message.Body.{Body}
 use Rattle.lard_message.specs.declared.message.Body.TheVariants as body
+use Rattle.lard_message.specs.declared.message.Message.{Message}
+use Rattle.lard_message.specs.Message.{kind_of}
 use Rattle.lard_message.specs.Reading.{decoded_message}
 use Rattle.lard_node_rules.specs.declared.node.NodeState.{NodeState}
 use Rattle.lard_node_rules.specs.declared.node.NodeTurn.{NodeTurn}
@@ -50,9 +54,10 @@ use Rattle.lard_segment.specs.Segment.{decoded}
 pub record Setting : Type 0 where
   pub files : FilesAt
   pub stream : ℕ  -- the most bytes of responses on one connection
+  pub nodes : ℕ  -- how many nodes the cluster has
 
 abbrev pub setting_of : Machine → Setting
-setting_of m = record { files = file_at m.files; stream = m.config.stream }
+setting_of m = record { files = file_at m.files; stream = m.config.stream; nodes = m.config.nodes }
 
 -- What all places keep of a connection: its client's place, the front end, and each node.
 pub record Part : Type 0 where
@@ -157,6 +162,32 @@ by_node t = record { notes = named t.notes; segments = t.segments; gave = t.gave
 -- this packet was sent
 abbrev pub Was : Conn → Place → Place → List ℕ → Type 0
 Was x from to bytes = Has (record { from = from; to = to; bytes = bytes }) x.letters
+
+-- nobody is at a place: it is not that of a client that opened
+abbrev pub IsNobody : Option Station → Place → Type 0
+IsNobody station (Client d) = station ≡ None
+IsNobody station _ = Unit {0}
+
+-- what a node hears of the front end, and the front end of a node
+abbrev pub IsForNode : Kind → Type 0
+IsForNode kind.Offer = Unit {0}
+IsForNode kind.Forward = Unit {0}
+IsForNode kind.Tag = Unit {0}
+IsForNode kind.EndedAck = Unit {0}
+IsForNode _ = ⊥
+
+abbrev pub IsForFront : Kind → Type 0
+IsForFront kind.Taken = Unit {0}
+IsForFront kind.Ask = Unit {0}
+IsForFront kind.Ended = Unit {0}
+IsForFront _ = ⊥
+
+-- A packet that no rule hears: of a client that has not opened, to a node that is not there, or no message of a kind that is heard.
+abbrev pub IsUnheard : ℕ → Option Station → Place → Place → List ℕ → Type 0
+IsUnheard nodes station (Client d) Front bytes = station ≡ None
+IsUnheard nodes station Front (Node n) bytes = (m : Message) → decoded_message bytes ≡ Ok m → IsForNode (kind_of m.body) → is_no_node nodes n ≡ true
+IsUnheard nodes station (Node n) Front bytes = (m : Message) → decoded_message bytes ≡ Ok m → IsForFront (kind_of m.body) → ⊥
+IsUnheard nodes station _ _ bytes = Unit {0}
 
 -- an event is seen, and nothing else before the notes
 abbrev pub event_seen : Event → List Seen
@@ -311,8 +342,8 @@ pub record UntouchedRules (k : Setting) (P : Conn → Move → Type 0) : Type 0 
   pub client : ClientRules k P
   pub front : FrontRules k P
   pub node : NodeRules k P
-  -- a packet comes, and nothing is done
-  pub ignores : (x : Conn) (from to : Place) (bytes : List ℕ) → Was x from to bytes → P x (stands x to (packet_seen from to bytes) nothing_said)
+  -- a packet comes, and nothing is done: a client that opened has its rule, and a message that is heard has one
+  pub ignores : (x : Conn) (from to : Place) (bytes : List ℕ) → Was x from to bytes × IsNobody x.part.station to × IsUnheard k.nodes x.part.station from to bytes → P x (stands x to (packet_seen from to bytes) nothing_said)
 
 -- P is so of each move that a rule makes
 pub record Rules (k : Setting) (P : Conn → Move → Type 0) : Type 0 where

@@ -53,7 +53,7 @@ at_most least most value h = grind (arith, nat_tests, h)
 set-small : (c : Config) → config_check c ≡ Ok tt → IsSet c
 set-small c usable =
     let each = passed c all_keys usable in
-    record { stream = at_most 1 (2 ^ 30) c.stream each.1.1.1.1.1.1.1.1.0; nodes = at_most 1 64 c.nodes each.0 }
+    record { usable = usable; stream = at_most 1 (2 ^ 30) c.stream each.1.1.1.1.1.1.1.1.0; nodes = at_most 1 64 c.nodes each.0 }
 
 -- ---- the whole
 

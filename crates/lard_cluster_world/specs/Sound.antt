@@ -1,7 +1,8 @@
 -- What the code of the cluster relies on between two steps.
-use Rattle.std.specs.Prelude.{◌≡◌, ℕ, ◌*◌, ◌≤◌, ◌<◌, ◌^◌, length}
+use Rattle.std.specs.Prelude.{◌≡◌, ℕ, ◌*◌, ◌≤◌, ◌<◌, ◌^◌, length, Ok}
 use Rattle.std.specs.List.{AllByRecursion}
 use Rattle.lard_back.specs.Sound.{IsNodeSound}
+use Rattle.lard_base.specs.Config.{config_check}
 use Rattle.lard_base.specs.declared.config.Config.{Config}
 use Rattle.lard_base.specs.declared.limits.TheConstants.{MAX_PACKETS, MAX_RECORDS, MAX_RESPONSE_BYTES, MAX_STREAM_BYTES}
 use Rattle.lard_cluster.specs.declared.machine.Machine.{Machine}
@@ -16,8 +17,9 @@ pub record HasRoom (m : Machine) : Type 0 where
   pub passed : m.events < MAX_RECORDS
   pub queued : m.answered < MAX_RESPONSE_BYTES
 
--- the numbers of the run that the code relies on
+-- a configuration that passed its check, and the numbers of it that the code relies on
 pub record IsSet (c : Config) : Type 0 where
+  pub usable : config_check c ≡ Ok tt
   pub stream : c.stream ≤ MAX_STREAM_BYTES
   pub nodes : c.nodes ≤ 64
 

@@ -1,7 +1,7 @@
 //! The whole cluster, step by step: the code that follows the machine of `lard_cluster`.
 //!
-//! It stands above a client's place, the front end, a node, the network and the journal. Nothing stands on it yet: the replay of
-//! a schedule calls `lard_world`, whose machine has one front end alone.
+//! It stands above a client's place, the front end, a node, the network, the journal and its laws. The replay of a schedule calls
+//! it for each event.
 #![tactic(auto)]
 
 mod acting;

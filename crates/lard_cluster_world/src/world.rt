@@ -1,10 +1,12 @@
-//! The whole: a machine that takes its steps as long as memory suffices.
+//! The whole: a machine that takes its steps as long as memory suffices, and whose journal obeys the laws.
 
 ghost use Rattle.std.specs.Prelude.{◌≡◌, ◌∷◌, ◌++◌, [], false, replicate, Ok, IfOk, OnOk};
 ghost use Rattle.lard_base.specs.Config.{config_check};
 ghost use Rattle.lard_cluster.specs.Bounds.{HasRule};
 ghost use Rattle.lard_cluster.specs.Machine.{Steps, machine_step, start};
+ghost use Rattle.lard_cluster_laws.specs.Lawful.{IsLawful};
 ghost use Rattle.lard_cluster_world.specs.World.{is_short};
+ghost use Rattle.lard_files.specs.Files.{file_at};
 ghost use Rattle.lard_node_rules.specs.NodePlace.{no_stays};
 
 use crate::steps;
@@ -79,6 +81,8 @@ impl World {
         requires ruled { HasRule event }
         ensures step { Steps (machine_step self.old.machine event) self.old.machine self.new.machine result }
         ensures spoiled { self.new.spoiled ≡ is_short result }
+        // Done or not, what happened obeys the laws.
+        ensures lawful { IsLawful self.old.machine.config (file_at self.old.machine.files) self.new.machine.journal }
     {
         let done = steps::step(&mut self.machine, alloc, event);
         self.spoiled = is_short(done);

@@ -2,8 +2,7 @@
 //! types of what it keeps and has in hand are declared here.
 //!
 //! It stands above `lard_rules`, which has what each place does with an endpoint, and above the front end's table, the
-//! dispatcher and the messages. `lard_front_whole` is the code of it; `lard_front`, which runs, serves every request itself by the
-//! rules of `lard_rules`.
+//! dispatcher and the messages. `lard_front_whole` is the code of it.
 #![tactic(auto)]
 
 pub mod front;

@@ -2,8 +2,7 @@
 //! the dispatcher's choice, passes on what its client says from then on, and knows of its end.
 //!
 //! It stands above the table of the front end's connections, the dispatcher and what a place does with an endpoint, and
-//! follows `front_step` of `lard_front_rules`: `step::step` is its public call. It takes the place of `lard_front` once the
-//! machine has nodes.
+//! follows `front_step` of `lard_front_rules`: `step::step` is its public call.
 #![tactic(auto)]
 
 pub mod admitting;

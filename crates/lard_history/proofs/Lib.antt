@@ -1,3 +1,4 @@
+pub mod Acting
 pub mod Counts
 pub mod Each
 pub mod Lifting

@@ -1,11 +1,9 @@
 -- What a connection sees of a list: of two lists joined, of one that is all its own, of one that is none of its own.
-use Rattle.std.proofs.Common.{◌≡◌, ◌≢◌, ℕ, zero, suc, ◌-◌, List, [], ◌∷◌, ◌++◌, map, Bool, true, false, cond, Option, Some, None, refl, sym, ap, ◌∙◌, subst, append_assoc, append-nil, nat_eq, ⊎_elim, inl, inr}
+use Rattle.std.proofs.Common.{◌≡◌, ◌≢◌, ℕ, zero, suc, ◌-◌, List, [], ◌∷◌, ◌++◌, map, Bool, true, false, cond, Option, Some, None, refl, sym, ap, ◌∙◌, subst, append_assoc, nat_eq, ⊎_elim, inl, inr}
 use Rattle.std.proofs.lemmas.Bool.Decides.{eqb_tells}
-use Rattle.std.proofs.lemmas.List.Sums.{fold-append}
 use Rattle.std.specs.List.{fold}
 use Rattle.std.specs.Prelude.{slice_get}
-use Rattle.lard_base.specs.declared.place.Place.{Place}
-use Rattle.lard_history.specs.Own.{Has, Letter, Seen, Row, Came, came, conn_of, letter_of, letters, letters_in, net_of, net_step, one_of, own, plain, seen_of, seen_on, whose}
+use Rattle.lard_history.specs.Own.{Has, Letter, Row, conn_of, letter_of, letters, letters_in, net_of, net_step, one_of, own, plain, seen_of, seen_on, whose}
 use Rattle.lard_history.proofs.Each.{Each, Each-weaker}
 use Rattle.lard_journal.specs.declared.rec.Rec.{Rec}
 use Rattle.lard_journal.specs.declared.rec.Rec.TheVariants as rec

@@ -64,7 +64,8 @@ event_step last _ = last
 abbrev pub last_event : List Rec → Option Event
 last_event J = fold event_step None J
 
--- the place that acts in a step of this event: that to which the packet was sent, or that which the event names
+-- the place that acts in a step of this event: that to which the packet was sent, or that which the event names, or the node whose
+-- disk is done with a job
 abbrev pub acting_in : List Rec → Event → Option Place
 acting_in J (event.Open c isn iss wnd mss) = Some (Client c)
 acting_in J (event.Get c path) = Some (Client c)
@@ -77,7 +78,7 @@ acting_in J (event.Deliver k) = goal_of J k
 acting_in J (event.Timer place c) = Some place
 acting_in J (event.Inject c bytes) = Some (Client c)
 acting_in J (event.Lose k) = None
-acting_in J (event.Disk n j) = None
+acting_in J (event.Disk n j) = Some (Node n)
 acting_in J (event.Clock ms) = None
 acting_in J (event.Settle rounds) = None
 
@@ -88,6 +89,16 @@ acting_at J (Some e) = acting_in J e
 -- the place that acts in the last step, where one does
 abbrev pub acting : List Rec → Option Place
 acting J = acting_at J (last_event J)
+
+-- ---- the clock
+
+abbrev pub time_step : ℕ → Rec → ℕ
+time_step now (rec.Clock time) = time.0
+time_step now _ = now
+
+-- the time that was told last, in milliseconds, or 0
+abbrev pub time_of : List Rec → ℕ
+time_of J = fold time_step 0 J
 
 -- ---- owners
 

@@ -6,10 +6,11 @@ use Rattle.lard_answers.specs.Answers.{FilesAt, IsPrefix, answer_bytes, answer_c
 use Rattle.lard_arrival.specs.Arrival.{IsPartAt}
 use Rattle.lard_base.specs.declared.event.Event.{Event}
 use Rattle.lard_base.specs.declared.event.Event.TheVariants as event
+use Rattle.lard_base.specs.declared.ids.Millis.{Millis}
 use Rattle.lard_base.specs.declared.place.Place.{Place}
 use Rattle.lard_base.specs.declared.place.Place.TheVariants.{Front, Node, Client}
 use Rattle.lard_base.specs.declared.place.Via.TheVariants.{Own}
-use Rattle.lard_history.specs.Journal.{Numbers, accepted, acting, fin_sent, goal_of, has_closed, is_lost, is_touched, last_epoch, next_answer, next_verdict, numbers_of, owner, request, said_to, sent_count, served, served_bytes, was_reset, wrote}
+use Rattle.lard_history.specs.Journal.{Numbers, accepted, acting, fin_sent, goal_of, has_closed, is_lost, is_touched, last_epoch, last_event, next_answer, next_verdict, numbers_of, owner, request, said_to, sent_count, served, served_bytes, time_of, was_reset, wrote}
 use Rattle.lard_journal.specs.declared.rec.Rec.{Rec}
 use Rattle.lard_journal.specs.declared.rec.Rec.TheVariants as rec
 use Rattle.lard_segment.specs.declared.segment.Dir.TheVariants.{ToClient}
@@ -56,6 +57,16 @@ MayAct past r = (p : Place) → first_place r ≡ Some p → acting past ≡ Som
 
 abbrev pub ActsInPlace : List Rec → Type 0
 ActsInPlace J = EachMay MayAct [] J
+
+-- ---- the clock
+
+-- A time is told in a step of the clock alone: it is the time before, and the event's milliseconds more.
+abbrev pub MayTime : List Rec → Rec → Type 0
+MayTime past (rec.Clock time) = (ms : ℕ) × (last_event past ≡ Some (event.Clock ms)) × (time.0 ≡ time_of past + ms)
+MayTime past _ = Unit {0}
+
+abbrev pub KeepsTime : List Rec → Type 0
+KeepsTime J = EachMay MayTime [] J
 
 -- ---- the ownership law
 
@@ -175,6 +186,7 @@ is_own (rec.Got k) = true
 is_own (rec.Lost k) = true
 is_own (rec.Aborted c) = true
 is_own (rec.Injected c) = true
+is_own (rec.Clock time) = true
 is_own _ = false
 
 -- the own records of an event's step; a client that writes no longer writes none
@@ -186,6 +198,7 @@ AreOwn (event.Abort c) own = own ≡ rec.Aborted c ∷ []
 AreOwn (event.Deliver k) own = own ≡ rec.Got k ∷ []
 AreOwn (event.Lose k) own = own ≡ rec.Lost k ∷ []
 AreOwn (event.Inject c bytes) own = own ≡ rec.Injected c ∷ []
+AreOwn (event.Clock ms) own = (time : Millis) × (own ≡ rec.Clock time ∷ [])
 AreOwn _ own = own ≡ []
 
 -- the records of the i-th event's step: the event, its own records, and others

@@ -7,7 +7,7 @@ use Rattle.lard_base.specs.declared.event.Event.TheVariants as event
 use Rattle.lard_base.specs.declared.place.Place.{Place}
 use Rattle.lard_history.specs.Journal.{Tale, accepted, accepted_step, is_touched, numbers_of, numbers_step, tale_step, touched_step}
 use Rattle.lard_history.specs.Laws.{EachMay}
-use Rattle.lard_history.specs.Own.{Letter, Came, letter_of, net_of, net_step, own, tale_of}
+use Rattle.lard_history.specs.Own.{Letter, Seen, Came, letter_of, net_of, net_step, own, tale_of}
 use Rattle.lard_history.proofs.Each.{Each, each_append}
 use Rattle.lard_history.proofs.Lifting.{tale-own}
 use Rattle.lard_history.proofs.Tales.{accepted-tale, numbers-tale, touched-tale}
@@ -15,7 +15,7 @@ use Rattle.lard_journal.specs.declared.rec.Rec.{Rec}
 use Rattle.lard_journal.specs.declared.rec.Rec.TheVariants as rec
 use Rattle.lard_laws_bytes.specs.Truthful.{IsTruthfulAt}
 use Rattle.lard_laws_clients.specs.Laws.{Gets, MayTake, got_step, last_got}
-use Rattle.lard_laws_clients.proofs.Taking.{GetsBy, Owes, TakesBy, TakesNothing}
+use Rattle.lard_laws_clients.proofs.Taking.{GetsBy, Owes, TakesBy, TakesNothing, TakesOf}
 use Rattle.lard_machine.specs.declared.machine.Machine.{Machine}
 use Rattle.lard_machine.specs.Machine.{sent_records}
 use Rattle.lard_net.specs.Net.{Packet, packet_at}
@@ -33,18 +33,18 @@ may-pass J (rec.Accepted c bytes) n = absurd n
 may-pass J (rec.Eof c) n = absurd n
 may-pass J _ n = tt
 
-all-may : (J rs : List Rec) → Each TakesNothing rs → EachMay MayTake J rs
+pub all-may : (J rs : List Rec) → Each TakesNothing rs → EachMay MayTake J rs
 all-may J [] n = tt
 all-may J (r ∷ rs) n = (may-pass J r n.0, all-may (J ++ r ∷ []) rs n.1)
 
-behind-nothing : (e : Event) → Each TakesNothing (behind e)
+pub behind-nothing : (e : Event) → Each TakesNothing (behind e)
 behind-nothing (event.Open c isn iss wnd mss) = (tt, tt)
 behind-nothing (event.Deliver k) = (tt, tt)
 behind-nothing (event.Lose k) = (tt, tt)
 behind-nothing (event.Inject c bytes) = (tt, tt)
 behind-nothing _ = tt
 
-sents-nothing : (k : ℕ) (place : Place) (ss : List (Place × List ℕ)) → Each TakesNothing (sent_records k place ss)
+pub sents-nothing : (k : ℕ) (place : Place) (ss : List (Place × List ℕ)) → Each TakesNothing (sent_records k place ss)
 sents-nothing k place [] = tt
 sents-nothing k place (s ∷ ss) = (tt, sents-nothing (k + 1) place ss)
 
@@ -109,11 +109,11 @@ module _ (c k : ℕ) (net : List Packet) (p : Packet) (at : packet_at net k ≡ 
 
 -- ---- a step
 
-module _ (files : FilesAt) (m : Machine) (told : net_of m.journal ≡ m.net) (sound : (q : ℕ) → IsSound (conn m q)) (truthful : (q : ℕ) → Untouched (IsTruthfulAt files) (conn m q)) (i : ℕ) where
-  -- behind the event that delivers it
-  delivered : (c k : ℕ) (p : Packet) (at : packet_at m.net k ≡ Some p) → Stage c k m.net p at (m.journal ++ rec.Event i (event.Deliver k) ∷ rec.Got k ∷ []) (tale_of c (own c m.journal))
+-- behind a journal of these packets
+module _ (J : List Rec) (net : List Packet) (told : net_of J ≡ net) (i : ℕ) where
+  -- and the event that delivers one
+  delivered : (c k : ℕ) (p : Packet) (at : packet_at net k ≡ Some p) → Stage c k net p at (J ++ rec.Event i (event.Deliver k) ∷ rec.Got k ∷ []) (tale_of c (own c J))
   delivered c k p at =
-      let J : List Rec = m.journal in
       let rs : List Rec = rec.Event i (event.Deliver k) ∷ rec.Got k ∷ [] in
       record {
         last = fold-append got_step None J rs;
@@ -123,17 +123,23 @@ module _ (files : FilesAt) (m : Machine) (told : net_of m.journal ≡ m.net) (so
         touched = fold-append (touched_step c) false J rs ∙ touched-tale J c ∙ ap (λ (t : Tale). t.touched) (tale-own J c);
       }
 
+  -- the notes of a connection that moves
+  pub notes-may : (e : Event) (c : ℕ) (heads : List Seen) (notes : List Rec) → Each (IsDelivered net e) heads → TakesOf c (tale_of c (own c J)) heads notes
+      → EachMay MayTake (J ++ rec.Event i e ∷ behind e) notes
+  notes-may e c heads notes came takes = ⊎_elim
+      (λ n. all-may (J ++ rec.Event i e ∷ behind e) notes n)
+      (λ (t : (l : Letter) × (heads ≡ Came l ∷ []) × TellsBy (TakesBy l c) c (tale_of c (own c J)) notes).
+      let d : Each (IsDelivered net e) (Came t.0 ∷ []) = subst (Each (IsDelivered net e)) t.1 came in
+      subst (λ (z : Event). EachMay MayTake (J ++ rec.Event i z ∷ behind z) notes) (sym d.0.2)
+      (takes-all c d.0.0 net d.0.1 d.0.3 (J ++ rec.Event i (event.Deliver d.0.0) ∷ rec.Got d.0.0 ∷ []) (tale_of c (own c J)) notes
+      (delivered c d.0.0 d.0.1 d.0.3)
+      (subst (λ (l : Letter). TellsBy (TakesBy l c) c (tale_of c (own c J)) notes) (sym d.0.4) t.2)))
+      takes
+
+module _ (files : FilesAt) (m : Machine) (told : net_of m.journal ≡ m.net) (sound : (q : ℕ) → IsSound (conn m q)) (truthful : (q : ℕ) → Untouched (IsTruthfulAt files) (conn m q)) (i : ℕ) where
   acts-may : (e : Event) (adds : List Rec) (a : Acts (Owes files) m e adds) → EachMay MayTake (m.journal ++ rec.Event i e ∷ behind e) a.move.turn.notes
   unfolding conn
-  acts-may e adds a = ⊎_elim
-      (λ n. all-may (m.journal ++ rec.Event i e ∷ behind e) a.move.turn.notes n)
-      (λ (t : (l : Letter) × (a.move.heads ≡ Came l ∷ []) × TellsBy (TakesBy l a.c) a.c (tale_of a.c (own a.c m.journal)) a.move.turn.notes).
-      let d : Each (IsDelivered m.net e) (Came t.0 ∷ []) = subst (Each (IsDelivered m.net e)) t.1 a.came in
-      subst (λ (z : Event). EachMay MayTake (m.journal ++ rec.Event i z ∷ behind z) a.move.turn.notes) (sym d.0.2)
-      (takes-all a.c d.0.0 m.net d.0.1 d.0.3 (m.journal ++ rec.Event i (event.Deliver d.0.0) ∷ rec.Got d.0.0 ∷ []) (tale_of a.c (own a.c m.journal)) a.move.turn.notes
-      (delivered a.c d.0.0 d.0.1 d.0.3)
-      (subst (λ (l : Letter). TellsBy (TakesBy l a.c) a.c (tale_of a.c (own a.c m.journal)) a.move.turn.notes) (sym d.0.4) t.2)))
-      (a.does (sound a.c) (truthful a.c))
+  acts-may e adds a = notes-may m.journal m.net told i e a.c a.move.heads a.move.turn.notes a.came (a.does (sound a.c) (truthful a.c))
 
   pub step-may : (e : Event) (adds : List Rec) → (adds ≡ behind e) ⊎ Acts (Owes files) m e adds → EachMay MayTake m.journal (rec.Event i e ∷ adds)
   step-may e adds acts = ⊎_elim

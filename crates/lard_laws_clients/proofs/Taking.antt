@@ -1,19 +1,21 @@
 -- What a connection takes in a move: of the packet that came in it.
-use Rattle.std.proofs.Common.{◌≡◌, ℕ, ◌+◌, ◌<◌, ◌≤◌, ◌^◌, List, [], ◌∷◌, ◌++◌, length, take, drop, true, false, cond, nat_lt, Some, ◌⊎◌, inl, inr, Result, Ok, Err, refl, sym, ap, ◌∙◌, subst, arith, length-append, length-take, length-drop}
+use Rattle.std.proofs.Common.{◌≡◌, ℕ, ◌+◌, ◌<◌, ◌≤◌, ◌^◌, List, [], ◌∷◌, ◌++◌, length, take, drop, Bool, true, false, cond, nat_lt, Some, ◌⊎◌, inl, inr, Result, Ok, Err, refl, sym, ap, ◌∙◌, subst, arith, length-append, length-take, length-drop}
 use Rattle.std.proofs.lemmas.Bool.{cond_both, ltb-false, ltb-true}
 use Rattle.lard_answers.specs.Answers.{FilesAt}
 use Rattle.lard_arrival.specs.Arrival.{IsPartAt}
+use Rattle.lard_base.specs.declared.place.Place.{Place}
 use Rattle.lard_base.specs.declared.place.Place.TheVariants.{Front, Client}
 use Rattle.lard_client.specs.declared.heard.Heard.{Heard}
 use Rattle.lard_client.specs.Arriving.{arrived}
 use Rattle.lard_client.specs.Control.{ClientBlock, is_writing, written}
 use Rattle.lard_client.proofs.Accepted.{arrived-order}
 use Rattle.lard_history.specs.Journal.{Numbers, Tale, request, tale_step}
-use Rattle.lard_history.specs.Own.{Letter, Came}
+use Rattle.lard_history.specs.Own.{Letter, Seen, Came}
 use Rattle.lard_history.proofs.Each.{Each, Each-weaker}
 use Rattle.lard_history.proofs.Seeing.{same_number}
 use Rattle.lard_journal.specs.declared.rec.Rec.{Rec}
 use Rattle.lard_journal.specs.declared.rec.Rec.TheVariants as rec
+use Rattle.lard_laws_bytes.specs.Agreement.{ClientAgrees, IsReply}
 use Rattle.lard_laws_bytes.specs.Truthful.{IsFairOn, IsTruthfulAt}
 use Rattle.lard_laws_bytes.proofs.ClientAlike.{arrived-alike}
 use Rattle.lard_laws_bytes.proofs.Holding.{IsOpen, at-station}
@@ -25,8 +27,9 @@ use Rattle.lard_rules.specs.Client.{accepted_note, client_gets, client_writes, e
 use Rattle.lard_segment.proofs.Again.{again}
 use Rattle.lard_segment.specs.declared.fault.SegFault.{SegFault}
 use Rattle.lard_segment.specs.declared.segment.Dir.TheVariants.{ToClient, ToCluster}
-use Rattle.lard_segment.specs.Segment.{Said, decoded}
+use Rattle.lard_segment.specs.Segment.{Said, decoded, spelled}
 use Rattle.lard_seq.specs.Seq.{one_if, seq_add}
+use Rattle.lard_truth.specs.Truth.{Stream}
 use Rattle.lard_view.specs.Carry.{TellsBy, Untouched, tale_at}
 use Rattle.lard_view.specs.View.{Conn, IsSound, Move, Rules, Setting, Was, env_at}
 use Rattle.lard_view.proofs.Turns.{NotedAt, front_fires-turn, front_gets-turn}
@@ -52,9 +55,24 @@ TakesNothing (rec.Accepted c bytes) = ⊥
 TakesNothing (rec.Eof c) = ⊥
 TakesNothing _ = Unit {0}
 
--- A move's notes take nothing, or a packet came and they take of it.
+-- The notes of connection c, of which this is told, take nothing, or a packet came and they take of it.
+abbrev pub TakesOf : ℕ → Tale → List Seen → List Rec → Type 0
+TakesOf c t heads notes = Each TakesNothing notes ⊎ ((l : Letter) × (heads ≡ Came l ∷ []) × TellsBy (TakesBy l c) c t notes)
+
 abbrev pub MoveTakes : Conn → Move → Type 0
-MoveTakes x v = Each TakesNothing v.turn.notes ⊎ ((l : Letter) × (v.heads ≡ Came l ∷ []) × TellsBy (TakesBy l x.c) x.c (tale_at x) v.turn.notes)
+MoveTakes x v = TakesOf x.c (tale_at x) v.heads v.turn.notes
+
+-- ---- what is known of an untouched connection
+
+-- Its client and the journal agree, and what came is true.
+pub record Knows (c : ℕ) (x : ClientBlock) (t : Tale) (bytes : List ℕ) : Type 0 where
+  pub w : Stream
+  pub out : Stream
+  pub was_reset : Bool
+  pub client : ClientAgrees c w out x
+  pub numbers : t.numbers ≡ Some (record { isn = w.first; iss = out.first })
+  pub accepted : t.accepted ≡ take x.accepted out.bytes
+  pub true_of : (s : Said) × (bytes ≡ spelled c ToClient s) × IsReply w out was_reset s
 
 -- ---- what a client hears
 
@@ -64,103 +82,97 @@ part-at from n all fits =
     let size : length (take n (drop from all)) ≡ n = omega (arith, length-take n (drop from all), length-drop from all) in
     record { within = omega (arith, size, fits); same = ap (λ k. take k (drop from all)) size }
 
-module _ (files : FilesAt) (x : Conn) (st : Station) (there : x.part.station ≡ Some st) (given : Untouched (IsTruthfulAt files) x) (bytes : List ℕ) (was : Was x Front (Client x.c) bytes)
-    (number : st.client.c ≡ x.c) where
+module _ (c : ℕ) (st : ClientBlock) (told : Tale) (from_ : Place) (bytes : List ℕ) (given : told.touched ≡ false → Knows c st told bytes) (number : st.c ≡ c) where
   abbrev packet : Letter
-  packet = record { from = Front; to = Client x.c; bytes = bytes }
+  packet = record { from = from_; to = Client c; bytes = bytes }
 
-  -- while it is untouched, it agrees
-  open_ : (tale_at x).touched ≡ false → IsOpen files x st
-  open_ u = at-station files x st (given u) there
-
-  module _ (s : Said) (is : decoded bytes x.c ToClient ≡ Ok s) where
+  module _ (s : Said) (is : decoded bytes c ToClient ≡ Ok s) where
     abbrev heard : Heard
-    heard = (arrived st.client s).0
+    heard = (arrived st s).0
 
     abbrev part : List ℕ
     part = take heard.len (drop heard.from s.payload)
 
     -- its number is one, since it is true
-    fits : (tale_at x).touched ≡ false → s.seq < 2 ^ 32
+    fits : told.touched ≡ false → s.seq < 2 ^ 32
     fits u =
-        let h : IsOpen files x st = open_ u in
-        let f : IsFairOn x.c h.talk Front (Client x.c) bytes = fair-letter x.c h.talk packet x.letters was h.fair in
-        let both : ◌≡◌ {A = Result Said SegFault} (Ok f.1.0) (Ok s) = sym (ap (λ (l : List ℕ). decoded l x.c ToClient) f.1.1 ∙ again x.c ToClient f.1.0 f.1.2.sendable) ∙ is in
-        let same : f.1.0 ≡ s = cc in
-        subst (λ (z : Said). z.seq < 2 ^ 32) same f.1.2.sendable.seq_fits
+        let f = (given u).true_of in
+        let both : ◌≡◌ {A = Result Said SegFault} (Ok f.0) (Ok s) = sym (ap (λ (l : List ℕ). decoded l c ToClient) f.1 ∙ again c ToClient f.0 f.2.sendable) ∙ is in
+        let same : f.0 ≡ s = cc in
+        subst (λ (z : Said). z.seq < 2 ^ 32) same f.2.sendable.seq_fits
 
     -- the segment
-    abbrev got : (t : Tale) → IsOpen files x st → t.numbers ≡ (tale_at x).numbers → GetsBy packet x.c t
+    abbrev got : (t : Tale) → Knows c st told bytes → t.numbers ≡ told.numbers → GetsBy packet c t
     got t h same = record {
       goal = refl;
       said = s;
       decodes = is;
-      numbers = record { isn = h.talk.w.first; iss = h.talk.out.first };
-      opened = same ∙ h.agreed.tale.numbers;
+      numbers = record { isn = h.w.first; iss = h.out.first };
+      opened = same ∙ h.numbers;
     }
 
     -- a number counted from the cluster's SYN, as the client counts it, is the next one
-    next : (h : IsOpen files x st) (t : Tale) (count seq : ℕ) → length t.accepted ≡ count → Takes heard → seq ≡ seq_add st.client.send.irs (1 + count) → seq ≡ seq_add h.talk.out.first (1 + length t.accepted)
+    next : (h : Knows c st told bytes) (t : Tale) (count seq : ℕ) → length t.accepted ≡ count → Takes heard → seq ≡ seq_add st.send.irs (1 + count) → seq ≡ seq_add h.out.first (1 + length t.accepted)
     next h t count seq counted some same =
-        same ∙ ap (λ (n : ℕ). seq_add n (1 + count)) (h.agreed.client.accepts.first (takes-established st.client s some)) ∙ ap (λ (n : ℕ). seq_add h.talk.out.first (1 + n)) (sym counted)
+        same ∙ ap (λ (n : ℕ). seq_add n (1 + count)) (h.client.accepts.first (takes-established st s some)) ∙ ap (λ (n : ℕ). seq_add h.out.first (1 + n)) (sym counted)
 
-    first : IsOpen files x st → length (tale_at x).accepted ≡ st.client.accepted
-    first h = let within = h.agreed.client.accepts.within in ap (λ (l : List ℕ). length l) h.agreed.tale.accepted ∙ omega (arith, length-take st.client.accepted h.talk.out.bytes, within)
+    first : Knows c st told bytes → length told.accepted ≡ st.accepted
+    first h = let within = h.client.accepts.within in ap (λ (l : List ℕ). length l) h.accepted ∙ omega (arith, length-take st.accepted h.out.bytes, within)
 
-    size : (tale_at x).touched ≡ false → length part ≡ heard.len
+    size : told.touched ≡ false → length part ≡ heard.len
     size u =
-        let within = (arrived-order st.client s (fits u)).within in
+        let within = (arrived-order st s (fits u)).within in
         omega (arith, length-take heard.len (drop heard.from s.payload), length-drop heard.from s.payload, within)
 
-    ends : (t : Tale) → t.touched ≡ (tale_at x).touched → t.numbers ≡ (tale_at x).numbers → ((tale_at x).touched ≡ false → length t.accepted ≡ st.client.accepted + heard.len)
-        → TellsBy (TakesBy packet x.c) x.c t (eof_note x.c heard)
-    ends t same numbers count = cond_both heard.eof (rec.Eof x.c ∷ []) [] (TellsBy (TakesBy packet x.c) x.c t)
+    ends : (t : Tale) → t.touched ≡ told.touched → t.numbers ≡ told.numbers → (told.touched ≡ false → length t.accepted ≡ st.accepted + heard.len)
+        → TellsBy (TakesBy packet c) c t (eof_note c heard)
+    ends t same numbers count = cond_both heard.eof (rec.Eof c ∷ []) [] (TellsBy (TakesBy packet c) c t)
         (λ e. (
           (
             refl,
             λ v.
-                let u : (tale_at x).touched ≡ false = sym same ∙ v in
-                let h : IsOpen files x st = open_ u in
+                let u : told.touched ≡ false = sym same ∙ v in
+                let h : Knows c st told bytes = given u in
                 let some : Takes heard = subst (λ b. 0 < heard.len + one_if b) (sym e) (omega arith) in (
                   got t h numbers,
-                  (arrived-order st.client s (fits u)).ended e,
-                  next h t (st.client.accepted + heard.len) (seq_add s.seq (length s.payload)) (count u) some (end-number st.client s (fits u) some e),
+                  (arrived-order st s (fits u)).ended e,
+                  next h t (st.accepted + heard.len) (seq_add s.seq (length s.payload)) (count u) some (end-number st s (fits u) some e),
                 ),
           ),
           tt,
         ))
         (λ e. tt)
 
-    heard-takes : TellsBy (TakesBy packet x.c) x.c (tale_at x) (accepted_note x.c heard s.payload ++ eof_note x.c heard)
-    heard-takes = cond_both (nat_lt 0 heard.len) (rec.Accepted x.c part ∷ []) [] (λ (rs : List Rec). TellsBy (TakesBy packet x.c) x.c (tale_at x) (rs ++ eof_note x.c heard)) some-bytes no-bytes where
-      some-bytes : nat_lt 0 heard.len ≡ true → TellsBy (TakesBy packet x.c) x.c (tale_at x) (rec.Accepted x.c part ∷ eof_note x.c heard)
+    heard-takes : TellsBy (TakesBy packet c) c told (accepted_note c heard s.payload ++ eof_note c heard)
+    heard-takes = cond_both (nat_lt 0 heard.len) (rec.Accepted c part ∷ []) [] (λ (rs : List Rec). TellsBy (TakesBy packet c) c told (rs ++ eof_note c heard)) some-bytes no-bytes where
+      some-bytes : nat_lt 0 heard.len ≡ true → TellsBy (TakesBy packet c) c told (rec.Accepted c part ∷ eof_note c heard)
       some-bytes e =
           let less : 0 < heard.len = ltb-true 0 heard.len e in
           let some : Takes heard = omega (arith, less) in
-          let t : Tale = tale_step x.c (tale_at x) (rec.Accepted x.c part) in
-          let more : length t.accepted ≡ length (tale_at x).accepted + length part =
-          ap (λ b. length (cond b ((tale_at x).accepted ++ part) (tale_at x).accepted)) (same_number x.c) ∙ length-append (tale_at x).accepted part in (
+          let t : Tale = tale_step c told (rec.Accepted c part) in
+          let more : length t.accepted ≡ length told.accepted + length part =
+          ap (λ b. length (cond b (told.accepted ++ part) told.accepted)) (same_number c) ∙ length-append told.accepted part in (
             (
               refl,
               λ u.
-                  let h : IsOpen files x st = open_ u in (
-                    got (tale_at x) h refl,
+                  let h : Knows c st told bytes = given u in (
+                    got told h refl,
                     heard.from,
-                    next h (tale_at x) st.client.accepted (seq_add s.seq heard.from) (first h) some (next-number st.client s (fits u) some),
-                    part-at heard.from heard.len s.payload (arrived-order st.client s (fits u)).within,
+                    next h told st.accepted (seq_add s.seq heard.from) (first h) some (next-number st s (fits u) some),
+                    part-at heard.from heard.len s.payload (arrived-order st s (fits u)).within,
                     subst (λ n. 0 < n) (sym (size u)) less,
                   ),
             ),
-            ends t refl refl (λ u. more ∙ (λ i. first (open_ u) i + size u i)),
+            ends t refl refl (λ u. more ∙ (λ i. first (given u) i + size u i)),
           )
 
-      no-bytes : nat_lt 0 heard.len ≡ false → TellsBy (TakesBy packet x.c) x.c (tale_at x) (eof_note x.c heard)
-      no-bytes e = let none : heard.len ≡ 0 = omega (arith, ltb-false 0 heard.len e) in ends (tale_at x) refl refl (λ u. first (open_ u) ∙ omega (arith, none))
+      no-bytes : nat_lt 0 heard.len ≡ false → TellsBy (TakesBy packet c) c told (eof_note c heard)
+      no-bytes e = let none : heard.len ≡ 0 = omega (arith, ltb-false 0 heard.len e) in ends told refl refl (λ u. first (given u) ∙ omega (arith, none))
 
-  hears : (r : Result Said SegFault) → decoded bytes x.c ToClient ≡ r → TellsBy (TakesBy packet x.c) x.c (tale_at x) (client_gets st.client r).1.notes
+  pub hears : (r : Result Said SegFault) → decoded bytes c ToClient ≡ r → TellsBy (TakesBy packet c) c told (client_gets st r).1.notes
   hears (Err fault) is = tt
-  hears (Ok s) is = subst (λ d. TellsBy (TakesBy packet x.c) x.c (tale_at x) (accepted_note d (arrived st.client s).0 s.payload ++ eof_note d (arrived st.client s).0))
-      (sym ((arrived-alike st.client s).0 ∙ number)) (heard-takes s is)
+  hears (Ok s) is = subst (λ d. TellsBy (TakesBy packet c) c told (accepted_note d (arrived st s).0 s.payload ++ eof_note d (arrived st s).0))
+      (sym ((arrived-alike st s).0 ∙ number)) (heard-takes s is)
 
 -- ---- each rule
 
@@ -173,9 +185,17 @@ front-passes c _ h = absurd h
 fronts-pass : (c : ℕ) (rs : List Rec) → Each (NotedAt Front c) rs → Each TakesNothing rs
 fronts-pass c rs h = Each-weaker (NotedAt Front c) TakesNothing (front-passes c) rs h
 
-writes-pass : (x : ClientBlock) (bytes : List ℕ) → Each TakesNothing (client_writes x bytes).1.notes
+pub writes-pass : (x : ClientBlock) (bytes : List ℕ) → Each TakesNothing (client_writes x bytes).1.notes
 writes-pass x bytes = cond_both (is_writing x) (speaking (rec.Wrote x.c bytes ∷ []) [] (written x bytes)) (x, silent) (λ (given : ClientBlock × Turn). Each TakesNothing given.1.notes)
     (λ t. (tt, tt)) (λ t. tt)
+
+-- while it is untouched, a connection agrees
+open-knows : (files : FilesAt) (x : Conn) (s : Station) (bytes : List ℕ) → x.part.station ≡ Some s → Untouched (IsTruthfulAt files) x → Was x Front (Client x.c) bytes
+    → (tale_at x).touched ≡ false → Knows x.c s.client (tale_at x) bytes
+open-knows files x s bytes there given was u =
+    let h : IsOpen files x s = at-station files x s (given u) there in
+    let f : IsFairOn x.c h.talk Front (Client x.c) bytes = fair-letter x.c h.talk (record { from = Front; to = Client x.c; bytes = bytes }) x.letters was h.fair in
+    record { w = h.talk.w; out = h.talk.out; was_reset = h.talk.was_reset; client = h.agreed.client; numbers = h.agreed.tale.numbers; accepted = h.agreed.tale.accepted; true_of = f.1 }
 
 -- what a rule owes
 abbrev pub Owes : FilesAt → Conn → Move → Type 0
@@ -193,7 +213,7 @@ owing k = record {
     takes = λ x s there sound given. inl tt;
     client_fires = λ x s there sound given. inl tt;
     client_hears = λ x s bytes there was sound given.
-        inr (record { from = Front; to = Client x.c; bytes = bytes }, refl, hears k.files x s there given bytes was (sound.number s there) (decoded bytes x.c ToClient) refl);
+        inr (record { from = Front; to = Client x.c; bytes = bytes }, refl, hears x.c s.client (tale_at x) Front bytes (open-knows k.files x s bytes there given was) (sound.number s there) (decoded bytes x.c ToClient) refl);
     front_fires = λ x s there sound given. inl (fronts-pass x.c _ (front_fires-turn (env_at k x s) refl x.part.seat).notes);
     front_hears = λ x s bytes there was sound given. inl (fronts-pass x.c _ (front_gets-turn (env_at k x s) refl x.part.seat (decoded bytes x.c ToCluster)).notes);
     ignores = λ x from to bytes was sound given. inl tt;

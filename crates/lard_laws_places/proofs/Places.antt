@@ -1,5 +1,5 @@
 -- The steps of the machine by their shapes: what a record says of a place, the place that acts says.
-use Rattle.std.proofs.Common.{◌≡◌, ◌⊎◌, ℕ, ◌+◌, ◌-◌, ◌≤◌, ◌<◌, List, [], ◌∷◌, ◌++◌, length, Bool, true, false, cond, Option, Some, None, inl, inr, ⊎_elim, refl, sym, ap, ◌∙◌, subst, arith, nat_eq}
+use Rattle.std.proofs.Common.{◌≡◌, ℕ, ◌+◌, ◌-◌, ◌≤◌, ◌<◌, List, [], ◌∷◌, ◌++◌, length, Bool, true, false, cond, Some, None, inl, inr, refl, sym, ap, ◌∙◌, subst, arith, nat_eq}
 use Rattle.std.proofs.lemmas.Bool.Decides.{nat_tests}
 use Rattle.std.proofs.lemmas.Option.{slice_get_within}
 use Rattle.std.specs.Prelude.{slice_get}
@@ -7,10 +7,8 @@ use Rattle.lard_base.specs.declared.event.Event.{Event}
 use Rattle.lard_base.specs.declared.event.Event.TheVariants as event
 use Rattle.lard_base.specs.declared.place.Place.{Place}
 use Rattle.lard_base.specs.declared.place.Place.TheVariants as place
-use Rattle.lard_history.specs.Journal.{acting, acting_at, acting_in, event_step, goal_of, goal_step, last_event}
 use Rattle.lard_history.specs.Laws.{EachMay, MayAct, first_place}
-use Rattle.lard_history.specs.Steps.{is_opening}
-use Rattle.lard_history.proofs.Counts.{goal_of-append, last_event-append}
+use Rattle.lard_history.proofs.Acting.{IsActing, IsAt, IsInside, acting-lawful, comes-acting, named-acting, placeless-acts}
 use Rattle.lard_history.proofs.Each.{Each, Each-append, Each-weaker, each_append}
 use Rattle.lard_journal.specs.declared.rec.Rec.{Rec}
 use Rattle.lard_journal.specs.declared.rec.Rec.TheVariants as rec
@@ -22,38 +20,6 @@ use Rattle.lard_net.specs.Net.{Packet, lose_at, packet_at}
 use Rattle.lard_view.proofs.Shapes.{IsAside, Shapes, behind}
 use Rattle.lard_view.proofs.Turns.{IsFine, NotedAt}
 use Rattle.lard_rules.specs.Outs.{timer_change}
-
--- ---- records of the acting place
-
--- it names no place, or this
-abbrev IsAt : Place → Rec → Type 0
-IsAt p r = (first_place r ≡ None) ⊎ (first_place r ≡ Some p)
-
--- it begins no step, and leaves who acts in a step of this event
-record IsSteady (e : Event) (r : Rec) : Type 0 where
-  inside : is_opening r ≡ false
-  same : (past : List Rec) → acting_in (past ++ r ∷ []) e ≡ acting_in past e
-
-event-same : (past : List Rec) (r : Rec) → is_opening r ≡ false → last_event (past ++ r ∷ []) ≡ last_event past
-event-same past r n = last_event-append past (r ∷ []) ∙ go r n where
-  go : (r : Rec) → is_opening r ≡ false → event_step (last_event past) r ≡ last_event past
-  go (rec.Event i e) n = let no : true ≡ false = n in absurd cc
-  go (rec.Inner e) n = let no : true ≡ false = n in absurd cc
-  go _ n = refl
-
-at-acts : (p : Place) (past : List Rec) (r : Rec) → acting past ≡ Some p → IsAt p r → MayAct past r
-at-acts p past r acts at q is = ⊎_elim
-    (λ (none : first_place r ≡ None). let no : None ≡ Some q = sym none ∙ is in absurd cc)
-    (λ (some : first_place r ≡ Some p). acts ∙ sym some ∙ is) at
-
-module _ (e : Event) (p : Place) where
-  -- behind the event all records of the acting place may stand
-  acts-on : (past rs : List Rec) → last_event past ≡ Some e → acting_in past e ≡ Some p → Each (IsAt p) rs → Each (IsSteady e) rs → EachMay MayAct past rs
-  acts-on past [] last acts at steady = tt
-  acts-on past (r ∷ rs) last acts at steady =
-      let last' : last_event (past ++ r ∷ []) ≡ Some e = event-same past r steady.0.inside ∙ last in
-      let acts' : acting_in (past ++ r ∷ []) e ≡ Some p = steady.0.same past ∙ acts in
-      (at-acts p past r (ap (acting_at past) last ∙ acts) at.0, acts-on (past ++ r ∷ []) rs last' acts' at.1 steady.1)
 
 -- ---- notes, segments, timers
 
@@ -67,7 +33,7 @@ note-at place.Front c (rec.Served place.Front d r code size via) h = inr refl
 note-at place.Front c (rec.Reset place.Front d total) h = inr refl
 note-at _ c _ h = absurd h
 
-sents-at : (k : ℕ) (p : Place) (ss : List (Place × List ℕ)) → Each (IsAt p) (sent_records k p ss)
+pub sents-at : (k : ℕ) (p : Place) (ss : List (Place × List ℕ)) → Each (IsAt p) (sent_records k p ss)
 sents-at k p [] = tt
 sents-at k p (s ∷ ss) = (inr refl, sents-at (k + 1) p ss)
 
@@ -78,14 +44,6 @@ timer-at p c true false = (inr refl, tt)
 timer-at p c true true = tt
 
 -- ---- records that leave who acts
-
--- the record sends no packet of this number
-abbrev IsNot : ℕ → Rec → Type 0
-IsNot k (rec.Sent j from to bytes) = nat_eq j k ≡ false
-IsNot k _ = Unit {0}
-
-abbrev IsInside : ℕ → Rec → Type 0
-IsInside k r = (is_opening r ≡ false) × IsNot k r
 
 note-inside : (p : Place) (c k : ℕ) (r : Rec) → NotedAt p c r → IsInside k r
 note-inside (place.Client e) c k (rec.Wrote d bytes) h = (refl, tt)
@@ -106,7 +64,7 @@ aside-inside c k _ h = absurd h
 above : (j k : ℕ) → k < j → nat_eq j k ≡ false
 above j k h = grind (arith, nat_tests, h)
 
-sents-inside : (k j : ℕ) (p : Place) (ss : List (Place × List ℕ)) → k < j → Each (IsInside k) (sent_records j p ss)
+pub sents-inside : (k j : ℕ) (p : Place) (ss : List (Place × List ℕ)) → k < j → Each (IsInside k) (sent_records j p ss)
 sents-inside k j p [] h = tt
 sents-inside k j p (s ∷ ss) h = ((refl, above j k h), sents-inside k (j + 1) p ss (omega (arith, h)))
 
@@ -116,13 +74,14 @@ timer-inside k p c false true = ((refl, tt), tt)
 timer-inside k p c true false = ((refl, tt), tt)
 timer-inside k p c true true = tt
 
--- ---- a step
+-- the number of a packet that was sent is among theirs
+pub few : (net : List Packet) (k : ℕ) (q : Packet) → packet_at net k ≡ Some q → k ≤ length net
+few net k q at = go (nat_eq k 0) at where
+  go : (b : Bool) → cond b None (slice_get net (k - 1)) ≡ Some q → k ≤ length net
+  go true e = let no : None ≡ Some q = e in absurd cc
+  go false e = let h : k - 1 < length net = slice_get_within net (k - 1) q e in omega (arith, h)
 
--- an event at which p acts, by packet k where one comes
-record IsActing (J : List Rec) (e : Event) (p : Place) (k : ℕ) : Type 0 where
-  acts : acting_in (J ++ rec.Event 0 e ∷ []) e ≡ Some p
-  begins : (i : ℕ) → acting_in (J ++ rec.Event i e ∷ []) e ≡ acting_in (J ++ rec.Event 0 e ∷ []) e
-  steady : (r : Rec) → IsNot k r → (past : List Rec) → acting_in (past ++ r ∷ []) e ≡ acting_in past e
+-- ---- a step
 
 module _ (m : Machine) where
   abbrev pub LawfulOn : Machine → Type 0
@@ -135,7 +94,6 @@ module _ (m : Machine) where
       let S : List Rec = sent_records (length w.net + 1) a.place a.turn.segments in
       let T : List Rec = timer_change a.place a.c a.was_armed a.is_armed in
       let E : Rec = rec.Event (w.events + 1) e in
-      let J : List Rec = m.journal ++ E ∷ [] in
       let rest : List Rec = ((own ++ a.turn.notes) ++ S) ++ T in
       let number : k < length w.net + 1 = subst (λ (ps : List Packet). k < length ps + 1) (sym net) (omega (arith, few)) in
       let all_at : Each (IsAt a.place) rest =
@@ -146,46 +104,25 @@ module _ (m : Machine) where
       Each-append (IsInside k) ((own ++ a.turn.notes) ++ S) T (Each-append (IsInside k) (own ++ a.turn.notes) S
       (Each-append (IsInside k) own a.turn.notes inside (Each-weaker (NotedAt a.place a.c) (IsInside k) (note-inside a.place a.c k) a.turn.notes notes))
       (sents-inside k (length w.net + 1) a.place a.turn.segments number)) (timer-inside k a.place a.c a.was_armed a.is_armed) in
-      let steady : Each (IsSteady e) rest = Each-weaker (IsInside k) (IsSteady e) (λ r h. record { inside = h.0; same = acting.steady r h.1 }) rest all_inside in (
-        E ∷ rest,
-        ap (λ (K : List Rec). K ++ (E ∷ rest)) journal,
-        ((λ p is. let no : None ≡ Some p = is in absurd cc), acts-on e a.place J rest (last_event-append m.journal (E ∷ [])) (acting.begins (w.events + 1) ∙ acting.acts) all_at steady),
-      )
+      (E ∷ rest, ap (λ (K : List Rec). K ++ (E ∷ rest)) journal, acting-lawful m.journal (w.events + 1) e a.place k rest acting all_at all_inside)
 
   passed-lawful : (w : Machine) (e : Event) (r : Rec) → w.journal ≡ m.journal → first_place r ≡ None → LawfulOn (passed w e (r ∷ []))
   passed-lawful w e r journal none = (
     rec.Event (w.events + 1) e ∷ r ∷ [],
     ap (λ (K : List Rec). K ++ (rec.Event (w.events + 1) e ∷ r ∷ [])) journal,
-    ((λ p is. let no : None ≡ Some p = is in absurd cc), ((λ p is. let no : None ≡ Some p = sym none ∙ is in absurd cc), tt)),
+    (placeless-acts m.journal (rec.Event (w.events + 1) e) refl, (placeless-acts (m.journal ++ rec.Event (w.events + 1) e ∷ []) r none, tt)),
   )
 
   module _ (l : IsLinked m) where
     -- a packet that comes to p
     comes : (k : ℕ) (q : Packet) (p : Place) → packet_at m.net k ≡ Some q → q.to ≡ p → IsActing m.journal (event.Deliver k) p k
-    comes k q p at to = record {
-      acts = goal_of-append m.journal (rec.Event 0 (event.Deliver k) ∷ []) k ∙ l.is.goals k ∙ ap goal_in at ∙ ap Some to;
-      begins = λ i. goal_of-append m.journal (rec.Event i (event.Deliver k) ∷ []) k ∙ sym (goal_of-append m.journal (rec.Event 0 (event.Deliver k) ∷ []) k);
-      steady = λ r n past. goal_of-append past (r ∷ []) k ∙ still r n (goal_of past k);
-    } where
-      still : (r : Rec) → IsNot k r → (o : Option Place) → goal_step k o r ≡ o
-      still (rec.Sent j from to bytes) n o = ap (λ b. cond b (Some to) o) n
-      still _ n o = refl
-
-    few : (k : ℕ) (q : Packet) → packet_at m.net k ≡ Some q → k ≤ length m.net
-    few k q at = go (nat_eq k 0) at where
-      go : (b : Bool) → cond b None (slice_get m.net (k - 1)) ≡ Some q → k ≤ length m.net
-      go true e = let no : None ≡ Some q = e in absurd cc
-      go false e = let h : k - 1 < length m.net = slice_get_within m.net (k - 1) q e in omega (arith, h)
-
-    -- an event that names who acts
-    named : (e : Event) (p : Place) → ((J : List Rec) → acting_in J e ≡ Some p) → IsActing m.journal e p 0
-    named e p acts = record { acts = acts (m.journal ++ rec.Event 0 e ∷ []); begins = λ i. acts (m.journal ++ rec.Event i e ∷ []) ∙ sym (acts (m.journal ++ rec.Event 0 e ∷ [])); steady = λ r n past. acts (past ++ r ∷ []) ∙ sym (acts past) }
+    comes k q p at to = comes-acting m.journal k p (l.is.goals k ∙ ap goal_in at ∙ ap Some to)
 
     pub shapes-lawful : Shapes m IsFine (λ e n. LawfulOn n)
     shapes-lawful = record {
-      named = λ w e a p from n does. acted-lawful w e (behind e) a 0 from.net from.journal (omega arith) (named e a.place n.acts)
+      named = λ w e a p from n does. acted-lawful w e (behind e) a 0 from.net from.journal (omega arith) (named-acting m.journal e a.place n.acts)
           (Each-weaker (IsAside a.c) (IsAt a.place) (λ r h. inl (aside-inside a.c 0 r h).0) (behind e) n.aside) (Each-weaker (IsAside a.c) (IsInside 0) (λ r h. (aside-inside a.c 0 r h).1) (behind e) n.aside) from.turn.notes;
-      comes = λ w k q a p from c does. acted-lawful w (event.Deliver k) (rec.Got k ∷ []) a k from.net from.journal (few k q c.at) (comes k q a.place c.at c.to) (inl refl, tt) ((refl, tt), tt) from.turn.notes;
+      comes = λ w k q a p from c does. acted-lawful w (event.Deliver k) (rec.Got k ∷ []) a k from.net from.journal (few m.net k q c.at) (comes k q a.place c.at c.to) (inl refl, tt) ((refl, tt), tt) from.turn.notes;
       nobody = λ k q at on. passed-lawful m (event.Deliver k) (rec.Got k) refl refl;
       loses = λ k q at on. passed-lawful (record m { net = lose_at (k - 1) m.net }) (event.Lose k) (rec.Lost k) refl refl;
     }

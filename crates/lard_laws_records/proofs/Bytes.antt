@@ -79,10 +79,10 @@ bytes-decimal n small = index-bytes (decimal n) (λ i. let ascii = IsAscii-decim
 -- ---- segments
 
 -- numbers of 16 and of 32 bits
-bytes-16 : (n : ℕ) → AreBytes (to_be_bytes w16 n)
+pub bytes-16 : (n : ℕ) → AreBytes (to_be_bytes w16 n)
 bytes-16 n = (omega arith, (omega arith, tt))
 
-bytes-32 : (n : ℕ) → AreBytes (to_be_bytes w32 n)
+pub bytes-32 : (n : ℕ) → AreBytes (to_be_bytes w32 n)
 bytes-32 n = (omega arith, (omega arith, (omega arith, (omega arith, tt))))
 
 -- the options: their bytes, and how many

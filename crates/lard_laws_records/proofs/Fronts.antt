@@ -64,7 +64,7 @@ pub record FrontFits (given : Seat × Turn) : Type 0 where
 -- ---- what an endpoint sends
 
 -- an endpoint emits no more segments than it is allowed calls
-emits-few : (c n : ℕ) (b : ControlBlock) → length (emits c n b).0 ≤ n
+pub emits-few : (c n : ℕ) (b : ControlBlock) → length (emits c n b).0 ≤ n
 unfolding emits
 emits-few c zero b = omega arith
 emits-few c (suc n) b = go (emitted b) (emits-few c n (after_emit b)) where
@@ -76,7 +76,7 @@ emits-few c (suc n) b = go (emitted b) (emits-few c n (after_emit b)) where
   go (Some r) few = omega (arith, few)
 
 -- nor where each has to send a symbol
-symbols-few : (c n : ℕ) (b : ControlBlock) → length (emits_symbols c n b).0 ≤ n
+pub symbols-few : (c n : ℕ) (b : ControlBlock) → length (emits_symbols c n b).0 ≤ n
 unfolding emits_symbols
 symbols-few c zero b = omega arith
 symbols-few c (suc n) b = go (emitted b) (symbols-few c n (after_emit b)) where

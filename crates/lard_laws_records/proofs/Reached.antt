@@ -34,7 +34,7 @@ use Rattle.lard_laws_records.proofs.Told.{IsToldWell, heads-told, inside-told, o
 -- ---- limits
 
 -- before a step there are few packets and records
-few-before : (packets bytes records answered : ℕ) → limit_of packets bytes records answered ≡ None → (packets < 1000000) × (records < 4000000)
+pub few-before : (packets bytes records answered : ℕ) → limit_of packets bytes records answered ≡ None → (packets < 1000000) × (records < 4000000)
 few-before packets bytes records answered e = go (nat_le 1000000 packets) refl (nat_le (2 ^ 29) bytes) (nat_le 4000000 records) refl (nat_le (2 ^ 29) answered) e where
   go : (p : Bool) → nat_le 1000000 packets ≡ p → (b r : Bool) → nat_le 4000000 records ≡ r → (a : Bool)
       → cond {A = Option What} p (Some Packets) (cond b (Some PacketBytes) (cond r (Some Records) (cond a (Some Answers) None))) ≡ None → (packets < 1000000) × (records < 4000000)

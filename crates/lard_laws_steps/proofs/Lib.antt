@@ -1,3 +1,4 @@
+pub mod Changes
 pub mod Clients
 pub mod Fronts
 pub mod Timers

@@ -1,24 +1,21 @@
 -- When timers change: what each move tells of its connection's timers, and what a step does.
-use Rattle.std.proofs.Common.{◌≡◌, ◌≢◌, ◌⊎◌, ℕ, ◌+◌, List, [], ◌∷◌, ◌++◌, map, length, append-nil, Bool, true, false, not, cond, ◌&&◌, Some, None, Ok, inl, inr, refl, sym, ap, ◌∙◌, subst, nat_eq}
-use Rattle.std.proofs.lemmas.Bool.{and_parts, both_ways}
+use Rattle.std.proofs.Common.{◌≡◌, ◌⊎◌, ℕ, ◌+◌, List, [], ◌∷◌, ◌++◌, map, length, append-nil, Bool, true, false, ◌&&◌, Ok, inl, inr, refl, sym, ap, ◌∙◌, subst, nat_eq}
 use Rattle.std.proofs.lemmas.List.Sums.{fold-append}
-use Rattle.std.specs.List.{filter, fold, list_all}
+use Rattle.std.specs.List.{fold, list_all}
 use Rattle.lard_base.specs.declared.config.Config.{Config}
 use Rattle.lard_base.specs.declared.event.Event.{Event}
-use Rattle.lard_base.specs.declared.event.Event.TheVariants as event
 use Rattle.lard_base.specs.declared.place.Place.{Place}
-use Rattle.lard_base.specs.declared.place.Place.TheVariants.{Front, Node, Client}
-use Rattle.lard_base.specs.declared.place.TimerKind.{TimerKind}
-use Rattle.lard_base.specs.declared.place.TimerKind.TheVariants.{Tcp, Offer, Ask, Fetch, Ended}
-use Rattle.lard_history.specs.Journal.{armed_step, is_kind, is_place, is_running}
-use Rattle.lard_history.specs.Own.{Seen, Row, Came, plain, seen_step, whose}
+use Rattle.lard_base.specs.declared.place.Place.TheVariants.{Front, Client}
+use Rattle.lard_base.specs.declared.place.TimerKind.TheVariants.{Tcp}
+use Rattle.lard_history.specs.Journal.{armed_step, is_place, is_running}
+use Rattle.lard_history.specs.Own.{seen_step}
 use Rattle.lard_history.proofs.Each.{Each, Each-append, Each-weaker}
-use Rattle.lard_history.proofs.Lifting.{IsOwnFold, fold-own}
-use Rattle.lard_history.proofs.Seeing.{by_number, other_number, same_number}
+use Rattle.lard_history.proofs.Lifting.{fold-own}
 use Rattle.lard_history.proofs.Stepping.{AreLawful, cancel, one-more}
 use Rattle.lard_journal.specs.declared.rec.Rec.{Rec}
 use Rattle.lard_journal.specs.declared.rec.Rec.TheVariants as rec
-use Rattle.lard_laws_steps.specs.Timers.{ChangesTimers, RunsAsKept, TimersChangeInSteps, TimersRunAsKept, change_of, is_change, is_change_of}
+use Rattle.lard_laws_steps.specs.Timers.{ChangesTimers, RunsAsKept, TimersChangeInSteps, TimersRunAsKept, is_change}
+use Rattle.lard_laws_steps.proofs.Changes.{Exactly, IsStill, Still, exactly-none, exactly-one, its-change, kind-others, one-change, step-changes, still-behind, still-rows, still-seen, still-sents, timer-is-own}
 use Rattle.lard_machine.specs.declared.machine.Machine.{Machine}
 use Rattle.lard_machine.specs.Bounds.{HasRule}
 use Rattle.lard_machine.specs.Machine.{IsReached, machine_step, sent_records}
@@ -36,9 +33,6 @@ use Rattle.lard_view.proofs.Turns.{IsFine, NotedAt, fine}
 
 -- ---- records of no timer
 
-abbrev Still : List Rec → Type 0
-Still rs = Each (λ r. is_change r ≡ false) rs
-
 still-note : (place : Place) (c : ℕ) (r : Rec) → NotedAt place c r → is_change r ≡ false
 still-note (Client e) c (rec.Wrote d bytes) h = refl
 still-note (Client e) c (rec.Accepted d bytes) h = refl
@@ -49,98 +43,19 @@ still-note Front c (rec.Served Front d r code size via) h = refl
 still-note Front c (rec.Reset Front d total) h = refl
 still-note _ c _ h = absurd h
 
-still-behind : (e : Event) → Still (behind e)
-still-behind (event.Open c isn iss wnd mss) = (refl, tt)
-still-behind (event.Deliver k) = (refl, tt)
-still-behind (event.Lose k) = (refl, tt)
-still-behind (event.Inject c bytes) = (refl, tt)
-still-behind _ = tt
-
-still-sents : (k : ℕ) (place : Place) (ss : List (Place × List ℕ)) → Still (sent_records k place ss)
-still-sents k place [] = tt
-still-sents k place (s ∷ ss) = (refl, still-sents (k + 1) place ss)
-
 still-sends : (place : Place) (ss : List (Place × List ℕ)) → Still (map (sending place) ss)
 still-sends place [] = tt
 still-sends place (s ∷ ss) = (refl, still-sends place ss)
 
-none-change : (rs : List Rec) → Still rs → list_all (λ r. not (is_change r)) rs ≡ true
-none-change [] n = refl
-none-change (r ∷ rs) n = ap (λ b. not b && list_all (λ q. not (is_change q)) rs) n.0 ∙ none-change rs n.1
-
-all-change : (place : Place) (c : ℕ) (was is : Bool) → list_all is_change (timer_change place c was is) ≡ true
-all-change place c false false = refl
-all-change place c false true = refl
-all-change place c true false = refl
-all-change place c true true = refl
-
--- such a record leaves each timer as it was
-module _ (p : Place) (c : ℕ) (kind : TimerKind) where
-  still-step : (b : Bool) (r : Rec) → is_change r ≡ false → armed_step p c kind b r ≡ b
-  still-step b (rec.Armed q d k) n = absurd (both_ways true n refl)
-  still-step b (rec.Cleared q d k) n = absurd (both_ways true n refl)
-  still-step b _ n = refl
-
-  still-rows : (b : Bool) (rs : List Rec) → Still rs → fold (armed_step p c kind) b rs ≡ b
-  still-rows b [] n = refl
-  still-rows b (r ∷ rs) n = ap (λ a. fold (armed_step p c kind) a rs) (still-step b r n.0) ∙ still-rows b rs n.1
-
--- and so does what a connection sees
-abbrev IsStill : Seen → Type 0
-IsStill (Row r) = is_change r ≡ false
-IsStill (Came l) = Unit {0}
-
-still-seen : (p : Place) (c : ℕ) (kind : TimerKind) (b : Bool) (ss : List Seen) → Each IsStill ss → fold (seen_step (armed_step p c kind)) b ss ≡ b
-still-seen p c kind b [] n = refl
-still-seen p c kind b (Row r ∷ ss) n = ap (λ a. fold (seen_step (armed_step p c kind)) a ss) (still-step p c kind b r n.0) ∙ still-seen p c kind b ss n.1
-still-seen p c kind b (Came l ∷ ss) n = still-seen p c kind b ss n.1
-
 -- ---- a timer's own record
-
-number-is : (d c : ℕ) → nat_eq d c ≡ true → d ≡ c
-number-is d c e = by_number (d ≡ c) d c (λ same. same) (λ n. absurd (both_ways (nat_eq d c) (other_number d c n) e))
-
-place-is : (q p : Place) → is_place q p ≡ true → q ≡ p
-place-is Front Front e = refl
-place-is (Node n) (Node m) e = ap Node (number-is n m e)
-place-is (Client c) (Client d) e = ap Client (number-is c d e)
-place-is _ _ e = absurd (both_ways false refl e)
-
-kind-is : (k kind : TimerKind) → is_kind k kind ≡ true → k ≡ kind
-kind-is Tcp Tcp e = refl
-kind-is Offer Offer e = refl
-kind-is Ask Ask e = refl
-kind-is Fetch Fetch e = refl
-kind-is Ended Ended e = refl
-kind-is _ _ e = absurd (both_ways false refl e)
-
-is-its-own : (q p : Place) (d c : ℕ) (k kind : TimerKind) → (is_place q p && (nat_eq d c && is_kind k kind)) ≡ true → (q ≡ p) × (d ≡ c) × (k ≡ kind)
-is-its-own q p d c k kind e =
-    let at = and_parts (is_place q p) (nat_eq d c && is_kind k kind) e in
-    let of = and_parts (nat_eq d c) (is_kind k kind) at.1 in
-    (place-is q p at.0, number-is d c of.0, kind-is k kind of.1)
-
-same-place : (p : Place) → is_place p p ≡ true
-same-place Front = refl
-same-place (Node n) = same_number n
-same-place (Client c) = same_number c
-
-its-own : (p : Place) (c : ℕ) → (is_place p p && (nat_eq c c && true)) ≡ true
-its-own p c = ap (λ b. b && (nat_eq c c && true)) (same-place p) ∙ ap (λ b. b && true) (same_number c)
 
 -- the record of a change tells the flag after it
 own-change : (p : Place) (c : ℕ) (was is : Bool) → fold (armed_step p c Tcp) was (timer_change p c was is) ≡ is
-own-change p c false false = refl
-own-change p c false true = ap (λ b. cond b true false) (its-own p c)
-own-change p c true false = ap (λ b. cond b false true) (its-own p c)
-own-change p c true true = refl
+own-change p c was is = (its-change p c Tcp was is).tells
 
 -- and leaves the timer of another place
 other-change : (p q : Place) (c : ℕ) (b was is : Bool) → is_place q p ≡ false → fold (armed_step p c Tcp) b (timer_change q c was is) ≡ b
-other-change p q c b false false n = refl
-other-change p q c b false true n = ap (λ t. cond (t && (nat_eq c c && true)) true b) n
-other-change p q c b true false n = ap (λ t. cond (t && (nat_eq c c && true)) false b) n
-other-change p q c b true true n = refl
+other-change p q c b was is n = (kind-others p c Tcp q c Tcp was is (ap (λ t. t && (nat_eq c c && true)) n)).stays b
 
 -- ---- the flags of a connection
 
@@ -234,28 +149,6 @@ timing k = record {
 
 -- ---- the journal tells the same
 
-not-its : (a d b : Bool) → d ≡ false → (a && (d && b)) ≡ false
-not-its true d b e = ap (λ t. t && b) e
-not-its false d b e = refl
-
-plain-timer : (p : Place) (c : ℕ) (kind : TimerKind) (b : Bool) (r : Rec) → armed_step p c kind b (plain r) ≡ armed_step p c kind b r
-plain-timer p c kind b (rec.Event i e) = refl
-plain-timer p c kind b (rec.Sent k from to bytes) = refl
-plain-timer p c kind b _ = refl
-
--- a record of another connection, or of none, leaves the timer
-other-timer : (p : Place) (c : ℕ) (kind : TimerKind) (b : Bool) (r : Rec) → whose r ≢ Some c → armed_step p c kind b r ≡ b
-other-timer p c kind b (rec.Armed q d k) n = ap (λ t. cond t true b) (not-its (is_place q p) (nat_eq d c) (is_kind k kind) (other_number d c (λ s. n (ap Some s))))
-other-timer p c kind b (rec.Cleared q d k) n = ap (λ t. cond t false b) (not-its (is_place q p) (nat_eq d c) (is_kind k kind) (other_number d c (λ s. n (ap Some s))))
-other-timer p c kind b _ n = refl
-
-timer-is-own : (p : Place) (c : ℕ) (kind : TimerKind) → IsOwnFold c (armed_step p c kind)
-timer-is-own p c kind = record {
-  mine = λ b r e. plain-timer p c kind b r;
-  others = λ b r d n e. other-timer p c kind b r (λ s. n (let same : Some d ≡ Some c = sym e ∙ s in cc));
-  nobody = λ b r e. other-timer p c kind b r (λ s. let no : None ≡ Some c = sym e ∙ s in absurd cc);
-}
-
 module _ (config : Config) (files : List (List ℕ × List ℕ)) where
   timed-always : OfEach config files IsTimed
   timed-always = carried config files (λ x. Unit {0}) IsTimed (timing (setting config files)) (λ m r q. tt)
@@ -274,58 +167,11 @@ timers-kept config files m r c = runs-kept config files m r c
 
 -- ---- a step
 
--- the records of a timer are those of its change, by what is told before
-module _ (past : List Rec) where
-  abbrev Exactly : List Rec → Type 0
-  Exactly rows = (p : Place) (c : ℕ) (kind : TimerKind)
-      → filter (is_change_of p c kind) rows ≡ change_of p c kind (is_running past p c kind) (fold (armed_step p c kind) (is_running past p c kind) rows)
+exactly-change : (past : List Rec) (place : Place) (c : ℕ) (was is : Bool) → is_running past place c Tcp ≡ was → Exactly past (timer_change place c was is)
+exactly-change past place c was is e = exactly-one past place c Tcp was is e
 
-  nothing-changes : (p : Place) (c : ℕ) (kind : TimerKind) (b : Bool) → [] ≡ change_of p c kind b b
-  nothing-changes p c kind true = refl
-  nothing-changes p c kind false = refl
-
-  exactly-none : Exactly []
-  exactly-none p c kind = nothing-changes p c kind (is_running past p c kind)
-
-  -- of one timer a record, where it did not run, or did
-  exactly-armed : (place : Place) (c : ℕ) → is_running past place c Tcp ≡ false → Exactly (rec.Armed place c Tcp ∷ [])
-  exactly-armed place c e p d kind = go (is_change_of p d kind (rec.Armed place c Tcp)) refl where
-    go : (b : Bool) → is_change_of p d kind (rec.Armed place c Tcp) ≡ b → cond b (rec.Armed place c Tcp ∷ []) [] ≡ change_of p d kind (is_running past p d kind) (cond b true (is_running past p d kind))
-    go false n = nothing-changes p d kind (is_running past p d kind)
-    go true n =
-        let same = is-its-own place p c d Tcp kind n in
-        let was : is_running past p d kind ≡ false = (λ i. is_running past (sym same.0 i) (sym same.1 i) (sym same.2 i)) ∙ e in
-        (λ i. rec.Armed (same.0 i) (same.1 i) (same.2 i) ∷ []) ∙ ap (λ b. change_of p d kind b true) (sym was)
-
-  exactly-cleared : (place : Place) (c : ℕ) → is_running past place c Tcp ≡ true → Exactly (rec.Cleared place c Tcp ∷ [])
-  exactly-cleared place c e p d kind = go (is_change_of p d kind (rec.Cleared place c Tcp)) refl where
-    go : (b : Bool) → is_change_of p d kind (rec.Cleared place c Tcp) ≡ b → cond b (rec.Cleared place c Tcp ∷ []) [] ≡ change_of p d kind (is_running past p d kind) (cond b false (is_running past p d kind))
-    go false n = nothing-changes p d kind (is_running past p d kind)
-    go true n =
-        let same = is-its-own place p c d Tcp kind n in
-        let was : is_running past p d kind ≡ true = (λ i. is_running past (sym same.0 i) (sym same.1 i) (sym same.2 i)) ∙ e in
-        (λ i. rec.Cleared (same.0 i) (same.1 i) (same.2 i) ∷ []) ∙ ap (λ b. change_of p d kind b false) (sym was)
-
-  exactly-change : (place : Place) (c : ℕ) (was is : Bool) → is_running past place c Tcp ≡ was → Exactly (timer_change place c was is)
-  exactly-change place c false false e = exactly-none
-  exactly-change place c false true e = exactly-armed place c e
-  exactly-change place c true false e = exactly-cleared place c e
-  exactly-change place c true true e = exactly-none
-
-  -- a step whose last records are those
-  step-changes : (before rows : List Rec) → Still before → list_all is_change rows ≡ true → Exactly rows → ChangesTimers past (before ++ rows)
-  step-changes before rows none all exact = record {
-    before = before;
-    changes = rows;
-    is = refl;
-    none = none-change before none;
-    all = all;
-    exactly = λ p c kind. exact p c kind ∙ ap (change_of p c kind (is_running past p c kind)) (sym (now p c kind));
-  } where
-    now : (p : Place) (c : ℕ) (kind : TimerKind) → is_running (past ++ (before ++ rows)) p c kind ≡ fold (armed_step p c kind) (is_running past p c kind) rows
-    now p c kind =
-        fold-append (armed_step p c kind) false past (before ++ rows) ∙ fold-append (armed_step p c kind) (is_running past p c kind) before rows
-        ∙ ap (λ b. fold (armed_step p c kind) b rows) (still-rows p c kind (is_running past p c kind) before none)
+all-changes : (place : Place) (c : ℕ) (was is : Bool) → list_all is_change (timer_change place c was is) ≡ true
+all-changes place c was is = one-change place c Tcp was is
 
 -- of a state whose timers run as kept
 module _ (m : Machine) (sound : (q : ℕ) → IsSound (conn m q)) (kept : (c : ℕ) → RunsAsKept m c) (e : Event) (adds : List Rec) where
@@ -341,7 +187,7 @@ module _ (m : Machine) (sound : (q : ℕ) → IsSound (conn m q)) (kept : (c : �
       let before : List Rec = first ∷ behind e ++ v.turn.notes ++ sents in
       let none : Still before = (refl, Each-append P (behind e ++ v.turn.notes) sents (Each-append P (behind e) v.turn.notes (still-behind e) (still-notes (conn m a.c) v (sound a.c) a.does.1)) (still-sents (length m.net + 1) v.place v.turn.segments)) in
       subst (λ (rs : List Rec). ChangesTimers m.journal (first ∷ rs)) (sym a.are)
-      (step-changes m.journal before (timer_rows v.place a.c (part_of m a.c) v.part) none (all-change v.place a.c (armed_at v.place (part_of m a.c)) (armed_at v.place v.part)) (rows a.does.0.acts)) where
+      (step-changes m.journal before (timer_rows v.place a.c (part_of m a.c) v.part) none (all-changes v.place a.c (armed_at v.place (part_of m a.c)) (armed_at v.place v.part)) (rows a.does.0.acts)) where
         rows : KeepsOthers (conn m a.c) a.move → Exactly m.journal (timer_change a.move.place a.c (armed_at a.move.place (part_of m a.c)) (armed_at a.move.place a.move.part))
         rows (inl own) = exactly-change m.journal a.move.place a.c (armed_at a.move.place (part_of m a.c)) (armed_at a.move.place a.move.part)
             (subst (λ (p : Place). is_running m.journal p a.c Tcp ≡ armed_at p (part_of m a.c)) (sym own.0) (kept a.c).client)

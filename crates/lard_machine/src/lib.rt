@@ -1,7 +1,7 @@
-//! The machine that is composed of the rules: its state, and one step of the whole as a function of the state and the
-//! event. The code that follows it is above.
+//! A machine of one front end that serves alone: its state, and one step of the whole as a function of the state and the
+//! event. No program runs it; the limits of a run and the numbering of packets are the cluster's too.
 //!
-//! It stands above `lard_rules`. `lard_world` takes its steps, and the laws of the machine speak of them.
+//! It stands above `lard_rules`. The laws of `lard_laws_places` and the crates above it speak of it.
 #![tactic(auto)]
 
 pub mod fault;

@@ -4,6 +4,7 @@
 //! two that move one byte at a time.
 #![tactic(auto)]
 
+pub mod moves;
 pub mod report;
 pub mod rows;
 pub mod slow;

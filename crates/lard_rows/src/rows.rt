@@ -1,5 +1,6 @@
 //! The worked rows: inputs with the status and the whole report that the rules give, worked out apart from the program.
 
+use crate::moves::ONE_CONNECTION_MOVES;
 use lard_app::{FileFault, Status, What, Why};
 
 /// An input, how its run ends, and what it writes.
@@ -632,7 +633,7 @@ got 7
 };
 
 /// All rows.
-pub const ROWS: [Row; 19] = [
+pub const ROWS: [Row; 20] = [
     HEADING_ALONE,
     NO_INPUT,
     ONE_REQUEST,
@@ -652,61 +653,5 @@ pub const ROWS: [Row; 19] = [
     FOUR_REQUESTS_WRITTEN,
     REQUEST_ON_ITS_WAY,
     NO_SEGMENTS_INJECTED,
+    ONE_CONNECTION_MOVES,
 ];
-
-/// An input that ends well, and lines that stand in its report, in this order.
-pub struct Told {
-    pub input: &'static str,
-    pub lines: &'static [&'static str],
-}
-
-/// A file of no bytes, by GET and by HEAD, and HEAD of a file of five.
-pub const EMPTY_FILE_AND_HEAD: Told = Told {
-    input: "\
-lard 1
-file /empty -
-file /a 68656c6c6f
-go
-open 1 1000 5000 65535 1460
-deliver 1
-deliver 2
-deliver 3
-write 1 474554202f656d70747920485454502f312e310d0a486f73743a206c6172640d0a0d0a48454144202f656d70747920485454502f312e310d0a486f73743a206c6172640d0a0d0a48454144202f6120485454502f312e310d0a486f73743a206c6172640d0a0d0a
-deliver 4
-deliver 5
-",
-    lines: &[
-        "served front 1 1 200 38 own",
-        "served front 1 2 200 38 own",
-        "served front 1 3 200 38 own",
-        "accepted 1 485454502f312e3120323030204f4b0d0a436f6e74656e742d4c656e6774683a20300d0a0d0a485454502f312e3120323030204f4b0d0a436f6e74656e742d4c656e6774683a20300d0a0d0a485454502f312e3120323030204f4b0d0a436f6e74656e742d4c656e6774683a20350d0a0d0a",
-    ],
-};
-
-/// Three requests in one write, of which the third has two Host fields, and a fourth that is not answered.
-pub const THREE_REQUESTS: Told = Told {
-    input: "\
-lard 1
-file /a 68656c6c6f
-go
-open 1 1000 5000 65535 1460
-deliver 1
-deliver 2
-deliver 3
-write 1 474554202f6120485454502f312e310d0a486f73743a206c6172640d0a0d0a474554202f6120485454502f312e310d0a486f73743a206c6172640d0a0d0a474554202f6120485454502f312e310d0a486f73743a206c6172640d0a486f73743a20620d0a0d0a
-write 1 474554202f6120485454502f312e310d0a486f73743a206c6172640d0a0d0a
-deliver 4
-deliver 5
-deliver 6
-",
-    lines: &[
-        "served front 1 1 200 43 own",
-        "served front 1 2 200 43 own",
-        "served front 1 3 400 66 own",
-        "accepted 1 485454502f312e3120323030204f4b0d0a436f6e74656e742d4c656e6774683a20350d0a0d0a68656c6c6f485454502f312e3120323030204f4b0d0a436f6e74656e742d4c656e6774683a20350d0a0d0a68656c6c6f485454502f312e31203430302042616420526571756573740d0a436f6e74656e742d4c656e6774683a20300d0a436f6e6e656374696f6e3a20636c6f73650d0a0d0a",
-        "eof 1",
-    ],
-};
-
-/// Both.
-pub const TOLD: [Told; 2] = [EMPTY_FILE_AND_HEAD, THREE_REQUESTS];

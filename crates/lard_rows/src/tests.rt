@@ -1,10 +1,11 @@
 //! The rows: for each input the status and the report that the rules give, worked out by hand.
 
+use crate::moves::TOLD;
 use crate::report::{HEADING, PARTS};
-use crate::rows::{ONE_REQUEST, REQUEST_IN_PARTS, ROWS, TOLD};
+use crate::rows::{ONE_REQUEST, REQUEST_IN_PARTS, ROWS};
 use crate::slow::{Counting, Drip, Trickle, Waiting};
 use lard_app::{FileFault, Form, Status, What, Why, run};
-use lard_base::{Bytes, Calls, Key, MemSink, MemSource, NoMemory};
+use lard_base::{Bytes, Calls, ConfigFault, Key, MemSink, MemSource, NoMemory};
 use std::alloc::Global;
 use std::cell::Cell;
 use std::process::Abort;
@@ -188,11 +189,56 @@ fn what_does_not_depend_on_a_world(rt: HostRuntime) -> Result<(), Fail> {
 }
 
 #[test]
-fn uses_that_are_not_built(rt: HostRuntime) -> Result<(), Fail> {
-    let form = |line, form| refused(line, Why::FormNotBuilt(form));
+fn nodes_and_jobs_that_are_not_there(rt: HostRuntime) -> Result<(), Fail> {
+    let no_node = |line, n| refused(line, Why::NoNode { n, nodes: 2 });
+    let no_job = |line, n, j| refused(line, Why::NoJob { n, j, len: 0 });
+    let opened = "lard 1\ngo\nopen 1 1000 5000 65535 1460\n";
+    let alloc = rt.alloc();
     check(
         &rt,
-        &[("lard 1\ngo\ntimer n1 1\n", form(3, Form::Timer), 1)],
+        &[
+            ("lard 1\ngo\ndisk 0 1\n", no_node(3, 0), 1),
+            ("lard 1\ngo\ndisk 3 1\n", no_node(3, 3), 1),
+            ("lard 1\ngo\ndisk 1 1\n", no_job(3, 1, 1), 1),
+            ("lard 1\ngo\ndisk 2 0\n", no_job(3, 2, 0), 1),
+            ("lard 1\ngo\ntimer n3 1\n", refused(3, Why::NoClient(1)), 1),
+        ],
+    )?;
+    let input = joined(alloc, opened, "timer n3 1\n")?;
+    let (status, report) = replayed(alloc, input.as_slice(), Calls::new(alloc))?;
+    assert_eq!(rt; status, no_node(4, 3));
+    assert_eq!(rt; report.as_slice(), first_parts(alloc, 2)?.as_slice());
+    Ok(())
+}
+
+#[test]
+fn configurations_that_cannot_be_used(rt: HostRuntime) -> Result<(), Fail> {
+    let unfit = |line, fault| refused(line, Why::Config(fault));
+    check(
+        &rt,
+        &[
+            (
+                "lard 1\nnodes 65\n",
+                unfit(
+                    2,
+                    ConfigFault::Range {
+                        key: Key::Nodes,
+                        value: 65,
+                    },
+                ),
+                0,
+            ),
+            (
+                "lard 1\nlow 70\ngo\n",
+                unfit(3, ConfigFault::LowHigh { low: 70, high: 65 }),
+                0,
+            ),
+            (
+                "lard 1\nnodes 1\nlow 1\nhigh 1\ngo\n",
+                unfit(5, ConfigFault::NoRoom),
+                0,
+            ),
+        ],
     )?;
     Ok(())
 }
@@ -203,12 +249,9 @@ fn forms_that_are_not_built(rt: HostRuntime) -> Result<(), Fail> {
     check(
         &rt,
         &[
-            ("disk /a -\n", form(1, Form::Disk), 0),
-            ("lard 1\nclock\n", form(2, Form::Clock), 0),
-            ("lard 1\nnodes 3\n", form(2, Form::Key(Key::Nodes)), 0),
-            ("lard 1\ncache x y z\n", form(2, Form::Key(Key::Cache)), 0),
+            ("settle /a -\n", form(1, Form::Settle), 0),
             ("lard 1\ngo\nsettle 10\n", form(3, Form::Settle), 1),
-            ("lard 1\ngo\ndisk", refused(3, Why::Syntax), 1),
+            ("lard 1\ngo\nsettle", refused(3, Why::Syntax), 1),
             ("lard 1\ngo\ndrain 1\n", refused(3, Why::Syntax), 1),
         ],
     )?;

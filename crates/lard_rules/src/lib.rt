@@ -2,7 +2,7 @@
 //! place keeps of a connection, and of its turn, are declared here.
 //!
 //! It stands above the endpoint, the client, the reading and the answering of requests, whose definitions its rules are
-//! made of. `lard_machine` composes the rules, `lard_world` follows them, and the laws speak of them.
+//! made of. The rules of a whole front end and of a node stand above it, and so does the code that follows them.
 #![tactic(auto)]
 
 pub mod front;

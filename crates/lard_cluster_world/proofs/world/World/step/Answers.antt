@@ -1,6 +1,9 @@
--- The world stands as long as memory suffices.
-use Rattle.std.proofs.Common.{◌∙◌, ap, sym}
-use Rattle.lard_cluster_world.proofs.Runs.{runs-on}
+-- The world stands as long as memory suffices, and its journal obeys the laws.
+use Rattle.std.proofs.Common.{◌∙◌, ap, sym, subst}
+use Rattle.lard_cluster_laws.specs.Lawful.{IsLawful}
+use Rattle.lard_cluster_world.specs.World.{Standing}
+use Rattle.lard_cluster_world.proofs.Runs.{runs-on, still-lawful}
+use Rattle.lard_files.specs.Files.{file_at}
 use Rattle.lard_cluster_world.proofs.world.World.step.Goals as goal
 
 pub step-done-requires-clause-sound : goal.step-done-requires-clause-sound
@@ -13,3 +16,9 @@ pub invariant_of-self : goal.invariant_of-self
 invariant_of-self c = λ usable.
     let run = c.self.invariant (ap (λ w. w.spoiled) c.self.view_is ∙ c.requires.usable) in
     runs-on c.self.inside.machine c.step-done.new.machine c.args.event run c.requires.ruled c.step-done.result c.step-done.ensures.step c.step-done.ensures.sound (sym c.is_short-self-inside.ensures ∙ usable)
+
+pub returns-clause-lawful : goal.returns-clause-lawful
+returns-clause-lawful c =
+    let run = c.self.invariant (ap (λ w. w.spoiled) c.self.view_is ∙ c.requires.usable) in
+    subst (λ (w : Standing). IsLawful w.machine.config (file_at w.machine.files) c.step-done.new.machine.journal) c.self.view_is
+    (still-lawful c.self.inside.machine c.step-done.new.machine c.args.event run c.requires.ruled c.step-done.result c.step-done.ensures.step)

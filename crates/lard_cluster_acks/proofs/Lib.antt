@@ -1,0 +1,9 @@
+pub mod Clients
+pub mod Fronts
+pub mod Growing
+pub mod Messages
+pub mod Nodes
+pub mod Reading
+pub mod Runs
+pub mod Story
+pub mod Turns

@@ -1,0 +1,4 @@
+pub mod Asides
+pub mod Tables
+pub mod Writers
+pub mod Taking

@@ -1,0 +1,51 @@
+-- Each law is proved in a crate of its own.
+use Rattle.std.specs.Prelude.{◌≤◌}
+use Rattle.lard_base.specs.declared.limits.TheConstants.{MAX_STREAM_BYTES}
+use Rattle.lard_cluster_bytes.proofs.Runs.{clients-accept, journals-serve, journals-tell, states-truthful}
+use Rattle.lard_cluster_clients.proofs.Tables.{clients-keep}
+use Rattle.lard_cluster_clients.proofs.Taking.{clients-take}
+use Rattle.lard_cluster_clients.proofs.Writers.{writers-are}
+use Rattle.lard_cluster_laws.specs.Lawful.{JournalsAreLawful}
+use Rattle.lard_cluster_limits.proofs.Runs.{resets-lawful}
+use Rattle.lard_cluster_motion.proofs.Runs.{connections-move}
+use Rattle.lard_cluster_offers.proofs.Runs.{offers-carry}
+use Rattle.lard_cluster_places.proofs.Runs.{owners-are, senders-are}
+use Rattle.lard_cluster_policy.proofs.Counted.{admits-by-room, admits-to-a-node, assigns-as-stated, loads-are-charges, releases-what-it-took, servers-are-told, shares-one-batch, stays-within}
+use Rattle.lard_cluster_records.proofs.Named.{usable}
+use Rattle.lard_cluster_steps.proofs.Linking.{reached-linked}
+use Rattle.lard_cluster_steps.proofs.Places.{reached-in-place}
+use Rattle.lard_cluster_steps.proofs.Timers.{timers-change}
+use Rattle.lard_cluster_stores.proofs.Disks.{disks-read}
+use Rattle.lard_cluster_stores.proofs.Stored.{lawful}
+
+pub journals-lawful : JournalsAreLawful
+journals-lawful config files m checked r =
+    let here = reached-in-place config files m r in
+    let small : config.stream ≤ MAX_STREAM_BYTES = (usable config checked).stream in
+    record {
+      network = (reached-linked config files m r).each;
+      places = here.acts;
+      clock = here.times;
+      ownership = owners-are config files m r;
+      sole_sender = senders-are config files m r;
+      motion = connections-move config files m r;
+      writers = writers-are config files m r;
+      takers = clients-take states-truthful config files m small r;
+      tables = clients-keep config files m r;
+      timers = timers-change config files m r;
+      tells = journals-tell config files m small r;
+      service = journals-serve config files m small r;
+      prefix = clients-accept config files m small r;
+      resets = resets-lawful config files m small r;
+      stores = lawful config files m r;
+      disks = disks-read config files m r;
+      admission = admits-by-room config files m checked r;
+      room = stays-within config files m checked r;
+      nodes = admits-to-a-node config files m checked r;
+      releases = releases-what-it-took config files m checked r;
+      choices = assigns-as-stated config files m checked r;
+      batches = shares-one-batch config files m checked r;
+      loads = loads-are-charges config files m checked r;
+      servers = servers-are-told config files m checked r;
+      offers = offers-carry config files m small r;
+    }

@@ -1,0 +1,74 @@
+-- The laws of a journal of the cluster, in words of its records alone.
+use Rattle.std.specs.Prelude.{◌≡◌, ℕ, ◌≤◌, List, [], ◌++◌, Ok}
+use Rattle.lard_answers.specs.Answers.{FilesAt}
+use Rattle.lard_base.specs.Config.{config_check, room_of}
+use Rattle.lard_base.specs.declared.config.Config.{Config}
+use Rattle.lard_cluster.specs.declared.machine.Machine.{Machine}
+use Rattle.lard_cluster.specs.Machine.{IsReached}
+use Rattle.lard_cluster_bytes.specs.Records.{ServesTheAnswers}
+use Rattle.lard_cluster_motion.specs.Motion.{MustMove}
+use Rattle.lard_cluster_offers.specs.Offers.{CarryTheEndpoint}
+use Rattle.lard_cluster_policy.specs.Laws.{AreLoadsCharged, ArePaired, AreServersTold, MayAdmit, MayAssign, MayRelease, MayShare, Nothing, last_of}
+use Rattle.lard_cluster_policy.specs.Ledger.{Ledger, admitted, ledger}
+use Rattle.lard_cluster_stores.specs.Laws.{MayStore, MustRead}
+use Rattle.lard_files.specs.Files.{file_at}
+use Rattle.lard_history.specs.Laws.{AcceptsOnlyAnswers, ActsInPlace, EachMay, IsNetwork, IsOwnership, IsSoleSender, KeepsTime, ResetsAtTheLimit, TellsTheTruth, WritesWhileOpen}
+use Rattle.lard_history.specs.Steps.{EachStep, steps}
+use Rattle.lard_journal.specs.declared.rec.Rec.{Rec}
+use Rattle.lard_laws_clients.specs.Laws.{TakesInOrder}
+use Rattle.lard_laws_steps.specs.Clients.{KeepsTables}
+use Rattle.lard_laws_steps.specs.Timers.{ChangesInSteps}
+
+-- P is so, at every moment, of what the journal counts and of the records so far.
+abbrev pub Throughout : (Ledger → List Rec → Type 0) → Config → List Rec → Type 0
+Throughout P config J = (past later : List Rec) → J ≡ past ++ later → P (ledger config past) past
+
+-- each record may stand where it does, by what the journal counts just before it
+abbrev pub EachCounted : (Config → Ledger → Rec → Type 0) → Config → List Rec → Type 0
+EachCounted may config J = EachMay (λ past r. may config (ledger config past) r) [] J
+
+-- Such files are served, in a cluster of this configuration.
+pub record IsLawful (config : Config) (files : FilesAt) (J : List Rec) : Type 0 where
+  -- what comes was sent, to the place where it comes, and not lost
+  pub network : IsNetwork J
+  -- each record is of the place that acts in its step, and the time is the sum of what the clock was moved by
+  pub places : ActsInPlace J
+  pub clock : KeepsTime J
+  -- one owner at a time, in rising epochs, who alone sends to the client
+  pub ownership : IsOwnership J
+  pub sole_sender : IsSoleSender J
+  -- in which steps a connection is taken, given up and forwarded
+  pub motion : EachStep (MustMove config.nodes) [] (steps J)
+  -- what clients write and take
+  pub writers : WritesWhileOpen J
+  pub takers : TakesInOrder J
+  pub tables : KeepsTables J
+  -- when timers start and stop to run
+  pub timers : ChangesInSteps J
+  -- what is told to a client, what is served, and what it accepts
+  pub tells : TellsTheTruth files J
+  pub service : ServesTheAnswers files J
+  pub prefix : AcceptsOnlyAnswers files J
+  -- when the stream limit resets a connection
+  pub resets : ResetsAtTheLimit config.stream J
+  -- what is cached, what waits at a disk, and which job is read
+  pub stores : EachMay (MayStore files config.cache) [] J
+  pub disks : EachStep MustRead [] (steps J)
+  -- who waits, who is admitted and who is released; how many are admitted; that each of them gets a node at once, and is released
+  -- where the front end takes it again
+  pub admission : EachCounted MayAdmit config J
+  pub room : Throughout (λ l past. admitted l ≤ room_of config) config J
+  pub nodes : ArePaired Nothing J
+  pub releases : EachMay (λ past r. MayRelease (last_of past) r) [] J
+  -- each choice of a node is that of the stated policy, at loads and server sets that the journal counts
+  pub choices : EachCounted MayAssign config J
+  pub batches : EachMay (λ past r. MayShare (last_of past) (ledger config past) r) [] J
+  pub loads : Throughout (AreLoadsCharged config) config J
+  pub servers : Throughout AreServersTold config J
+  -- what an Offer carries where it is sent first
+  pub offers : CarryTheEndpoint files J
+
+-- in every state that events lead to, with a configuration that may be used
+abbrev pub JournalsAreLawful : Type 0
+JournalsAreLawful = (config : Config) (files : List (List ℕ × List ℕ)) (m : Machine) → config_check config ≡ Ok tt → IsReached config files m
+    → IsLawful config (file_at files) m.journal

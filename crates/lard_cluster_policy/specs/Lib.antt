@@ -1,0 +1,5 @@
+pub mod Laws
+pub mod Ledger
+pub mod Line
+pub mod Loads
+pub mod Servers

@@ -1,0 +1,13 @@
+pub mod Named
+pub mod Letters
+pub mod Serving
+pub mod Turns
+pub mod Fronts
+pub mod Choices
+pub mod Works
+pub mod Nodes
+pub mod Outs
+pub mod FrontStep
+pub mod NodeStep
+pub mod Holding
+pub mod Reached

@@ -1,0 +1,12 @@
+//! Every record of a run of the cluster is in range: the law of its machine that lets a report tell its journal.
+//!
+//! It stands above `lard_cluster`, and holds for every run, also of connections that the schedule touched. It has no code.
+#![tactic(auto)]
+
+ghost use Rattle.lard_cluster_records.specs.Records.{RecordsAreInRange};
+
+/// In every run whose configuration may be used, and whose events and files are in range, every record is, so that a report
+/// tells its journal.
+pub fn records_are_in_range()
+    ensures range { RecordsAreInRange }
+{}

@@ -1,0 +1,5 @@
+pub mod Falling
+pub mod Fronts
+pub mod Nodes
+pub mod Runs
+pub mod Same

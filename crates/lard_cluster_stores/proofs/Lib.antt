@@ -1,0 +1,11 @@
+mod Asides
+mod Calm
+pub mod Disks
+mod Forms
+mod Hits
+mod Leading
+mod Nodes
+mod Notes
+pub mod Stored
+mod Turns
+mod Works

@@ -1,5 +1,0 @@
-pub mod Acting
-pub mod Lent
-pub mod Turns
-pub mod World
-pub mod Runs
