@@ -24,7 +24,7 @@ use Rattle.lard_rules.specs.Loop.{Step, More, Done, state_of}
 use Rattle.lard_rules.specs.Serving.{Service, consumed, ended_at_fin, may_read, passed_over, queued}
 use Rattle.lard_rules.proofs.Runs.{runs_keep}
 
-empty-batch : (es : List Entry) → next_in es ≡ next.Read → es ≡ []
+pub empty-batch : (es : List Entry) → next_in es ≡ next.Read → es ≡ []
 empty-batch [] h = refl
 empty-batch (e ∷ es) h = absurd (go e.progress h) where
   go : (p : Progress) → next_by p ≡ next.Read → ⊥

@@ -1,7 +1,7 @@
 mod Asides
 mod Calm
 pub mod Disks
-mod Forms
+pub mod Forms
 mod Hits
 mod Leading
 mod Nodes

@@ -1,0 +1,4 @@
+pub mod Batches
+pub mod Nodes
+pub mod Runs
+pub mod Works
