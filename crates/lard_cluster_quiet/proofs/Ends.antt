@@ -1,5 +1,5 @@
 -- At the end of each step a connection that is quiet, by the journal, is complete or waits for room.
-use Rattle.std.proofs.Common.{◌≡◌, ◌⊎◌, ◌<◌, ◌==◌, ◌||◌, ℕ, Bool, true, false, List, [], ◌∷◌, length, Option, Some, None, Ok, inl, inr, ⊎_elim, refl, sym, ap, ◌∙◌, subst, arith, eqb-true, nat_eq}
+use Rattle.std.proofs.Common.{◌≡◌, ◌⊎◌, ◌<◌, ◌≤◌, ◌==◌, ◌||◌, ℕ, Bool, true, false, List, [], ◌∷◌, length, Option, Some, None, Ok, inl, inr, ⊎_elim, refl, sym, ap, ◌∙◌, subst, arith, eqb-true, nat_eq}
 use Rattle.std.proofs.lemmas.Bool.{both_ways}
 use Rattle.std.specs.FinMap as table
 use Rattle.std.specs.List.{list_any}
@@ -42,10 +42,10 @@ use Rattle.lard_rules.specs.declared.places.Station.{Station}
 
 in-line : (c : ℕ) (line : List Waiting) → waits line c ≡ true → Has c (who line)
 in-line c [] h = let no : false ≡ true = h in absurd cc
-in-line c (w ∷ ws) h = go (w.c == c) refl h where
-  go : (b : Bool) → (w.c == c) ≡ b → (b || waits ws c) ≡ true → Has c (who (w ∷ ws))
-  go true is t = inl (eqb-true w.c c is)
-  go false is t = inr (in-line c ws t)
+in-line c (w ∷ ws) h = go (w.c == c) refl h (in-line c ws) where
+  go : (b : Bool) → (w.c == c) ≡ b → (b || waits ws c) ≡ true → (waits ws c ≡ true → Has c (who ws)) → Has c (who (w ∷ ws))
+  go true is t later = inl (eqb-true w.c c is)
+  go false is t later = inr (later t)
 
 some-wait : (c : ℕ) (line : List Waiting) → Has c (who line) → 0 < length line
 some-wait c [] h = absurd h

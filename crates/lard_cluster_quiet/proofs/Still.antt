@@ -101,7 +101,7 @@ module _ (files : FilesAt) (x : Conn) (truth : IsTruthful files x) (acts : AcksW
       by-first e es is (progress.Ready way) first by = rests (λ a. let no : next.Serve ≡ next.Stop = sym (ap next_by first) ∙ subst IsAwaited is a in cc)
       by-first e es is progress.Named first by = absurd (both_ways (holds_kind timer.Ask p.kept) (nodes n timer.Ask) (found-held timer.Ask 0 p.kept by.0.0 by.0.1))
       by-first e es is (progress.Awaited node) first by = absurd (both_ways (holds_kind timer.Fetch p.fetches) (nodes n timer.Fetch) (found-held timer.Fetch (t.served + 1) p.fetches by.0 by.1))
-      by-first e es is progress.Reading first by = inr (inr (inr (n, t, e, es, stays, is, first)))
+      by-first e es is progress.Reading first by = inr (inr (inr (n, row, b, t, e, es, found, at, stays, is, first)))
 
       here-left : (es : List Entry) → t.batch ≡ es → Left
       here-left [] is = rests (λ a. subst IsAwaited is a)

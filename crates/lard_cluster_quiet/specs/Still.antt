@@ -8,6 +8,8 @@ use Rattle.lard_cluster_view.specs.View.{Conn, conn}
 use Rattle.lard_endpoint.specs.declared.control.moving.Final.{Final}
 use Rattle.lard_endpoint.specs.Control.{ControlBlock}
 use Rattle.lard_files.specs.Files.{file_at}
+use Rattle.lard_handoff_back.specs.declared.row.BackConn.TheVariants as back
+use Rattle.lard_handoff_back.specs.declared.row.BackRow.{BackRow}
 use Rattle.lard_handoff_front.specs.declared.row.FrontConn.TheVariants as stage
 use Rattle.lard_handoff_front.specs.declared.row.FrontRow.{FrontRow}
 use Rattle.lard_history.specs.Journal.{is_touched, was_reset}
@@ -27,7 +29,8 @@ HasClosed x = (row : FrontRow) × (last : Final) × (x.part.front.row ≡ Some r
 
 -- a node has it, and the content of its next request is to be read from that node's disk
 abbrev pub AwaitsADisk : Conn → Type 0
-AwaitsADisk x = (n : ℕ) × (s : Stay) × (e : Entry) × (es : List Entry) × ((x.part.nodes n).stay ≡ Some s) × (s.batch ≡ e ∷ es) × (e.progress ≡ progress.Reading)
+AwaitsADisk x = (n : ℕ) × (row : BackRow) × (b : ControlBlock) × (s : Stay) × (e : Entry) × (es : List Entry)
+    × ((x.part.nodes n).row ≡ Some row) × (row.stage ≡ back.Here b) × ((x.part.nodes n).stay ≡ Some s) × (s.batch ≡ e ∷ es) × (e.progress ≡ progress.Reading)
 
 -- Of a connection that opened, and that its client did not abort, the stream limit did not reset and the schedule did not touch: where
 -- none of its timers runs, it is complete, or waits, or ended, or awaits a disk.

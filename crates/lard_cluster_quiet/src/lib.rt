@@ -3,6 +3,7 @@
 //! It stands above the laws of bytes, of what was acknowledged, and of why reading stops. It has no code.
 #![tactic(auto)]
 
+ghost use Rattle.lard_cluster_quiet.specs.Quiet.{JournalsComplete};
 ghost use Rattle.lard_cluster_quiet.specs.Rests.{RestingIsComplete};
 ghost use Rattle.lard_cluster_quiet.specs.Still.{QuietIsCompleteOrElse};
 
@@ -19,4 +20,11 @@ pub fn resting_connections_are_complete()
 /// has it. The same are left out.
 pub fn quiet_connections_are_complete_or_are_held_up()
     ensures { QuietIsCompleteOrElse }
+{}
+
+/// In every run of the cluster's machine whose configuration may be used, at the end of each step and by the journal alone: a
+/// connection that opened, of which no timer runs anywhere and for which no job waits at a disk, is complete, or waits to be
+/// admitted while as many are admitted as there is room for. The same are left out.
+pub fn quiet_connections_are_complete_or_wait()
+    ensures { JournalsComplete }
 {}
