@@ -3,6 +3,7 @@ pub mod Fronts
 pub mod Growing
 pub mod Messages
 pub mod Nodes
+pub mod Offers
 pub mod Reading
 pub mod Runs
 pub mod Story

@@ -193,20 +193,23 @@ ended-fields why snd rcv count s r b rest e =
     let whole : (body.Ended a.0 t.0 u.0 v.0, v.1) ≡ y = some_same (body.Ended a.0 t.0 u.0 v.0, v.1) y n4 in
     (v.0, (λ i. body.Ended (first i).0 (second i).0 (third i).0 v.0) ∙ ap (λ (p : Body × List ℕ). p.0) whole)))))
 
+-- What is read of it is why it ended, and with which numbers.
+pub ended-same : (c e count : ℕ) (last : Final) → last.snd.0 < 2 ^ 32 → last.rcv.0 < 2 ^ 32 → (m : Message) (why : Reason) (snd rcv k : ℕ) → decoded_message (message c e (body.Ended last.reason last.snd.0 last.rcv.0 count)) ≡ Ok m → m.body ≡ body.Ended why snd rcv k
+    → last ≡ record { reason = why; snd = record { 0 = snd }; rcv = record { 0 = rcv } }
+unfolding ended_of
+ended-same c e count last snd_fits rcv_fits m why snd rcv k d is =
+    let x : Message = record { c = c; epoch = record { 0 = e }; body = body.Ended last.reason last.snd.0 last.rcv.0 count } in
+    let read = spelled-body x m d in
+    let fields = ended-fields last.reason last.snd.0 last.rcv.0 count snd_fits rcv_fits m.body read.0 read.1 in
+    let same : (last.reason, last.snd.0, last.rcv.0) ≡ (why, snd, rcv) = ap (ended_of (why, snd, rcv)) (fields.1 ∙ is) in
+    ap (λ (t : Ends). record { reason = t.0; snd = record { 0 = t.1 }; rcv = record { 0 = t.2 } }) same
+
 -- The end that a node tells has the last numbers.
 pub ended-acts : (b : Bounds) (part : Part) (x_c n c e count : ℕ) (last : Final) → last.snd.0 < 2 ^ 32 → last.rcv.0 < 2 ^ 32 → EndActs b (ending.Over last)
     → LetterActsOn x_c b part (Node n) Front (message c e (body.Ended last.reason last.snd.0 last.rcv.0 count))
-unfolding ended_of
 ended-acts b part x_c n c e count last snd_fits rcv_fits h m d = go m.body refl where
-  x : Message
-  x = record { c = c; epoch = record { 0 = e }; body = body.Ended last.reason last.snd.0 last.rcv.0 count }
-
   go : (a : Body) → m.body ≡ a → NodeBodyActs b m.epoch.0 part.front.row a
-  go (body.Ended why snd rcv k) is =
-      let read = spelled-body x m d in
-      let fields = ended-fields last.reason last.snd.0 last.rcv.0 count snd_fits rcv_fits m.body read.0 read.1 in
-      let same : (last.reason, last.snd.0, last.rcv.0) ≡ (why, snd, rcv) = ap (ended_of (why, snd, rcv)) (fields.1 ∙ is) in
-      inr (subst (λ (t : Ends). EndActs b (ending.Over (record { reason = t.0; snd = record { 0 = t.1 }; rcv = record { 0 = t.2 } }))) same h)
+  go (body.Ended why snd rcv k) is = inr (subst (λ (l : Final). EndActs b (ending.Over l)) (ended-same c e count last snd_fits rcv_fits m why snd rcv k d is) h)
   go (body.Offer parts) is = tt
   go (body.Forward segment) is = tt
   go body.Taken is = tt

@@ -1,5 +1,5 @@
 -- What a node does acknowledges what was taken.
-use Rattle.std.proofs.Common.{◌≡◌, ◌≢◌, ◌⊎◌, ◌≤◌, ◌<◌, ◌-◌, ◌^◌, ◌==◌, ◌&&◌, nat_lt, ℕ, Bool, true, false, cond, List, [], ◌∷◌, ◌++◌, map, Option, Some, None, Ok, inr, ⊎_elim, refl, sym, ap, ◌∙◌, subst, arith, eqb-true}
+use Rattle.std.proofs.Common.{◌≡◌, ◌≢◌, ◌⊎◌, ◌≤◌, ◌<◌, ◌^◌, ◌==◌, ◌&&◌, nat_lt, ℕ, Bool, true, false, cond, List, [], ◌∷◌, ◌++◌, map, Option, Some, None, Ok, inr, ⊎_elim, refl, sym, ap, ◌∙◌, subst, arith, eqb-true}
 use Rattle.std.proofs.lemmas.Bool.{and_parts, cond_both, ltb-true}
 use Rattle.std.specs.List.{find}
 use Rattle.lard_base.specs.declared.ids.Epoch.{Epoch}
@@ -13,11 +13,11 @@ use Rattle.lard_cluster_acks.proofs.Fronts as fronts
 use Rattle.lard_cluster_acks.proofs.Fronts.{between-held, past-acts, past-over}
 use Rattle.lard_cluster_acks.proofs.Growing.{letters-on, replies-act}
 use Rattle.lard_cluster_acks.proofs.Messages.{ended-acts, other-node}
+use Rattle.lard_cluster_acks.proofs.Offers.{IsOfferOf, adopted-between, offer-is}
 use Rattle.lard_cluster_acks.proofs.Reading.{Serves, stay-keeps, stays-heard, stays-holds}
 use Rattle.lard_cluster_acks.proofs.Turns.{PlaceActs, idle-acts}
-use Rattle.lard_cluster_bytes.specs.Agreement.{AwayAgrees, FrontHolds, IsFair, IsKept, IsOffering, IsOpen, NodeAgrees, RowAgrees, SeatAgrees, StageAgrees, StayAgrees}
+use Rattle.lard_cluster_bytes.specs.Agreement.{IsFair, IsKept, IsOpen, RowAgrees, StayAgrees}
 use Rattle.lard_cluster_bytes.proofs.ClientMoves.{has-fair}
-use Rattle.lard_cluster_bytes.proofs.Messages.{offers-read}
 use Rattle.lard_cluster_bytes.proofs.NodeMoves.{has-it, known}
 use Rattle.lard_cluster_limits.proofs.Working.{KeptByServing, batch-state, came-so, goes-so, tagged-so}
 use Rattle.lard_cluster_places.specs.Places.{HasEnded, IsComing, IsDecided, IsOffered, IsOver, IsPast, IsThere, LetterMay, Offers, OthersArePast, Owning, Sits, StageSits, owning}
@@ -31,8 +31,7 @@ use Rattle.lard_cluster_view.specs.View.{AreSent, Conn, IsNodeEnv, IsSound, Move
 use Rattle.lard_endpoint.specs.Arriving.{on_segment}
 use Rattle.lard_endpoint.specs.Control.{ControlBlock}
 use Rattle.lard_endpoint.specs.Leaving.{after_timer, filled, timed}
-use Rattle.lard_endpoint.specs.Moving.{adopted, end_reason, final_of, may_end, may_freeze, parts_of}
-use Rattle.lard_endpoint.proofs.Adoption.{Stands, frozen_stands}
+use Rattle.lard_endpoint.specs.Moving.{adopted, end_reason, final_of, may_end}
 use Rattle.lard_handoff_back.specs.declared.row.BackConn.{BackConn}
 use Rattle.lard_handoff_back.specs.declared.row.BackConn.TheVariants as back
 use Rattle.lard_handoff_back.specs.declared.row.BackRow.{BackRow}
@@ -55,14 +54,12 @@ use Rattle.lard_laws_quiet.proofs.FrontReading.{Reads, Spans}
 use Rattle.lard_laws_quiet.proofs.FrontRules.{settled-acts, spoken-acts}
 use Rattle.lard_laws_quiet.proofs.FrontSaying.{timed-may, timer-left}
 use Rattle.lard_message.specs.declared.message.Body.TheVariants as body
-use Rattle.lard_message.specs.Reading.{decoded_message}
 use Rattle.lard_node_rules.specs.declared.stay.Asked.{Asked}
 use Rattle.lard_node_rules.specs.declared.stay.Stay.{Stay}
 use Rattle.lard_node_rules.specs.declared.stay.Want.{Want}
-use Rattle.lard_node_rules.specs.Node.{Deed, Drops, Says, Does, NodePart, again_sent, asked_sent, begins, both_of, come_by, count_of, ended_sent, fired, fired_by, gone, here, is_awaited, kept_after, message, node_acknowledged, node_content, node_forwarded, node_offered, node_read, node_tagged, node_timer, offered_by, read_by, saying, tagged_by, taken_sent, turn_by, wants_sent, with_work, work_of}
+use Rattle.lard_node_rules.specs.Node.{Deed, Drops, Says, Does, NodePart, again_sent, asked_sent, begins, both_of, come_by, count_of, ended_sent, fired, fired_by, gone, here, is_awaited, kept_after, node_acknowledged, node_content, node_forwarded, node_offered, node_read, node_tagged, node_timer, offered_by, read_by, saying, tagged_by, taken_sent, turn_by, wants_sent, with_work, work_of}
 use Rattle.lard_node_rules.specs.Node as node_rules
 use Rattle.lard_node_rules.specs.Stay.{NodeEnv, Work, came_for, come_progress, goes_on, read_progress, reads_batch, tagged}
-use Rattle.lard_recv.specs.Recv.{restored}
 use Rattle.lard_request.specs.declared.verdict.Verdict.{Verdict}
 use Rattle.lard_resend.specs.declared.kept.Kept.{Kept}
 use Rattle.lard_resend.specs.Kept.{is_under, without}
@@ -76,7 +73,6 @@ use Rattle.lard_rules.specs.Serving.{ServeEnv, Service, cut_off, ready_of, servi
 use Rattle.lard_rules.specs.Speaking.{speaks}
 use Rattle.lard_segment.specs.declared.segment.Ready.{Ready}
 use Rattle.lard_segment.specs.Segment.{Said as Segment}
-use Rattle.lard_send.specs.Send.{resumed}
 use Rattle.lard_truth.specs.Truth.{IsStream, Stream}
 
 -- ---- the end of a turn
@@ -96,28 +92,6 @@ settled-fits env s = go s.over where
   go : (o : Option ℕ) → EndFits (elim o as (λ p. Ending × Turn) [ None ↦ spoken env s [] | Some total ↦ cut_off env s ]).0
   go None = spoken-fits env s []
   go (Some total) = (omega arith, omega arith)
-
--- ---- what is adopted
-
--- the endpoint that was frozen, which owes an ACK
-abbrev moved : ControlBlock → ControlBlock
-moved b = record (adopted (parts_of b 0)) { recv = b.recv; send = b.send }
-
-same-send : (b : ControlBlock) (count : ℕ) → Stands b → b.send.irs ≡ b.recv.irs → b.send ≡ resumed (parts_of b count)
-same-send b count s irs = λ i. record b.send { irs = irs i; nxt = s.nxt_is i; rest = s.rest_is i; total = (let e : b.send.total ≡ b.send.una - 1 = omega (arith, s.una_is) in e) i; finished = s.finished_is i }
-
-same-recv : (b : ControlBlock) → Stands b → b.recv ≡ restored b.recv.irs b.recv.got b.recv.fin b.recv.unread
-same-recv b s = λ i. record b.recv { discarding = s.discarding_is i }
-
-adopted-is : (b : ControlBlock) (count : ℕ) → Stands b → b.send.irs ≡ b.recv.irs → moved b ≡ adopted (parts_of b count)
-adopted-is b count s irs = λ i. record (adopted (parts_of b count)) { recv = same-recv b s i; send = same-send b count s irs i }
-
--- so it is between the same two streams
-adopted-between : (w out : Stream) (vs pend : List Verdict) (b : ControlBlock) (count : ℕ) → FrontHolds w out vs pend b count → may_freeze b ≡ true → IsBetween w out (adopted (parts_of b count))
-adopted-between w out vs pend b count h frozen =
-    let held = h.holds in
-    subst (IsBetween w out) (adopted-is b count (frozen_stands b held.sound frozen) held.sound.same_irs)
-    (record { same_irs = held.sound.same_irs; speaks = held.speaks; out_is = held.out_is; hears = held.hears })
 
 -- ---- one connection
 
@@ -495,22 +469,8 @@ module _ (k : Setting) (small : k.stream ≤ 2 ^ 30) (x : Conn) (number : IsNumb
         -- what is adopted is what was frozen
         offer-between : (row : FrontRow) (m : ℕ) (d : Epoch) → x.part.front.row ≡ Some row → row.stage ≡ stage.Offering m d → m ≡ n → d.0 ≡ epoch → (IsDecided epoch ours.row → ⊥) → IsBetween l.w l.out (adopted parts)
         offer-between row m d found at mine when not =
-            let sits : StageSits row.epoch.0 own nodes (stage.Offering m d) = subst (StageSits row.epoch.0 own nodes) at (subst (Sits own nodes) found at_place.sits).0 in
-            let now : row.epoch.0 ≡ epoch = sym sits.1 ∙ when in
-            let away : AwayAgrees l.w l.out l.vs pend l.was_reset x.c m row.epoch.0 x.part =
-            subst (StageAgrees l.w l.out l.vs pend l.was_reset x.c x.part row.epoch.0) at (subst (SeatAgrees l.w l.out l.vs pend l.was_reset x.c x.part) found o.seat) in
-            let kept : IsKept x.part.front.kept bytes = ⊎_elim (λ f. absurd (not f)) (λ f. f) told in
-            let offering : IsOffering l.w l.out l.vs pend x.c m row.epoch.0 x.part.front.kept = ⊎_elim
-            (λ (a : IsPast row.epoch.0 (x.part.nodes m).row × IsOffering l.w l.out l.vs pend x.c m row.epoch.0 x.part.front.kept). a.1)
-            (λ (a : IsDecided row.epoch.0 (x.part.nodes m).row × NodeAgrees l.w l.out l.vs pend l.was_reset x.c (x.part.nodes m)).
-            absurd (not (subst (λ (e : ℕ). IsDecided e ours.row) now (subst (λ (i : ℕ). IsDecided row.epoch.0 (x.part.nodes i).row) mine a.0)))) away in
-            let spelled : message x.c row.epoch.0 (body.Offer (parts_of offering.block offering.count)) ≡ bytes = ap first_bytes (sym offering.kept_is ∙ kept.1) ∙ kept.2 in
-            let same : parts ≡ parts_of offering.block offering.count = offers-read x.c row.epoch.0 l.w l.out l.vs pend offering.block offering.count number (omega (arith, sits.0)) is_stream offering.holds offering.frozen _ parts
-            (ap decoded_message spelled ∙ spells) refl in
-            subst (λ (q : EndpointParts). IsBetween l.w l.out (adopted q)) (sym same) (adopted-between l.w l.out l.vs pend offering.block offering.count offering.holds offering.frozen) where
-              first_bytes : List Kept → List ℕ
-              first_bytes [] = []
-              first_bytes (q ∷ qs) = q.bytes
+            let f : IsOfferOf l pend parts = offer-is k.files x number at_place s l pend o n epoch parts bytes spells was row m d found at mine when not in
+            subst (λ (q : EndpointParts). IsBetween l.w l.out (adopted q)) (sym f.same) (adopted-between l.w l.out l.vs pend f.block f.count f.holds f.frozen)
 
         took-act : (IsDecided epoch ours.row → ⊥) → IsHere n env.epoch → IsBetween l.w l.out (adopted parts) → Stays (offered_by env parts ours New)
         took-act not it between =

@@ -43,22 +43,22 @@ use Rattle.lard_truth.specs.Truth.{Stream}
 
 -- ---- what a place's move leaves alone
 
-front-heads : (x : Conn) (heads : List Seen) (d : front.Deed) → (front_does x heads d).heads ≡ heads
+pub front-heads : (x : Conn) (heads : List Seen) (d : front.Deed) → (front_does x heads d).heads ≡ heads
 front-heads x heads front.Drops = refl
 front-heads x heads (front.Says turn) = refl
 front-heads x heads (front.Does did) = refl
 
-front-station : (x : Conn) (heads : List Seen) (d : front.Deed) → (front_does x heads d).part.station ≡ x.part.station
+pub front-station : (x : Conn) (heads : List Seen) (d : front.Deed) → (front_does x heads d).part.station ≡ x.part.station
 front-station x heads front.Drops = refl
 front-station x heads (front.Says turn) = refl
 front-station x heads (front.Does did) = refl
 
-node-heads : (x : Conn) (n : ℕ) (heads : List Seen) (d : node.Deed) → (node_does x n heads d).heads ≡ heads
+pub node-heads : (x : Conn) (n : ℕ) (heads : List Seen) (d : node.Deed) → (node_does x n heads d).heads ≡ heads
 node-heads x n heads node.Drops = refl
 node-heads x n heads (node.Says messages) = refl
 node-heads x n heads (node.Does given) = refl
 
-node-station : (x : Conn) (n : ℕ) (heads : List Seen) (d : node.Deed) → (node_does x n heads d).part.station ≡ x.part.station
+pub node-station : (x : Conn) (n : ℕ) (heads : List Seen) (d : node.Deed) → (node_does x n heads d).part.station ≡ x.part.station
 node-station x n heads node.Drops = refl
 node-station x n heads (node.Says messages) = refl
 node-station x n heads (node.Does given) = refl

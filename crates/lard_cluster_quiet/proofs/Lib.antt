@@ -1,3 +1,4 @@
+pub mod Closed
 pub mod Complete
 pub mod Ends
 pub mod Still

@@ -1,4 +1,4 @@
--- A connection of which no timer runs is complete, or waits, or ended, or awaits a disk.
+-- A connection of which no timer runs is complete, or waits, or awaits a disk.
 use Rattle.std.proofs.Common.{◌≡◌, ◌⊎◌, ◌+◌, ◌==◌, ◌||◌, not, ℕ, Bool, true, false, cond, List, [], ◌∷◌, Option, Some, None, inl, inr, ⊎_elim, refl, sym, ap, ◌∙◌, subst}
 use Rattle.std.proofs.lemmas.Bool.{and_parts, both_ways}
 use Rattle.std.specs.List.{find, list_any}
@@ -14,11 +14,14 @@ use Rattle.lard_cluster_awaits.proofs.Runs.{connections-await}
 use Rattle.lard_cluster_bytes.specs.Agreement.{BackAgrees, IsOffering, IsOpen, IsTruthful, NodeAgrees, RowAgrees, SeatAgrees, StageAgrees, StayAgrees}
 use Rattle.lard_cluster_bytes.proofs.ClientMoves.{open-at}
 use Rattle.lard_cluster_bytes.proofs.Runs.{states-truthful}
+use Rattle.lard_cluster_ended.specs.Ends.{EndsAreTrue}
+use Rattle.lard_cluster_ended.proofs.Runs.{connections-were-closed}
 use Rattle.lard_cluster_places.specs.Places.{IsDecided, IsPast}
 use Rattle.lard_cluster_places.proofs.Runs.{each-placed}
 use Rattle.lard_cluster_places.proofs.Turns.{IsPlaced}
 use Rattle.lard_cluster_quiet.specs.Rests.{ClientRests}
-use Rattle.lard_cluster_quiet.specs.Still.{AwaitsADisk, HasClosed, IsWaiting, QuietIsCompleteOrElse}
+use Rattle.lard_cluster_quiet.specs.Still.{AwaitsADisk, IsWaiting, QuietIsCompleteOrElse}
+use Rattle.lard_cluster_quiet.proofs.Closed.{closed-done}
 use Rattle.lard_cluster_quiet.proofs.Complete.{IsDone, aborted-at, calm-at, complete, nowhere-done, reset-at, somewhere-done}
 use Rattle.lard_cluster_steps.proofs.Timers.{timers-kept}
 use Rattle.lard_cluster_stops.specs.Stops.{IsAwaited, ReadingStops}
@@ -67,10 +70,10 @@ unarmed : (t : Bool) → not t ≡ false → t ≡ true
 unarmed true e = refl
 unarmed false e = absurd (both_ways true e refl)
 
-module _ (files : FilesAt) (x : Conn) (truth : IsTruthful files x) (acts : AcksWhatWasTaken x) (stops : ReadingStops files x) (awaits : AwaitsWhatItAsked files x) (placed : IsPlaced x) (not_aborted : (story_at x).aborted ≡ false) (not_reset : (story_at x).reset ≡ false)
+module _ (files : FilesAt) (x : Conn) (truth : IsTruthful files x) (acts : AcksWhatWasTaken x) (stops : ReadingStops files x) (ends : EndsAreTrue files x) (awaits : AwaitsWhatItAsked files x) (placed : IsPlaced x) (not_aborted : (story_at x).aborted ≡ false) (not_reset : (story_at x).reset ≡ false)
     (client : ClientRests x) (front : (a : TimerKind) → front_armed x.part.front a ≡ false) (nodes : (n : ℕ) (a : TimerKind) → node_armed (x.part.nodes n) a ≡ false) where
   abbrev Left : Type 0
-  Left = IsDone files x ⊎ (IsWaiting x ⊎ (HasClosed x ⊎ AwaitsADisk x))
+  Left = IsDone files x ⊎ (IsWaiting x ⊎ AwaitsADisk x)
 
   abbrev l : Talk
   l = truth.talk
@@ -101,7 +104,7 @@ module _ (files : FilesAt) (x : Conn) (truth : IsTruthful files x) (acts : AcksW
       by-first e es is (progress.Ready way) first by = rests (λ a. let no : next.Serve ≡ next.Stop = sym (ap next_by first) ∙ subst IsAwaited is a in cc)
       by-first e es is progress.Named first by = absurd (both_ways (holds_kind timer.Ask p.kept) (nodes n timer.Ask) (found-held timer.Ask 0 p.kept by.0.0 by.0.1))
       by-first e es is (progress.Awaited node) first by = absurd (both_ways (holds_kind timer.Fetch p.fetches) (nodes n timer.Fetch) (found-held timer.Fetch (t.served + 1) p.fetches by.0 by.1))
-      by-first e es is progress.Reading first by = inr (inr (inr (n, row, b, t, e, es, found, at, stays, is, first)))
+      by-first e es is progress.Reading first by = inr (inr (n, row, b, t, e, es, found, at, stays, is, first))
 
       here-left : (es : List Entry) → t.batch ≡ es → Left
       here-left [] is = rests (λ a. subst IsAwaited is a)
@@ -134,7 +137,7 @@ module _ (files : FilesAt) (x : Conn) (truth : IsTruthful files x) (acts : AcksW
       absurd (both_ways (front_armed x.part.front timer.Offer) (front timer.Offer) (ap (list_any (λ (q : Kept). rank q.kind == rank timer.Offer)) a.1.kept_is)))
       (λ (a : IsDecided row.epoch.0 (x.part.nodes n).row × NodeAgrees l.w l.out l.vs pend l.was_reset x.c (x.part.nodes n)). node-left n (x.part.nodes n).row refl a.1) agrees
   front-left row found (stage.Moved n e) at agrees = node-left n (x.part.nodes n).row refl agrees.1
-  front-left row found (stage.Closed last) at agrees = inr (inr (inl (row, last, found, at)))
+  front-left row found (stage.Closed last) at agrees = inl (closed-done files x truth acts ends not_aborted not_reset client.station client.there row last found at)
 
   pub still-left : (q : Option FrontRow) → x.part.front.row ≡ q → SeatAgrees l.w l.out l.vs pend l.was_reset x.c x.part q → Left
   still-left None found agrees = inl (nowhere-done files x truth acts stops placed not_aborted not_reset client found)
@@ -152,6 +155,6 @@ quiet-or-else config files m small r c s there calm not_aborted not_reset quiet 
     let armed : is_armed s.client ≡ false = ap station_armed (sym there) ∙ sym (kept (Client c) refl timer.Tcp) ∙ quiet (Client c) timer.Tcp in
     let client : ClientRests x = record { station = s; there = there; quiet = armed } in
     ⊎_elim (λ (d : IsDone (file_at files) x). inl (complete config files m c d)) (λ rest. inr rest)
-    (still-left (file_at files) x truth (connections-ack config files small m r c here) (connections-stop config files m r c) (connections-await config files m r c) (each-placed config files m r c)
+    (still-left (file_at files) x truth (connections-ack config files small m r c here) (connections-stop config files m r c) (connections-were-closed config files small m r c here) (connections-await config files m r c) (each-placed config files m r c)
     (aborted-at config files m c not_aborted) (reset-at config files m c not_reset) client
     (λ a. sym (kept Front tt a) ∙ quiet Front a) (λ n a. sym (kept (Node n) tt a) ∙ quiet (Node n) a) x.part.front.row refl (open-at (file_at files) x s there truth).seat)

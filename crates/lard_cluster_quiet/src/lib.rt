@@ -1,6 +1,6 @@
-//! A connection of the cluster on which nothing more comes is complete, where a place has it.
+//! A connection of the cluster on which nothing more comes is complete, where a place has it or it ended.
 //!
-//! It stands above the laws of bytes, of what was acknowledged, and of why reading stops. It has no code.
+//! It stands above the laws of bytes, of what was acknowledged, of why reading stops, and of what ended. It has no code.
 #![tactic(auto)]
 
 ghost use Rattle.lard_cluster_quiet.specs.Quiet.{JournalsComplete};
@@ -16,8 +16,8 @@ pub fn resting_connections_are_complete()
 {}
 
 /// In every run of the cluster's machine, in each state: a connection that opened and of which no timer runs anywhere, by the
-/// journal, is complete, or waits at the front end to be admitted, or ended, or its next request awaits the disk of the node that
-/// has it. The same are left out.
+/// journal, is complete, or waits at the front end to be admitted, or its next request awaits the disk of the node that has it. The
+/// same are left out.
 pub fn quiet_connections_are_complete_or_are_held_up()
     ensures { QuietIsCompleteOrElse }
 {}

@@ -51,12 +51,12 @@ use Rattle.lard_segment.specs.Segment.{Said}
 -- ---- the loop
 
 -- one that closed has stopped, unless it is to be reset or was
-abbrev MayRest : Service → Type 0
+abbrev pub MayRest : Service → Type 0
 MayRest s = s.over ≡ None → s.block.send.finished ≡ true → HasStopped s.block
 
 module _ (env : ServeEnv) where
   -- no request is left, or the next one is held back; unless it is to be reset, or was, or is to be placed
-  abbrev Rests : Reading → Type 0
+  abbrev pub Rests : Reading → Type 0
   Rests x = x.target ≡ None → x.service.over ≡ None → x.service.block.reset ≡ false → HasStopped x.service.block ⊎ IsHeldBack env.files x.service.block
 
   abbrev StepRests : Step Reading → Type 0
@@ -98,7 +98,7 @@ module _ (env : ServeEnv) where
     go (More y) e k later = let fall = falls env x y e in later y (omega (arith, fall, less)) k.0 k.1
     go (Done y) e k later = k
 
-  reads-rest : (s : Service) → MayRest s → Rests (reads env (record { service = s; target = None }))
+  pub reads-rest : (s : Service) → MayRest s → Rests (reads env (record { service = s; target = None }))
   reads-rest s h = stops-on (left (record { service = s; target = None }) + 1) (record { service = s; target = None }) (omega arith) h refl
 
   -- ---- the end of a turn
@@ -162,7 +162,7 @@ module _ (env : FrontEnv) (p : FrontPart) (h : FrontStops env.serve.files p.row)
       settled-by row rest r.service r.target (reads-rest env.serve start (λ none closed. k closed))
 
   -- a segment that arrives leaves it stopped where it is closed
-  arrived-stops : (b : ControlBlock) (s : Said) → HeldStops own b → (on_segment b s).1.send.finished ≡ true → HasStopped (on_segment b s).1
+  pub arrived-stops : (b : ControlBlock) (s : Said) → HeldStops own b → (on_segment b s).1.send.finished ≡ true → HasStopped (on_segment b s).1
   arrived-stops b s held closed =
       let same = segment-closes b s in
       ⊎_elim (λ (t : HasStopped b). stopped-arrived b s same t closed) (λ (t : IsHeldBack own b). absurd (both_ways b.send.finished t.1 (sym same ∙ closed))) held.1

@@ -87,7 +87,7 @@ awaited-batch [] h = let no : next.Read ≡ next.Stop = h in absurd cc
 awaited-batch (e ∷ es) h = h
 
 -- a segment leaves it discarding what comes, or not
-segment-keeps : (b : ControlBlock) (s : Said) → (on_segment b s).1.recv.discarding ≡ false → b.recv.discarding ≡ false
+pub segment-keeps : (b : ControlBlock) (s : Said) → (on_segment b s).1.recv.discarding ≡ false → b.recv.discarding ≡ false
 segment-keeps b s e = sym same ∙ e where
   r : Received
   r = b.recv
@@ -102,17 +102,17 @@ segment-keeps b s e = sym same ∙ e where
 -- ---- an endpoint and a batch
 
 -- behind its FIN it has stopped, and there is no batch unless what comes is discarded
-abbrev Closes : ControlBlock → List Entry → Type 0
+abbrev pub Closes : ControlBlock → List Entry → Type 0
 Closes b batch = b.send.finished ≡ true → HasStopped b × (b.recv.discarding ≡ false → batch ≡ [])
 
 -- and while it goes on, the first is awaited, or nothing is left
-abbrev IsAt : ControlBlock → List Entry → Type 0
+abbrev pub IsAt : ControlBlock → List Entry → Type 0
 IsAt b batch = (b.send.finished ≡ false → IsAwaited batch ⊎ (HasStopped b × (batch ≡ []))) × Closes b batch
 
 open-closes : (b : ControlBlock) (batch : List Entry) → b.send.finished ≡ false → Closes b batch
 open-closes b batch open_ closed = absurd (both_ways b.send.finished open_ closed)
 
-same-at : (b d : ControlBlock) (batch : List Entry) → Same b d → IsAt b batch → IsAt d batch
+pub same-at : (b d : ControlBlock) (batch : List Entry) → Same b d → IsAt b batch → IsAt d batch
 same-at b d batch same h = (
   (λ open_. ⊎_elim (λ (a : IsAwaited batch). inl a) (λ (t : HasStopped b × (batch ≡ [])). inr (same-stopped b d same t.0, t.1)) (h.0 (sym same.3 ∙ open_))),
   (λ closed. let t = h.1 (sym same.3 ∙ closed) in (same-stopped b d same t.0, λ e. t.1 (sym (ap (λ r. r.discarding) same.0) ∙ e))),
@@ -183,13 +183,13 @@ module _ (env : NodeEnv) where
 
   -- ---- turn by turn
 
-  abbrev MayRest : Work → Type 0
+  abbrev pub MayRest : Work → Type 0
   MayRest k = Closes k.service.block k.batch
 
-  abbrev Rests : Work → Type 0
+  abbrev pub Rests : Work → Type 0
   Rests k = k.service.over ≡ None → k.service.block.reset ≡ false → IsAt k.service.block k.batch
 
-  abbrev StepRests : Step Work → Type 0
+  abbrev pub StepRests : Step Work → Type 0
   StepRests (More k) = MayRest k
   StepRests (Done k) = Rests k
 
@@ -209,7 +209,7 @@ module _ (env : NodeEnv) where
       let may : MayRest (asking env size all) = open-closes (asking env size all).service.block (asking env size all).batch (ap (λ (b : ControlBlock). b.send.finished) same ∙ open_) in
       (may, may)
 
-  batch-at : (here : Bool) (k : Work) → k.service.block.send.finished ≡ false → k.batch ≡ [] → StepRests (reads_batch env here k) × MayRest (state_of (reads_batch env here k))
+  pub batch-at : (here : Bool) (k : Work) → k.service.block.send.finished ≡ false → k.batch ≡ [] → StepRests (reads_batch env here k) × MayRest (state_of (reads_batch env here k))
   batch-at here k open_ none = these-at here k open_ none (batch_of 8 k.service.block.recv.unread) refl
 
   -- the first is served
@@ -244,7 +244,7 @@ module _ (env : NodeEnv) where
     go (More y) e g later = let fall = falls env k y e in later y (omega (arith, fall, less)) g
     go (Done y) e g later = g
 
-  goes-rest : (k : Work) → MayRest k → Rests (goes_on env k)
+  pub goes-rest : (k : Work) → MayRest k → Rests (goes_on env k)
   goes-rest k h = goes-on (left k + 1) k (omega arith) h
 
   -- ---- the end of a turn
@@ -309,13 +309,13 @@ module _ (env : NodeEnv) where
         (stopped-arrived y.0 s same t.0 closed, λ keeps. t.1 (segment-keeps y.0 s keeps))))
         p.row h
 
-    came-closes : (f : Progress → Progress) (r : ℕ) (y : ControlBlock × Stay) → StayStops y.0 y.1.batch → MayRest (came_for f r (work_of y.0 y.1))
+    pub came-closes : (f : Progress → Progress) (r : ℕ) (y : ControlBlock × Stay) → StayStops y.0 y.1.batch → MayRest (came_for f r (work_of y.0 y.1))
     came-closes f r y stops =
         let k : Work = work_of y.0 y.1 in
         cond_both (nat_lt k.service.count r) (record k { batch = come_on f (r - (k.service.count + 1)) k.batch }) k MayRest
         (λ t closed. let c = stops.closed closed in (c.0, λ keeps. ap (come_on f (r - (k.service.count + 1))) (c.1 keeps))) (λ t. stops.closed)
 
-    tagged-closes : (nodes : List ℕ) (y : ControlBlock × Stay) → StayStops y.0 y.1.batch → MayRest (tagged env nodes (work_of y.0 y.1))
+    pub tagged-closes : (nodes : List ℕ) (y : ControlBlock × Stay) → StayStops y.0 y.1.batch → MayRest (tagged env nodes (work_of y.0 y.1))
     tagged-closes nodes y stops =
         let k : Work = work_of y.0 y.1 in
         let same : (tagged env nodes k).service.block ≡ y.0 = starts-block nodes 0 (k.service.count + 1) k.batch (record k { batch = [] }) in

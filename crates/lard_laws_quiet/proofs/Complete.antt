@@ -12,6 +12,7 @@ use Rattle.lard_client.specs.declared.phase.Phase.TheVariants.{Open, Aborted, Re
 use Rattle.lard_client.specs.Control.{ClientBlock, is_armed, is_established, is_open, is_open_in}
 use Rattle.lard_endpoint.specs.Control.{ControlBlock}
 use Rattle.lard_endpoint.specs.declared.control.moving.Final.{Final}
+use Rattle.lard_endpoint.specs.Moving.{is_closed}
 use Rattle.lard_history.specs.Journal.{Tale}
 use Rattle.lard_laws_bytes.specs.Agreement.{Agrees, EndedAs, FrontAgrees, HoldsIt, SaysAnswers}
 use Rattle.lard_laws_bytes.proofs.Answered.{all-answered}
@@ -53,6 +54,53 @@ heard-all w b h le = counted b.recv.fin refl w.ended refl le where
 clear-una : (s : Sending) → is_clear s ≡ true → s.una ≡ symbols s
 clear-una s e = eqb-true s.una (symbols s) e
 
+-- ---- an end that both sides closed
+
+-- the cluster's FIN is acknowledged, and the client's was taken
+abbrev pub BothClosed : ControlBlock → Type 0
+BothClosed b = (b.send.finished ≡ true) × (is_clear b.send ≡ true) × (b.recv.fin ≡ true)
+
+pub both-closed : (b : ControlBlock) → is_closed b ≡ true → BothClosed b
+both-closed b closed =
+    let ends = and_parts (b.send.finished && is_clear b.send) b.recv.fin closed in
+    let said = and_parts b.send.finished (is_clear b.send) ends.0 in
+    (said.0, said.1, ends.1)
+
+-- What its last numbers say was acknowledged is all that was said, so the client took all of that, and the end.
+pub closed-taken : (files : FilesAt) (w out : Stream) (vs : List Verdict) (x : ClientBlock) → SaysAnswers files w out vs → (last : Final) → last.reason ≡ reason.Closed → EndedAs w out vs last → Acks out.first (taken_by x) last.snd.0
+    → x.accepted ≤ 2 ^ 30 → 2 + length out.bytes ≤ taken_by x
+closed-taken files w out vs x says last why e acks few = all_acked acks.0 acks.2 number where
+  b : ControlBlock
+  b = e.block
+
+  both : BothClosed b
+  both = both-closed b (e.both why)
+
+  -- all that was sent was acknowledged
+  sent : b.send.nxt ≡ 2 + length out.bytes
+  sent =
+      let una : b.send.una ≡ symbols b.send = clear-una b.send both.1 in
+      let one : one_if b.send.finished ≡ 1 = ap one_if both.0 in
+      let count : length out.bytes ≡ b.send.total = e.held.speaks.part.count in
+      let more = e.held.sound.sending.sent in
+      let less = e.held.sound.sending.queued in
+      omega (arith, una, one, count, more, less)
+
+  number : seq_add out.first (2 + length out.bytes) ≡ seq_add out.first acks.0
+  number =
+      let first : out.first ≡ b.send.iss = ap (λ (s : Stream). s.first) e.held.out_is in
+      ap (seq_add out.first) (sym sent) ∙ ap (λ n. seq_add n b.send.nxt) first ∙ sym (ap (λ (l : Final). l.snd.0) e.is) ∙ acks.1
+
+  taken_most : taken_by x ≤ 2 ^ 30 + 2
+  taken_most = go (is_established x) x.eof where
+    go : (known end : Bool) → cond known (1 + x.accepted + one_if end) 0 ≤ 2 ^ 30 + 2
+    go true true = omega (arith, few)
+    go true false = omega (arith, few)
+    go false end = omega arith
+
+  all_acked : (a : ℕ) → a ≤ taken_by x → seq_add out.first (2 + length out.bytes) ≡ seq_add out.first a → 2 + length out.bytes ≤ taken_by x
+  all_acked a le same = let most = says.most in let first = says.number in let few = taken_most in omega (arith, le, same, most, first, few)
+
 -- ---- what follows where all was taken
 
 -- the client accepted all that was said, which answers all that it wrote, and ended where that closes or it was shut
@@ -87,11 +135,8 @@ module _ (files : FilesAt) (w out : Stream) (vs : List Verdict) (x : ClientBlock
     b : ControlBlock
     b = e.block
 
-    both : (b.send.finished ≡ true) × (is_clear b.send ≡ true) × (b.recv.fin ≡ true)
-    both =
-        let ends = and_parts (b.send.finished && is_clear b.send) b.recv.fin (e.both why) in
-        let said = and_parts b.send.finished (is_clear b.send) ends.0 in
-        (said.0, said.1, ends.1)
+    both : BothClosed b
+    both = both-closed b (e.both why)
 
     heard : 1 + length w.bytes + one_if w.ended ≤ heard_by b.recv
     heard =
@@ -101,34 +146,9 @@ module _ (files : FilesAt) (w out : Stream) (vs : List Verdict) (x : ClientBlock
         let fin : one_if b.recv.fin ≡ 1 = ap one_if both.2 in
         omega (arith, got, one, fin)
 
-    -- all that was sent was acknowledged
-    sent : b.send.nxt ≡ 2 + length out.bytes
-    sent =
-        let una : b.send.una ≡ symbols b.send = clear-una b.send both.1 in
-        let one : one_if b.send.finished ≡ 1 = ap one_if both.0 in
-        let count : length out.bytes ≡ b.send.total = e.held.speaks.part.count in
-        let more = e.held.sound.sending.sent in
-        let less = e.held.sound.sending.queued in
-        omega (arith, una, one, count, more, less)
-
-    number : seq_add out.first (2 + length out.bytes) ≡ seq_add out.first acks.0
-    number =
-        let first : out.first ≡ b.send.iss = ap (λ (s : Stream). s.first) e.held.out_is in
-        ap (seq_add out.first) (sym sent) ∙ ap (λ n. seq_add n b.send.nxt) first ∙ sym (ap (λ (l : Final). l.snd.0) e.is) ∙ acks.1
-
-    taken_most : taken_by x ≤ 2 ^ 30 + 2
-    taken_most = go (is_established x) x.eof where
-      go : (known end : Bool) → cond known (1 + x.accepted + one_if end) 0 ≤ 2 ^ 30 + 2
-      go true true = omega (arith, few)
-      go true false = omega (arith, few)
-      go false end = omega arith
-
-    all_acked : (a : ℕ) → a ≤ taken_by x → seq_add out.first (2 + length out.bytes) ≡ seq_add out.first a → 2 + length out.bytes ≤ taken_by x
-    all_acked a le same = let most = says.most in let first = says.number in let few = taken_most in omega (arith, le, same, most, first, few)
-
     taken : 1 + length out.bytes + one_if out.ended ≤ taken_by x
     taken =
-        let all : 2 + length out.bytes ≤ taken_by x = all_acked acks.0 acks.2 number in
+        let all : 2 + length out.bytes ≤ taken_by x = closed-taken files w out vs x says last why e acks few in
         let one : one_if out.ended ≡ 1 = ap one_if (ap (λ (s : Stream). s.ended) e.held.out_is ∙ both.0) in
         omega (arith, all, one)
 
