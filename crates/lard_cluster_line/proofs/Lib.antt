@@ -1,0 +1,11 @@
+pub mod FrontMessages
+pub mod Fronts
+pub mod Hearing
+pub mod Holding
+pub mod Law
+pub mod Lists
+pub mod Notes
+pub mod Runs
+pub mod Speaking
+pub mod Stands
+pub mod Telling
