@@ -197,13 +197,13 @@ does-aside x s heads given same there h = record {
 }
 
 -- and so is what a node does
-record IsThere (x : Conn) (heads : List Seen) (v : Move) : Type 0 where
-  place : IsElsewhere v.place
-  front : v.part.front ≡ x.part.front
-  station : v.part.station ≡ x.part.station
-  heads_are : v.heads ≡ heads
+pub record IsThere (x : Conn) (heads : List Seen) (v : Move) : Type 0 where
+  pub place : IsElsewhere v.place
+  pub front : v.part.front ≡ x.part.front
+  pub station : v.part.station ≡ x.part.station
+  pub heads_are : v.heads ≡ heads
 
-node-there : (x : Conn) (n : ℕ) (heads : List Seen) (d : node.Deed) → IsThere x heads (node_does x n heads d)
+pub node-there : (x : Conn) (n : ℕ) (heads : List Seen) (d : node.Deed) → IsThere x heads (node_does x n heads d)
 node-there x n heads node.Drops = record { place = tt; front = refl; station = refl; heads_are = refl }
 node-there x n heads (node.Says messages) = record { place = tt; front = refl; station = refl; heads_are = refl }
 node-there x n heads (node.Does given) = record { place = tt; front = refl; station = refl; heads_are = refl }

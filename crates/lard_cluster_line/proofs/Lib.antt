@@ -7,5 +7,7 @@ pub mod Lists
 pub mod Notes
 pub mod Runs
 pub mod Speaking
+pub mod Steps
+pub mod Turns
 pub mod Stands
 pub mod Telling

@@ -41,7 +41,7 @@ IsLater _ = ⊥
 -- How the notes of a turn read, on connection c, which was admitted before it or not.
 pub data Noted (c : ℕ) (inside : Bool) : List Rec → Type 0 where
   Reads : (rs : List Rec) → Each IsRead rs → Noted c inside rs
-  Begins : (epoch : Epoch) → inside ≡ false → Noted c inside (rec.Took place.Front c epoch ∷ [])
+  Begins : inside ≡ false → Noted c inside (rec.Took place.Front c (record { 0 = 1 }) ∷ [])
   Waits : (rs : List Rec) → Each IsRead rs → Noted c inside (rs ++ rec.Waits c ∷ [])
   Goes : (rs : List Rec) (r : ℕ) (path : List ℕ) (n : ℕ) (add remove : Option ℕ) → Each IsRead rs → Noted c inside (rs ++ rec.Admitted c ∷ rec.AssignedFirst c r path n add remove ∷ [])
   Shares : (over : Bool) (rs : List Rec) → Each IsLater rs → Noted c inside (over_note c over ++ rs)
@@ -52,7 +52,7 @@ DeedNotes c inside Drops = Unit {0}
 DeedNotes c inside (Says t) = Noted c inside t.notes
 DeedNotes c inside (Does x) = Noted c inside x.turn.notes
 
-none-noted : (c : ℕ) (inside : Bool) → Noted c inside []
+pub none-noted : (c : ℕ) (inside : Bool) → Noted c inside []
 none-noted c inside = Reads [] tt
 
 -- ---- a segment
@@ -91,7 +91,7 @@ module _ (env : FrontEnv) (small : env.serve.stream ≤ 2 ^ 30) (number : env.is
   gets-noted bytes (Err fault) h = tt
   gets-noted bytes (Ok said) h = by_row p.row h where
     by_row : (o : Option FrontRow) → RowStands s o → NotesOf (front_hears env p bytes said o)
-    by_row None k = cond_both (is_plain_syn said) (begun env p said) Drops NotesOf (λ t. Begins (record { 0 = 1 }) k.inside_is) (λ t. tt)
+    by_row None k = cond_both (is_plain_syn said) (begun env p said) Drops NotesOf (λ t. Begins k.inside_is) (λ t. tt)
     by_row (Some row) k = hears-noted row bytes said row.stage k
 
 -- ---- timers, and messages
@@ -148,6 +148,9 @@ ended-noted env p s h from epoch last = go p.row h where
 -- it is nothing but that
 pub data Enters (c : ℕ) : List Rec → Type 0 where
   Alone : (r : ℕ) (path : List ℕ) (n : ℕ) (add remove : Option ℕ) → Enters c (rec.Admitted c ∷ rec.AssignedFirst c r path n add remove ∷ [])
+
+pub enters-noted : (c : ℕ) (inside : Bool) (rs : List Rec) → Enters c rs → Noted c inside rs
+enters-noted c inside rs (Alone r path n add remove) = Goes [] r path n add remove tt
 
 abbrev AllEnter : ℕ → Option (FrontPart × FrontTurn) → Type 0
 AllEnter c None = Unit {0}

@@ -1,5 +1,5 @@
 -- In every state that events lead to, the line that the journal tells is the one that the front end keeps; and what follows of it.
-use Rattle.std.proofs.Common.{◌≡◌, ℕ, ◌<◌, ◌≤◌, ◌||◌, nat_eq, Bool, true, false, cond, List, [], ◌∷◌, length, map, Option, Some, None, Ok, arith, refl, sym, ap, ◌∙◌, subst}
+use Rattle.std.proofs.Common.{◌≡◌, ℕ, ◌<◌, ◌≤◌, ◌||◌, nat_eq, Bool, true, false, cond, List, [], ◌∷◌, length, map, Option, Some, None, Ok, arith, refl, sym, ap, ◌∙◌, subst, ◌++◌}
 use Rattle.std.proofs.lemmas.List.{length-map}
 use Rattle.std.specs.List.{fold, list_any}
 use Rattle.lard_base.specs.Config.{config_check}
@@ -13,22 +13,26 @@ use Rattle.lard_cluster.specs.Machine.{IsReached, machine_step}
 use Rattle.lard_cluster_line.proofs.Fronts.{RowStands, StageStands}
 use Rattle.lard_cluster_line.proofs.Law.{IsLined, line-law}
 use Rattle.lard_cluster_line.proofs.Lists.{both-within, less-within, within-same}
-use Rattle.lard_cluster_line.proofs.Stands.{Stand, stand_step, unknown}
+use Rattle.lard_cluster_line.proofs.Stands.{Stand, stand_at, stand_step, unknown}
 use Rattle.lard_cluster_line.proofs.Telling.{stands-told}
-use Rattle.lard_cluster_line.specs.Laws.{AdmitsHead, LineIsKept, LinePasses, MustPass, PassesTo, WaitsAtAFullRoom, WaitsForRoom}
+use Rattle.lard_cluster_line.proofs.Steps.{IsInOrder, step-adds}
+use Rattle.lard_cluster_line.proofs.Turns.{Notes, noting}
+use Rattle.lard_cluster_line.specs.Laws.{AdmitsHead, LineIsKept, LinePasses, MustPass, MustRelease, PassesTo, TakesRelease, WaitsAtAFullRoom, WaitsForRoom}
 use Rattle.lard_cluster_line.specs.Line.{Line, leaves, left_at, left_by, line, line_step, nobody, without}
 use Rattle.lard_cluster_places.proofs.Runs.{each-placed}
 use Rattle.lard_cluster_places.proofs.Turns.{IsPlaced}
 use Rattle.lard_cluster_policy.proofs.Counted.{IsCounted, books-are-told, reached-counted, step-ordered}
+use Rattle.lard_cluster_policy.proofs.Homes.{stands-so}
 use Rattle.lard_cluster_policy.proofs.Ins.{count}
 use Rattle.lard_cluster_policy.proofs.Waiting.{who, within-more}
 use Rattle.lard_cluster_policy.specs.Laws.{AdmitsFirst, PassesOn}
+use Rattle.lard_cluster_policy.specs.Ledger.{is_in, ledger}
 use Rattle.lard_cluster_policy.specs.Line.{IsWithin, waiting, waiting_step}
 use Rattle.lard_cluster_records.proofs.Named.{usable}
 use Rattle.lard_cluster_view.specs.Carry.{setting}
-use Rattle.lard_cluster_view.specs.View.{conn, part_of}
+use Rattle.lard_cluster_view.specs.View.{Rules, Setting, conn, part_of}
 use Rattle.lard_cluster_view.proofs.After.{IsAfter, step-after}
-use Rattle.lard_cluster_view.proofs.Carried.{IsOn, carried, carried-keep}
+use Rattle.lard_cluster_view.proofs.Carried.{IsOn, carried, carried-keep, on-setting}
 use Rattle.lard_cluster_view.proofs.InSteps.{carried-ends}
 use Rattle.lard_dispatch.specs.declared.line.Waiting.{Waiting}
 use Rattle.lard_dispatch.specs.Line.{waits}
@@ -167,3 +171,25 @@ line-passes config files m checked r = (carried-keep config files (λ k. AreLawf
       (one-more MustPass k.journal after.step after.one h
       (subst (λ (s : List Rec). MustPass k.journal s) same
       (subst (λ (cs : List ℕ). Each (AdmitsHead cs) rows × Each (PassesTo cs rows) rows) (line-kept config files checked k on.reached) passes)))
+
+-- ---- releases, and the order of records that charge
+
+module _ (config : Config) (files : List (List ℕ × List ℕ)) (checked : config_check config ≡ Ok tt) where
+  inside-is : (m : Machine) → IsReached config files m → (q : ℕ) → is_in (ledger config m.journal) q ≡ (stand_at (conn m q)).inside
+  unfolding conn
+  inside-is m r q = (stands-so config m.journal q).0 ∙ (stands-told q m.journal).inside
+
+  -- what each step adds is in order
+  pub step-ordered-so : (m n : Machine) (e : Event) → IsOn config files m → HasRule e → machine_step m e ≡ Ok n → (rs : List Rec) × (n.journal ≡ m.journal ++ rs) × IsInOrder (is_in (ledger config m.journal)) rs
+  step-ordered-so m n e on rule is = step-adds m (each-lined config files checked m on.reached) (is_in (ledger config m.journal)) (inside-is m on.reached) on.view
+      (subst (λ (s : Setting). Rules s Notes) (on-setting config files m on) (noting (setting config files) (usable config checked).stream)) n e rule is
+
+pub takes-release : TakesRelease
+takes-release config files m checked r = (carried-keep config files (λ k. AreLawful (MustRelease config) k.journal) (refl, tt) step m r).1 where
+  step : (k n : Machine) (e : Event) → IsOn config files k → AreLawful (MustRelease config) k.journal → HasRule e → machine_step k e ≡ Ok n → AreLawful (MustRelease config) n.journal
+  step k n e on h rule is =
+      let after : IsAfter k e n = step-after k on.view e n rule is in
+      let adds = step-ordered-so config files checked k n e on rule is in
+      let same : adds.0 ≡ after.step = cancel k.journal adds.0 after.step (sym adds.1 ∙ after.is) in
+      subst (AreLawful (MustRelease config)) (sym after.is)
+      (one-more (MustRelease config) k.journal after.step after.one h (subst (λ (s : List Rec). MustRelease config k.journal s) same adds.2.released))

@@ -1,12 +1,13 @@
 -- What is so of the line, of releases and of loads in every run, with a configuration that may be used.
-use Rattle.std.specs.Prelude.{◌≡◌, ℕ, ◌<◌, List, [], ◌∷◌, length, map, Ok}
+use Rattle.std.specs.Prelude.{◌≡◌, ℕ, ◌<◌, ◌||◌, nat_lt, Bool, if◌then◌else◌, List, [], ◌∷◌, length, map, Option, Some, None, Ok}
 use Rattle.std.specs.List.{AllByRecursion}
 use Rattle.lard_base.specs.declared.config.Config.{Config}
+use Rattle.lard_base.specs.declared.place.Place.TheVariants.{Front}
 use Rattle.lard_base.specs.Config.{config_check, room_of}
 use Rattle.lard_cluster.specs.declared.machine.Machine.{Machine}
 use Rattle.lard_cluster.specs.Machine.{IsReached}
 use Rattle.lard_cluster_line.specs.Line.{line}
-use Rattle.lard_cluster_policy.specs.Ledger.{admitted, ledger}
+use Rattle.lard_cluster_policy.specs.Ledger.{admitted, is_in, ledger}
 use Rattle.lard_history.specs.Own.{Has}
 use Rattle.lard_history.specs.Steps.{AtEachEnd, EachStep, steps}
 use Rattle.lard_journal.specs.declared.rec.Rec.{Rec}
@@ -47,3 +48,26 @@ MustPass past s = AllByRecursion (AdmitsHead (line past)) s × AllByRecursion (P
 -- In each step who is admitted while somebody waits is the first of the line, and is admitted where one is released.
 abbrev pub LinePasses : Type 0
 LinePasses = Always (λ config m. EachStep MustPass [] (steps m.journal))
+
+-- ---- releases
+
+-- what is due directly behind a record: the release of a connection that the front end takes, and that was admitted before the step,
+-- or was taken before
+abbrev pub due : (ℕ → Bool) → Rec → Option ℕ
+due inside (rec.Took Front c epoch) = if inside c || nat_lt 1 epoch.0 then Some c else None
+due inside _ = None
+
+-- each release that is due stands there
+abbrev pub AreReleased : (ℕ → Bool) → Option ℕ → List Rec → Type 0
+AreReleased inside None [] = Unit {0}
+AreReleased inside (Some c) [] = ⊥
+AreReleased inside None (r ∷ rs) = AreReleased inside (due inside r) rs
+AreReleased inside (Some c) (r ∷ rs) = (r ≡ rec.Released c) × AreReleased inside None rs
+
+abbrev pub MustRelease : Config → List Rec → List Rec → Type 0
+MustRelease config past s = AreReleased (is_in (ledger config past)) None s
+
+-- Where the front end takes a connection that is admitted, or takes it in an epoch behind the first, the connection is released,
+-- directly behind that record.
+abbrev pub TakesRelease : Type 0
+TakesRelease = Always (λ config m. EachStep (MustRelease config) [] (steps m.journal))

@@ -3,7 +3,7 @@
 //! It stands above the laws of places and of policy. It has no code.
 #![tactic(auto)]
 
-ghost use Rattle.lard_cluster_line.specs.Laws.{LineIsKept, LinePasses, WaitsAtAFullRoom};
+ghost use Rattle.lard_cluster_line.specs.Laws.{LineIsKept, LinePasses, TakesRelease, WaitsAtAFullRoom};
 
 /// The line that the front end keeps is the one that the journal tells: those who were to wait and were not admitted since, in that
 /// order, but for each whose segment came to the front end that decodes, has RST and the acknowledgement number of the last segment
@@ -15,4 +15,10 @@ pub fn the_line_is_told()
     ensures kept { LineIsKept }
     ensures full { WaitsAtAFullRoom }
     ensures order { LinePasses }
+{}
+
+/// In each step, where the front end takes a connection that was admitted before it, or takes it in an epoch behind the first, the
+/// connection is released directly behind that record. That nothing else releases one is a law of admission (`lard_cluster_policy`).
+pub fn what_is_taken_back_is_released()
+    ensures { TakesRelease }
 {}
