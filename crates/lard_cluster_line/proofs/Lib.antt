@@ -1,3 +1,6 @@
+pub mod Bounds
+pub mod Calls
+pub mod Charging
 pub mod FrontMessages
 pub mod Fronts
 pub mod Hearing

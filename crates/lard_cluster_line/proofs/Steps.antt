@@ -1,5 +1,5 @@
 -- The records of a step: each release that is due stands where it is due, and what takes loads away stands before what adds to them.
-use Rattle.std.proofs.Common.{◌≡◌, ◌≢◌, ◌⊎◌, ℕ, ◌+◌, ◌-◌, Bool, true, false, cond, List, [], ◌∷◌, ◌++◌, map, length, Option, Some, None, Ok, refl, sym, ap, ◌∙◌, subst, append_assoc, append-nil, ⊎_elim, ◌||◌, nat_lt}
+use Rattle.std.proofs.Common.{◌≡◌, ℕ, ◌+◌, ◌-◌, Bool, true, false, cond, List, [], ◌∷◌, ◌++◌, map, length, Option, Some, None, Ok, refl, sym, ap, ◌∙◌, subst, append_assoc, append-nil, ⊎_elim, ◌||◌, nat_lt}
 use Rattle.lard_base.specs.declared.event.Event.{Event}
 use Rattle.lard_base.specs.declared.event.Event.TheVariants as event
 use Rattle.lard_base.specs.declared.place.Place.{Place}
@@ -11,10 +11,10 @@ use Rattle.lard_cluster_line.proofs.Holding.{IsRead}
 use Rattle.lard_cluster_line.proofs.Law.{IsLined}
 use Rattle.lard_cluster_line.proofs.Notes.{Begins, Ends, Enters, Alone, Goes, IsLater, Noted, Reads, Shares, Waits}
 use Rattle.lard_cluster_line.proofs.Stands.{stand_at}
-use Rattle.lard_cluster_line.proofs.Turns.{IsNoted, Notes}
+use Rattle.lard_cluster_line.proofs.Turns.{Notes}
 use Rattle.lard_cluster_line.specs.Laws.{AreReleased, due}
 use Rattle.lard_cluster_policy.proofs.Calm.{first_rows, last_rows, told-journal}
-use Rattle.lard_cluster_view.specs.View.{Conn, IsViewed, Move, Part, Rules, conn, part_of, setting_of, timer_rows}
+use Rattle.lard_cluster_view.specs.View.{IsViewed, Part, Rules, conn, part_of, setting_of, timer_rows}
 use Rattle.lard_cluster_view.proofs.Saying.{GaveAt, NamesAll, NotedAt, notes-all}
 use Rattle.lard_cluster_view.proofs.Shapes.{IsPut, Shapes, both_out, move_of}
 use Rattle.lard_cluster_view.proofs.Stepping.{step-has}

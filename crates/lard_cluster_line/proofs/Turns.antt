@@ -1,17 +1,14 @@
 -- What each rule notes, as a fact of each move.
-use Rattle.std.proofs.Common.{◌≡◌, ℕ, ◌^◌, ◌<◌, ◌≤◌, List, [], ◌∷◌, Bool, true, false, Option, Some, None, refl, sym, ap, ◌∙◌, subst}
-use Rattle.std.specs.List.{fold}
-use Rattle.lard_base.specs.declared.event.Event.TheVariants as event
+use Rattle.std.proofs.Common.{◌≡◌, ℕ, ◌^◌, ◌<◌, ◌≤◌, List, [], ◌∷◌, sym, subst}
 use Rattle.lard_base.specs.declared.place.Place.{Place}
 use Rattle.lard_base.specs.declared.place.Place.TheVariants.{Client, Front, Node}
-use Rattle.lard_cluster_line.proofs.Law.{IsLined, IsThere, node-there}
+use Rattle.lard_cluster_line.proofs.Law.{IsLined, node-there}
 use Rattle.lard_cluster_line.proofs.Notes.{DeedNotes, Enters, Noted, admitted-enters, asked-noted, ended-noted, enters-noted, gets-noted, none-noted, taken-noted, timer-noted}
-use Rattle.lard_cluster_line.proofs.Stands.{IsElsewhere, Stand, stand_at}
-use Rattle.lard_cluster_view.specs.View.{ClientRules, Conn, FrontRules, IsFrontEnv, Move, NodeRules, Rules, Said, Setting, event_seen, front_does, node_does, nothing_said, packet_seen, reads_first, stands}
+use Rattle.lard_cluster_line.proofs.Stands.{IsElsewhere, stand_at}
+use Rattle.lard_cluster_view.specs.View.{ClientRules, Conn, FrontRules, Move, NodeRules, Rules, Setting, front_does, node_does, nothing_said, packet_seen, stands}
 use Rattle.lard_front_rules.specs.Front as front
 use Rattle.lard_front_rules.specs.Front.{FrontEnv, ask_of, front_asked, front_ended, front_gets, front_taken, front_timer}
 use Rattle.lard_history.specs.Own.{Seen}
-use Rattle.lard_journal.specs.declared.rec.Rec.{Rec}
 use Rattle.lard_node_rules.specs.Node as node
 use Rattle.lard_segment.specs.declared.segment.Dir.TheVariants.{ToCluster}
 use Rattle.lard_segment.specs.Segment.{decoded}

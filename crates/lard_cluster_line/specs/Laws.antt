@@ -1,5 +1,5 @@
 -- What is so of the line, of releases and of loads in every run, with a configuration that may be used.
-use Rattle.std.specs.Prelude.{◌≡◌, ℕ, ◌<◌, ◌||◌, nat_lt, Bool, if◌then◌else◌, List, [], ◌∷◌, length, map, Option, Some, None, Ok}
+use Rattle.std.specs.Prelude.{◌≡◌, ℕ, ◌+◌, ◌*◌, ◌<◌, ◌≤◌, ◌||◌, nat_lt, Bool, if◌then◌else◌, List, [], ◌∷◌, length, map, Option, Some, None, Ok}
 use Rattle.std.specs.List.{AllByRecursion}
 use Rattle.lard_base.specs.declared.config.Config.{Config}
 use Rattle.lard_base.specs.declared.place.Place.TheVariants.{Front}
@@ -7,7 +7,9 @@ use Rattle.lard_base.specs.Config.{config_check, room_of}
 use Rattle.lard_cluster.specs.declared.machine.Machine.{Machine}
 use Rattle.lard_cluster.specs.Machine.{IsReached}
 use Rattle.lard_cluster_line.specs.Line.{line}
-use Rattle.lard_cluster_policy.specs.Ledger.{admitted, is_in, ledger}
+use Rattle.lard_cluster_policy.specs.Laws.{AtEveryMoment}
+use Rattle.lard_cluster_policy.specs.Ledger.{Ledger, admitted, is_in, ledger}
+use Rattle.lard_cluster_policy.specs.Loads.{load}
 use Rattle.lard_history.specs.Own.{Has}
 use Rattle.lard_history.specs.Steps.{AtEachEnd, EachStep, steps}
 use Rattle.lard_journal.specs.declared.rec.Rec.{Rec}
@@ -71,3 +73,19 @@ MustRelease config past s = AreReleased (is_in (ledger config past)) None s
 -- directly behind that record.
 abbrev pub TakesRelease : Type 0
 TakesRelease = Always (λ config m. EachStep (MustRelease config) [] (steps m.journal))
+
+-- ---- loads
+
+-- no load is above a whole for each connection that there is room for
+abbrev pub IsWithinTheRoom : Config → Ledger → List Rec → Type 0
+IsWithinTheRoom config l past = (n : ℕ) → load past n ≤ 840 * room_of config
+
+abbrev pub LoadsStayWithinTheRoom : Type 0
+LoadsStayWithinTheRoom = AtEveryMoment IsWithinTheRoom
+
+-- nor above the greatest of twice `high`, `over` and `idle` by more than a whole
+abbrev pub IsNearTheThresholds : Config → Ledger → List Rec → Type 0
+IsNearTheThresholds config l past = (most : ℕ) → 2 * config.high ≤ most → config.over ≤ most → config.idle ≤ most → (n : ℕ) → load past n ≤ 840 * (most + 1)
+
+abbrev pub LoadsStayNearTheThresholds : Type 0
+LoadsStayNearTheThresholds = AtEveryMoment IsNearTheThresholds

@@ -3,7 +3,7 @@
 //! It stands above the laws of places and of policy. It has no code.
 #![tactic(auto)]
 
-ghost use Rattle.lard_cluster_line.specs.Laws.{LineIsKept, LinePasses, TakesRelease, WaitsAtAFullRoom};
+ghost use Rattle.lard_cluster_line.specs.Laws.{LineIsKept, LinePasses, LoadsStayNearTheThresholds, LoadsStayWithinTheRoom, TakesRelease, WaitsAtAFullRoom};
 
 /// The line that the front end keeps is the one that the journal tells: those who were to wait and were not admitted since, in that
 /// order, but for each whose segment came to the front end that decodes, has RST and the acknowledgement number of the last segment
@@ -21,4 +21,11 @@ pub fn the_line_is_told()
 /// connection is released directly behind that record. That nothing else releases one is a law of admission (`lard_cluster_policy`).
 pub fn what_is_taken_back_is_released()
     ensures { TakesRelease }
+{}
+
+/// At no moment is the load of a node, as the journal counts it, above a whole for each connection that there is room for, nor above
+/// the greatest of twice `high`, `over` and `idle` by more than a whole.
+pub fn the_greatest_load_is_told()
+    ensures room { LoadsStayWithinTheRoom }
+    ensures thresholds { LoadsStayNearTheThresholds }
 {}
