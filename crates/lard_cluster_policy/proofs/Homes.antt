@@ -28,7 +28,7 @@ or-false true = refl
 or-false false = refl
 
 -- one more
-any-more : (c d : ℕ) (xs : List ℕ) → list_any (nat_eq c) (xs ++ d ∷ []) ≡ cond (nat_eq d c) true (list_any (nat_eq c) xs)
+pub any-more : (c d : ℕ) (xs : List ℕ) → list_any (nat_eq c) (xs ++ d ∷ []) ≡ cond (nat_eq d c) true (list_any (nat_eq c) xs)
 any-more c d xs = list_any-append (nat_eq c) xs (d ∷ []) ∙ by_number ((list_any (nat_eq c) xs || (nat_eq c d || false)) ≡ cond (nat_eq d c) true (list_any (nat_eq c) xs)) d c same other where
   same : d ≡ c → (list_any (nat_eq c) xs || (nat_eq c d || false)) ≡ cond (nat_eq d c) true (list_any (nat_eq c) xs)
   same e = ap (λ (b : Bool). list_any (nat_eq c) xs || (b || false)) (ap (nat_eq c) e ∙ same_number c) ∙ or-true (list_any (nat_eq c) xs)
@@ -58,7 +58,7 @@ others-any c d (x ∷ xs) n = by_number (list_any (nat_eq c) (filter (λ x. not 
   other later m = ap (λ (b : Bool). list_any (nat_eq c) (cond (not b) (x ∷ filter (λ x. not (nat_eq d x)) xs) (filter (λ x. not (nat_eq d x)) xs))) (other_number d x m)
       ∙ ap (λ (b : Bool). nat_eq c x || b) later
 
-less-any : (c d : ℕ) (xs : List ℕ) → list_any (nat_eq c) (filter (λ x. not (nat_eq d x)) xs) ≡ cond (nat_eq d c) false (list_any (nat_eq c) xs)
+pub less-any : (c d : ℕ) (xs : List ℕ) → list_any (nat_eq c) (filter (λ x. not (nat_eq d x)) xs) ≡ cond (nat_eq d c) false (list_any (nat_eq c) xs)
 less-any c d xs = by_number (list_any (nat_eq c) (filter (λ x. not (nat_eq d x)) xs) ≡ cond (nat_eq d c) false (list_any (nat_eq c) xs)) d c
     (λ e. ap (λ (k : ℕ). list_any (nat_eq c) (filter (λ x. not (nat_eq k x)) xs)) e ∙ none-any c xs ∙ sym (ap (λ (b : Bool). cond b false (list_any (nat_eq c) xs)) (ap (λ (k : ℕ). nat_eq k c) e ∙ same_number c)))
     (λ n. others-any c d xs n ∙ sym (ap (λ (b : Bool). cond b false (list_any (nat_eq c) xs)) (other_number d c n)))

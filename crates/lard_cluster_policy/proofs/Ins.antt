@@ -19,7 +19,7 @@ count c (x ∷ xs) = cond (nat_eq c x) 1 0 + count c xs
 abbrev pub others : ℕ → List ℕ → List ℕ
 others c xs = filter (λ d. not (nat_eq c d)) xs
 
-count-append : (c : ℕ) (xs ys : List ℕ) → count c (xs ++ ys) ≡ count c xs + count c ys
+pub count-append : (c : ℕ) (xs ys : List ℕ) → count c (xs ++ ys) ≡ count c xs + count c ys
 count-append c [] ys = omega arith
 count-append c (x ∷ xs) ys = let more = count-append c xs ys in omega (arith, more)
 
@@ -37,14 +37,14 @@ unseen c x n is = ap (λ (b : Bool). cond b 1 0 + n) is ∙ zero-less n where
   zero-less : (n : ℕ) → 0 + n ≡ n
   zero-less n = omega arith
 
-none-left : (c : ℕ) (xs : List ℕ) → count c (others c xs) ≡ 0
+pub none-left : (c : ℕ) (xs : List ℕ) → count c (others c xs) ≡ 0
 none-left c [] = refl
 none-left c (x ∷ xs) = go (nat_eq c x) refl (none-left c xs) where
   go : (b : Bool) → nat_eq c x ≡ b → count c (others c xs) ≡ 0 → count c (cond (not b) (x ∷ others c xs) (others c xs)) ≡ 0
   go true is h = h
   go false is h = unseen c x (count c (others c xs)) is ∙ h
 
-others-left : (c q : ℕ) (xs : List ℕ) → (q ≡ c → ⊥) → count q (others c xs) ≡ count q xs
+pub others-left : (c q : ℕ) (xs : List ℕ) → (q ≡ c → ⊥) → count q (others c xs) ≡ count q xs
 others-left c q [] apart = refl
 others-left c q (x ∷ xs) apart = by_number (count q (others c (x ∷ xs)) ≡ count q (x ∷ xs)) c x (same (others-left c q xs apart)) (differs (others-left c q xs apart)) where
   same : count q (others c xs) ≡ count q xs → c ≡ x → count q (others c (x ∷ xs)) ≡ count q (x ∷ xs)
@@ -54,7 +54,7 @@ others-left c q (x ∷ xs) apart = by_number (count q (others c (x ∷ xs)) ≡ 
   differs : count q (others c xs) ≡ count q xs → (c ≡ x → ⊥) → count q (others c (x ∷ xs)) ≡ count q (x ∷ xs)
   differs later n = ap (λ (b : Bool). count q (cond (not b) (x ∷ others c xs) (others c xs))) (other_number c x n) ∙ ap (λ (k : ℕ). cond (nat_eq q x) 1 0 + k) later
 
-any-none : (c : ℕ) (xs : List ℕ) → count c xs ≡ 0 → list_any (nat_eq c) xs ≡ false
+pub any-none : (c : ℕ) (xs : List ℕ) → count c xs ≡ 0 → list_any (nat_eq c) xs ≡ false
 any-none c [] h = refl
 any-none c (x ∷ xs) h = go (nat_eq c x) h (any-none c xs) where
   go : (b : Bool) → cond b 1 0 + count c xs ≡ 0 → (count c xs ≡ 0 → list_any (nat_eq c) xs ≡ false) → (b || list_any (nat_eq c) xs) ≡ false

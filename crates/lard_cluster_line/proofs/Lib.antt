@@ -1,0 +1,16 @@
+pub mod Bounds
+pub mod Calls
+pub mod Charging
+pub mod FrontMessages
+pub mod Fronts
+pub mod Hearing
+pub mod Holding
+pub mod Law
+pub mod Lists
+pub mod Notes
+pub mod Runs
+pub mod Speaking
+pub mod Steps
+pub mod Turns
+pub mod Stands
+pub mod Telling

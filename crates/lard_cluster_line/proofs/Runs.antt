@@ -1,0 +1,195 @@
+-- In every state that events lead to, the line that the journal tells is the one that the front end keeps; and what follows of it.
+use Rattle.std.proofs.Common.{◌≡◌, ℕ, ◌<◌, ◌≤◌, ◌||◌, nat_eq, Bool, true, false, cond, List, [], ◌∷◌, length, map, Option, Some, None, Ok, arith, refl, sym, ap, ◌∙◌, subst, ◌++◌}
+use Rattle.std.proofs.lemmas.List.{length-map}
+use Rattle.std.specs.List.{fold, list_any}
+use Rattle.lard_base.specs.Config.{config_check}
+use Rattle.lard_base.specs.declared.config.Config.{Config}
+use Rattle.lard_base.specs.declared.event.Event.{Event}
+use Rattle.lard_base.specs.declared.place.Place.{Place}
+use Rattle.lard_base.specs.declared.place.Place.TheVariants.{Front, Node, Client}
+use Rattle.lard_cluster.specs.declared.machine.Machine.{Machine}
+use Rattle.lard_cluster.specs.Bounds.{HasRule}
+use Rattle.lard_cluster.specs.Machine.{IsReached, machine_step}
+use Rattle.lard_cluster_line.proofs.Fronts.{RowStands, StageStands}
+use Rattle.lard_cluster_line.proofs.Law.{IsLined, line-law}
+use Rattle.lard_cluster_line.proofs.Lists.{both-within, less-within, within-same}
+use Rattle.lard_cluster_line.proofs.Stands.{Stand, stand_at, stand_step, unknown}
+use Rattle.lard_cluster_line.proofs.Telling.{stands-told}
+use Rattle.lard_cluster_line.proofs.Steps.{IsInOrder, step-adds}
+use Rattle.lard_cluster_line.proofs.Turns.{Notes, noting}
+use Rattle.lard_cluster_line.specs.Laws.{AdmitsHead, LineIsKept, LinePasses, MustPass, MustRelease, PassesTo, TakesRelease, WaitsAtAFullRoom, WaitsForRoom}
+use Rattle.lard_cluster_line.specs.Line.{Line, leaves, left_at, left_by, line, line_step, nobody, without}
+use Rattle.lard_cluster_places.proofs.Runs.{each-placed}
+use Rattle.lard_cluster_places.proofs.Turns.{IsPlaced}
+use Rattle.lard_cluster_policy.proofs.Counted.{IsCounted, books-are-told, reached-counted, step-ordered}
+use Rattle.lard_cluster_policy.proofs.Homes.{stands-so}
+use Rattle.lard_cluster_policy.proofs.Ins.{count}
+use Rattle.lard_cluster_policy.proofs.Waiting.{who, within-more}
+use Rattle.lard_cluster_policy.specs.Laws.{AdmitsFirst, PassesOn}
+use Rattle.lard_cluster_policy.specs.Ledger.{is_in, ledger}
+use Rattle.lard_cluster_policy.specs.Line.{IsWithin, waiting, waiting_step}
+use Rattle.lard_cluster_records.proofs.Named.{usable}
+use Rattle.lard_cluster_view.specs.Carry.{setting}
+use Rattle.lard_cluster_view.specs.View.{Rules, Setting, conn, part_of}
+use Rattle.lard_cluster_view.proofs.After.{IsAfter, step-after}
+use Rattle.lard_cluster_view.proofs.Carried.{IsOn, carried, carried-keep, on-setting}
+use Rattle.lard_cluster_view.proofs.InSteps.{carried-ends}
+use Rattle.lard_dispatch.specs.declared.line.Waiting.{Waiting}
+use Rattle.lard_dispatch.specs.Line.{waits}
+use Rattle.lard_front_rules.specs.declared.front.FrontRest.{FrontRest}
+use Rattle.lard_front_rules.specs.FrontPlace.{front_part}
+use Rattle.lard_front_rules.specs.Front.{FrontPart}
+use Rattle.lard_front_rules.specs.Sound.{IsRowSound, IsStageSound, Standing, standing}
+use Rattle.lard_handoff_front.specs.declared.row.FrontConn.{FrontConn}
+use Rattle.lard_handoff_front.specs.declared.row.FrontConn.TheVariants as stage
+use Rattle.lard_handoff_front.specs.declared.row.FrontRow.{FrontRow}
+use Rattle.lard_history.specs.Own.{own}
+use Rattle.lard_history.proofs.Each.{Each, Each-weaker}
+use Rattle.lard_history.proofs.Seeing.{by_number, other_number, same_number}
+use Rattle.lard_history.proofs.Stepping.{AreLawful, cancel, one-more}
+use Rattle.lard_journal.specs.declared.rec.Rec.{Rec}
+use Rattle.lard_journal.specs.declared.rec.Rec.TheVariants as rec
+use Rattle.lard_net.specs.Net.{Packet, packet_at}
+use Rattle.lard_resend.specs.declared.kept.Kept.{Kept}
+use Rattle.lard_segment.specs.declared.segment.Dir.TheVariants.{ToCluster}
+use Rattle.lard_segment.specs.Segment.{decoded}
+
+-- ---- the line is within those who were to wait
+
+left-within : (to from : Place) (bytes : List ℕ) (l : Line) (ws : List ℕ) → IsWithin l.waits ws → IsWithin (left_by to from bytes l.told l.waits) ws
+left-within Front (Client c) bytes l ws h = go (leaves (l.told c) (decoded bytes c ToCluster)) where
+  go : (b : Bool) → IsWithin (cond b (without c l.waits) l.waits) ws
+  go true = less-within _ l.waits ws h
+  go false = h
+left-within Front Front bytes l ws h = h
+left-within Front (Node n) bytes l ws h = h
+left-within (Node m) from bytes l ws h = h
+left-within (Client d) from bytes l ws h = h
+
+at-within : (o : Option Packet) (l : Line) (ws : List ℕ) → IsWithin l.waits ws → IsWithin (left_at o l.told l.waits) ws
+at-within None l ws h = h
+at-within (Some p) l ws h = left-within p.to p.from p.bytes l ws h
+
+one-within : (l : Line) (ws : List ℕ) (r : Rec) → IsWithin l.waits ws → IsWithin (line_step l r).waits (waiting_step ws r)
+one-within l ws (rec.Waits c) h = within-more c l.waits ws h
+one-within l ws (rec.Admitted c) h = both-within _ l.waits ws h
+one-within l ws (rec.Got k) h = at-within (packet_at l.net k) l ws h
+one-within l ws (rec.Sent k from to bytes) h = h
+one-within l ws (rec.Lost k) h = h
+one-within l ws _ h = h
+
+all-within : (l : Line) (ws : List ℕ) (rs : List Rec) → IsWithin l.waits ws → IsWithin (fold line_step l rs).waits (fold waiting_step ws rs)
+all-within l ws [] h = h
+all-within l ws (r ∷ rs) h = all-within (line_step l r) (waiting_step ws r) rs (one-within l ws r h)
+
+-- ---- who waits at the front end is in the line
+
+equal-turned : (a b : ℕ) → nat_eq a b ≡ nat_eq b a
+equal-turned a b = by_number (nat_eq a b ≡ nat_eq b a) a b (λ e. ap (λ (n : ℕ). nat_eq n b) e ∙ same_number b ∙ sym (ap (nat_eq b) e ∙ same_number b)) (λ n. other_number a b n ∙ sym (other_number b a (λ e. n (sym e))))
+
+waits-has : (c : ℕ) (ws : List Waiting) → list_any (nat_eq c) (who ws) ≡ waits ws c
+waits-has c [] = refl
+waits-has c (w ∷ ws) = λ i. equal-turned c w.c i || waits-has c ws i
+
+stage-waits : (e : ℕ) (rest : Option FrontRest) (kept : List Kept) (at : Standing) (s : Stand) (conn : FrontConn) → IsStageSound e rest kept at conn → StageStands s conn → (at.waits ≡ s.waits) × (s.times ≤ 1)
+stage-waits e rest kept at s (stage.Held b) h k = let few = k.0.times in (ap (λ (x : Standing). x.waits) h.2 ∙ sym k.0.waits_is, omega (arith, few))
+stage-waits e rest kept at s (stage.Waiting b) h k = (ap (λ (x : Standing). x.waits) h.2 ∙ sym k.0.waits_is, k.0.times)
+stage-waits e rest kept at s stage.Lent h k = absurd h
+stage-waits e rest kept at s (stage.Offering n by) h k = (ap (λ (x : Standing). x.waits) h ∙ sym k.waits_is, k.times)
+stage-waits e rest kept at s (stage.Moved n by) h k = (ap (λ (x : Standing). x.waits) h ∙ sym k.waits_is, k.times)
+stage-waits e rest kept at s (stage.Closed last) h k = (ap (λ (x : Standing). x.waits) h ∙ sym k.waits_is, k.times)
+
+row-waits : (rest : Option FrontRest) (kept : List Kept) (at : Standing) (s : Stand) (o : Option FrontRow) → IsRowSound rest kept at o → RowStands s o → (at.waits ≡ s.waits) × (s.times ≤ 1)
+row-waits rest kept at s None h k = let few = k.times in (ap (λ (x : Standing). x.waits) h.1 ∙ sym k.waits_is, omega (arith, few))
+row-waits rest kept at s (Some row) h k = stage-waits row.epoch.0 rest kept at s row.stage h k
+
+module _ (config : Config) (files : List (List ℕ × List ℕ)) (checked : config_check config ≡ Ok tt) where
+  pub each-lined : (m : Machine) → IsReached config files m → (q : ℕ) → IsLined (conn m q)
+  each-lined = carried config files IsPlaced IsLined (line-law (setting config files) (usable config checked).stream) (each-placed config files)
+
+  -- how each connection stands, by what it sees of the journal
+  pub stood : (m : Machine) → IsReached config files m → (q : ℕ) → RowStands (fold (stand_step q) unknown (own q m.journal)) (front_part m.front q).row
+  unfolding conn part_of
+  stood m r q = (each-lined m r q).stands
+
+  pub line-kept : (m : Machine) → IsReached config files m → map (λ (w : Waiting). w.c) m.front.dispatch.books.line ≡ line m.journal
+  line-kept m r = within-same (waiting m.journal) (who Kept) (line m.journal) once counted.line (all-within nobody [] m.journal tt) same where
+    Kept : List Waiting
+    Kept = m.front.dispatch.books.line
+
+    counted : IsCounted config m
+    counted = reached-counted config files checked m r
+
+    so : (q : ℕ) → (waits Kept q ≡ (fold (stand_step q) unknown (own q m.journal)).waits) × ((fold (stand_step q) unknown (own q m.journal)).times ≤ 1)
+    so q =
+        let p : FrontPart = front_part m.front q in
+        row-waits p.rest p.kept (standing m.front.dispatch q) (fold (stand_step q) unknown (own q m.journal)) p.row (counted.sound.each q) (stood m r q)
+
+    once : (q : ℕ) → count q (waiting m.journal) ≤ 1
+    once q = subst (λ (n : ℕ). n ≤ 1) (sym (stands-told q m.journal).times) (so q).1
+
+    same : (q : ℕ) → list_any (nat_eq q) (who Kept) ≡ list_any (nat_eq q) (line m.journal)
+    same q = waits-has q Kept ∙ (so q).0 ∙ sym (stands-told q m.journal).waits_is
+
+pub line-is-kept : LineIsKept
+line-is-kept config files m checked r = line-kept config files checked m r
+
+-- ---- it waits for room
+
+pub waits-for-room : (config : Config) (files : List (List ℕ × List ℕ)) (m : Machine) → config_check config ≡ Ok tt → IsReached config files m → WaitsForRoom config m.journal
+waits-for-room config files m checked r some =
+    let same : length m.front.dispatch.books.line ≡ length (line m.journal) = sym (length-map m.front.dispatch.books.line (λ (w : Waiting). w.c)) ∙ ap (λ (cs : List ℕ). length cs) (line-kept config files checked m r) in
+    (books-are-told config files m checked r).3 (subst (λ (n : ℕ). 0 < n) (sym same) some)
+
+pub waits-at-a-full-room : WaitsAtAFullRoom
+waits-at-a-full-room config files m checked r = carried-ends config files (WaitsForRoom config) (λ k reached. waits-for-room config files k checked reached) m r
+
+-- ---- it passes in its order
+
+head-so : (ws : List Waiting) (r : Rec) → AdmitsFirst ws r → AdmitsHead (who ws) r
+head-so [] r h = tt
+head-so (w ∷ ws) (rec.Admitted c) h = h
+head-so (w ∷ ws) _ h = tt
+
+passes-so : (ws : List Waiting) (rs : List Rec) (r : Rec) → PassesOn ws rs r → PassesTo (who ws) rs r
+passes-so [] rs r h = tt
+passes-so (w ∷ ws) rs (rec.Released c) h = h
+passes-so (w ∷ ws) rs _ h = tt
+
+pub line-passes : LinePasses
+line-passes config files m checked r = (carried-keep config files (λ k. AreLawful MustPass k.journal) (refl, tt) step m r).1 where
+  step : (k n : Machine) (e : Event) → IsOn config files k → AreLawful MustPass k.journal → HasRule e → machine_step k e ≡ Ok n → AreLawful MustPass n.journal
+  step k n e on h rule is =
+      let after : IsAfter k e n = step-after k on.view e n rule is in
+      let Kept : List Waiting = k.front.dispatch.books.line in
+      let ordered = step-ordered config k (reached-counted config files checked k on.reached) n e on.view rule is in
+      let rows : List Rec = ordered.0 in
+      let same : rows ≡ after.step = cancel k.journal rows after.step (sym ordered.1 ∙ after.is) in
+      let passes : Each (AdmitsHead (who Kept)) rows × Each (PassesTo (who Kept) rows) rows =
+      (Each-weaker (AdmitsFirst Kept) (AdmitsHead (who Kept)) (head-so Kept) rows ordered.2, Each-weaker (PassesOn Kept rows) (PassesTo (who Kept) rows) (passes-so Kept rows) rows ordered.3) in
+      subst (AreLawful MustPass) (sym after.is)
+      (one-more MustPass k.journal after.step after.one h
+      (subst (λ (s : List Rec). MustPass k.journal s) same
+      (subst (λ (cs : List ℕ). Each (AdmitsHead cs) rows × Each (PassesTo cs rows) rows) (line-kept config files checked k on.reached) passes)))
+
+-- ---- releases, and the order of records that charge
+
+module _ (config : Config) (files : List (List ℕ × List ℕ)) (checked : config_check config ≡ Ok tt) where
+  inside-is : (m : Machine) → IsReached config files m → (q : ℕ) → is_in (ledger config m.journal) q ≡ (stand_at (conn m q)).inside
+  unfolding conn
+  inside-is m r q = (stands-so config m.journal q).0 ∙ (stands-told q m.journal).inside
+
+  -- what each step adds is in order
+  pub step-ordered-so : (m n : Machine) (e : Event) → IsOn config files m → HasRule e → machine_step m e ≡ Ok n → (rs : List Rec) × (n.journal ≡ m.journal ++ rs) × IsInOrder (is_in (ledger config m.journal)) rs
+  step-ordered-so m n e on rule is = step-adds m (each-lined config files checked m on.reached) (is_in (ledger config m.journal)) (inside-is m on.reached) on.view
+      (subst (λ (s : Setting). Rules s Notes) (on-setting config files m on) (noting (setting config files) (usable config checked).stream)) n e rule is
+
+pub takes-release : TakesRelease
+takes-release config files m checked r = (carried-keep config files (λ k. AreLawful (MustRelease config) k.journal) (refl, tt) step m r).1 where
+  step : (k n : Machine) (e : Event) → IsOn config files k → AreLawful (MustRelease config) k.journal → HasRule e → machine_step k e ≡ Ok n → AreLawful (MustRelease config) n.journal
+  step k n e on h rule is =
+      let after : IsAfter k e n = step-after k on.view e n rule is in
+      let adds = step-ordered-so config files checked k n e on rule is in
+      let same : adds.0 ≡ after.step = cancel k.journal adds.0 after.step (sym adds.1 ∙ after.is) in
+      subst (AreLawful (MustRelease config)) (sym after.is)
+      (one-more (MustRelease config) k.journal after.step after.one h (subst (λ (s : List Rec). MustRelease config k.journal s) same adds.2.released))

@@ -1,0 +1,12 @@
+-- By what holds of every state.
+use Rattle.lard_cluster_line.proofs.Runs.{line-is-kept, line-passes, waits-at-a-full-room}
+use Rattle.lard_cluster_line.proofs.the_line_is_told.Goals as goal
+
+pub returns-clause-kept : goal.returns-clause-kept
+returns-clause-kept c = line-is-kept
+
+pub returns-clause-full : goal.returns-clause-full
+returns-clause-full c = waits-at-a-full-room
+
+pub returns-clause-order : goal.returns-clause-order
+returns-clause-order c = line-passes

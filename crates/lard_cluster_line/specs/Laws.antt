@@ -1,0 +1,91 @@
+-- What is so of the line, of releases and of loads in every run, with a configuration that may be used.
+use Rattle.std.specs.Prelude.{◌≡◌, ℕ, ◌+◌, ◌*◌, ◌<◌, ◌≤◌, ◌||◌, nat_lt, Bool, if◌then◌else◌, List, [], ◌∷◌, length, map, Option, Some, None, Ok}
+use Rattle.std.specs.List.{AllByRecursion}
+use Rattle.lard_base.specs.declared.config.Config.{Config}
+use Rattle.lard_base.specs.declared.place.Place.TheVariants.{Front}
+use Rattle.lard_base.specs.Config.{config_check, room_of}
+use Rattle.lard_cluster.specs.declared.machine.Machine.{Machine}
+use Rattle.lard_cluster.specs.Machine.{IsReached}
+use Rattle.lard_cluster_line.specs.Line.{line}
+use Rattle.lard_cluster_policy.specs.Laws.{AtEveryMoment}
+use Rattle.lard_cluster_policy.specs.Ledger.{Ledger, admitted, is_in, ledger}
+use Rattle.lard_cluster_policy.specs.Loads.{load}
+use Rattle.lard_history.specs.Own.{Has}
+use Rattle.lard_history.specs.Steps.{AtEachEnd, EachStep, steps}
+use Rattle.lard_journal.specs.declared.rec.Rec.{Rec}
+use Rattle.lard_journal.specs.declared.rec.Rec.TheVariants as rec
+
+-- P is so in every state that events lead to
+abbrev pub Always : (Config → Machine → Type 0) → Type 0
+Always P = (config : Config) (files : List (List ℕ × List ℕ)) (m : Machine) → config_check config ≡ Ok tt → IsReached config files m → P config m
+
+-- ---- the line
+
+-- The front end keeps the line that the journal tells, in its order.
+abbrev pub LineIsKept : Type 0
+LineIsKept = Always (λ config m. map (λ w. w.c) m.front.dispatch.books.line ≡ line m.journal)
+
+-- somebody waits only where as many are admitted as there is room for
+abbrev pub WaitsForRoom : Config → List Rec → Type 0
+WaitsForRoom config J = 0 < length (line J) → admitted (ledger config J) ≡ room_of config
+
+-- So it is at the end of each step.
+abbrev pub WaitsAtAFullRoom : Type 0
+WaitsAtAFullRoom = Always (λ config m. AtEachEnd (WaitsForRoom config) m.journal)
+
+-- who is admitted while somebody waits is the first of the line
+abbrev pub AdmitsHead : List ℕ → Rec → Type 0
+AdmitsHead (c ∷ cs) (rec.Admitted d) = d ≡ c
+AdmitsHead _ _ = Unit {0}
+
+-- and is admitted where another is released, among these records
+abbrev pub PassesTo : List ℕ → List Rec → Rec → Type 0
+PassesTo (c ∷ cs) rs (rec.Released d) = Has (rec.Admitted c) rs
+PassesTo _ rs _ = Unit {0}
+
+-- in a step, behind this past
+abbrev pub MustPass : List Rec → List Rec → Type 0
+MustPass past s = AllByRecursion (AdmitsHead (line past)) s × AllByRecursion (PassesTo (line past) s) s
+
+-- In each step who is admitted while somebody waits is the first of the line, and is admitted where one is released.
+abbrev pub LinePasses : Type 0
+LinePasses = Always (λ config m. EachStep MustPass [] (steps m.journal))
+
+-- ---- releases
+
+-- what is due directly behind a record: the release of a connection that the front end takes, and that was admitted before the step,
+-- or was taken before
+abbrev pub due : (ℕ → Bool) → Rec → Option ℕ
+due inside (rec.Took Front c epoch) = if inside c || nat_lt 1 epoch.0 then Some c else None
+due inside _ = None
+
+-- each release that is due stands there
+abbrev pub AreReleased : (ℕ → Bool) → Option ℕ → List Rec → Type 0
+AreReleased inside None [] = Unit {0}
+AreReleased inside (Some c) [] = ⊥
+AreReleased inside None (r ∷ rs) = AreReleased inside (due inside r) rs
+AreReleased inside (Some c) (r ∷ rs) = (r ≡ rec.Released c) × AreReleased inside None rs
+
+abbrev pub MustRelease : Config → List Rec → List Rec → Type 0
+MustRelease config past s = AreReleased (is_in (ledger config past)) None s
+
+-- Where the front end takes a connection that is admitted, or takes it in an epoch behind the first, the connection is released,
+-- directly behind that record.
+abbrev pub TakesRelease : Type 0
+TakesRelease = Always (λ config m. EachStep (MustRelease config) [] (steps m.journal))
+
+-- ---- loads
+
+-- no load is above a whole for each connection that there is room for
+abbrev pub IsWithinTheRoom : Config → Ledger → List Rec → Type 0
+IsWithinTheRoom config l past = (n : ℕ) → load past n ≤ 840 * room_of config
+
+abbrev pub LoadsStayWithinTheRoom : Type 0
+LoadsStayWithinTheRoom = AtEveryMoment IsWithinTheRoom
+
+-- nor above the greatest of twice `high`, `over` and `idle` by more than a whole
+abbrev pub IsNearTheThresholds : Config → Ledger → List Rec → Type 0
+IsNearTheThresholds config l past = (most : ℕ) → 2 * config.high ≤ most → config.over ≤ most → config.idle ≤ most → (n : ℕ) → load past n ≤ 840 * (most + 1)
+
+abbrev pub LoadsStayNearTheThresholds : Type 0
+LoadsStayNearTheThresholds = AtEveryMoment IsNearTheThresholds

@@ -1,0 +1,84 @@
+-- The line, as a journal tells it: those who were to wait, and were neither admitted since nor left.
+use Rattle.std.specs.Prelude.{ℕ, nat_eq, nat_lt, ◌==◌, ◌&&◌, ◌||◌, not, Bool, false, if◌then◌else◌, List, [], ◌∷◌, ◌++◌, Option, Some, None, Result, Ok, Err}
+use Rattle.std.specs.List.{filter, fold}
+use Rattle.lard_arrival.specs.Arrival.{seg_len}
+use Rattle.lard_base.specs.declared.place.Place.{Place}
+use Rattle.lard_base.specs.declared.place.Place.TheVariants.{Front, Node, Client}
+use Rattle.lard_history.specs.Own.{net_step}
+use Rattle.lard_journal.specs.declared.rec.Rec.{Rec}
+use Rattle.lard_journal.specs.declared.rec.Rec.TheVariants as rec
+use Rattle.lard_net.specs.Net.{Packet, packet_at}
+use Rattle.lard_segment.specs.declared.fault.SegFault.{SegFault}
+use Rattle.lard_segment.specs.declared.segment.Dir.TheVariants.{ToClient, ToCluster}
+use Rattle.lard_segment.specs.Segment.{Said, decoded}
+
+-- ---- who leaves
+
+-- A segment resets the connection of one that waits, by what its client was told last: it has RST, its number is the acknowledgement
+-- number of that segment, and it has no length, or that segment told a window above 0 (RFC 9293, 3.10.7.4, first and second).
+abbrev pub resets : Said → Said → Bool
+resets last s = s.flags.rst && (s.seq == last.ack && (seg_len s == 0 || nat_lt 0 last.wnd))
+
+-- so it is of bytes that decode, where the client was told something
+abbrev pub leaves : Option Said → Result Said SegFault → Bool
+leaves None given = false
+leaves (Some last) (Err fault) = false
+leaves (Some last) (Ok s) = resets last s
+
+-- ---- the line
+
+-- All packets, the last segment that the cluster sent to each client, and who waits, the first come first.
+pub record Line : Type 0 where
+  pub net : List Packet
+  pub told : ℕ → Option Said
+  pub waits : List ℕ
+
+-- what a segment says, where its bytes decode
+abbrev pub said_of : Result Said SegFault → Option Said
+said_of (Ok s) = Some s
+said_of (Err fault) = None
+
+-- client c is told this
+abbrev pub tells : ℕ → List ℕ → (ℕ → Option Said) → ℕ → Option Said
+tells c bytes told q = if nat_eq c q then said_of (decoded bytes c ToClient) else told q
+
+-- to whom, and from whom: the cluster's segments to a client tell it something
+abbrev pub told_by : Place → Place → List ℕ → (ℕ → Option Said) → ℕ → Option Said
+told_by (Client c) Front bytes told = tells c bytes told
+told_by (Client c) (Node n) bytes told = tells c bytes told
+told_by (Client c) (Client d) bytes told = told
+told_by Front from bytes told = told
+told_by (Node n) from bytes told = told
+
+-- all but one
+abbrev pub without : ℕ → List ℕ → List ℕ
+without c cs = filter (λ d. not (nat_eq c d)) cs
+
+-- to whom, and from whom: a segment of a client that comes to the front end may take it out of the line
+abbrev pub left_by : Place → Place → List ℕ → (ℕ → Option Said) → List ℕ → List ℕ
+left_by Front (Client c) bytes told waits = if leaves (told c) (decoded bytes c ToCluster) then without c waits else waits
+left_by Front Front bytes told waits = waits
+left_by Front (Node n) bytes told waits = waits
+left_by (Node m) from bytes told waits = waits
+left_by (Client d) from bytes told waits = waits
+
+abbrev pub left_at : Option Packet → (ℕ → Option Said) → List ℕ → List ℕ
+left_at None told waits = waits
+left_at (Some p) told waits = left_by p.to p.from p.bytes told waits
+
+-- A connection comes last where it is to wait, and is out where it is admitted, or leaves.
+abbrev pub line_step : Line → Rec → Line
+line_step l (rec.Waits c) = record l { waits = l.waits ++ c ∷ [] }
+line_step l (rec.Admitted c) = record l { waits = without c l.waits }
+line_step l (rec.Got k) = record l { waits = left_at (packet_at l.net k) l.told l.waits }
+line_step l (rec.Sent k from to bytes) = record l { net = net_step l.net (rec.Sent k from to bytes); told = told_by to from bytes l.told }
+line_step l (rec.Lost k) = record l { net = net_step l.net (rec.Lost k) }
+line_step l _ = l
+
+-- before anything
+abbrev pub nobody : Line
+nobody = record { net = []; told = λ q. None; waits = [] }
+
+-- those who wait, in the order in which they were told to
+abbrev pub line : List Rec → List ℕ
+line J = (fold line_step nobody J).waits
