@@ -1,5 +1,5 @@
 -- What comes on a connection in a step is the packet that the event delivers.
-use Rattle.std.proofs.Common.{◌≡◌, ℕ, Bool, true, false, cond, not, ◌&&◌, List, [], ◌∷◌, ◌++◌, Option, Some, None, nat_eq, refl, sym, subst, inl, inr, ⊎_elim}
+use Rattle.std.proofs.Common.{◌≡◌, ℕ, Bool, true, false, cond, not, ◌&&◌, List, [], ◌∷◌, ◌++◌, Option, Some, None, nat_eq, eqb-true, refl, sym, ap, ◌∙◌, subst, inl, inr, ⊎_elim}
 use Rattle.std.specs.Prelude.{◌⊎◌}
 use Rattle.std.specs.List.{list_all}
 use Rattle.std.proofs.lemmas.Bool.{cond_both}
@@ -89,18 +89,19 @@ own-ungot (event.Settle rounds) own o is = subst (Each IsUngot) (sym is) tt
 -- ---- what comes
 
 -- The event delivers this packet, which is seen to come, and records behind it.
-pub record Delivers (net : List Packet) (e : Event) (seen : List Seen) : Type 0 where
+pub record Delivers (q : ℕ) (net : List Packet) (e : Event) (seen : List Seen) : Type 0 where
   pub k : ℕ
   pub p : Packet
   pub is : e ≡ event.Deliver k
   pub at : packet_at net k ≡ Some p
+  pub of : conn_of p.from p.to p.bytes ≡ Some q
   pub rows : List Seen
   pub seen_is : seen ≡ Came (letter_of p) ∷ rows
   pub behind : Each IsRow rows
 
 -- it is so, or nothing comes
-abbrev pub MayCome : List Packet → Event → List Seen → Type 0
-MayCome net e seen = Each IsRow seen ⊎ Delivers net e seen
+abbrev pub MayCome : ℕ → List Packet → Event → List Seen → Type 0
+MayCome q net e seen = Each IsRow seen ⊎ Delivers q net e seen
 
 module _ (q : ℕ) (net : List Packet) where
   no-packet : (i : ℕ) (e : Event) (own others : List Rec) → IsOther e → AreOwn e own → list_all (λ r. not (is_own r)) others ≡ true → Each IsRow (seen_on q net (rec.Event i e ∷ own ++ others))
@@ -108,23 +109,23 @@ module _ (q : ℕ) (net : List Packet) where
 
   module _ (k : ℕ) (rows : List Seen) (behind : Each IsRow rows) where
     -- the packet, if it is there, is of the connection or of another one
-    by-test : (p : Packet) (d : ℕ) (b : Bool) → packet_at net k ≡ Some p → MayCome net (event.Deliver k) (cond b (Came (letter_of p) ∷ []) [] ++ rows)
-    by-test p d true at = inr (record { k = k; p = p; is = refl; at = at; rows = rows; seen_is = refl; behind = behind })
-    by-test p d false at = inl behind
+    by-test : (p : Packet) (d : ℕ) (b : Bool) → nat_eq d q ≡ b → packet_at net k ≡ Some p → conn_of p.from p.to p.bytes ≡ Some d → MayCome q net (event.Deliver k) (cond b (Came (letter_of p) ∷ []) [] ++ rows)
+    by-test p d true same at of = inr (record { k = k; p = p; is = refl; at = at; of = of ∙ ap Some (eqb-true d q same); rows = rows; seen_is = refl; behind = behind })
+    by-test p d false same at of = inl behind
 
-    by-conn : (p : Packet) (o : Option ℕ) → packet_at net k ≡ Some p → MayCome net (event.Deliver k) (one_of q o (Came (letter_of p)) ++ rows)
-    by-conn p None at = inl behind
-    by-conn p (Some d) at = by-test p d (nat_eq d q) at
+    by-conn : (p : Packet) (o : Option ℕ) → packet_at net k ≡ Some p → conn_of p.from p.to p.bytes ≡ o → MayCome q net (event.Deliver k) (one_of q o (Came (letter_of p)) ++ rows)
+    by-conn p None at of = inl behind
+    by-conn p (Some d) at of = by-test p d (nat_eq d q) refl at of
 
-    by-packet : (o : Option Packet) → packet_at net k ≡ o → MayCome net (event.Deliver k) (came q o ++ rows)
+    by-packet : (o : Option Packet) → packet_at net k ≡ o → MayCome q net (event.Deliver k) (came q o ++ rows)
     by-packet None at = inl behind
-    by-packet (Some p) at = by-conn p (conn_of p.from p.to p.bytes) at
+    by-packet (Some p) at = by-conn p (conn_of p.from p.to p.bytes) at refl
 
-  by-event : (i : ℕ) (e : Event) (own others : List Rec) → AreOwn e own → list_all (λ r. not (is_own r)) others ≡ true → MayCome net e (seen_on q net (rec.Event i e ∷ own ++ others))
+  by-event : (i : ℕ) (e : Event) (own others : List Rec) → AreOwn e own → list_all (λ r. not (is_own r)) others ≡ true → MayCome q net e (seen_on q net (rec.Event i e ∷ own ++ others))
   by-event i (event.Deliver k) own others is alone =
-      subst (λ (rs : List Rec). MayCome net (event.Deliver k) (seen_on q net (rec.Event i (event.Deliver k) ∷ rs ++ others))) (sym is)
+      subst (λ (rs : List Rec). MayCome q net (event.Deliver k) (seen_on q net (rec.Event i (event.Deliver k) ∷ rs ++ others))) (sym is)
       (by-packet k (seen_on q net others) (ungot-rows q net others (others-ungot others alone)) (packet_at net k) refl)
   by-event i e own others is alone = inl (no-packet i e own others tt is alone)
 
-pub step-comes : (q : ℕ) (m n : Machine) (e : Event) (after : IsAfter m e n) (net : List Packet) → MayCome net e (seen_on q net after.step)
-step-comes q m n e after net = subst (λ (rs : List Rec). MayCome net e (seen_on q net rs)) (sym after.follows.is) (by-event q net n.events e after.follows.own after.follows.others after.follows.own_are after.follows.alone)
+pub step-comes : (q : ℕ) (m n : Machine) (e : Event) (after : IsAfter m e n) (net : List Packet) → MayCome q net e (seen_on q net after.step)
+step-comes q m n e after net = subst (λ (rs : List Rec). MayCome q net e (seen_on q net rs)) (sym after.follows.is) (by-event q net n.events e after.follows.own after.follows.others after.follows.own_are after.follows.alone)

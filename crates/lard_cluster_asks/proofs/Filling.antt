@@ -115,7 +115,7 @@ module _ (m n : Machine) (e : Event) (after : IsAfter m e n) (is : machine_step 
       let comes : seen_on q m.net after.step ≡ Came (record { from = Node i; to = Front; bytes = bytes }) ∷ rest = seen-is (Came (record { from = Node i; to = Front; bytes = bytes }) ∷ rest) seen in
       ⊎_elim
       (λ (rows : Each IsRow (seen_on q m.net after.step)). absurd (subst (Each IsRow) comes rows).0)
-      (λ (d : Delivers m.net e (seen_on q m.net after.step)).
+      (λ (d : Delivers q m.net e (seen_on q m.net after.step)).
       let same : letter_of d.p ≡ record { from = Node i; to = Front; bytes = bytes } = first-same (letter_of d.p) (record { from = Node i; to = Front; bytes = bytes }) d.rows rest (sym d.seen_is ∙ comes) in
       let stepped : machine_step m (event.Deliver d.k) ≡ Ok n = ap (machine_step m) (sym d.is) ∙ is in
       filled m n d.k d.p d.at i (ap (λ (l : Letter). l.from) same) (ap (λ (l : Letter). l.to) same) stepped q epoch number queue size paths (ap (λ (l : Letter). decoded_message l.bytes) same ∙ spells) r there found next s then)

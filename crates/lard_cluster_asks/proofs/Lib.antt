@@ -5,4 +5,5 @@ pub mod Asked
 pub mod Rules
 pub mod Coming
 pub mod Filling
+pub mod Ending
 pub mod Runs

@@ -1,16 +1,21 @@
 -- The laws of Asks in every run.
-use Rattle.std.proofs.Common.{◌≡◌, ℕ, List, [], Ok, refl, sym, subst, inl, inr, ⊎_elim}
+use Rattle.std.proofs.Common.{◌≡◌, ℕ, nat_lt, List, [], Ok, refl, sym, subst, inl, inr, ⊎_elim}
 use Rattle.lard_base.specs.declared.config.Config.{Config}
 use Rattle.lard_base.specs.declared.event.Event.{Event}
 use Rattle.lard_cluster.specs.declared.machine.Machine.{Machine}
 use Rattle.lard_cluster.specs.Bounds.{HasRule, IsNumber}
 use Rattle.lard_cluster.specs.Machine.{IsReached, machine_step, start}
-use Rattle.lard_cluster_asks.specs.Answers.{IsAnswered, MustAnswer}
-use Rattle.lard_cluster_asks.specs.Runs.{AsksAreAnswered}
+use Rattle.lard_cluster_asks.specs.Answers.{IsAnswered, MustAnswer, MustEnd, ends_due}
+use Rattle.lard_cluster_asks.specs.Asks.{end_in, later_in}
+use Rattle.lard_cluster_asks.specs.Runs.{AsksAreAnswered, BatchesEndInSteps}
+use Rattle.lard_cluster_asks.proofs.Ending.{step-ends}
 use Rattle.lard_cluster_asks.proofs.Filling.{step-fills}
 use Rattle.lard_cluster_asks.proofs.Moving.{Answers, Fills, Told}
 use Rattle.lard_cluster_asks.proofs.Rules.{Goes, all-go}
+use Rattle.lard_cluster_motion.specs.Story.{of_row, picked}
 use Rattle.lard_cluster_motion.proofs.Runs.{each-way}
+use Rattle.lard_cluster_policy.proofs.Counted.{books-are-told}
+use Rattle.lard_loads.specs.Tally.{Tally, open_shares}
 use Rattle.lard_cluster_view.specs.Carry.{setting}
 use Rattle.lard_cluster_view.specs.View.{Conn, Move, Rules, blank, conn, grown, seen_in}
 use Rattle.lard_cluster_view.specs.View as view
@@ -74,4 +79,18 @@ asks-answered config files m r = (carried-keep config files (λ k. AreLawful Mus
     let after : IsAfter k e n = step-after k on.view e n rule is in
     subst (AreLawful MustAnswer) (sym after.is)
     (one-more MustAnswer k.journal after.step after.one lawful (λ q. step-answers config files k n e on (each-told config files k on.reached) rule is q after)))
+    m r).1
+
+-- ---- the batch before
+
+pub batches-end : BatchesEndInSteps
+batches-end config files m checked r = (carried-keep config files (λ k. AreLawful (MustEnd config) k.journal) (refl, tt)
+    (λ k n e on lawful rule is.
+    let after : IsAfter k e n = step-after k on.view e n rule is in
+    let books = (books-are-told config files k checked on.reached).0 in
+    subst (AreLawful (MustEnd config)) (sym after.is)
+    (one-more (MustEnd config) k.journal after.step after.one lawful
+    (λ q. subst (λ (loads : Tally). picked (of_row end_in) (seen_on q (net_of k.journal) after.step) ≡ ends_due q (nat_lt 0 (open_shares loads q)) (picked (of_row later_in) (seen_on q (net_of k.journal) after.step))) books
+    (step-ends k n e after is on.view.told q (each-told config files k on.reached q) (each-way config files k on.reached q).front
+    (step-answers config files k n e on (each-told config files k on.reached) rule is q after)))))
     m r).1
