@@ -151,19 +151,19 @@ pub unsent-said : (r : Rec) → IsUnsent r → to_node r ≡ None
 unsent-said (rec.Sent k from to bytes) h = absurd h
 unsent-said _ h = refl
 
-note-unsent : (place : Place) (c : ℕ) (r : Rec) → NotedAt place c r → IsUnsent r
+pub note-unsent : (place : Place) (c : ℕ) (r : Rec) → NotedAt place c r → IsUnsent r
 note-unsent Front c (rec.Sent k from to bytes) h = h
 note-unsent (Node n) c (rec.Sent k from to bytes) h = h
 note-unsent (Client d) c (rec.Sent k from to bytes) h = h
 note-unsent place c _ h = tt
 
-gave-unsent : (place : Place) (c : ℕ) (r : Rec) → GaveAt place c r → IsUnsent r
+pub gave-unsent : (place : Place) (c : ℕ) (r : Rec) → GaveAt place c r → IsUnsent r
 gave-unsent Front c (rec.Sent k from to bytes) h = h
 gave-unsent (Node n) c (rec.Sent k from to bytes) h = h
 gave-unsent (Client d) c (rec.Sent k from to bytes) h = h
 gave-unsent place c _ h = tt
 
-timer-unsent : (place : Place) (d : ℕ) (r : Rec) → IsTimerAt place d r → IsUnsent r
+pub timer-unsent : (place : Place) (d : ℕ) (r : Rec) → IsTimerAt place d r → IsUnsent r
 timer-unsent place d (rec.Armed p k kind) h = tt
 timer-unsent place d (rec.Cleared p k kind) h = tt
 timer-unsent place d _ h = absurd h

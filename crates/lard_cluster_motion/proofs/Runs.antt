@@ -1,5 +1,6 @@
 -- The motion law in every run.
 use Rattle.std.proofs.Common.{ℕ, List, [], refl, sym, ◌∙◌}
+use Rattle.lard_base.specs.declared.config.Config.{Config}
 use Rattle.lard_cluster_motion.specs.Motion.{IsMotion, MustMove}
 use Rattle.lard_cluster_motion.specs.Runs.{ConnectionsMoveInSteps}
 use Rattle.lard_cluster_motion.specs.Story.{Story, story}
@@ -69,8 +70,12 @@ module _ (k : Setting) where
         record { takes_first = front.takes_first; hands_off = front.hands_off; node_takes = nodes.takes; node_ends = nodes.ends; takes_back = front.takes_back; forwards = front.forwards }) all;
   }
 
+-- what is known of the way of each connection, in every state
+pub each-way : (config : Config) (files : List (List ℕ × List ℕ)) → OfEach config files Way
+each-way config files = carried config files IsPlaced Way (way-law (setting config files)) (each-placed config files)
+
 pub connections-move : ConnectionsMoveInSteps
 connections-move config files m r =
-    let known : OfEach config files Way = carried config files IsPlaced Way (way-law (setting config files)) (each-placed config files) in
+    let known : OfEach config files Way = each-way config files in
     carried-steps config files (Given (setting config files)) (MustMove config.nodes) (IsMotion config.nodes) (λ past s h. h) (motion-law (setting config files))
     (λ n s q. (each-placed config files n s q, known n s q)) m r
