@@ -1,16 +1,20 @@
 -- Each law is proved in a crate of its own.
 use Rattle.std.specs.Prelude.{◌≤◌}
 use Rattle.lard_base.specs.declared.limits.TheConstants.{MAX_STREAM_BYTES}
+use Rattle.lard_cluster_asks.proofs.Runs.{asks-answered, batches-end}
 use Rattle.lard_cluster_bytes.proofs.Runs.{clients-accept, journals-serve, journals-tell, states-truthful}
 use Rattle.lard_cluster_clients.proofs.Tables.{clients-keep}
 use Rattle.lard_cluster_clients.proofs.Taking.{clients-take}
 use Rattle.lard_cluster_clients.proofs.Writers.{writers-are}
 use Rattle.lard_cluster_laws.specs.Lawful.{JournalsAreLawful}
 use Rattle.lard_cluster_limits.proofs.Runs.{resets-lawful}
+use Rattle.lard_cluster_line.proofs.Bounds.{loads-near-the-thresholds, loads-within-the-room}
+use Rattle.lard_cluster_line.proofs.Runs.{line-passes, takes-release, waits-at-a-full-room}
 use Rattle.lard_cluster_motion.proofs.Runs.{connections-move}
 use Rattle.lard_cluster_offers.proofs.Runs.{offers-carry}
 use Rattle.lard_cluster_places.proofs.Runs.{owners-are, senders-are}
 use Rattle.lard_cluster_policy.proofs.Counted.{admits-by-room, admits-to-a-node, assigns-as-stated, loads-are-charges, releases-what-it-took, servers-are-told, shares-one-batch, stays-within}
+use Rattle.lard_cluster_quiet.proofs.Ends.{journals-complete}
 use Rattle.lard_cluster_records.proofs.Named.{usable}
 use Rattle.lard_cluster_steps.proofs.Linking.{reached-linked}
 use Rattle.lard_cluster_steps.proofs.Places.{reached-in-place}
@@ -43,9 +47,17 @@ journals-lawful config files m checked r =
       room = stays-within config files m checked r;
       nodes = admits-to-a-node config files m checked r;
       releases = releases-what-it-took config files m checked r;
+      taken_back = takes-release config files m checked r;
+      line = waits-at-a-full-room config files m checked r;
+      passes = line-passes config files m checked r;
       choices = assigns-as-stated config files m checked r;
       batches = shares-one-batch config files m checked r;
       loads = loads-are-charges config files m checked r;
       servers = servers-are-told config files m checked r;
+      most_by_room = loads-within-the-room config files m checked r;
+      most_by_policy = loads-near-the-thresholds config files m checked r;
+      answers = asks-answered config files m r;
+      batch_ends = batches-end config files m checked r;
       offers = offers-carry config files m small r;
+      quiet = journals-complete config files m checked r;
     }

@@ -5,15 +5,18 @@ use Rattle.lard_base.specs.Config.{config_check, room_of}
 use Rattle.lard_base.specs.declared.config.Config.{Config}
 use Rattle.lard_cluster.specs.declared.machine.Machine.{Machine}
 use Rattle.lard_cluster.specs.Machine.{IsReached}
+use Rattle.lard_cluster_asks.specs.Answers.{MustAnswer, MustEnd}
 use Rattle.lard_cluster_bytes.specs.Records.{ServesTheAnswers}
+use Rattle.lard_cluster_line.specs.Laws.{IsNearTheThresholds, IsWithinTheRoom, MustPass, MustRelease, WaitsForRoom}
 use Rattle.lard_cluster_motion.specs.Motion.{MustMove}
 use Rattle.lard_cluster_offers.specs.Offers.{CarryTheEndpoint}
 use Rattle.lard_cluster_policy.specs.Laws.{AreLoadsCharged, ArePaired, AreServersTold, MayAdmit, MayAssign, MayRelease, MayShare, Nothing, last_of}
 use Rattle.lard_cluster_policy.specs.Ledger.{Ledger, admitted, ledger}
+use Rattle.lard_cluster_quiet.specs.Quiet.{CompletesWhenQuiet}
 use Rattle.lard_cluster_stores.specs.Laws.{MayStore, MustRead}
 use Rattle.lard_files.specs.Files.{file_at}
 use Rattle.lard_history.specs.Laws.{AcceptsOnlyAnswers, ActsInPlace, EachMay, IsNetwork, IsOwnership, IsSoleSender, KeepsTime, ResetsAtTheLimit, TellsTheTruth, WritesWhileOpen}
-use Rattle.lard_history.specs.Steps.{EachStep, steps}
+use Rattle.lard_history.specs.Steps.{AtEachEnd, EachStep, steps}
 use Rattle.lard_journal.specs.declared.rec.Rec.{Rec}
 use Rattle.lard_laws_clients.specs.Laws.{TakesInOrder}
 use Rattle.lard_laws_steps.specs.Clients.{KeepsTables}
@@ -60,13 +63,25 @@ pub record IsLawful (config : Config) (files : FilesAt) (J : List Rec) : Type 0 
   pub room : Throughout (λ l past. admitted l ≤ room_of config) config J
   pub nodes : ArePaired Nothing J
   pub releases : EachMay (λ past r. MayRelease (last_of past) r) [] J
+  pub taken_back : EachStep (MustRelease config) [] (steps J)
+  -- the line: somebody is in it only at a full room, and who is admitted is its head
+  pub line : AtEachEnd (WaitsForRoom config) J
+  pub passes : EachStep MustPass [] (steps J)
   -- each choice of a node is that of the stated policy, at loads and server sets that the journal counts
   pub choices : EachCounted MayAssign config J
   pub batches : EachMay (λ past r. MayShare (last_of past) (ledger config past) r) [] J
   pub loads : Throughout (AreLoadsCharged config) config J
   pub servers : Throughout AreServersTold config J
+  -- how great a load may be
+  pub most_by_room : Throughout (IsWithinTheRoom config) config J
+  pub most_by_policy : Throughout (IsNearTheThresholds config) config J
+  -- in which steps later requests are assigned and Tags are sent, and a batch is over
+  pub answers : EachStep MustAnswer [] (steps J)
+  pub batch_ends : EachStep (MustEnd config) [] (steps J)
   -- what an Offer carries where it is sent first
   pub offers : CarryTheEndpoint files J
+  -- a connection on which nothing more is to come is complete, or in the line
+  pub quiet : CompletesWhenQuiet config files J
 
 -- in every state that events lead to, with a configuration that may be used
 abbrev pub JournalsAreLawful : Type 0

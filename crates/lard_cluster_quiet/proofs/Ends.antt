@@ -1,4 +1,4 @@
--- At the end of each step a connection that is quiet, by the journal, is complete or waits for room.
+-- At the end of each step a connection that is quiet, by the journal, is complete or in the line.
 use Rattle.std.proofs.Common.{◌≡◌, ◌⊎◌, ◌<◌, ◌≤◌, ◌==◌, ◌||◌, ℕ, Bool, true, false, List, [], ◌∷◌, length, Option, Some, None, Ok, inl, inr, ⊎_elim, refl, sym, ap, ◌∙◌, subst, arith, eqb-true, nat_eq}
 use Rattle.std.proofs.lemmas.Bool.{both_ways}
 use Rattle.std.specs.FinMap as table
@@ -12,10 +12,10 @@ use Rattle.lard_cluster.specs.Machine.{IsReached}
 use Rattle.lard_cluster_clients.proofs.Writers.{clients-stand}
 use Rattle.lard_cluster_jobs.specs.Laws.{HasQueued}
 use Rattle.lard_cluster_jobs.proofs.Runs.{reads-are-queued}
-use Rattle.lard_cluster_policy.specs.Line.{IsWithin, waiting}
-use Rattle.lard_cluster_policy.proofs.Counted.{books-are-told, line-is-told, reached-counted}
+use Rattle.lard_cluster_line.proofs.Runs.{line-is-kept}
+use Rattle.lard_cluster_policy.proofs.Counted.{books-are-told, reached-counted}
 use Rattle.lard_cluster_policy.proofs.Waiting.{who}
-use Rattle.lard_cluster_quiet.specs.Quiet.{HasNoJob, JournalsComplete, QuietIsCompleteOrWaits, WaitsForRoom, reads_for}
+use Rattle.lard_cluster_quiet.specs.Quiet.{HasNoJob, JournalsComplete, QuietIsCompleteOrInLine, IsInLine, reads_for}
 use Rattle.lard_cluster_quiet.specs.Still.{AwaitsADisk, IsWaiting}
 use Rattle.lard_cluster_quiet.proofs.Still.{quiet-or-else}
 use Rattle.lard_cluster_records.proofs.Named.{usable}
@@ -38,7 +38,7 @@ use Rattle.lard_laws_places.specs.Places.{ClientStands, client_tale}
 use Rattle.lard_laws_quiet.specs.Quiet.{IsComplete}
 use Rattle.lard_rules.specs.declared.places.Station.{Station}
 
--- ---- a connection of the line waits by the journal
+-- ---- a connection that waits is in the line
 
 in-line : (c : ℕ) (line : List Waiting) → waits line c ≡ true → Has c (who line)
 in-line c [] h = let no : false ≡ true = h in absurd cc
@@ -50,12 +50,6 @@ in-line c (w ∷ ws) h = go (w.c == c) refl h (in-line c ws) where
 some-wait : (c : ℕ) (line : List Waiting) → Has c (who line) → 0 < length line
 some-wait c [] h = absurd h
 some-wait c (w ∷ ws) h = omega arith
-
-has-within : (c : ℕ) (xs ys : List ℕ) → IsWithin xs ys → Has c xs → Has c ys
-has-within c [] ys h k = absurd k
-has-within c (x ∷ xs) [] h k = absurd h
-has-within c (x ∷ xs) (y ∷ ys) (inl h) k = ⊎_elim (λ (e : x ≡ c). inl (sym h.0 ∙ e)) (λ (l : Has c xs). inr (has-within c xs ys h.1 l)) k
-has-within c (x ∷ xs) (y ∷ ys) (inr h) k = inr (has-within c (x ∷ xs) ys h k)
 
 -- ---- a job is for its connection
 
@@ -72,7 +66,7 @@ has-job n c r path (x ∷ xs) h = ⊎_elim
 
 module _ (config : Config) (files : List (List ℕ × List ℕ)) (checked : config_check config ≡ Ok tt) (m : Machine) (r : IsReached config files m) (c : ℕ) where
   -- where it waits at the front end
-  waits-for-room : IsWaiting (conn m c) → WaitsForRoom config m.journal c
+  waits-for-room : IsWaiting (conn m c) → IsInLine config m.journal c
   unfolding conn part_of
   waits-for-room (row, b, found, at) =
       let place : Standing = standing m.front.dispatch c in
@@ -80,7 +74,7 @@ module _ (config : Config) (files : List (List ℕ × List ℕ)) (checked : conf
       let of-row : IsStageSound row.epoch.0 (front_part m.front c).rest (front_part m.front c).kept place row.stage = subst (IsRowSound (front_part m.front c).rest (front_part m.front c).kept place) found whole in
       let sound = subst (IsStageSound row.epoch.0 (front_part m.front c).rest (front_part m.front c).kept place) at of-row in
       let in_line : Has c (who m.front.dispatch.books.line) = in-line c m.front.dispatch.books.line (ap (λ (s : Standing). s.waits) sound.2) in (
-        has-within c (who m.front.dispatch.books.line) (waiting m.journal) (line-is-told config files m checked r) in_line,
+        subst (Has c) (line-is-kept config files m checked r) in_line,
         (books-are-told config files m checked r).3 (some-wait c m.front.dispatch.books.line in_line),
       )
 
@@ -97,7 +91,7 @@ module _ (config : Config) (files : List (List ℕ × List ℕ)) (checked : conf
   small : config.stream ≤ MAX_STREAM_BYTES
   small = (usable config checked).stream
 
-pub quiet-complete : (config : Config) (files : List (List ℕ × List ℕ)) → config_check config ≡ Ok tt → (m : Machine) → IsReached config files m → QuietIsCompleteOrWaits config (file_at files) m.journal
+pub quiet-complete : (config : Config) (files : List (List ℕ × List ℕ)) → config_check config ≡ Ok tt → (m : Machine) → IsReached config files m → QuietIsCompleteOrInLine config (file_at files) m.journal
 unfolding conn part_of
 quiet-complete config files checked m r c some calm not_aborted not_reset quiet none =
     let station = opened config files checked m r c (table.get m.clients c) refl some (clients-stand config files m r c) in
@@ -108,4 +102,4 @@ quiet-complete config files checked m r c some calm not_aborted not_reset quiet 
     (quiet-or-else config files m (small config files checked m r c) r c station.0 station.1 calm not_aborted not_reset quiet)
 
 pub journals-complete : JournalsComplete
-journals-complete config files m checked r = carried-ends config files (QuietIsCompleteOrWaits config (file_at files)) (quiet-complete config files checked) m r
+journals-complete config files m checked r = carried-ends config files (QuietIsCompleteOrInLine config (file_at files)) (quiet-complete config files checked) m r

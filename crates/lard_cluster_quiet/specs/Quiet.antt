@@ -1,4 +1,4 @@
--- When a connection of the cluster is quiet, and that it is complete then or waits, in words of the journal.
+-- When a connection of the cluster is quiet, and that it is complete then or in the line, in words of the journal.
 use Rattle.std.specs.Prelude.{◌≡◌, ◌⊎◌, ℕ, Bool, false, nat_eq, List, IsSome, Ok}
 use Rattle.std.specs.List.{list_any}
 use Rattle.lard_answers.specs.Answers.{FilesAt}
@@ -6,8 +6,8 @@ use Rattle.lard_base.specs.Config.{config_check, room_of}
 use Rattle.lard_base.specs.declared.config.Config.{Config}
 use Rattle.lard_cluster.specs.declared.machine.Machine.{Machine}
 use Rattle.lard_cluster.specs.Machine.{IsReached}
+use Rattle.lard_cluster_line.specs.Line.{line}
 use Rattle.lard_cluster_policy.specs.Ledger.{admitted, ledger}
-use Rattle.lard_cluster_policy.specs.Line.{waiting}
 use Rattle.lard_cluster_stores.specs.Stores.{Waiting, jobs}
 use Rattle.lard_files.specs.Files.{file_at}
 use Rattle.lard_history.specs.Journal.{is_touched, numbers_of, was_reset}
@@ -24,19 +24,19 @@ reads_for c job = nat_eq job.1 c
 abbrev pub HasNoJob : List Rec → ℕ → Type 0
 HasNoJob J c = (n : ℕ) → list_any (reads_for c) (jobs J n) ≡ false
 
--- connection c waits to be admitted, and as many are admitted as there is room for
-abbrev pub WaitsForRoom : Config → List Rec → ℕ → Type 0
-WaitsForRoom config J c = Has c (waiting J) × (admitted (ledger config J) ≡ room_of config)
+-- connection c is in the line, and as many are admitted as there is room for
+abbrev pub IsInLine : Config → List Rec → ℕ → Type 0
+IsInLine config J c = Has c (line J) × (admitted (ledger config J) ≡ room_of config)
 
--- A connection that opened, of which no timer runs anywhere and for which no job waits, is complete or waits for room, unless its
+-- A connection that opened, of which no timer runs anywhere and for which no job waits, is complete or in the line, unless its
 -- client aborted it, the stream limit reset it, or the schedule touched it.
-abbrev pub QuietIsCompleteOrWaits : Config → FilesAt → List Rec → Type 0
-QuietIsCompleteOrWaits config files J = (c : ℕ) → IsSome (numbers_of J c) → is_touched J c ≡ false → has_aborted J c ≡ false → was_reset J c ≡ false
-    → IsQuiet J c → HasNoJob J c → IsComplete files J c ⊎ WaitsForRoom config J c
+abbrev pub QuietIsCompleteOrInLine : Config → FilesAt → List Rec → Type 0
+QuietIsCompleteOrInLine config files J = (c : ℕ) → IsSome (numbers_of J c) → is_touched J c ≡ false → has_aborted J c ≡ false → was_reset J c ≡ false
+    → IsQuiet J c → HasNoJob J c → IsComplete files J c ⊎ IsInLine config J c
 
 -- So it is at the end of each step.
 abbrev pub CompletesWhenQuiet : Config → FilesAt → List Rec → Type 0
-CompletesWhenQuiet config files J = AtEachEnd (QuietIsCompleteOrWaits config files) J
+CompletesWhenQuiet config files J = AtEachEnd (QuietIsCompleteOrInLine config files) J
 
 -- In every run, with a configuration that may be used.
 abbrev pub JournalsComplete : Type 0

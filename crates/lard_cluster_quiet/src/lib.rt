@@ -23,8 +23,8 @@ pub fn quiet_connections_are_complete_or_are_held_up()
 {}
 
 /// In every run of the cluster's machine whose configuration may be used, at the end of each step and by the journal alone: a
-/// connection that opened, of which no timer runs anywhere and for which no job waits at a disk, is complete, or waits to be
-/// admitted while as many are admitted as there is room for. The same are left out.
-pub fn quiet_connections_are_complete_or_wait()
+/// connection that opened, of which no timer runs anywhere and for which no job waits at a disk, is complete, or in the line while
+/// as many are admitted as there is room for. The same are left out.
+pub fn quiet_connections_are_complete_or_in_line()
     ensures { JournalsComplete }
 {}
