@@ -1,5 +1,6 @@
 -- The endpoint that a node adopts is the one that the front end froze.
 use Rattle.std.proofs.Common.{◌≡◌, ◌⊎◌, ◌-◌, ℕ, true, List, [], ◌∷◌, Some, ⊎_elim, refl, sym, ap, ◌∙◌, subst, arith}
+use Rattle.lard_answers.specs.Answers.{FilesAt}
 use Rattle.lard_base.specs.declared.ids.Epoch.{Epoch}
 use Rattle.lard_base.specs.declared.parts.EndpointParts.{EndpointParts}
 use Rattle.lard_base.specs.declared.place.Place.TheVariants.{Front, Node}
@@ -27,7 +28,6 @@ use Rattle.lard_resend.specs.declared.kept.Kept.{Kept}
 use Rattle.lard_rules.specs.declared.places.Station.{Station}
 use Rattle.lard_send.specs.Send.{resumed}
 use Rattle.lard_truth.specs.Truth.{IsStream, Stream}
-use Rattle.lard_answers.specs.Answers.{FilesAt}
 use Rattle.lard_truth.proofs.Speaking.{speaks-stream}
 
 -- ---- what is adopted

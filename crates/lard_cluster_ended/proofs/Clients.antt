@@ -11,6 +11,7 @@ use Rattle.lard_cluster_ended.specs.Ends.{EndsAreTrue, IsTrueEnd, LetterEnds, Ro
 use Rattle.lard_cluster_ended.proofs.Growing.{client-letters, ends-on, inner-letters, row-on}
 use Rattle.lard_cluster_ended.proofs.Turns.{told-grown, wrote-behind}
 use Rattle.lard_cluster_limits.proofs.Moves.{Helps}
+use Rattle.lard_cluster_stops.specs.Stops.{ReadingStops}
 use Rattle.lard_cluster_view.specs.Carry.{tale_at}
 use Rattle.lard_cluster_view.specs.View.{ClientRules, Conn, GoesBetween, Move, Setting, Was, client_begins, client_does, event_seen, grown, letter, letters_of, packet_seen}
 use Rattle.lard_cluster_view.proofs.Rows.{tale_before}
@@ -38,9 +39,9 @@ pub written-is : (files : FilesAt) (x : Conn) (s : Station) (l : Talk) (pend : L
 written-is files x s l pend o = o.client.w_is ∙ ap (stream_of s.client.send) (sym o.tale.wrote)
 
 module _ (k : Setting) (small : k.stream ≤ 2 ^ 30) where
-  -- each move keeps what is told, where it is truthful
+  -- each move keeps what is told, where it is truthful and is read no further for a reason
   abbrev pub Keeps : Conn → Move → Type 0
-  Keeps x v = Helps x v → IsTruthful k.files x → EndsAreTrue k.files x → EndsAreTrue k.files (grown x v)
+  Keeps x v = Helps x v → IsTruthful k.files x → ReadingStops k.files x → EndsAreTrue k.files x → EndsAreTrue k.files (grown x v)
 
   -- ---- a client that opened
 
@@ -127,13 +128,13 @@ module _ (k : Setting) (small : k.stream ≤ 2 ^ 30) where
 
   pub clients : ClientRules k Keeps
   clients = record {
-    opens = λ x isn iss wnd mss rule none help h told. opens x isn iss wnd mss none h;
-    gets = λ x s path there fits help h told. writes x s there h told (event_seen (event.Get x.c path)) (request path) fits refl help;
-    writes = λ x s bytes there fits help h told. writes x s there h told (event_seen (event.Write x.c bytes)) bytes fits refl help;
-    shuts = λ x s there help h told. by-rule x s there h told (event_seen (event.Shut x.c)) client_shuts (λ c w out y most a. shuts-turned c w out y most a) refl help;
-    aborts = λ x s there help h told. by-rule x s there h told (event_seen (event.Abort x.c)) client_aborts (λ c w out y most a. aborts-turned c w out y most a) refl help;
-    holds = λ x s there help h told. by-rule x s there h told (event_seen (event.Hold x.c)) client_holds (λ c w out y most a. holds-turned c w out y most a) refl help;
-    takes = λ x s there help h told. by-rule x s there h told (event_seen (event.Take x.c)) client_takes (λ c w out y most a. takes-turned c w out y most a) refl help;
-    fires = λ x s there help h told. by-rule x s there h told (event_seen (event.Timer (Client x.c) x.c)) client_timer (λ c w out y most a. timer-turned c w out y most a) refl help;
-    hears = λ x s from bytes there was help h told. hears x s there h told from bytes was help;
+    opens = λ x isn iss wnd mss rule none help h stops told. opens x isn iss wnd mss none h;
+    gets = λ x s path there fits help h stops told. writes x s there h told (event_seen (event.Get x.c path)) (request path) fits refl help;
+    writes = λ x s bytes there fits help h stops told. writes x s there h told (event_seen (event.Write x.c bytes)) bytes fits refl help;
+    shuts = λ x s there help h stops told. by-rule x s there h told (event_seen (event.Shut x.c)) client_shuts (λ c w out y most a. shuts-turned c w out y most a) refl help;
+    aborts = λ x s there help h stops told. by-rule x s there h told (event_seen (event.Abort x.c)) client_aborts (λ c w out y most a. aborts-turned c w out y most a) refl help;
+    holds = λ x s there help h stops told. by-rule x s there h told (event_seen (event.Hold x.c)) client_holds (λ c w out y most a. holds-turned c w out y most a) refl help;
+    takes = λ x s there help h stops told. by-rule x s there h told (event_seen (event.Take x.c)) client_takes (λ c w out y most a. takes-turned c w out y most a) refl help;
+    fires = λ x s there help h stops told. by-rule x s there h told (event_seen (event.Timer (Client x.c) x.c)) client_timer (λ c w out y most a. timer-turned c w out y most a) refl help;
+    hears = λ x s from bytes there was help h stops told. hears x s there h told from bytes was help;
   }

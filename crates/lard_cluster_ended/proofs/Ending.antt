@@ -1,5 +1,5 @@
 -- The end of a turn of a place that has the endpoint: where both sides have closed it is what the last numbers are of.
-use Rattle.std.proofs.Common.{◌≡◌, ◌<◌, ◌^◌, ◌||◌, ℕ, Bool, true, false, cond, List, [], ◌∷◌, Option, Some, None, arith, refl, ◌∙◌, sym, subst}
+use Rattle.std.proofs.Common.{◌≡◌, ◌<◌, ◌^◌, ◌||◌, ◌&&◌, ℕ, Bool, true, false, cond, List, [], ◌∷◌, Option, Some, None, arith, refl, ◌∙◌, sym, subst}
 use Rattle.std.proofs.lemmas.Bool.{and_parts, both_ways, cond_both}
 use Rattle.lard_base.specs.declared.place.Place.{Place}
 use Rattle.lard_base.specs.declared.place.Place.TheVariants.{Client}
@@ -26,6 +26,7 @@ use Rattle.lard_rules.specs.declared.places.Ending.TheVariants as ending
 use Rattle.lard_rules.specs.declared.places.Turn.{Turn}
 use Rattle.lard_rules.specs.Serving.{ServeEnv, Service, cut_off, limit_said, serving, settled, spoken, told}
 use Rattle.lard_rules.specs.Speaking.{speaks, speaks_symbols}
+use Rattle.lard_send.specs.Send.{is_clear}
 use Rattle.lard_truth.specs.Truth.{Stream}
 use Rattle.lard_truth.proofs.Endpoint.{timer-left}
 use Rattle.lard_view.proofs.Endpoints.{AllTo, speaks-to, speaks_symbols-to}
@@ -50,6 +51,9 @@ closed-then : (r c : Bool) → r ≡ false → (r || c) ≡ true → c ≡ true
 closed-then true c e may = absurd (both_ways true e refl)
 closed-then false c e may = may
 
+closed-finished : (b : ControlBlock) → is_closed b ≡ true → b.send.finished ≡ true
+closed-finished b e = (and_parts b.send.finished (is_clear b.send) (and_parts (b.send.finished && is_clear b.send) b.recv.fin e).0).0
+
 -- ---- the end of a turn
 
 module _ (env : ServeEnv) (w : Stream) (iss : ℕ) where
@@ -58,7 +62,7 @@ module _ (env : ServeEnv) (w : Stream) (iss : ℕ) where
   EndsTruly (ending.Here b count) = Unit {0}
   EndsTruly (ending.Over last) = (last.snd.0 < 2 ^ 32) × (last.rcv.0 < 2 ^ 32) × IsTrueEnd env.files w iss last
 
-  -- where it stays, or its own side is open, nothing ended so
+  -- while its own side is open it does not end as closed by both
   pub open-ends : (s : Service) (before : List (Place × List ℕ)) → s.block.send.finished ≡ false → EndsTruly (spoken env s before).0
   open-ends s before open_ =
       let b : ControlBlock = (speaks env.c s.block).1 in
@@ -69,12 +73,12 @@ module _ (env : ServeEnv) (w : Stream) (iss : ℕ) where
         omega arith,
         λ why.
             let closed : is_closed b ≡ true = closed-then b.reset (is_closed b) (not-reset b why) may in
-            absurd (both_ways b.send.finished (same.3 ∙ open_) (and_parts _ _ (and_parts _ b.recv.fin closed).0).0),
+            absurd (both_ways b.send.finished (same.3 ∙ open_) (closed-finished b closed)),
       ))
       (λ stays. tt)
 
   module _ (out : Stream) (vs : List Verdict) (begins : out.first ≡ iss) where
-    -- one that was closed by both sides was so by what it had said
+    -- one that both sides have closed, once it has said what it may
     closed-as : (s : Service) (pend : List Verdict) (g : So env w out vs s pend) → HasRead w s.block g.vs_now pend → (s.block.reset ≡ false → ReadsNothing s.block pend) → (b : ControlBlock) → (speaks env.c s.block).1 ≡ b
         → b.reset ≡ false → is_closed b ≡ true → WasClosed env.files w iss (final_of b reason.Closed)
     closed-as s pend g read nothing b is calm closed = record {
@@ -109,7 +113,7 @@ module _ (env : ServeEnv) (w : Stream) (iss : ℕ) where
       between = subst (IsBetween w g.out_now) is talk.between
 
       left : HasStopped s.block × (s.block.recv.discarding ≡ false → pend ≡ [])
-      left = nothing (sym same.4 ∙ calm) (sym same.3 ∙ (and_parts _ _ (and_parts _ b.recv.fin closed).0).0)
+      left = nothing (sym same.4 ∙ calm) (sym same.3 ∙ closed-finished b closed)
 
       none : pend ≡ []
       none = go s.block.recv.discarding refl where

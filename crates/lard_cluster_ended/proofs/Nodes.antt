@@ -145,17 +145,18 @@ module _ (env : NodeEnv) (most : env.serve.stream ≤ 2 ^ 30) (x : Conn) (sound_
         (ended-tells work.service.over given.0 t));
   }
 
-  abbrev Works_ : Work → Type 0
-  Works_ k = Works env l.w l.out l.vs k
+  -- what is in hand agrees, and its requests are on their way
+  abbrev InHand : Work → Type 0
+  InHand k = Works env l.w l.out l.vs k
 
-  abbrev Right_ : Work → Type 0
-  Right_ k = Right env l.w l.out l.vs k
+  abbrev OnTheWay : Work → Type 0
+  OnTheWay k = Right env l.w l.out l.vs k
 
   -- a stay goes on, which stops behind the cluster's FIN
-  goes-ends : (part : NodePart) (before : List (Place × List ℕ)) (k : Work) → Works_ k → Right_ k → stops.MayRest env k → Tells before → Goes (with_work env part before (goes_on env k))
+  goes-ends : (part : NodePart) (before : List (Place × List ℕ)) (k : Work) → InHand k → OnTheWay k → stops.MayRest env k → Tells before → Goes (with_work env part before (goes_on env k))
   goes-ends part before k works right may first =
       let on : Work = goes_on env k in
-      let so : Works_ on = goes-so env l.w l.out l.vs most k works right in
+      let so : InHand on = goes-so env l.w l.out l.vs most k works right in
       let rests : stops.Rests env on = stops.goes-rest env k may in
       turn-ends part before on (settled env.serve on.service)
       (settled-end env.serve l.w s.iss l.out l.vs o.begins on.service (verdicts_of on.batch) so (λ over calm closed. let t = (rests over calm).1 closed in (t.0, λ keeps. ap verdicts_of (t.1 keeps))))
@@ -195,7 +196,7 @@ module _ (env : NodeEnv) (most : env.serve.stream ≤ 2 ^ 30) (x : Conn) (sound_
       by_epoch true f = stage-stay r found r.stage refl ours.stay refl y f
       by_epoch false f = let no : ◌≡◌ {A = Option (ControlBlock × Stay)} None (Some y) = f in absurd cc
 
-  same-works : (y : ControlBlock × Stay) → IsStay y.0 y.1 → Works_ (work_of y.0 y.1)
+  same-works : (y : ControlBlock × Stay) → IsStay y.0 y.1 → InHand (work_of y.0 y.1)
   same-works y i = subst (So env.serve l.w l.out l.vs (serving y.0 y.1.served [])) i.pend_is (same-so env.serve l.w l.out l.vs o.says pend y.0 y.1.served i.holds)
 
   -- ---- a segment that was forwarded

@@ -11,7 +11,7 @@ use Rattle.lard_cluster_bytes.proofs.ClientMoves.{has-fair, open-at}
 use Rattle.lard_cluster_bytes.proofs.Runs.{states-truthful}
 use Rattle.lard_cluster_ended.specs.Ends.{EndsAreTrue, IsTrueEnd, LetterEnds, TellsEnds, written_by}
 use Rattle.lard_cluster_ended.specs.Laws.{ConnectionsWereClosed}
-use Rattle.lard_cluster_ended.proofs.Clients.{clients, written-is}
+use Rattle.lard_cluster_ended.proofs.Clients.{Keeps, clients, written-is}
 use Rattle.lard_cluster_ended.proofs.Fronts.{DeedEnds, admitted-ends, asked-ends, deed-place, ended-ends, gets-ends, taken-ends}
 use Rattle.lard_cluster_ended.proofs.Fronts as fronts_of
 use Rattle.lard_cluster_ended.proofs.Nodes as nodes_of
@@ -66,9 +66,6 @@ abbrev told_by : Conn → List Seen → List ℕ
 told_by x heads = (fold (seen_step (tale_step x.c)) (tale_at x) heads).wrote
 
 module _ (k : Setting) (small : k.stream ≤ 2 ^ 30) where
-  abbrev Keeps : Conn → Move → Type 0
-  Keeps x v = Helps x v → IsTruthful k.files x → ReadingStops k.files x → EndsAreTrue k.files x → EndsAreTrue k.files (grown x v)
-
   -- what a place tells, by the streams of a connection whose client opened
   abbrev Ends : FilesAt → Conn → Move → Type 0
   Ends files x v = (s : Station) → x.part.station ≡ Some s → (h : IsTruthful files x) → (o : IsOpen files x h.talk h.pend s) → ReadingStops files x → TellsEnds (IsTrueEnd files h.talk.w s.iss) x → PlaceEnds x v (IsTrueEnd files h.talk.w s.iss)
@@ -79,7 +76,7 @@ module _ (k : Setting) (small : k.stream ≤ 2 ^ 30) where
       let same : h.talk.w ≡ written_by x s = written-is k.files x s h.talk h.pend o in
       subst (λ (w : Stream). PlaceEnds x v (IsTrueEnd k.files w s.iss)) same (ends s there h o stops (subst (λ (w : Stream). TellsEnds (IsTrueEnd k.files w s.iss) x) (sym same) told))
 
-  place-rule : (x : Conn) (v : Move) → (tale_before x v).wrote ≡ (tale_at x).wrote → v.part.station ≡ x.part.station → (Helps x v → Each IsUnwritten v.said.notes) → (Helps x v → Ends k.files x v) → Keeps x v
+  place-rule : (x : Conn) (v : Move) → (tale_before x v).wrote ≡ (tale_at x).wrote → v.part.station ≡ x.part.station → (Helps x v → Each IsUnwritten v.said.notes) → (Helps x v → Ends k.files x v) → Keeps k small x v
   place-rule x v heads same notes ends help h stops told = place-keeps x v help k.files same heads (notes help) (by-streams x v (ends help) h stops) told
 
   -- the files of the rule are the run's
@@ -88,12 +85,12 @@ module _ (k : Setting) (small : k.stream ≤ 2 ^ 30) where
 
   -- ---- the front end
 
-  front-rule : (x : Conn) (heads : List Seen) (d : front.Deed) → told_by x heads ≡ (tale_at x).wrote → (Helps x (front_does x heads d) → Ends k.files x (front_does x heads d)) → Keeps x (front_does x heads d)
+  front-rule : (x : Conn) (heads : List Seen) (d : front.Deed) → told_by x heads ≡ (tale_at x).wrote → (Helps x (front_does x heads d) → Ends k.files x (front_does x heads d)) → Keeps k small x (front_does x heads d)
   front-rule x heads d plain ends = place-rule x (front_does x heads d) (ap (told_by x) (front-heads x heads d) ∙ plain) (front-station x heads d)
       (λ help. notes-unwritten (front_does x heads d).place x.c (front_does x heads d).said.notes (front-machine x heads d) help.own.notes) ends
 
   front-hears : (x : Conn) (s : Station) (env : front.FrontEnv) (bytes : List ℕ) → x.part.station ≡ Some s → IsFrontEnv k x.c env → env.iss ≡ s.iss → Was x (Client x.c) Front bytes
-      → Keeps x (front_does x (packet_seen (Client x.c) Front bytes) (front_gets env x.part.front bytes (decoded bytes x.c ToCluster)))
+      → Keeps k small x (front_does x (packet_seen (Client x.c) Front bytes) (front_gets env x.part.front bytes (decoded bytes x.c ToCluster)))
   front-hears x s env bytes there is iss was =
       let heads : List Seen = packet_seen (Client x.c) Front bytes in
       front-rule x heads (front_gets env x.part.front bytes (decoded bytes x.c ToCluster)) refl (λ help.
@@ -107,10 +104,10 @@ module _ (k : Setting) (small : k.stream ≤ 2 ^ 30) where
       within : (env : front.FrontEnv) → IsFrontEnv k x.c env → env.serve.stream ≤ 2 ^ 30
       within env is = subst (λ (m : ℕ). m ≤ 2 ^ 30) (sym is.stream) small
 
-  front-deed : (x : Conn) (heads : List Seen) (d : front.Deed) → told_by x heads ≡ (tale_at x).wrote → ((P : Final → Type 0) → TellsEnds P x → DeedEnds P d) → Keeps x (front_does x heads d)
+  front-deed : (x : Conn) (heads : List Seen) (d : front.Deed) → told_by x heads ≡ (tale_at x).wrote → ((P : Final → Type 0) → TellsEnds P x → DeedEnds P d) → Keeps k small x (front_does x heads d)
   front-deed x heads d plain ends = front-rule x heads d plain (λ help t at h o stops told. deed-place (IsTrueEnd k.files h.talk.w t.iss) x told heads d (ends (IsTrueEnd k.files h.talk.w t.iss) told))
 
-  fronts : FrontRules k Keeps
+  fronts : FrontRules k (Keeps k small)
   fronts = record {
     hears = front-hears;
     fires = λ x s env there is. front-rule x (event_seen (event.Timer Front x.c)) (front_timer env x.part.front) refl (λ help.
@@ -132,7 +129,7 @@ module _ (k : Setting) (small : k.stream ≤ 2 ^ 30) where
 
   -- ---- the nodes
 
-  node-rule : (x : Conn) (n : ℕ) (heads : List Seen) (d : node.Deed) → told_by x heads ≡ (tale_at x).wrote → (Helps x (node_does x n heads d) → Ends k.files x (node_does x n heads d)) → Keeps x (node_does x n heads d)
+  node-rule : (x : Conn) (n : ℕ) (heads : List Seen) (d : node.Deed) → told_by x heads ≡ (tale_at x).wrote → (Helps x (node_does x n heads d) → Ends k.files x (node_does x n heads d)) → Keeps k small x (node_does x n heads d)
   node-rule x n heads d plain ends = place-rule x (node_does x n heads d) (ap (told_by x) (node-heads x n heads d) ∙ plain) (node-station x n heads d)
       (λ help. notes-unwritten (node_does x n heads d).place x.c (node_does x n heads d).said.notes (node-machine x n heads d) help.own.notes) ends
 
@@ -141,11 +138,11 @@ module _ (k : Setting) (small : k.stream ≤ 2 ^ 30) where
 
   -- what says nothing of an end
   stands-rule : (x : Conn) (place : Place) (heads : List Seen) (said : SaidIn) → told_by x heads ≡ (tale_at x).wrote → Each IsUnwritten said.notes → ((P : Final → Type 0) → Each (LetterEnds P x.part.front.row) (letters_of (stands x place heads said)))
-      → Keeps x (stands x place heads said)
+      → Keeps k small x (stands x place heads said)
   stands-rule x place heads said plain notes letters = place-rule x (stands x place heads said) plain refl (λ help. notes) (λ help t at h o stops told. record { front = told.front; letters = letters (IsTrueEnd k.files h.talk.w t.iss) })
 
   node-hears : (x : Conn) (n epoch : ℕ) (env : NodeEnv) (segment bytes : List ℕ) → IsNodeEnv k x.c n epoch env → Spells x.c epoch (body.Forward segment) bytes → Was x Front (Node n) bytes
-      → Keeps x (node_does x n (packet_seen Front (Node n) bytes) (node_forwarded env (x.part.nodes n) (decoded segment x.c ToCluster)))
+      → Keeps k small x (node_does x n (packet_seen Front (Node n) bytes) (node_forwarded env (x.part.nodes n) (decoded segment x.c ToCluster)))
   node-hears x n epoch env segment bytes is spells was =
       let heads : List Seen = packet_seen Front (Node n) bytes in
       node-rule x n heads (node_forwarded env (x.part.nodes n) (decoded segment x.c ToCluster)) refl (λ help.
@@ -155,7 +152,7 @@ module _ (k : Setting) (small : k.stream ≤ 2 ^ 30) where
       subst (λ (r : Result Said SegFault). PlaceEnds x (node_does x n heads (node_forwarded env (x.part.nodes n) r)) (IsTrueEnd env.serve.files h.talk.w t.iss)) (sym read)
       (nodes_of.forwarded-ends env (node-within x.c n epoch env is) x help.sound help.placed t h.talk h.pend o n (stops.1 n) told heads f.0 f.2)))
 
-  nodes : NodeRules k Keeps
+  nodes : NodeRules k (Keeps k small)
   nodes = record {
     offered = λ x n epoch env parts bytes is spells was.
         let heads : List Seen = packet_seen Front (Node n) bytes in
@@ -195,20 +192,9 @@ module _ (k : Setting) (small : k.stream ≤ 2 ^ 30) where
 
   -- ---- the law
 
-  -- what a client does rests on no reading
-  by-clients : UntouchedRules k Keeps
-  by-clients = record {
-    client = record {
-      opens = λ x isn iss wnd mss rule none help h stops. (clients k small).opens x isn iss wnd mss rule none help h;
-      gets = λ x s path there fits help h stops. (clients k small).gets x s path there fits help h;
-      writes = λ x s bytes there fits help h stops. (clients k small).writes x s bytes there fits help h;
-      shuts = λ x s there help h stops. (clients k small).shuts x s there help h;
-      aborts = λ x s there help h stops. (clients k small).aborts x s there help h;
-      holds = λ x s there help h stops. (clients k small).holds x s there help h;
-      takes = λ x s there help h stops. (clients k small).takes x s there help h;
-      fires = λ x s there help h stops. (clients k small).fires x s there help h;
-      hears = λ x s from bytes there was help h stops. (clients k small).hears x s from bytes there was help h;
-    };
+  keeps : UntouchedRules k (Keeps k small)
+  keeps = record {
+    client = clients k small;
     front = fronts;
     node = nodes;
     ignores = λ x from to bytes was. stands-rule x to (packet_seen from to bytes) nothing_said refl tt (λ P. tt);
@@ -225,7 +211,7 @@ module _ (k : Setting) (small : k.stream ≤ 2 ^ 30) where
   Wanted x v = MayMove Given x → (tale_at x).touched ≡ false → EndsAreTrue k.files x → EndsAreTrue k.files (grown x v)
 
   abbrev All : Conn → Move → Type 0
-  All x v = (IsFine x v × Owed x v) × Keeps x v
+  All x v = (IsFine x v × Owed x v) × Keeps k small x v
 
   wanted : (x : Conn) (v : Move) → All x v → Wanted x v
   wanted x v all may untouched told = all.1
@@ -236,7 +222,7 @@ module _ (k : Setting) (small : k.stream ≤ 2 ^ 30) where
   ended-law = record {
     begins = λ c. tt;
     moves = untouched-weaker k All Wanted wanted
-        (untouched-both k (λ x v. IsFine x v × Owed x v) Keeps (untouched-both k IsFine Owed (fine k).untouched (owing k Given).untouched) by-clients);
+        (untouched-both k (λ x v. IsFine x v × Owed x v) (Keeps k small) (untouched-both k IsFine Owed (fine k).untouched (owing k Given).untouched) keeps);
   }
 
 -- In every state that events lead to.

@@ -67,7 +67,7 @@ pub record TellsEnds (P : Final → Type 0) (x : Conn) : Type 0 where
 
 -- ---- one connection
 
--- what its client gave to send, as it is told, and whether that closed its side
+-- the client's stream: what it is told to have written, and whether it closed its side
 abbrev pub written_by : Conn → Station → Stream
 written_by x s = stream_of s.client.send (tale_at x).wrote
 
