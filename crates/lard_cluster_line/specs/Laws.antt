@@ -1,5 +1,5 @@
 -- What is so of the line, of releases and of loads in every run, with a configuration that may be used.
-use Rattle.std.specs.Prelude.{◌≡◌, ℕ, ◌+◌, ◌*◌, ◌<◌, ◌≤◌, ◌||◌, nat_lt, Bool, if◌then◌else◌, List, [], ◌∷◌, length, map, Option, Some, None, Ok}
+use Rattle.std.specs.Prelude.{◌≡◌, ℕ, ◌+◌, ◌*◌, ◌<◌, ◌≤◌, ◌||◌, nat_lt, nat_le, count_by, Bool, if◌then◌else◌, List, [], ◌∷◌, length, map, Option, Some, None, Ok}
 use Rattle.std.specs.List.{AllByRecursion}
 use Rattle.lard_base.specs.declared.config.Config.{Config}
 use Rattle.lard_base.specs.declared.place.Place.TheVariants.{Front}
@@ -10,10 +10,13 @@ use Rattle.lard_cluster_line.specs.Line.{line}
 use Rattle.lard_cluster_policy.specs.Laws.{AtEveryMoment}
 use Rattle.lard_cluster_policy.specs.Ledger.{Ledger, admitted, is_in, ledger}
 use Rattle.lard_cluster_policy.specs.Loads.{load}
+use Rattle.lard_dispatch.specs.Loads.{is_at}
+use Rattle.lard_history.specs.Journal.{home}
 use Rattle.lard_history.specs.Own.{Has}
 use Rattle.lard_history.specs.Steps.{AtEachEnd, EachStep, steps}
 use Rattle.lard_journal.specs.declared.rec.Rec.{Rec}
 use Rattle.lard_journal.specs.declared.rec.Rec.TheVariants as rec
+use Rattle.lard_loads.specs.Tally as tally
 
 -- P is so in every state that events lead to
 abbrev pub Always : (Config → Machine → Type 0) → Type 0
@@ -89,3 +92,21 @@ IsNearTheThresholds config l past = (most : ℕ) → 2 * config.high ≤ most �
 
 abbrev pub LoadsStayNearTheThresholds : Type 0
 LoadsStayNearTheThresholds = AtEveryMoment IsNearTheThresholds
+
+-- how many connections have node n as their home: each from its first assignment to its release
+abbrev pub connections : List Rec → ℕ → ℕ
+connections J n = count_by (λ c. is_at (home J c) n) tally.connections
+
+-- no node has more of them than twice `high`
+abbrev pub HasFewConnections : Config → Ledger → List Rec → Type 0
+HasFewConnections config l past = (n : ℕ) → connections past n ≤ 2 * config.high
+
+abbrev pub ConnectionsStayFew : Type 0
+ConnectionsStayFew = AtEveryMoment HasFewConnections
+
+-- and while no node has fewer than `low`, at least two have fewer than `high`
+abbrev pub IsNotBusy : Config → Ledger → List Rec → Type 0
+IsNotBusy config l past = ((n : ℕ) → 1 ≤ n → n ≤ config.nodes → config.low ≤ connections past n) → count_by (λ n. nat_le config.high (connections past n)) (tally.numbers config.nodes) + 2 ≤ config.nodes
+
+abbrev pub NeverAllBusy : Type 0
+NeverAllBusy = AtEveryMoment IsNotBusy
