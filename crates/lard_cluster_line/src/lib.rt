@@ -10,7 +10,7 @@ ghost use Rattle.lard_cluster_line.specs.Laws.{ConnectionsStayFew, LineIsKept, L
 /// that the cluster sent to its client, and no length unless that segment told a window above 0. So it is of connections that the
 /// schedule touched, too.
 /// Wherever a step ends, somebody is in the line only where as many are admitted as there is room for.
-/// In each step who is admitted while the line is not empty is its first, and is admitted where one is released.
+/// In each step who is admitted while the line is not empty is its first, and is admitted directly behind each release.
 pub fn the_line_is_told()
     ensures kept { LineIsKept }
     ensures full { WaitsAtAFullRoom }
