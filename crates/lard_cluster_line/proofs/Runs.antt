@@ -1,5 +1,5 @@
 -- In every state that events lead to, the line that the journal tells is the one that the front end keeps; and what follows of it.
-use Rattle.std.proofs.Common.{◌≡◌, ℕ, ◌<◌, ◌≤◌, ◌||◌, nat_eq, Bool, true, false, cond, List, [], ◌∷◌, length, map, Option, Some, None, Ok, arith, refl, sym, ap, ◌∙◌, subst, ◌++◌}
+use Rattle.std.proofs.Common.{◌≡◌, ℕ, ◌<◌, ◌≤◌, ◌||◌, nat_eq, Bool, true, false, cond, List, [], ◌∷◌, length, map, Option, Some, None, Ok, arith, refl, sym, ap, ◌∙◌, subst, ◌++◌, ◌⊎◌, inl, inr, ⊎_elim}
 use Rattle.std.proofs.lemmas.List.{length-map}
 use Rattle.std.specs.List.{fold, list_any}
 use Rattle.lard_base.specs.Config.{config_check}
@@ -15,9 +15,9 @@ use Rattle.lard_cluster_line.proofs.Law.{IsLined, line-law}
 use Rattle.lard_cluster_line.proofs.Lists.{both-within, less-within, within-same}
 use Rattle.lard_cluster_line.proofs.Stands.{Stand, stand_at, stand_step, unknown}
 use Rattle.lard_cluster_line.proofs.Telling.{stands-told}
-use Rattle.lard_cluster_line.proofs.Steps.{IsInOrder, step-adds}
+use Rattle.lard_cluster_line.proofs.Steps.{HeadEnters, IsInOrder, IsNoRelease, step-adds, unreleased-passes}
 use Rattle.lard_cluster_line.proofs.Turns.{Notes, noting}
-use Rattle.lard_cluster_line.specs.Laws.{AdmitsHead, LineIsKept, LinePasses, MustPass, MustRelease, PassesTo, TakesRelease, WaitsAtAFullRoom, WaitsForRoom}
+use Rattle.lard_cluster_line.specs.Laws.{AdmitsHead, AreFollowed, LineIsKept, LinePasses, MustPass, MustRelease, TakesRelease, WaitsAtAFullRoom, WaitsForRoom, admission_due}
 use Rattle.lard_cluster_line.specs.Line.{Line, leaves, left_at, left_by, line, line_step, nobody, without}
 use Rattle.lard_cluster_places.proofs.Runs.{each-placed}
 use Rattle.lard_cluster_places.proofs.Turns.{IsPlaced}
@@ -43,9 +43,9 @@ use Rattle.lard_front_rules.specs.Sound.{IsRowSound, IsStageSound, Standing, sta
 use Rattle.lard_handoff_front.specs.declared.row.FrontConn.{FrontConn}
 use Rattle.lard_handoff_front.specs.declared.row.FrontConn.TheVariants as stage
 use Rattle.lard_handoff_front.specs.declared.row.FrontRow.{FrontRow}
-use Rattle.lard_history.specs.Own.{own}
+use Rattle.lard_history.specs.Own.{Has, own}
 use Rattle.lard_history.proofs.Each.{Each, Each-weaker}
-use Rattle.lard_history.proofs.Seeing.{by_number, other_number, same_number}
+use Rattle.lard_history.proofs.Seeing.{by_number, other_number, same_number, has-each}
 use Rattle.lard_history.proofs.Stepping.{AreLawful, cancel, one-more}
 use Rattle.lard_journal.specs.declared.rec.Rec.{Rec}
 use Rattle.lard_journal.specs.declared.rec.Rec.TheVariants as rec
@@ -144,35 +144,7 @@ waits-for-room config files m checked r some =
 pub waits-at-a-full-room : WaitsAtAFullRoom
 waits-at-a-full-room config files m checked r = carried-ends config files (WaitsForRoom config) (λ k reached. waits-for-room config files k checked reached) m r
 
--- ---- it passes in its order
-
-head-so : (ws : List Waiting) (r : Rec) → AdmitsFirst ws r → AdmitsHead (who ws) r
-head-so [] r h = tt
-head-so (w ∷ ws) (rec.Admitted c) h = h
-head-so (w ∷ ws) _ h = tt
-
-passes-so : (ws : List Waiting) (rs : List Rec) (r : Rec) → PassesOn ws rs r → PassesTo (who ws) rs r
-passes-so [] rs r h = tt
-passes-so (w ∷ ws) rs (rec.Released c) h = h
-passes-so (w ∷ ws) rs _ h = tt
-
-pub line-passes : LinePasses
-line-passes config files m checked r = (carried-keep config files (λ k. AreLawful MustPass k.journal) (refl, tt) step m r).1 where
-  step : (k n : Machine) (e : Event) → IsOn config files k → AreLawful MustPass k.journal → HasRule e → machine_step k e ≡ Ok n → AreLawful MustPass n.journal
-  step k n e on h rule is =
-      let after : IsAfter k e n = step-after k on.view e n rule is in
-      let Kept : List Waiting = k.front.dispatch.books.line in
-      let ordered = step-ordered config k (reached-counted config files checked k on.reached) n e on.view rule is in
-      let rows : List Rec = ordered.0 in
-      let same : rows ≡ after.step = cancel k.journal rows after.step (sym ordered.1 ∙ after.is) in
-      let passes : Each (AdmitsHead (who Kept)) rows × Each (PassesTo (who Kept) rows) rows =
-      (Each-weaker (AdmitsFirst Kept) (AdmitsHead (who Kept)) (head-so Kept) rows ordered.2, Each-weaker (PassesOn Kept rows) (PassesTo (who Kept) rows) (passes-so Kept rows) rows ordered.3) in
-      subst (AreLawful MustPass) (sym after.is)
-      (one-more MustPass k.journal after.step after.one h
-      (subst (λ (s : List Rec). MustPass k.journal s) same
-      (subst (λ (cs : List ℕ). Each (AdmitsHead cs) rows × Each (PassesTo cs rows) rows) (line-kept config files checked k on.reached) passes)))
-
--- ---- releases, and the order of records that charge
+-- ---- the records of a step
 
 module _ (config : Config) (files : List (List ℕ × List ℕ)) (checked : config_check config ≡ Ok tt) where
   inside-is : (m : Machine) → IsReached config files m → (q : ℕ) → is_in (ledger config m.journal) q ≡ (stand_at (conn m q)).inside
@@ -183,6 +155,50 @@ module _ (config : Config) (files : List (List ℕ × List ℕ)) (checked : conf
   pub step-ordered-so : (m n : Machine) (e : Event) → IsOn config files m → HasRule e → machine_step m e ≡ Ok n → (rs : List Rec) × (n.journal ≡ m.journal ++ rs) × IsInOrder (is_in (ledger config m.journal)) rs
   step-ordered-so m n e on rule is = step-adds m (each-lined config files checked m on.reached) (is_in (ledger config m.journal)) (inside-is m on.reached) on.view
       (subst (λ (s : Setting). Rules s Notes) (on-setting config files m on) (noting (setting config files) (usable config checked).stream)) n e rule is
+
+-- ---- it passes in its order
+
+head-so : (ws : List Waiting) (r : Rec) → AdmitsFirst ws r → AdmitsHead (who ws) r
+head-so [] r h = tt
+head-so (w ∷ ws) (rec.Admitted c) h = h
+head-so (w ∷ ws) _ h = tt
+
+-- one is released among these, or none
+any-release : (rs : List Rec) → ((c : ℕ) × Has (rec.Released c) rs) ⊎ Each IsNoRelease rs
+any-release [] = inr tt
+any-release (rec.Released c ∷ rs) = inl (c, inl refl)
+any-release (_ ∷ rs) = ⊎_elim (λ (h : (c : ℕ) × Has (rec.Released c) rs). inl (h.0, inr h.1)) (λ (e : Each IsNoRelease rs). inr (tt, e)) (any-release rs)
+
+passes-so : (ws : List Waiting) (rs : List Rec) → Each (PassesOn ws rs) rs → ((line : List ℕ) → HeadEnters line rs → AreFollowed (admission_due line) None rs) → AreFollowed (admission_due (who ws)) None rs
+passes-so ws rs each order = ⊎_elim
+    (λ (h : (c : ℕ) × Has (rec.Released c) rs). order (who ws) (enters h.0 ws (has-each (rec.Released h.0) (PassesOn ws rs) rs h.1 each)))
+    (λ (e : Each IsNoRelease rs). unreleased-passes (who ws) rs e)
+    (any-release rs)
+  where
+    enters : (c : ℕ) (ws : List Waiting) → PassesOn ws rs (rec.Released c) → HeadEnters (who ws) rs
+    enters c [] h = tt
+    enters c (w ∷ ws) h = h
+
+pub line-passes : LinePasses
+line-passes config files m checked r = (carried-keep config files (λ k. AreLawful MustPass k.journal) (refl, tt) step m r).1 where
+  step : (k n : Machine) (e : Event) → IsOn config files k → AreLawful MustPass k.journal → HasRule e → machine_step k e ≡ Ok n → AreLawful MustPass n.journal
+  step k n e on h rule is =
+      let after : IsAfter k e n = step-after k on.view e n rule is in
+      let Kept : List Waiting = k.front.dispatch.books.line in
+      let ordered = step-ordered config k (reached-counted config files checked k on.reached) n e on.view rule is in
+      let adds = step-ordered-so config files checked k n e on rule is in
+      let rows : List Rec = ordered.0 in
+      let same : rows ≡ after.step = cancel k.journal rows after.step (sym ordered.1 ∙ after.is) in
+      let agree : adds.0 ≡ rows = cancel k.journal adds.0 rows (sym adds.1 ∙ ordered.1) in
+      let order : IsInOrder (is_in (ledger config k.journal)) rows = subst (IsInOrder (is_in (ledger config k.journal))) agree adds.2 in
+      let passes : Each (AdmitsHead (who Kept)) rows × AreFollowed (admission_due (who Kept)) None rows =
+      (Each-weaker (AdmitsFirst Kept) (AdmitsHead (who Kept)) (head-so Kept) rows ordered.2, passes-so Kept rows ordered.3 order.passes) in
+      subst (AreLawful MustPass) (sym after.is)
+      (one-more MustPass k.journal after.step after.one h
+      (subst (λ (s : List Rec). MustPass k.journal s) same
+      (subst (λ (cs : List ℕ). Each (AdmitsHead cs) rows × AreFollowed (admission_due cs) None rows) (line-kept config files checked k on.reached) passes)))
+
+-- ---- releases
 
 pub takes-release : TakesRelease
 takes-release config files m checked r = (carried-keep config files (λ k. AreLawful (MustRelease config) k.journal) (refl, tt) step m r).1 where

@@ -1,7 +1,8 @@
 -- The records of a step: each release that is due stands where it is due, and what takes loads away stands before what adds to them.
-use Rattle.std.proofs.Common.{◌≡◌, ℕ, ◌+◌, ◌-◌, Bool, true, false, cond, List, [], ◌∷◌, ◌++◌, map, length, Option, Some, None, Ok, refl, sym, ap, ◌∙◌, subst, append_assoc, append-nil, ⊎_elim, ◌||◌, nat_lt}
+use Rattle.std.proofs.Common.{◌≡◌, ℕ, ◌+◌, ◌-◌, Bool, true, false, cond, List, [], ◌∷◌, ◌++◌, map, length, Option, Some, None, Ok, refl, sym, ap, ◌∙◌, subst, append_assoc, append-nil, ⊎_elim, ◌||◌, nat_lt, ◌⊎◌, inl, inr}
 use Rattle.lard_base.specs.declared.event.Event.{Event}
 use Rattle.lard_base.specs.declared.event.Event.TheVariants as event
+use Rattle.lard_base.specs.declared.ids.Epoch.{Epoch}
 use Rattle.lard_base.specs.declared.place.Place.{Place}
 use Rattle.lard_base.specs.declared.place.Place.TheVariants.{Client, Front, Node}
 use Rattle.lard_cluster.specs.declared.machine.Machine.{Machine}
@@ -12,7 +13,7 @@ use Rattle.lard_cluster_line.proofs.Law.{IsLined}
 use Rattle.lard_cluster_line.proofs.Notes.{Begins, Ends, Enters, Alone, Goes, IsLater, Noted, Reads, Shares, Waits}
 use Rattle.lard_cluster_line.proofs.Stands.{stand_at}
 use Rattle.lard_cluster_line.proofs.Turns.{Notes}
-use Rattle.lard_cluster_line.specs.Laws.{AreReleased, due}
+use Rattle.lard_cluster_line.specs.Laws.{AreFollowed, admission_due, release_due}
 use Rattle.lard_cluster_policy.proofs.Calm.{first_rows, last_rows, told-journal}
 use Rattle.lard_cluster_view.specs.View.{IsViewed, Part, Rules, conn, part_of, setting_of, timer_rows}
 use Rattle.lard_cluster_view.proofs.Saying.{GaveAt, NamesAll, NotedAt, notes-all}
@@ -20,8 +21,9 @@ use Rattle.lard_cluster_view.proofs.Shapes.{IsPut, Shapes, both_out, move_of}
 use Rattle.lard_cluster_view.proofs.Stepping.{step-has}
 use Rattle.lard_cluster_view.proofs.Timers.{IsTimerAt, timer_rows-are}
 use Rattle.lard_front_rules.specs.Front.{over_note}
-use Rattle.lard_history.specs.Own.{Row, Seen, seen_on}
+use Rattle.lard_history.specs.Own.{Has, Row, Seen, seen_on}
 use Rattle.lard_history.proofs.Each.{Each, Each-append, Each-weaker}
+use Rattle.lard_history.proofs.Seeing.{has-each}
 use Rattle.lard_journal.specs.declared.rec.Rec.{Rec}
 use Rattle.lard_journal.specs.declared.rec.Rec.TheVariants as rec
 use Rattle.lard_machine.specs.Machine.{sent_records}
@@ -41,68 +43,119 @@ IsRising (rec.Released c) = ⊥
 IsRising (rec.BatchOver c) = ⊥
 IsRising _ = Unit {0}
 
--- it does neither, and no release is due behind it
+-- it admits nobody
+abbrev pub IsNoEntry : Rec → Type 0
+IsNoEntry (rec.Admitted c) = ⊥
+IsNoEntry _ = Unit {0}
+
+-- it does none of these, and no release is due behind it
 abbrev pub IsQuiet : Rec → Type 0
-IsQuiet r = ((inside : ℕ → Bool) → due inside r ≡ None) × IsFalling r × IsRising r
+IsQuiet r = ((inside : ℕ → Bool) → release_due inside r ≡ None) × IsFalling r × IsRising r × IsNoEntry r
 
 -- ---- what another place notes, what is sent, given up and told of timers is quiet
 
 read-quiet : (r : Rec) → IsRead r → IsQuiet r
-read-quiet (rec.Served place c r code size via) h = ((λ inside. refl), tt, tt)
-read-quiet (rec.Reset place c total) h = ((λ inside. refl), tt, tt)
+read-quiet (rec.Served place c r code size via) h = ((λ inside. refl), tt, tt, tt)
+read-quiet (rec.Reset place c total) h = ((λ inside. refl), tt, tt, tt)
 read-quiet _ h = absurd h
 
 note-quiet : (place : Place) (c : ℕ) (r : Rec) → (place ≡ Front → ⊥) → NotedAt place c r → IsQuiet r
 note-quiet Front c r never h = absurd (never refl)
-note-quiet (Client e) c (rec.Wrote d bytes) never h = ((λ inside. refl), tt, tt)
-note-quiet (Client e) c (rec.Accepted d bytes) never h = ((λ inside. refl), tt, tt)
-note-quiet (Client e) c (rec.Eof d) never h = ((λ inside. refl), tt, tt)
-note-quiet (Client e) c (rec.Aborted d) never h = ((λ inside. refl), tt, tt)
-note-quiet (Node n) c (rec.Took (Node k) d epoch) never h = ((λ inside. refl), tt, tt)
-note-quiet (Node n) c (rec.Served (Node k) d r code size via) never h = ((λ inside. refl), tt, tt)
-note-quiet (Node n) c (rec.Reset (Node k) d total) never h = ((λ inside. refl), tt, tt)
-note-quiet (Node n) c (rec.Queued k o d r path) never h = ((λ inside. refl), tt, tt)
-note-quiet (Node n) c (rec.Read k o d r path) never h = ((λ inside. refl), tt, tt)
-note-quiet (Node n) c (rec.Hit k path) never h = ((λ inside. refl), tt, tt)
+note-quiet (Client e) c (rec.Wrote d bytes) never h = ((λ inside. refl), tt, tt, tt)
+note-quiet (Client e) c (rec.Accepted d bytes) never h = ((λ inside. refl), tt, tt, tt)
+note-quiet (Client e) c (rec.Eof d) never h = ((λ inside. refl), tt, tt, tt)
+note-quiet (Client e) c (rec.Aborted d) never h = ((λ inside. refl), tt, tt, tt)
+note-quiet (Node n) c (rec.Took (Node k) d epoch) never h = ((λ inside. refl), tt, tt, tt)
+note-quiet (Node n) c (rec.Served (Node k) d r code size via) never h = ((λ inside. refl), tt, tt, tt)
+note-quiet (Node n) c (rec.Reset (Node k) d total) never h = ((λ inside. refl), tt, tt, tt)
+note-quiet (Node n) c (rec.Queued k o d r path) never h = ((λ inside. refl), tt, tt, tt)
+note-quiet (Node n) c (rec.Read k o d r path) never h = ((λ inside. refl), tt, tt, tt)
+note-quiet (Node n) c (rec.Hit k path) never h = ((λ inside. refl), tt, tt, tt)
 note-quiet _ c _ never h = absurd h
 
 gave-quiet : (place : Place) (c : ℕ) (r : Rec) → GaveAt place c r → IsQuiet r
-gave-quiet Front c (rec.Gave Front d epoch) h = ((λ inside. refl), tt, tt)
-gave-quiet (Node n) c (rec.Gave (Node k) d epoch) h = ((λ inside. refl), tt, tt)
+gave-quiet Front c (rec.Gave Front d epoch) h = ((λ inside. refl), tt, tt, tt)
+gave-quiet (Node n) c (rec.Gave (Node k) d epoch) h = ((λ inside. refl), tt, tt, tt)
 gave-quiet _ c _ h = absurd h
 
 timer-quiet : (place : Place) (c : ℕ) (r : Rec) → IsTimerAt place c r → IsQuiet r
-timer-quiet place c (rec.Armed p d kind) h = ((λ inside. refl), tt, tt)
-timer-quiet place c (rec.Cleared p d kind) h = ((λ inside. refl), tt, tt)
+timer-quiet place c (rec.Armed p d kind) h = ((λ inside. refl), tt, tt, tt)
+timer-quiet place c (rec.Cleared p d kind) h = ((λ inside. refl), tt, tt, tt)
 timer-quiet place c _ h = absurd h
 
 sents-quiet : (k : ℕ) (place : Place) (ss : List (Place × List ℕ)) → Each IsQuiet (sent_records k place ss)
 sents-quiet k place [] = tt
-sents-quiet k place (s ∷ ss) = (((λ inside. refl), tt, tt), sents-quiet (k + 1) place ss)
+sents-quiet k place (s ∷ ss) = (((λ inside. refl), tt, tt, tt), sents-quiet (k + 1) place ss)
 
 behind-quiet : (e : Event) → Each IsQuiet (behind e)
-behind-quiet (event.Open c isn iss wnd mss) = (((λ inside. refl), tt, tt), tt)
-behind-quiet (event.Deliver k) = (((λ inside. refl), tt, tt), tt)
-behind-quiet (event.Lose k) = (((λ inside. refl), tt, tt), tt)
-behind-quiet (event.Inject c bytes) = (((λ inside. refl), tt, tt), tt)
+behind-quiet (event.Open c isn iss wnd mss) = (((λ inside. refl), tt, tt, tt), tt)
+behind-quiet (event.Deliver k) = (((λ inside. refl), tt, tt, tt), tt)
+behind-quiet (event.Lose k) = (((λ inside. refl), tt, tt, tt), tt)
+behind-quiet (event.Inject c bytes) = (((λ inside. refl), tt, tt, tt), tt)
 behind-quiet _ = tt
 
 -- ---- lists of records
 
+module _ (due : Rec → Option Rec) where
+  followed-append : (o : Option Rec) (xs ys : List Rec) → AreFollowed due o xs → AreFollowed due None ys → AreFollowed due o (xs ++ ys)
+  followed-append None [] ys h k = k
+  followed-append (Some q) [] ys h k = absurd h
+  followed-append None (x ∷ xs) ys h k = followed-append (due x) xs ys h k
+  followed-append (Some q) (x ∷ xs) ys h k = (h.0, followed-append (due x) xs ys h.1 k)
+
+  -- where nothing is due
+  none-due : (rs : List Rec) → Each (λ r. due r ≡ None) rs → AreFollowed due None rs
+  none-due [] e = tt
+  none-due (r ∷ rs) e = subst (λ (o : Option Rec). AreFollowed due o rs) (sym e.0) (none-due rs e.1)
+
+-- it releases nobody
+abbrev pub IsNoRelease : Rec → Type 0
+IsNoRelease (rec.Released c) = ⊥
+IsNoRelease _ = Unit {0}
+
+unreleased-undue : (line : List ℕ) (r : Rec) → IsNoRelease r → admission_due line r ≡ None
+unreleased-undue line (rec.Released c) h = absurd h
+unreleased-undue line _ h = refl
+
+pub unreleased-passes : (line : List ℕ) (rs : List Rec) → Each IsNoRelease rs → AreFollowed (admission_due line) None rs
+unreleased-passes line rs e = none-due (admission_due line) rs (Each-weaker IsNoRelease (λ r. admission_due line r ≡ None) (unreleased-undue line) rs e)
+
+rising-unreleased : (r : Rec) → IsRising r → IsNoRelease r
+rising-unreleased (rec.Released c) h = absurd h
+rising-unreleased _ h = tt
+
+rising-passes : (line : List ℕ) (rs : List Rec) → Each IsRising rs → AreFollowed (admission_due line) None rs
+rising-passes line rs e = unreleased-passes line rs (Each-weaker IsRising IsNoRelease rising-unreleased rs e)
+
+-- the first of the line is admitted, if somebody waits
+abbrev pub HeadEnters : List ℕ → List Rec → Type 0
+HeadEnters [] rs = Unit {0}
+HeadEnters (c ∷ cs) rs = Has (rec.Admitted c) rs
+
+-- not among these
+has-either : (a : Rec) (xs ys : List Rec) → Has a (xs ++ ys) → Has a xs ⊎ Has a ys
+has-either a [] ys h = inr h
+has-either a (x ∷ xs) ys h = ⊎_elim (λ (e : x ≡ a). inl (inl e)) (λ (k : Has a (xs ++ ys)). ⊎_elim (λ (m : Has a xs). inl (inr m)) (λ (m : Has a ys). inr m) (has-either a xs ys k)) h
+
+between-enters : (line : List ℕ) (xs rs ys : List Rec) → Each IsQuiet xs → Each IsQuiet ys → HeadEnters line (xs ++ rs ++ ys) → HeadEnters line rs
+between-enters [] xs rs ys before after h = tt
+between-enters (c ∷ cs) xs rs ys before after h = ⊎_elim
+    (λ (k : Has (rec.Admitted c) (xs ++ rs)). ⊎_elim (λ (m : Has (rec.Admitted c) xs). absurd (has-each (rec.Admitted c) IsQuiet xs m before).3) (λ (m : Has (rec.Admitted c) rs). m) (has-either (rec.Admitted c) xs rs k))
+    (λ (k : Has (rec.Admitted c) ys). absurd (has-each (rec.Admitted c) IsQuiet ys k after).3)
+    (has-either (rec.Admitted c) (xs ++ rs) ys h)
+
 module _ (inside : ℕ → Bool) where
-  pub released-append : (o : Option ℕ) (xs ys : List Rec) → AreReleased inside o xs → AreReleased inside None ys → AreReleased inside o (xs ++ ys)
-  released-append None [] ys h k = k
-  released-append (Some c) [] ys h k = absurd h
-  released-append None (x ∷ xs) ys h k = released-append (due inside x) xs ys h k
-  released-append (Some c) (x ∷ xs) ys h k = (h.0, released-append None xs ys h.1 k)
+  quiet-released : (rs : List Rec) → Each IsQuiet rs → AreFollowed (release_due inside) None rs
+  quiet-released rs e = none-due (release_due inside) rs (Each-weaker IsQuiet (λ r. release_due inside r ≡ None) (λ r q. q.0 inside) rs e)
 
-  quiet-released : (rs : List Rec) → Each IsQuiet rs → AreReleased inside None rs
-  quiet-released [] e = tt
-  quiet-released (r ∷ rs) e = subst (λ (o : Option ℕ). AreReleased inside o rs) (sym (e.0.0 inside)) (quiet-released rs e.1)
+  quiet-passes : (line : List ℕ) (rs : List Rec) → Each IsQuiet rs → AreFollowed (admission_due line) None rs
+  quiet-passes line rs e = rising-passes line rs (Each-weaker IsQuiet IsRising (λ r q. q.2) rs e)
 
-  -- Each release that is due stands there, and the records fall first, and then rise.
+  -- Each release that is due stands there; where the first of the line is admitted, it is directly behind each release; and the records
+  -- fall first, and then rise.
   pub record IsInOrder (rs : List Rec) : Type 0 where
-    pub released : AreReleased inside None rs
+    pub released : AreFollowed (release_due inside) None rs
+    pub passes : (line : List ℕ) → HeadEnters line rs → AreFollowed (admission_due line) None rs
     pub falls : List Rec
     pub rises : List Rec
     pub split : rs ≡ falls ++ rises
@@ -110,12 +163,22 @@ module _ (inside : ℕ → Bool) where
     pub rising : Each IsRising rises
 
   pub quiet-order : (rs : List Rec) → Each IsQuiet rs → IsInOrder rs
-  quiet-order rs e = record { released = quiet-released rs e; falls = rs; rises = []; split = sym (append-nil rs); falling = Each-weaker IsQuiet IsFalling (λ r q. q.1) rs e; rising = tt }
+  quiet-order rs e = record {
+    released = quiet-released rs e;
+    passes = λ line h. quiet-passes line rs e;
+    falls = rs;
+    rises = [];
+    split = sym (append-nil rs);
+    falling = Each-weaker IsQuiet IsFalling (λ r q. q.1) rs e;
+    rising = tt;
+  }
 
   -- between quiet ones
   between-order : (xs rs ys : List Rec) → Each IsQuiet xs → IsInOrder rs → Each IsQuiet ys → IsInOrder (xs ++ rs ++ ys)
   between-order xs rs ys before o after = record {
-    released = released-append None (xs ++ rs) ys (released-append None xs rs (quiet-released xs before) o.released) (quiet-released ys after);
+    released = followed-append (release_due inside) None (xs ++ rs) ys (followed-append (release_due inside) None xs rs (quiet-released xs before) o.released) (quiet-released ys after);
+    passes = λ line h. followed-append (admission_due line) None (xs ++ rs) ys
+        (followed-append (admission_due line) None xs rs (quiet-passes line xs before) (o.passes line (between-enters line xs rs ys before after h))) (quiet-passes line ys after);
     falls = xs ++ o.falls;
     rises = o.rises ++ ys;
     split = ap (λ (zs : List Rec). xs ++ zs ++ ys) o.split ∙ ap (λ (zs : List Rec). zs ++ ys) (sym (append_assoc xs o.falls o.rises)) ∙ append_assoc (xs ++ o.falls) o.rises ys;
@@ -125,57 +188,133 @@ module _ (inside : ℕ → Bool) where
 
   -- ---- the notes of a turn
 
-  later-released : (rs : List Rec) → Each IsLater rs → AreReleased inside None rs
-  later-released [] e = tt
-  later-released (rec.AssignedLater c r path n add size queue ∷ rs) e = later-released rs e.1
-  later-released (_ ∷ rs) e = absurd e.0
+  later-released : (rs : List Rec) → Each IsLater rs → AreFollowed (release_due inside) None rs
+  later-released rs e = none-due (release_due inside) rs (Each-weaker IsLater (λ r. release_due inside r ≡ None) one rs e) where
+    one : (r : Rec) → IsLater r → release_due inside r ≡ None
+    one (rec.AssignedLater c r path n add size queue) h = refl
+    one _ h = absurd h
 
-  later-rising : (r : Rec) → IsLater r → IsRising r
-  later-rising (rec.AssignedLater c r path n add size queue) h = tt
-  later-rising _ h = absurd h
+  later-rising : (rs : List Rec) → Each IsLater rs → Each IsRising rs
+  later-rising rs e = Each-weaker IsLater IsRising one rs e where
+    one : (r : Rec) → IsLater r → IsRising r
+    one (rec.AssignedLater c r path n add size queue) h = tt
+    one _ h = absurd h
 
   -- behind what was read
-  behind-read : (rs last : List Rec) → Each IsRead rs → AreReleased inside None last → Each IsRising last → IsInOrder (rs ++ last)
+  behind-read : (rs last : List Rec) → Each IsRead rs → AreFollowed (release_due inside) None last → Each IsRising last → IsInOrder (rs ++ last)
   behind-read rs last e released rising =
       let quiet : Each IsQuiet rs = Each-weaker IsRead IsQuiet read-quiet rs e in
-      record { released = released-append None rs last (quiet-released rs quiet) released; falls = rs; rises = last; split = refl; falling = Each-weaker IsQuiet IsFalling (λ r q. q.1) rs quiet; rising = rising }
+      record {
+        released = followed-append (release_due inside) None rs last (quiet-released rs quiet) released;
+        passes = λ line h. followed-append (admission_due line) None rs last (quiet-passes line rs quiet) (rising-passes line last rising);
+        falls = rs;
+        rises = last;
+        split = refl;
+        falling = Each-weaker IsQuiet IsFalling (λ r q. q.1) rs quiet;
+        rising = rising;
+      }
 
   over-order : (c : ℕ) (over : Bool) (rs : List Rec) → Each IsLater rs → IsInOrder (over_note c over ++ rs)
-  over-order c true rs e = record { released = later-released rs e; falls = rec.BatchOver c ∷ []; rises = rs; split = refl; falling = (tt, tt); rising = Each-weaker IsLater IsRising later-rising rs e }
-  over-order c false rs e = record { released = later-released rs e; falls = []; rises = rs; split = refl; falling = tt; rising = Each-weaker IsLater IsRising later-rising rs e }
+  over-order c true rs e = record {
+    released = later-released rs e;
+    passes = λ line h. rising-passes line rs (later-rising rs e);
+    falls = rec.BatchOver c ∷ [];
+    rises = rs;
+    split = refl;
+    falling = (tt, tt);
+    rising = later-rising rs e;
+  }
+  over-order c false rs e = record { released = later-released rs e; passes = λ line h. rising-passes line rs (later-rising rs e); falls = []; rises = rs; split = refl; falling = tt; rising = later-rising rs e }
 
-  pub noted-order : (c : ℕ) (i : Bool) → inside c ≡ i → (rs : List Rec) → Noted c i rs → IsInOrder rs
-  noted-order c i is all (Reads rs e) = quiet-order rs (Each-weaker IsRead IsQuiet read-quiet rs e)
-  noted-order c i is all (Begins out) = record {
-    released = subst (λ (b : Bool). AreReleased inside (cond b (Some c) None) []) (sym (ap (λ (b : Bool). b || false) (is ∙ out))) tt;
+  begins-order : (c : ℕ) → inside c ≡ false → IsInOrder (rec.Took Front c (record { 0 = 1 }) ∷ [])
+  begins-order c out = record {
+    released = subst (λ (b : Bool). AreFollowed (release_due inside) (cond b (Some (rec.Released c)) None) []) (sym (ap (λ (b : Bool). b || false) out)) tt;
+    passes = λ line h. tt;
     falls = rec.Took Front c (record { 0 = 1 }) ∷ [];
     rises = [];
     split = refl;
     falling = (tt, tt);
     rising = tt;
   }
-  noted-order c i is all (Waits reads e) = behind-read reads (rec.Waits c ∷ []) e tt (tt, tt)
-  noted-order c i is all (Goes reads r path n add remove e) = behind-read reads (rec.Admitted c ∷ rec.AssignedFirst c r path n add remove ∷ []) e tt (tt, (tt, tt))
-  noted-order c i is all (Shares over later e) = over-order c over later e
-  noted-order c i is all (Ends epoch in_) = record {
-    released = subst (λ (b : Bool). AreReleased inside (cond b (Some c) None) (rec.Released c ∷ [])) (sym (ap (λ (b : Bool). b || nat_lt 1 epoch.0) (is ∙ in_))) (refl, tt);
+
+  -- what is behind the release of one that was admitted
+  ends-released : (c : ℕ) (epoch : Epoch) (last : List Rec) → inside c ≡ true → AreFollowed (release_due inside) None last → AreFollowed (release_due inside) None (rec.Took Front c epoch ∷ rec.Released c ∷ last)
+  ends-released c epoch last in_ h =
+      subst (λ (b : Bool). AreFollowed (release_due inside) (cond b (Some (rec.Released c)) None) (rec.Released c ∷ last)) (sym (ap (λ (b : Bool). b || nat_lt 1 epoch.0) in_)) (refl, h)
+
+  ends-order : (c : ℕ) (epoch : Epoch) → inside c ≡ true → IsInOrder (rec.Took Front c epoch ∷ rec.Released c ∷ [])
+  ends-order c epoch in_ = record {
+    released = ends-released c epoch [] in_ tt;
+    passes = alone;
     falls = rec.Took Front c epoch ∷ rec.Released c ∷ [];
     rises = [];
     split = refl;
     falling = (tt, (tt, tt));
     rising = tt;
-  }
+  } where
+    alone : (line : List ℕ) → HeadEnters line (rec.Took Front c epoch ∷ rec.Released c ∷ []) → AreFollowed (admission_due line) None (rec.Took Front c epoch ∷ rec.Released c ∷ [])
+    alone [] h = tt
+    alone (d ∷ ds) h = absurd (never d h) where
+      never : (d : ℕ) → Has (rec.Admitted d) (rec.Took Front c epoch ∷ rec.Released c ∷ []) → ⊥
+      never d h = ⊎_elim (λ (e : rec.Took Front c epoch ≡ rec.Admitted d). absurd (cc)) (λ k. ⊎_elim (λ (e : rec.Released c ≡ rec.Admitted d). absurd (cc)) (λ m. m) k) h
 
-  -- and of an admission behind them
-  pub enters-order : (d : ℕ) (xs ys : List Rec) → IsInOrder xs → Enters d ys → IsInOrder (xs ++ ys)
-  enters-order d xs ys o (Alone r path n add remove) = record {
-    released = released-append None xs ys o.released tt;
-    falls = o.falls;
-    rises = o.rises ++ ys;
-    split = ap (λ (zs : List Rec). zs ++ ys) o.split ∙ append_assoc o.falls o.rises ys;
-    falling = o.falling;
-    rising = Each-append IsRising o.rises ys o.rising (tt, (tt, tt));
-  }
+  pub noted-order : (c : ℕ) (i : Bool) → inside c ≡ i → (rs : List Rec) → Noted c i rs → IsInOrder rs
+  noted-order c i is all (Reads rs e) = quiet-order rs (Each-weaker IsRead IsQuiet read-quiet rs e)
+  noted-order c i is all (Begins out) = begins-order c (is ∙ out)
+  noted-order c i is all (Waits reads e) = behind-read reads (rec.Waits c ∷ []) e tt (tt, tt)
+  noted-order c i is all (Goes reads r path n add remove e) = behind-read reads (rec.Admitted c ∷ rec.AssignedFirst c r path n add remove ∷ []) e tt (tt, (tt, tt))
+  noted-order c i is all (Shares over later e) = over-order c over later e
+  noted-order c i is all (Ends epoch in_) = ends-order c epoch (is ∙ in_)
+
+  -- ---- and of an admission behind them
+
+  module _ (d r : ℕ) (path : List ℕ) (n : ℕ) (add remove : Option ℕ) where
+    abbrev entry : List Rec
+    entry = rec.Admitted d ∷ rec.AssignedFirst d r path n add remove ∷ []
+
+    -- where none is released before
+    more-passes : (line : List ℕ) (xs : List Rec) → Each IsNoRelease xs → AreFollowed (admission_due line) None (xs ++ entry)
+    more-passes line xs e = followed-append (admission_due line) None xs entry (unreleased-passes line xs e) tt
+
+    -- who enters is the first of the line
+    first-passes : (c : ℕ) (epoch : Epoch) (line : List ℕ) → HeadEnters line (rec.Took Front c epoch ∷ rec.Released c ∷ entry) → AreFollowed (admission_due line) None (rec.Took Front c epoch ∷ rec.Released c ∷ entry)
+    first-passes c epoch [] h = tt
+    first-passes c epoch (q ∷ qs) h = (same h, tt) where
+      same : Has (rec.Admitted q) (rec.Took Front c epoch ∷ rec.Released c ∷ entry) → rec.Admitted d ≡ rec.Admitted q
+      same h = ⊎_elim (λ (e : rec.Took Front c epoch ≡ rec.Admitted q). absurd (cc)) (λ k. ⊎_elim (λ (e : rec.Released c ≡ rec.Admitted q). absurd (cc)) (λ m. ⊎_elim (λ (e : rec.Admitted d ≡ rec.Admitted q). e)
+          (λ z. ⊎_elim (λ (e : rec.AssignedFirst d r path n add remove ≡ rec.Admitted q). absurd (cc)) (λ none. absurd none) z) m) k) h
+
+    read-unreleased : (rs : List Rec) → Each IsRead rs → Each IsNoRelease rs
+    read-unreleased rs e = Each-weaker IsRead IsNoRelease (λ r h. rising-unreleased r (read-quiet r h).2) rs e
+
+    over-unreleased : (c : ℕ) (over : Bool) (rs : List Rec) → Each IsLater rs → Each IsNoRelease (over_note c over ++ rs)
+    over-unreleased c true rs e = (tt, Each-weaker IsRising IsNoRelease rising-unreleased rs (later-rising rs e))
+    over-unreleased c false rs e = Each-weaker IsRising IsNoRelease rising-unreleased rs (later-rising rs e)
+
+    entry-passes : (c : ℕ) (i : Bool) (xs : List Rec) → Noted c i xs → (line : List ℕ) → HeadEnters line (xs ++ entry) → AreFollowed (admission_due line) None (xs ++ entry)
+    entry-passes c i all (Reads rs e) line h = more-passes line rs (read-unreleased rs e)
+    entry-passes c i all (Begins out) line h = tt
+    entry-passes c i all (Waits reads e) line h = more-passes line (reads ++ rec.Waits c ∷ []) (Each-append IsNoRelease reads (rec.Waits c ∷ []) (read-unreleased reads e) (tt, tt))
+    entry-passes c i all (Goes reads r path n add remove e) line h =
+        more-passes line (reads ++ rec.Admitted c ∷ rec.AssignedFirst c r path n add remove ∷ []) (Each-append IsNoRelease reads (rec.Admitted c ∷ rec.AssignedFirst c r path n add remove ∷ []) (read-unreleased reads e) (tt, (tt, tt)))
+    entry-passes c i all (Shares over later e) line h = more-passes line (over_note c over ++ later) (over-unreleased c over later e)
+    entry-passes c i all (Ends epoch in_) line h = first-passes c epoch line h
+
+    entry-order : (c : ℕ) (i : Bool) → inside c ≡ i → (xs : List Rec) → Noted c i xs → IsInOrder (xs ++ entry)
+    entry-order c i is xs noted =
+        let o : IsInOrder xs = noted-order c i is xs noted in
+        record {
+          released = followed-append (release_due inside) None xs entry o.released tt;
+          passes = entry-passes c i xs noted;
+          falls = o.falls;
+          rises = o.rises ++ entry;
+          split = ap (λ (zs : List Rec). zs ++ entry) o.split ∙ append_assoc o.falls o.rises entry;
+          falling = o.falling;
+          rising = Each-append IsRising o.rises entry o.rising (tt, (tt, tt));
+        }
+
+  pub enters-order : (c : ℕ) (i : Bool) → inside c ≡ i → (d : ℕ) (xs ys : List Rec) → Noted c i xs → Enters d ys → IsInOrder (xs ++ ys)
+  enters-order c i is d xs ys noted (Alone r path n add remove) = entry-order d r path n add remove c i is xs noted
 
 -- ---- a step
 
@@ -196,7 +335,7 @@ module _ (m : Machine) (lined : (q : ℕ) → IsLined (conn m q)) (inside : ℕ 
 
   passed-adds : (w : Machine) (e : Event) (own : List Rec) → w.journal ≡ m.journal → Each IsQuiet own → Adds (passed w e own)
   passed-adds w e own same quiet =
-      (rec.Event (w.events + 1) e ∷ own, ap (λ (J : List Rec). J ++ rec.Event (w.events + 1) e ∷ own) same, quiet-order inside (rec.Event (w.events + 1) e ∷ own) (((λ i. refl), tt, tt), quiet))
+      (rec.Event (w.events + 1) e ∷ own, ap (λ (J : List Rec). J ++ rec.Event (w.events + 1) e ∷ own) same, quiet-order inside (rec.Event (w.events + 1) e ∷ own) (((λ i. refl), tt, tt, tt), quiet))
 
   last-quiet : (w : Machine) (place : Place) (o : Out) → Each IsQuiet o.gave → Each IsQuiet o.timers → Each IsQuiet (last_rows w place o)
   last-quiet w place o gave timers =
@@ -210,7 +349,7 @@ module _ (m : Machine) (lined : (q : ℕ) → IsLined (conn m q)) (inside : ℕ 
   told-adds w e place o put notes gave timers = (
     first_rows w e ++ o.notes ++ last_rows w place o,
     told-journal w e place o ∙ ap (λ (J : List Rec). J ++ (first_rows w e ++ o.notes ++ last_rows w place o)) put.journal,
-    between-order inside (first_rows w e) o.notes (last_rows w place o) (((λ i. refl), tt, tt), behind-quiet e) notes (last-quiet w place o gave timers),
+    between-order inside (first_rows w e) o.notes (last_rows w place o) (((λ i. refl), tt, tt, tt), behind-quiet e) notes (last-quiet w place o gave timers),
   )
 
   timers-quiet : (place : Place) (c : ℕ) (p q : Part) (rs : List Rec) → rs ≡ timer_rows place c p q → Each IsQuiet rs
@@ -239,8 +378,8 @@ module _ (m : Machine) (lined : (q : ℕ) → IsLined (conn m q)) (inside : ℕ 
 
   both-order : (place : Place) (c d : ℕ) (heads : List Seen) (a b : Out) (p r : Part) → NamesAll place → Each (NotedAt place c) a.notes → Each (NotedAt place d) b.notes
       → Notes (conn m c) (move_of place heads a.notes a p) → Notes (conn m d) (move_of place [] b.notes b r) → IsInOrder inside (a.notes ++ b.notes)
-  both-order Front c d heads a b p r names noted too does then = enters-order inside d a.notes b.notes
-      (noted-order inside c (stand_at (conn m c)).inside (told_is c) a.notes (own-noted c (stand_at (conn m c)).inside a.notes ((does (lined c)).noted refl))) (own-enters d b.notes ((then (lined d)).alone refl refl))
+  both-order Front c d heads a b p r names noted too does then = enters-order inside c (stand_at (conn m c)).inside (told_is c) d a.notes b.notes
+      (own-noted c (stand_at (conn m c)).inside a.notes ((does (lined c)).noted refl)) (own-enters d b.notes ((then (lined d)).alone refl refl))
   both-order (Node n) c d heads a b p r names noted too does then = absurd names
   both-order (Client q) c d heads a b p r names noted too does then =
       let never : Client q ≡ Front → ⊥ = λ e. absurd (cc) in
@@ -264,9 +403,9 @@ module _ (m : Machine) (lined : (q : ℕ) → IsLined (conn m q)) (inside : ℕ 
         (λ (is : rows ≡ a.timers ++ b.timers). subst (Each IsQuiet) (sym is) (Each-append IsQuiet a.timers b.timers s t))
         (λ (is : rows ≡ b.timers ++ a.timers). subst (Each IsQuiet) (sym is) (Each-append IsQuiet b.timers a.timers t s))
         act.order);
-    nobody = λ k l at there. passed-adds m (event.Deliver k) (rec.Got k ∷ []) refl (((λ i. refl), tt, tt), tt);
-    loses = λ k l at there. passed-adds (record m { net = lose_at (k - 1) m.net }) (event.Lose k) (rec.Lost k ∷ []) refl (((λ i. refl), tt, tt), tt);
-    clocks = λ ms. passed-adds (record m { now = m.now + ms }) (event.Clock ms) (rec.Clock (record { 0 = m.now + ms }) ∷ []) refl (((λ i. refl), tt, tt), tt);
+    nobody = λ k l at there. passed-adds m (event.Deliver k) (rec.Got k ∷ []) refl (((λ i. refl), tt, tt, tt), tt);
+    loses = λ k l at there. passed-adds (record m { net = lose_at (k - 1) m.net }) (event.Lose k) (rec.Lost k ∷ []) refl (((λ i. refl), tt, tt, tt), tt);
+    clocks = λ ms. passed-adds (record m { now = m.now + ms }) (event.Clock ms) (rec.Clock (record { 0 = m.now + ms }) ∷ []) refl (((λ i. refl), tt, tt, tt), tt);
   }
 
   pub step-adds : IsViewed m → Rules (setting_of m) Notes → (n : Machine) (e : Event) → HasRule e → machine_step m e ≡ Ok n → Adds n

@@ -1,5 +1,5 @@
 -- What is so of the line, of releases and of loads in every run, with a configuration that may be used.
-use Rattle.std.specs.Prelude.{◌≡◌, ℕ, ◌+◌, ◌*◌, ◌<◌, ◌≤◌, ◌||◌, nat_lt, Bool, if◌then◌else◌, List, [], ◌∷◌, length, map, Option, Some, None, Ok}
+use Rattle.std.specs.Prelude.{◌≡◌, ℕ, ◌+◌, ◌*◌, ◌<◌, ◌≤◌, ◌||◌, nat_lt, nat_le, count_by, Bool, if◌then◌else◌, List, [], ◌∷◌, length, map, Option, Some, None, Ok}
 use Rattle.std.specs.List.{AllByRecursion}
 use Rattle.lard_base.specs.declared.config.Config.{Config}
 use Rattle.lard_base.specs.declared.place.Place.TheVariants.{Front}
@@ -10,10 +10,12 @@ use Rattle.lard_cluster_line.specs.Line.{line}
 use Rattle.lard_cluster_policy.specs.Laws.{AtEveryMoment}
 use Rattle.lard_cluster_policy.specs.Ledger.{Ledger, admitted, is_in, ledger}
 use Rattle.lard_cluster_policy.specs.Loads.{load}
-use Rattle.lard_history.specs.Own.{Has}
+use Rattle.lard_dispatch.specs.Loads.{is_at}
+use Rattle.lard_history.specs.Journal.{home}
 use Rattle.lard_history.specs.Steps.{AtEachEnd, EachStep, steps}
 use Rattle.lard_journal.specs.declared.rec.Rec.{Rec}
 use Rattle.lard_journal.specs.declared.rec.Rec.TheVariants as rec
+use Rattle.lard_loads.specs.Tally as tally
 
 -- P is so in every state that events lead to
 abbrev pub Always : (Config → Machine → Type 0) → Type 0
@@ -33,41 +35,40 @@ WaitsForRoom config J = 0 < length (line J) → admitted (ledger config J) ≡ r
 abbrev pub WaitsAtAFullRoom : Type 0
 WaitsAtAFullRoom = Always (λ config m. AtEachEnd (WaitsForRoom config) m.journal)
 
+-- each record that is due directly behind another one stands there
+abbrev pub AreFollowed : (Rec → Option Rec) → Option Rec → List Rec → Type 0
+AreFollowed due None [] = Unit {0}
+AreFollowed due (Some q) [] = ⊥
+AreFollowed due None (r ∷ rs) = AreFollowed due (due r) rs
+AreFollowed due (Some q) (r ∷ rs) = (r ≡ q) × AreFollowed due (due r) rs
+
 -- who is admitted while somebody waits is the first of the line
 abbrev pub AdmitsHead : List ℕ → Rec → Type 0
 AdmitsHead (c ∷ cs) (rec.Admitted d) = d ≡ c
 AdmitsHead _ _ = Unit {0}
 
--- and is admitted where another is released, among these records
-abbrev pub PassesTo : List ℕ → List Rec → Rec → Type 0
-PassesTo (c ∷ cs) rs (rec.Released d) = Has (rec.Admitted c) rs
-PassesTo _ rs _ = Unit {0}
+-- and its admission is due where another one is released
+abbrev pub admission_due : List ℕ → Rec → Option Rec
+admission_due line (rec.Released d) = elim line [ [] ↦ None | c ∷ cs ↦ Some (rec.Admitted c) ]
+admission_due line _ = None
 
 -- in a step, behind this past
 abbrev pub MustPass : List Rec → List Rec → Type 0
-MustPass past s = AllByRecursion (AdmitsHead (line past)) s × AllByRecursion (PassesTo (line past) s) s
+MustPass past s = AllByRecursion (AdmitsHead (line past)) s × AreFollowed (admission_due (line past)) None s
 
--- In each step who is admitted while somebody waits is the first of the line, and is admitted where one is released.
+-- In each step who is admitted while somebody waits is the first of the line, and is admitted directly behind each release.
 abbrev pub LinePasses : Type 0
 LinePasses = Always (λ config m. EachStep MustPass [] (steps m.journal))
 
 -- ---- releases
 
--- what is due directly behind a record: the release of a connection that the front end takes, and that was admitted before the step,
--- or was taken before
-abbrev pub due : (ℕ → Bool) → Rec → Option ℕ
-due inside (rec.Took Front c epoch) = if inside c || nat_lt 1 epoch.0 then Some c else None
-due inside _ = None
-
--- each release that is due stands there
-abbrev pub AreReleased : (ℕ → Bool) → Option ℕ → List Rec → Type 0
-AreReleased inside None [] = Unit {0}
-AreReleased inside (Some c) [] = ⊥
-AreReleased inside None (r ∷ rs) = AreReleased inside (due inside r) rs
-AreReleased inside (Some c) (r ∷ rs) = (r ≡ rec.Released c) × AreReleased inside None rs
+-- the release of a connection is due where the front end takes it, and it was admitted before the step, or taken before
+abbrev pub release_due : (ℕ → Bool) → Rec → Option Rec
+release_due inside (rec.Took Front c epoch) = if inside c || nat_lt 1 epoch.0 then Some (rec.Released c) else None
+release_due inside _ = None
 
 abbrev pub MustRelease : Config → List Rec → List Rec → Type 0
-MustRelease config past s = AreReleased (is_in (ledger config past)) None s
+MustRelease config past s = AreFollowed (release_due (is_in (ledger config past))) None s
 
 -- Where the front end takes a connection that is admitted, or takes it in an epoch behind the first, the connection is released,
 -- directly behind that record.
@@ -89,3 +90,21 @@ IsNearTheThresholds config l past = (most : ℕ) → 2 * config.high ≤ most �
 
 abbrev pub LoadsStayNearTheThresholds : Type 0
 LoadsStayNearTheThresholds = AtEveryMoment IsNearTheThresholds
+
+-- how many connections have node n as their home: each from its first assignment to its release
+abbrev pub connections : List Rec → ℕ → ℕ
+connections J n = count_by (λ c. is_at (home J c) n) tally.connections
+
+-- no node has more of them than twice `high`
+abbrev pub HasFewConnections : Config → Ledger → List Rec → Type 0
+HasFewConnections config l past = (n : ℕ) → connections past n ≤ 2 * config.high
+
+abbrev pub ConnectionsStayFew : Type 0
+ConnectionsStayFew = AtEveryMoment HasFewConnections
+
+-- and while no node has fewer than `low`, at least two have fewer than `high`
+abbrev pub IsNotBusy : Config → Ledger → List Rec → Type 0
+IsNotBusy config l past = ((n : ℕ) → 1 ≤ n → n ≤ config.nodes → config.low ≤ connections past n) → count_by (λ n. nat_le config.high (connections past n)) (tally.numbers config.nodes) + 2 ≤ config.nodes
+
+abbrev pub NeverAllBusy : Type 0
+NeverAllBusy = AtEveryMoment IsNotBusy

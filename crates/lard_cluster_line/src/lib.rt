@@ -3,14 +3,14 @@
 //! It stands above the laws of places and of policy. It has no code.
 #![tactic(auto)]
 
-ghost use Rattle.lard_cluster_line.specs.Laws.{LineIsKept, LinePasses, LoadsStayNearTheThresholds, LoadsStayWithinTheRoom, TakesRelease, WaitsAtAFullRoom};
+ghost use Rattle.lard_cluster_line.specs.Laws.{ConnectionsStayFew, LineIsKept, LinePasses, LoadsStayNearTheThresholds, LoadsStayWithinTheRoom, NeverAllBusy, TakesRelease, WaitsAtAFullRoom};
 
 /// The line that the front end keeps is the one that the journal tells: those who were to wait and were not admitted since, in that
 /// order, but for each whose segment came to the front end that decodes, has RST and the acknowledgement number of the last segment
 /// that the cluster sent to its client, and no length unless that segment told a window above 0. So it is of connections that the
 /// schedule touched, too.
 /// Wherever a step ends, somebody is in the line only where as many are admitted as there is room for.
-/// In each step who is admitted while the line is not empty is its first, and is admitted where one is released.
+/// In each step who is admitted while the line is not empty is its first, and is admitted directly behind each release.
 pub fn the_line_is_told()
     ensures kept { LineIsKept }
     ensures full { WaitsAtAFullRoom }
@@ -28,4 +28,11 @@ pub fn what_is_taken_back_is_released()
 pub fn the_greatest_load_is_told()
     ensures room { LoadsStayWithinTheRoom }
     ensures thresholds { LoadsStayNearTheThresholds }
+{}
+
+/// At no moment has a node more than twice `high` connections, each from its first assignment to its release; and at no moment has every
+/// node at least `low` of them while all, or all but one, have at least `high`.
+pub fn connections_are_told()
+    ensures most { ConnectionsStayFew }
+    ensures few { NeverAllBusy }
 {}
