@@ -41,16 +41,16 @@ use Rattle.lard_segment.specs.Segment.{Said}
 -- ---- the end of a turn
 
 -- where it stays, so many were served
-abbrev HasServed : ℕ → Ending → Type 0
+abbrev pub HasServed : ℕ → Ending → Type 0
 HasServed n (ending.Here b count) = count ≡ n
 HasServed n (ending.Over last) = Unit {0}
 
-spoken-served : (env : ServeEnv) (s : Service) (before : List (Place × List ℕ)) → HasServed s.count (spoken env s before).0
+pub spoken-served : (env : ServeEnv) (s : Service) (before : List (Place × List ℕ)) → HasServed s.count (spoken env s before).0
 spoken-served env s before =
     let b : ControlBlock = (speaks env.c s.block).1 in
     cond_both (may_end b) (ending.Over (final_of b (end_reason b))) (ending.Here b s.count) (HasServed s.count) (λ t. tt) (λ t. refl)
 
-settled-served : (env : ServeEnv) (s : Service) → HasServed s.count (settled env s).0
+pub settled-served : (env : ServeEnv) (s : Service) → HasServed s.count (settled env s).0
 settled-served env s = go s.over where
   go : (o : Option ℕ) → HasServed s.count (elim o as (λ p. Ending × Turn) [ None ↦ spoken env s [] | Some total ↦ cut_off env s ]).0
   go None = spoken-served env s []

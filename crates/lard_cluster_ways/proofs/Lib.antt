@@ -1,0 +1,12 @@
+pub mod Goods
+pub mod Lying
+pub mod Marking
+pub mod Entering
+pub mod Staying
+pub mod Going
+pub mod Short
+pub mod Spelling
+pub mod Letters
+pub mod Turning
+pub mod Moving
+pub mod Homes
