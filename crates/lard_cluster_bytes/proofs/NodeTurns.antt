@@ -63,7 +63,7 @@ module _ (k : Setting) (small : k.stream ≤ 2 ^ 30) (x : Conn) (s : Station) (t
   abbrev pub It : ℕ → Type 0
   It e = (placed : IsPlaced x) → HasIt x l pend o.seat placed n e × ((f : ℕ) → IsOver f p.row → HasEnded f x.part.front.row)
 
-  talk-of : IsTalk env l.w l.out l.vs
+  pub talk-of : IsTalk env l.w l.out l.vs
   talk-of = record {
     most = subst (λ (m : ℕ). m ≤ 2 ^ 30) (sym is.stream) small;
     stream = subst IsStream (sym o.client.w_is) (speaks-stream s.client.send l.w.bytes o.client.speaks);
@@ -130,10 +130,10 @@ module _ (k : Setting) (small : k.stream ≤ 2 ^ 30) (x : Conn) (s : Station) (t
       (λ (e : here env.epoch p ≡ None). subst (Goes heads) (sym (ap rule e ∙ none)) (drops-goes heads quiet) help)
       (λ (it : It env.epoch). deed-goes heads quiet (rule (here env.epoch p)) (keeps it help.placed) it help) here-or
 
-  agrees-by : It env.epoch → IsPlaced x → NodeAgrees l.w l.out l.vs pend l.was_reset env.serve.c p
+  pub agrees-by : It env.epoch → IsPlaced x → NodeAgrees l.w l.out l.vs pend l.was_reset env.serve.c p
   agrees-by it placed = own-agrees (it placed).0.agrees
 
-  ways-here : StayComesOn env.serve.files p.stay
+  pub ways-here : StayComesOn env.serve.files p.stay
   ways-here = subst (λ (files : FilesAt). StayComesOn files p.stay) (sym is.files) (o.ways n)
 
   pub forwards-goes : (heads : List Seen) → IsQuiet heads → (sd : Said) → IsWord l.w sd → Goes heads (node_forwarded env p (Ok sd))

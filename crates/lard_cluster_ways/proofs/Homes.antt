@@ -100,6 +100,9 @@ quiet-body files m p n e (body.Content r file) not = tt
 quiet-body files m p n e (body.Ended reason snd rcv count) not = tt
 quiet-body files m p n e body.EndedAck not = tt
 
+pub quiet-says : (files : FilesAt) (m : Marks) (p : Part) (n c e : ℕ) (b : Body) → kind_of b ≢ kind.Ask → LetterWays files m p (record { from = Node n; to = Front; bytes = message c e b })
+quiet-says files m p n c e b not = λ msg d. quiet-body files m p n msg.epoch.0 msg.body (λ ask. not (kinds-same (record { c = c; epoch = record { 0 = e }; body = b }) msg d ∙ ask))
+
 module _ (env : NodeEnv) (m : Marks) (p : Part) (n : ℕ) (small : env.epoch < 2 ^ 16) (decided : IsDecided env.epoch (p.nodes n).row) where
   abbrev files : FilesAt
   files = env.serve.files
@@ -208,7 +211,7 @@ at-home files x g n row found at decided =
 
 -- ---- a turn
 
-sent-append : (x : Conn) (place : Place) (xs ys : List Kept) → AreSent x place xs → AreSent x place ys → AreSent x place (xs ++ ys)
+pub sent-append : (x : Conn) (place : Place) (xs ys : List Kept) → AreSent x place xs → AreSent x place ys → AreSent x place (xs ++ ys)
 sent-append x place [] ys h k = k
 sent-append x place (q ∷ xs) ys h k = (h.0, sent-append x place xs ys h.1 k)
 
@@ -240,9 +243,9 @@ module _ (env : NodeEnv) (x : Conn) (n : ℕ) (node : env.n ≡ n) (small : env.
     part = with_node x.part n given.0;
   }
 
-  pub does-makes : (heads : List Seen) (notes : List Rec) (given : NodePart × NodeTurn) → (t : TurnWays env m kept p given) → Rightly all_files m notes → marked m notes ≡ marked m given.1.notes
+  pub does-makes : (heads : List Seen) (notes : List Rec) (given : NodePart × NodeTurn) → (Was : List (List ℕ) → Type 0) (t : TurnWays env m kept p Was given) → ((e : ℕ) (ps : List (List ℕ)) → Counts x.part n e → IsDecided e p.row → StayAsks all_files (kept.asks + 1) ps p.stay → Was ps) → Rightly all_files m notes → marked m notes ≡ marked m given.1.notes
       → (row : FrontRow) → x.part.front.row ≡ Some row → IsAt n row.stage → row.epoch.0 ≡ env.epoch → ((path : List ℕ) × (others : List Assigned) × (m.assigned ≡ (path, n) ∷ others)) → Keeps all_files x (does_with heads notes given)
-  does-makes heads notes given t may same row found at epoch first help g =
+  does-makes heads notes given Was t was may same row found at epoch first help g =
       let v : Move = does_with heads notes given in
       let q : NodePart = given.0 in
       let k : Marks = record m { served = t.served } in
@@ -253,7 +256,8 @@ module _ (env : NodeEnv) (x : Conn) (n : ℕ) (node : env.n ≡ n) (small : env.
       makes all_files x v help g k may (same ∙ t.told) g.paths
       (seat-put all_files k x.part n q row found at (inr (here, first, subst (λ (i : ℕ). StayWays all_files i k kept q.stay) node t.stay)))
       (carries-same all_files m k (same-marks all_files m t.served) x.part v.part help.owes.grows refl refl
-      (λ i e ps c d a. put-each x.part.nodes n q (λ j (z : NodePart). StayAsks all_files (kept.asks + 1) ps (x.part.nodes j).stay → StayAsks all_files (kept.asks + 1) ps z.stay) (t.kept ps) (λ j other b. b) i a))
+      (λ i e ps c d a. put-each x.part.nodes n q (λ j (z : NodePart). Counts x.part j e → IsDecided e (x.part.nodes j).row → StayAsks all_files (kept.asks + 1) ps (x.part.nodes j).stay → StayAsks all_files (kept.asks + 1) ps z.stay)
+      (λ c d a. t.kept ps (was e ps c d a)) (λ j other c d b. b) i c d a))
       (λ old. append-letters (given.1.segments) (given.1.messages) v.part k
       (clients-say all_files k v.part (Node n) env.serve.c given.1.segments t.to)
       (subst (λ (ms : List (Place × List ℕ)). Each (LetterWays all_files k v.part) (map (letter (Node n)) ms)) (sym t.messages)
@@ -264,7 +268,7 @@ module _ (env : NodeEnv) (x : Conn) (n : ℕ) (node : env.n ≡ n) (small : env.
         append-letters (s ∷ ss) ms q k h g = (h.0, append-letters ss ms q k h.1 g)
 
   -- what it says alone
-  pub says-makes : (heads : List Seen) (notes : List Rec) (ms : List (Place × List ℕ)) → Each IsPlain notes → DeedWays env m kept p (Says ms) → IsDecided env.epoch p.row ⊎ (ms ≡ again_sent p)
+  pub says-makes : (heads : List Seen) (notes : List Rec) (ms : List (Place × List ℕ)) → Each IsPlain notes → (ms ≡ again_sent p) ⊎ Each (SaysIt env m kept p.stay) ms → IsDecided env.epoch p.row ⊎ (ms ≡ again_sent p)
       → Keeps all_files x (stands x (Node n) heads (record nothing_said { notes = notes; messages = ms }))
   says-makes heads notes ms plain h decided help g = stands-makes all_files x (Node n) heads (record nothing_said { notes = notes; messages = ms }) plain
       (λ old. ⊎_elim

@@ -10,3 +10,6 @@ pub mod Letters
 pub mod Turning
 pub mod Moving
 pub mod Homes
+pub mod Nodes
+pub mod Offered
+pub mod NodeRules

@@ -67,13 +67,17 @@ module _ (env : NodeEnv) (m : Marks) (r : FrontRest) where
   abbrev pub SaysIt : Option Stay → Place × List ℕ → Type 0
   SaysIt stay s = ((i : ℕ) × (s.0 ≡ Node i)) ⊎ ((b : Body) × (s ≡ (Front, message env.serve.c env.epoch b)) × BodyIs stay b)
 
-  -- A turn of a node that has it, whose Ask it was if these were its paths before.
-  pub record TurnWays (before : NodePart) (given : NodePart × NodeTurn) : Type 0 where
+  -- the paths of an Ask that is awaited
+  abbrev pub Asked_by : NodePart → List (List ℕ) → Type 0
+  Asked_by p ps = StayAsks files (r.asks + 1) ps p.stay
+
+  -- A turn of a node that keeps the connection: an Ask that was awaited is still, if it is not answered.
+  pub record TurnWays (before : NodePart) (Was : List (List ℕ) → Type 0) (given : NodePart × NodeTurn) : Type 0 where
     pub served : ℕ
     pub notes : Rightly files m given.1.notes
     pub told : marked m given.1.notes ≡ record m { served = served }
     pub stay : StayWays files env.n (record m { served = served }) r given.0.stay
-    pub kept : (ps : List (List ℕ)) → StayAsks files (r.asks + 1) ps before.stay → StayAsks files (r.asks + 1) ps given.0.stay
+    pub kept : (ps : List (List ℕ)) → Was ps → StayAsks files (r.asks + 1) ps given.0.stay
     pub decided : IsDecided env.epoch given.0.row
     pub to : AllTo (Client env.serve.c) given.1.segments
     pub again : List (Place × List ℕ)
@@ -83,10 +87,10 @@ module _ (env : NodeEnv) (m : Marks) (r : FrontRest) where
     pub said : Each (SaysIt given.0.stay) more
 
   -- what it says without a turn was said before, or it is an answer
-  abbrev pub DeedWays : NodePart → Deed → Type 0
-  DeedWays before Drops = Unit {0}
-  DeedWays before (Says ms) = (ms ≡ again_sent before) ⊎ Each (SaysIt before.stay) ms
-  DeedWays before (Does given) = TurnWays before given
+  abbrev pub DeedWays : NodePart → (List (List ℕ) → Type 0) → Deed → Type 0
+  DeedWays before Was Drops = Unit {0}
+  DeedWays before Was (Says ms) = (ms ≡ again_sent before) ⊎ Each (SaysIt before.stay) ms
+  DeedWays before Was (Does given) = TurnWays before Was given
 
   -- ---- the end of a turn
 
@@ -136,15 +140,14 @@ module _ (env : NodeEnv) (m : Marks) (r : FrontRest) where
       pub sent : (again ≡ []) ⊎ (again ≡ again_sent old)
       pub said : (stay : Option Stay) → Each (SaysIt stay) first
 
-    pub turn-ways : (old part : NodePart) (before : List (Place × List ℕ)) (given : Ending × Turn) → First old before → given.1.notes ≡ k.service.notes → HasServed k.service.count given.0 → AllTo (Client env.serve.c) given.1.segments
-        → ((ps : List (List ℕ)) → StayAsks files (r.asks + 1) ps old.stay → Before ps ⊎ StayAsks files (r.asks + 1) ps (kept_after env part k given.0).stay)
-        → TurnWays old (kept_after env part k given.0, turn_by env before k given)
-    turn-ways old part before given first notes served to asks = record {
+    pub turn-ways : (old part : NodePart) (Was : List (List ℕ) → Type 0) (before : List (Place × List ℕ)) (given : Ending × Turn) → First old before → given.1.notes ≡ k.service.notes → HasServed k.service.count given.0 → AllTo (Client env.serve.c) given.1.segments
+        → ((ps : List (List ℕ)) → Was ps → Before ps) → TurnWays old Was (kept_after env part k given.0, turn_by env before k given)
+    turn-ways old part Was before given first notes served to asks = record {
       served = k.service.count;
       notes = subst (Rightly files m) (sym notes) h.noted_so;
       told = ap (marked m) notes ∙ h.told;
       stay = after-stay part given.0 served;
-      kept = λ ps a. ⊎_elim (λ (b : Before ps). after-asks part given.0 ps (h.kept ps b)) (λ (b : StayAsks files (r.asks + 1) ps (kept_after env part k given.0).stay). b) (asks ps a);
+      kept = λ ps a. after-asks part given.0 ps (h.kept ps (asks ps a));
       decided = after-decided part given.0;
       to = to;
       again = first.again;
@@ -157,11 +160,11 @@ module _ (env : NodeEnv) (m : Marks) (r : FrontRest) where
       said = Each-append (SaysIt (kept_after env part k given.0).stay) first.first ((asked_sent env k.asked ++ wants_sent env k.wants) ++ ended_sent env k.service.over given.0) (first.said _) (rest-says part given.0);
     }
 
-    pub work-ways : (old part : NodePart) (before : List (Place × List ℕ)) → First old before → ((ps : List (List ℕ)) → StayAsks files (r.asks + 1) ps old.stay → Before ps) → DeedWays old (with_work env part before k)
-    work-ways old part before first asks =
+    pub work-ways : (old part : NodePart) (Was : List (List ℕ) → Type 0) (before : List (Place × List ℕ)) → First old before → ((ps : List (List ℕ)) → Was ps → Before ps) → DeedWays old Was (with_work env part before k)
+    work-ways old part Was before first asks =
         let given : Ending × Turn = settled env.serve k.service in
         let is = settled-is env.serve k.service in
-        turn-ways old part before given first is.notes (settled-served env.serve k.service) is.to (λ ps a. inl (asks ps a))
+        turn-ways old part Was before given first is.notes (settled-served env.serve k.service) is.to asks
 
     pub none-first : (old : NodePart) → First old []
     none-first old = record { again = []; first = []; is = refl; sent = inl refl; said = λ stay. tt }
@@ -186,31 +189,31 @@ module _ (env : NodeEnv) (m : Marks) (r : FrontRest) where
     asks-it : (x : ControlBlock × Stay) → p.stay ≡ Some x.1 → (ps : List (List ℕ)) → StayAsks files (r.asks + 1) ps p.stay → Awaits env m r x.1 ps
     asks-it x is ps a = subst (StayAsks files (r.asks + 1) ps) is a
 
-    goes-on : (x : ControlBlock × Stay) → p.stay ≡ Some x.1 → (part : NodePart) (k : Work) → Works env w out vs k → Right env w out vs k → Goes env m r (Awaits env m r x.1) k → DeedWays p (with_work env part [] (goes_on env k))
+    goes-on : (x : ControlBlock × Stay) → p.stay ≡ Some x.1 → (part : NodePart) (k : Work) → Works env w out vs k → Right env w out vs k → Goes env m r (Awaits env m r x.1) k → DeedWays p (Asked_by p) (with_work env part [] (goes_on env k))
     goes-on x is part k works right g =
         let all : Goes env m r (Awaits env m r x.1) (goes_on env k) = stay-goes env m r (Awaits env m r x.1) home w out vs wrote talk.most k works right g in
-        work-ways (Awaits env m r x.1) (goes_on env k) all p part [] (none-first (Awaits env m r x.1) (goes_on env k) all p) (asks-it x is)
+        work-ways (Awaits env m r x.1) (goes_on env k) all p part (Asked_by p) [] (none-first (Awaits env m r x.1) (goes_on env k) all p) (asks-it x is)
 
     abbrev Rule : (Option (ControlBlock × Stay) → Deed) → Option (ControlBlock × Stay) → Type 0
-    Rule rule o = here env.epoch p ≡ o → DeedWays p (rule o)
+    Rule rule o = here env.epoch p ≡ o → DeedWays p (Asked_by p) (rule o)
 
-    by-here : (rule : Option (ControlBlock × Stay) → Deed) → rule None ≡ Drops → ((x : ControlBlock × Stay) → IsHeld env w out vs was_reset pend x → p.stay ≡ Some x.1 → DeedWays p (rule (Some x))) → DeedWays p (rule (here env.epoch p))
-    by-here rule none some = at-epoch env w out vs was_reset pend (Rule rule) (λ e. subst (DeedWays p) (sym none) tt)
+    by-here : (rule : Option (ControlBlock × Stay) → Deed) → rule None ≡ Drops → ((x : ControlBlock × Stay) → IsHeld env w out vs was_reset pend x → p.stay ≡ Some x.1 → DeedWays p (Asked_by p) (rule (Some x))) → DeedWays p (Asked_by p) (rule (here env.epoch p))
+    by-here rule none some = at-epoch env w out vs was_reset pend (Rule rule) (λ e. subst (DeedWays p (Asked_by p)) (sym none) tt)
         (λ x held e. some x held (here-stay (staying env.epoch p.row) p.stay x e)) p env.serve.c p.row agrees ways refl
 
-    pub hears-ways : (s : Said) → IsWord w s → DeedWays p (node_forwarded env p (Ok s))
+    pub hears-ways : (s : Said) → IsWord w s → DeedWays p (Asked_by p) (node_forwarded env p (Ok s))
     hears-ways s word = by-here (heard_by env p (Ok s)) refl
         (λ x held is. goes-on x is p (work_of (on_segment x.0 s).1 x.1)
         (subst (So env.serve w out vs (serving (on_segment x.0 s).1 x.1.served [])) held.0 (heard-so env.serve w out vs talk.says pend x.0 x.1.served held.1 talk.stream s word)) held.2
         (let g = begun x held is in record { noted_so = g.noted_so; told = g.told; gone = g.gone; under = g.under; walked = g.walked; lies = g.lies; asking = g.asking; asked = g.asked; kept = g.kept }))
 
-    pub tags-ways : (number : ℕ) (nodes : List ℕ) → TagIs r number nodes → DeedWays p (node_tagged env p number nodes)
+    pub tags-ways : (number : ℕ) (nodes : List ℕ) → TagIs r number nodes → DeedWays p (Asked_by p) (node_tagged env p number nodes)
     tags-ways number nodes tag = by-here (tagged_by env number nodes p) refl
         (λ x held is.
         let part : NodePart = record p { kept = without timer.Ask 0 p.kept } in
         let k : Work = work_of x.0 x.1 in
         let named : ℕ = length (named_paths files x.1.batch) in
-        cond_both (is_awaited env number nodes p x.1) (with_work env part [] (goes_on env (tagged env nodes k))) Drops (DeedWays p)
+        cond_both (is_awaited env number nodes p x.1) (with_work env part [] (goes_on env (tagged env nodes k))) Drops (DeedWays p (Asked_by p))
         (λ t.
         let tests = and_parts (x.1.asks == number) (length nodes == named) (and_parts (is_some (find (is_under timer.Ask 0) p.kept)) (x.1.asks == number && length nodes == named) t).1 in
         let same : x.1.asks ≡ number = eqb-true x.1.asks number tests.0 in
@@ -218,23 +221,23 @@ module _ (env : NodeEnv) (m : Marks) (r : FrontRest) where
         let g = begun x held is in
         let at : number ≡ r.asks = ⊎_elim (λ (a : (x.1.asks ≡ r.asks) × (m.assigned ≡ _)). sym same ∙ a.0) (λ (a : (x.1.asks ≡ r.asks + 1) × _ × _). absurd (let le = tag.0 in omega (arith, same, a.0, le))) g.asking in
         let is_tag : nodes ≡ r.tag = tag.1 at in
-        subst (λ (ns : List ℕ). DeedWays p (with_work env part [] (goes_on env (tagged env ns k)))) (sym is_tag)
+        subst (λ (ns : List ℕ). DeedWays p (Asked_by p) (with_work env part [] (goes_on env (tagged env ns k)))) (sym is_tag)
         (goes-on x is part (tagged env r.tag k) (tagged-so env w out vs r.tag k (same-works env w out vs was_reset pend x talk.says held)) (tagged-right env r.tag k held.2)
         (tagged-goes env m r (Awaits env m r x.1) k g refl (same ∙ at) (ap length (sym is_tag) ∙ count))))
         (λ t. tt))
 
-    pub comes-ways : (from i : ℕ) → DeedWays p (node_content env p from i)
+    pub comes-ways : (from i : ℕ) → DeedWays p (Asked_by p) (node_content env p from i)
     comes-ways from i = by-here (come_by env from i p) refl
         (λ x held is.
         let part : NodePart = record p { fetches = without timer.Fetch i p.fetches } in
         let k : Work = work_of x.0 x.1 in
-        cond_both (is_from from env.epoch (find (is_under timer.Fetch i) p.fetches)) (with_work env part [] (goes_on env (came_for (come_progress from) i k))) Drops (DeedWays p)
+        cond_both (is_from from env.epoch (find (is_under timer.Fetch i) p.fetches)) (with_work env part [] (goes_on env (came_for (come_progress from) i k))) Drops (DeedWays p (Asked_by p))
         (λ t. goes-on x is part (came_for (come_progress from) i k) (came-so env w out vs (come_progress from) i k (same-works env w out vs was_reset pend x talk.says held))
         (came-right files (come_progress from) (come_progress-on files from) i k held.2)
         (came-goes env m r (Awaits env m r x.1) (come_progress from) (come-keeps files env.n from) i k (begun x held is)))
         (λ t. tt))
 
-    pub reads-ways : (i : ℕ) → DeedWays p (node_read env p i)
+    pub reads-ways : (i : ℕ) → DeedWays p (Asked_by p) (node_read env p i)
     reads-ways i = by-here (read_by env i p) refl
         (λ x held is.
         let k : Work = work_of x.0 x.1 in
@@ -242,15 +245,15 @@ module _ (env : NodeEnv) (m : Marks) (r : FrontRest) where
         (came-right files read_progress (read_progress-on files) i k held.2)
         (came-goes env m r (Awaits env m r x.1) read_progress (read-keeps files env.n) i k (begun x held is)))
 
-    pub fires-ways : DeedWays p (node_timer env p)
-    fires-ways = at-endpoint env w out vs was_reset pend (λ o. both_of (endpoint_of p.row) p.stay ≡ o → DeedWays p (fired_by env p o)) (λ e. inl refl)
+    pub fires-ways : DeedWays p (Asked_by p) (node_timer env p)
+    fires-ways = at-endpoint env w out vs was_reset pend (λ o. both_of (endpoint_of p.row) p.stay ≡ o → DeedWays p (Asked_by p) (fired_by env p o)) (λ e. inl refl)
         (λ x held e.
         let is : p.stay ≡ Some x.1 = here-stay (endpoint_of p.row) p.stay x e in
         let k : Work = work_of (after_timer x.0) x.1 in
         let g = begun x held is in
         let h : Goes env m r (Awaits env m r x.1) k = record { noted_so = g.noted_so; told = g.told; gone = g.gone; under = g.under; walked = g.walked; lies = g.lies; asking = g.asking; asked = g.asked; kept = g.kept } in
         let before = ready_of env.serve (after_timer x.0) (timed x.0) in
-        turn-ways (Awaits env m r x.1) k h p p (again_sent p) (spoken env.serve (serving (after_timer x.0) x.1.served []) before)
+        turn-ways (Awaits env m r x.1) k h p p (Asked_by p) (again_sent p) (spoken env.serve (serving (after_timer x.0) x.1.served []) before)
         (record { again = again_sent p; first = []; is = sym (append-nil (again_sent p)); sent = inr refl; said = λ stay. tt }) refl (spoken-served env.serve k.service before)
-        (spoken-to env.serve (serving (after_timer x.0) x.1.served []) before (ready-to env.serve (after_timer x.0) (timed x.0))) (λ ps a. inl (asks-it x is ps a)))
+        (spoken-to env.serve (serving (after_timer x.0) x.1.served []) before (ready-to env.serve (after_timer x.0) (timed x.0))) (asks-it x is))
         p env.serve.c p.row agrees ways refl
