@@ -13,3 +13,4 @@ pub mod Homes
 pub mod Nodes
 pub mod Offered
 pub mod NodeRules
+pub mod Looking
