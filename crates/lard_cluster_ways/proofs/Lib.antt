@@ -14,3 +14,4 @@ pub mod Nodes
 pub mod Offered
 pub mod NodeRules
 pub mod Looking
+pub mod Fronting
