@@ -15,3 +15,4 @@ pub mod Offered
 pub mod NodeRules
 pub mod Looking
 pub mod Fronting
+pub mod FrontStays
