@@ -16,3 +16,4 @@ pub mod NodeRules
 pub mod Looking
 pub mod Fronting
 pub mod FrontStays
+pub mod FrontAnswers
