@@ -18,7 +18,7 @@ use Rattle.lard_cluster_bytes.proofs.Serving.{So}
 use Rattle.lard_cluster_places.specs.Places.{ArePast, Sits, StageSits, owning}
 use Rattle.lard_cluster_places.proofs.Loops.{settled-is, spoken-to}
 use Rattle.lard_cluster_view.specs.Carry.{tale_at}
-use Rattle.lard_cluster_view.specs.View.{Conn, IsFrontEnv, Part, Setting, by_front, front_does, nothing_said, with_front}
+use Rattle.lard_cluster_view.specs.View.{Conn, IsFrontEnv, Part, Setting, by_front, front_admits, front_does, nothing_said, with_front}
 use Rattle.lard_cluster_ways.specs.State.{BeginsWith, GoesItsWay, IsFree, IsWaiting, SeatWays, StageWays, marks_at}
 use Rattle.lard_cluster_ways.specs.Ways.{Marks, good_paths}
 use Rattle.lard_cluster_ways.proofs.Fronting.{IsFrozen, front-quiet, handed-makes, turned-makes}
@@ -35,7 +35,8 @@ use Rattle.lard_endpoint.specs.Leaving.{after_timer, timed}
 use Rattle.lard_endpoint.specs.Moving.{end_reason, final_of, may_end, may_freeze}
 use Rattle.lard_endpoint.proofs.Adoption.{frozen_stands}
 use Rattle.lard_front_rules.specs.declared.front.FrontRest.{FrontRest}
-use Rattle.lard_front_rules.specs.Front.{Deed, Did, Does, Drops, FrontEnv, FrontPart, Says, begun, fired, fired_by, fires_at, forwarded, front_gets, front_hears, front_timer, hears_at, holds, is_at, leaves_by, message, met, placed, rest_after, rest_of, rests, saying, settled_by, stage_after, turn_here, waits_on}
+use Rattle.lard_front_rules.specs.declared.front.FrontTurn.{FrontTurn}
+use Rattle.lard_front_rules.specs.Front.{Deed, Did, Does, Drops, FrontEnv, FrontPart, Says, admitted_with, begun, fired, fired_by, fires_at, forwarded, front_gets, front_hears, front_timer, handed_off, hears_at, holds, is_at, leaves_by, message, met, placed, rest_after, rest_of, rests, saying, settled_by, stage_after, turn_here, waits_on}
 use Rattle.lard_front_rules.specs.Reading.{MayMove, Reading, reads}
 use Rattle.lard_front_rules.specs.Sound.{Serves}
 use Rattle.lard_front_rules.proofs.Blocks.{segment-keeps, segment-serves, speaks-keep, timer-keeps}
@@ -51,6 +52,7 @@ use Rattle.lard_laws_bytes.specs.Agreement.{IsWord}
 use Rattle.lard_laws_bytes.specs.Truthful.{Talk}
 use Rattle.lard_message.specs.declared.kind.Kind.TheVariants as kind
 use Rattle.lard_message.specs.declared.message.Body.TheVariants as body
+use Rattle.lard_policy.specs.declared.first.FirstChoice.{FirstChoice}
 use Rattle.lard_reader.specs.Batches.{batch_of}
 use Rattle.lard_request.specs.declared.verdict.Verdict.{Verdict}
 use Rattle.lard_resend.specs.Pending.{sent_of}
@@ -65,6 +67,9 @@ use Rattle.lard_segment.specs.Segment.{Said}
 use Rattle.lard_truth.specs.Truth.{IsStream, Stream}
 use Rattle.lard_truth.proofs.Speaking.{speaks-stream}
 use Rattle.lard_view.proofs.Endpoints.{AllTo, ready-to}
+
+some-same : {A : Type 0} (a b : A) → Some a ≡ Some b → a ≡ b
+some-same a b e = cc
 
 -- ---- how a turn ends
 
@@ -293,3 +298,28 @@ module _ (k : Setting) (small : k.stream ≤ 2 ^ 30) (x : Conn) (s : Station) (t
   pub fires-row : (heads : List Seen) → IsFrontTalk env l.w l.out l.vs → (row : Option FrontRow) → p.row ≡ row → Keeps files x (front_does x heads (fired_by env p row))
   fires-row heads talk None found = stands-makes files x Front heads nothing_said tt (λ old. tt)
   fires-row heads talk (Some row) found = fires-stage heads row found talk row.stage refl
+
+  -- ---- it is admitted, from the head of the line
+
+  module _ (row : FrontRow) (found : p.row ≡ Some row) (b : ControlBlock) (at : row.stage ≡ stage.Waiting b) (choice : FirstChoice) where
+    abbrev waited : Service
+    waited = serving b count []
+
+    -- with the request for which it waited
+    admits-makes : (path : List ℕ) → (rest_of p.rest).target ≡ Some path → Keeps files x (front_admits x (handed_off env row waited path choice))
+    admits-makes path is_target help g =
+        let fh : FrontWaits l.w l.out l.vs pend b count = truth-at [] row found (stage.Waiting b) at in
+        let seat = seat-at [] row found (stage.Waiting b) at g in
+        let alone : FrontHolds l.w l.out l.vs [] b count = record { none = refl; serves = fh.0.serves; holds = fh.0.holds } in
+        let e = first-epoch [] row found (stage.Waiting b) at tt help.placed.sits in
+        let next : BeginsWith files b.recv.unread path = subst (IsWaiting files b.recv.unread) is_target seat.1 in
+        handed-makes env x row waited path choice (frozen-is waited path l.out l.vs alone fh.1 next (start-looks b count fh.0.holds.counted seat.0)) [] (subst IsNumber (sym is.number) help.number) e.0 found e.1 seat.0.0 help g
+
+    pub waits-frozen : (given : FrontPart × FrontTurn) → admitted_with env row (rest_of p.rest) b choice (rest_of p.rest).target ≡ Some given → Keeps files x (front_admits x given)
+    waits-frozen given e = by-target (rest_of p.rest).target refl e where
+      by-target : (o : Option (List ℕ)) → (rest_of p.rest).target ≡ o → admitted_with env row (rest_of p.rest) b choice o ≡ Some given → Keeps files x (front_admits x given)
+      by-target None is_target e = let no : None ≡ Some given = e in absurd (let f : ⊥ = cc in f)
+      by-target (Some path) is_target e =
+          let same : Some (handed_off env row waited path choice) ≡ Some given = e in
+          let one : handed_off env row waited path choice ≡ given = some-same (handed_off env row waited path choice) given same in
+          subst (λ (y : FrontPart × FrontTurn). Keeps files x (front_admits x y)) one (admits-makes path is_target)

@@ -17,3 +17,6 @@ pub mod Looking
 pub mod Fronting
 pub mod FrontStays
 pub mod FrontAnswers
+pub mod Clients
+pub mod Moments
+pub mod Runs
