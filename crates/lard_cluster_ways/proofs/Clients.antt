@@ -1,16 +1,15 @@
 -- What a client does leaves its connection on its way.
-use Rattle.std.proofs.Common.{◌≡◌, ◌≤◌, ◌+◌, ◌^◌, ◌⊎◌, ℕ, List, [], ◌∷◌, ◌++◌, map, length, take, Option, Some, None, inl, inr, ⊎_elim, refl, sym, ap, ◌∙◌, subst, arith, append-nil, append_assoc}
+use Rattle.std.proofs.Common.{◌≡◌, ◌≤◌, ◌^◌, ℕ, List, [], ◌∷◌, ◌++◌, map, length, Option, Some, None, inl, inr, ⊎_elim, refl, sym, ap, ◌∙◌, arith, append-nil, append_assoc}
 use Rattle.std.proofs.lemmas.List.{length-append}
-use Rattle.lard_answers.specs.Answers.{FilesAt, IsPrefix, verdicts}
+use Rattle.lard_answers.specs.Answers.{FilesAt, verdicts}
 use Rattle.lard_base.specs.declared.place.Place.{Place}
 use Rattle.lard_base.specs.declared.place.Place.TheVariants.{Client}
 use Rattle.lard_client.specs.Control.{ClientBlock}
-use Rattle.lard_cluster_bytes.specs.Agreement.{ConnAgrees, IsOpen, IsTruthful, IsUnopened}
-use Rattle.lard_cluster_bytes.specs.Law.{Helps}
+use Rattle.lard_cluster_bytes.specs.Agreement.{ConnAgrees, IsTruthful}
 use Rattle.lard_cluster_places.specs.Places.{IsDecided, IsPast}
-use Rattle.lard_cluster_view.specs.View.{ClientRules, Conn, Move, Part, Said, Setting, client_begins, client_does, letter, with_station}
+use Rattle.lard_cluster_view.specs.View.{ClientRules, Conn, Move, Part, Setting, client_does, letter, with_station}
 use Rattle.lard_cluster_view.proofs.Saying.{NotedAt}
-use Rattle.lard_cluster_ways.specs.State.{GoesItsWay, IsAway, IsPlacedOnce, LetterWays, SeatWays, StageWays, StayWays, marks_at}
+use Rattle.lard_cluster_ways.specs.State.{IsAway, IsPlacedOnce, LetterWays, SeatWays, StageWays, StayWays, marks_at}
 use Rattle.lard_cluster_ways.specs.Under.{Assigned}
 use Rattle.lard_cluster_ways.specs.Ways.{Marks, good_paths, paths_answered}
 use Rattle.lard_cluster_ways.proofs.Goods.{answered-grow, wanted-grow}
@@ -30,7 +29,6 @@ use Rattle.lard_journal.specs.declared.rec.Rec.{Rec}
 use Rattle.lard_journal.specs.declared.rec.Rec.TheVariants as rec
 use Rattle.lard_node_rules.specs.declared.stay.Stay.{Stay}
 use Rattle.lard_node_rules.specs.Node.{NodePart}
-use Rattle.lard_request.specs.declared.verdict.Verdict.{Verdict}
 use Rattle.lard_rules.specs.declared.places.Station.{Station}
 use Rattle.lard_rules.specs.declared.places.Turn.{Turn}
 use Rattle.lard_rules.specs.Client.{client_aborts, client_gets, client_holds, client_shuts, client_takes, client_timer, client_writes}

@@ -1,5 +1,5 @@
 -- Requests that are entered into a batch: as they are read, and as they start at their nodes.
-use Rattle.std.proofs.Common.{◌≡◌, ◌≢◌, ◌+◌, ◌==◌, ℕ, zero, suc, Bool, true, false, cond, List, [], ◌∷◌, ◌++◌, map, length, get_or, slice_get, Option, Some, None, inl, inr, refl, sym, ap, ◌∙◌, subst, arith, append_assoc, append-nil, eqb-true, eq-eqb}
+use Rattle.std.proofs.Common.{◌≡◌, ◌≢◌, ◌+◌, ◌==◌, ℕ, suc, Bool, true, false, List, [], ◌∷◌, ◌++◌, map, length, slice_get, Option, Some, None, inl, refl, sym, ap, ◌∙◌, subst, arith, append_assoc, append-nil, eqb-true, eq-eqb}
 use Rattle.std.proofs.lemmas.Bool.{cond_both}
 use Rattle.std.proofs.lemmas.List.{length-append}
 use Rattle.lard_answers.specs.Answers.{FilesAt, good_path}
@@ -7,16 +7,15 @@ use Rattle.lard_base.specs.declared.place.Via.TheVariants as via
 use Rattle.lard_cluster_ways.specs.State.{given_to}
 use Rattle.lard_cluster_ways.specs.Under.{Assigned, IsStarted, Lies, LiesGood, TakesFirst, Under}
 use Rattle.lard_cluster_ways.proofs.Goods.{get-behind}
-use Rattle.lard_cluster_ways.proofs.Lying.{named-append, none-behind, takes-lies, under-append}
+use Rattle.lard_cluster_ways.proofs.Lying.{named-append, takes-lies, under-append}
 use Rattle.lard_cluster_ways.proofs.Marking.{IsPlain}
 use Rattle.lard_history.proofs.Each.{Each, Each-append}
 use Rattle.lard_journal.specs.declared.rec.Rec.{Rec}
 use Rattle.lard_journal.specs.declared.rec.Rec.TheVariants as rec
-use Rattle.lard_node_rules.specs.declared.stay.Asked.{Asked}
 use Rattle.lard_node_rules.specs.declared.stay.Entry.{Entry}
 use Rattle.lard_node_rules.specs.declared.stay.Progress.{Progress}
 use Rattle.lard_node_rules.specs.declared.stay.Progress.TheVariants as progress
-use Rattle.lard_node_rules.specs.Stay.{NodeEnv, Work, and_path, entered, enters, enters_first, enters_one, named_path, named_paths, noted, path_in, progress_of, read_entry, started, started_here, started_there, starts_at, starts_named, starts_one}
+use Rattle.lard_node_rules.specs.Stay.{NodeEnv, Work, and_path, entered, enters, named_path, named_paths, noted, path_in, progress_of, read_entry, started, started_here, started_there, starts_at, starts_named, starts_one}
 use Rattle.lard_request.specs.declared.verdict.Verdict.{Verdict}
 use Rattle.lard_rules.specs.Serving.{Service}
 
@@ -171,66 +170,66 @@ module _ (env : NodeEnv) where
     }
     all-start before left at r (e ∷ es) w us is at_is count h =
         go e.progress refl (good_path files e.verdict) refl h (λ before left at w gs is at_is count u. all-start before left at (r + 1) es w gs is at_is count u) where
-      Later : Type 0
-      Later = (before left : List ℕ) (at : ℕ) (w : Work) (gs : List Assigned) → nodes ≡ before ++ left → at ≡ length before → length left ≡ length (named_paths files es) → Under files env.n es gs
-          → AllStarted w (starts_at env nodes at (r + 1) es w) (gs ++ given_to (named_paths files es) left)
+          Later : Type 0
+          Later = (before left : List ℕ) (at : ℕ) (w : Work) (gs : List Assigned) → nodes ≡ before ++ left → at ≡ length before → length left ≡ length (named_paths files es) → Under files env.n es gs
+              → AllStarted w (starts_at env nodes at (r + 1) es w) (gs ++ given_to (named_paths files es) left)
 
-      Goal : Type 0
-      Goal = After w at r es (us ++ given_to (named_paths files (e ∷ es)) left) (starts_one env (slice_get nodes at) r e w)
+          Goal : Type 0
+          Goal = After w at r es (us ++ given_to (named_paths files (e ∷ es)) left) (starts_one env (slice_get nodes at) r e w)
 
-      -- it stays as it is, with these above it
-      stay : named_path files e ≡ None → (g gs : List Assigned) → us ≡ g ++ gs → Under files env.n (e ∷ []) g → Under files env.n es gs → Later → Goal
-      stay none g gs split one u later =
-          let same : named_paths files (e ∷ es) ≡ named_paths files es = ap (λ (o : Option (List ℕ)). and_path o (named_paths files es)) none in
-          let alone : named_paths files (e ∷ []) ≡ [] = ap (λ (o : Option (List ℕ)). and_path o []) none in
-          let all : AllStarted (entered e w) (starts_at env nodes at (r + 1) es (entered e w)) (gs ++ given_to (named_paths files es) left) = later before left at (entered e w) gs is at_is (count ∙ ap length same) u in
-          let whole : AllStarted w (starts_at env nodes at (r + 1) es (entered e w)) (g ++ (gs ++ given_to (named_paths files es) left)) =
-          more-started w (entered e w) _ e g (gs ++ given_to (named_paths files es) left) (entered-one e w) one alone all in
-          let is_all : g ++ (gs ++ given_to (named_paths files es) left) ≡ us ++ given_to (named_paths files (e ∷ es)) left =
-          sym (append_assoc g gs (given_to (named_paths files es) left)) ∙ (λ i. sym split i ++ given_to (sym same i) left) in
-          subst (λ (one : Bool × Work). After w at r es (us ++ given_to (named_paths files (e ∷ es)) left) one) (sym (stays-as (slice_get nodes at) r e w none))
-          (subst (AllStarted w (starts_at env nodes at (r + 1) es (entered e w))) is_all whole)
+          -- it stays as it is, with these above it
+          stay : named_path files e ≡ None → (g gs : List Assigned) → us ≡ g ++ gs → Under files env.n (e ∷ []) g → Under files env.n es gs → Later → Goal
+          stay none g gs split one u later =
+              let same : named_paths files (e ∷ es) ≡ named_paths files es = ap (λ (o : Option (List ℕ)). and_path o (named_paths files es)) none in
+              let alone : named_paths files (e ∷ []) ≡ [] = ap (λ (o : Option (List ℕ)). and_path o []) none in
+              let all : AllStarted (entered e w) (starts_at env nodes at (r + 1) es (entered e w)) (gs ++ given_to (named_paths files es) left) = later before left at (entered e w) gs is at_is (count ∙ ap length same) u in
+              let whole : AllStarted w (starts_at env nodes at (r + 1) es (entered e w)) (g ++ (gs ++ given_to (named_paths files es) left)) =
+              more-started w (entered e w) _ e g (gs ++ given_to (named_paths files es) left) (entered-one e w) one alone all in
+              let is_all : g ++ (gs ++ given_to (named_paths files es) left) ≡ us ++ given_to (named_paths files (e ∷ es)) left =
+              sym (append_assoc g gs (given_to (named_paths files es) left)) ∙ (λ i. sym split i ++ given_to (sym same i) left) in
+              subst (λ (one : Bool × Work). After w at r es (us ++ given_to (named_paths files (e ∷ es)) left) one) (sym (stays-as (slice_get nodes at) r e w none))
+              (subst (AllStarted w (starts_at env nodes at (r + 1) es (entered e w))) is_all whole)
 
-      -- it starts at the next node
-      begin : (path : List ℕ) → named_path files e ≡ Some path → good_path files e.verdict ≡ Some path → us ≡ [] → Under files env.n es [] → (rest : List ℕ) → left ≡ rest → length rest ≡ suc (length (named_paths files es)) → Later → Goal
-      begin path named good none u [] left_is size later = let no : 0 ≡ suc (length (named_paths files es)) = size in absurd (omega (arith, no))
-      begin path named good none u (node ∷ rest) left_is size later =
-          let split : nodes ≡ before ++ node ∷ rest = is ∙ ap (λ (l : List ℕ). before ++ l) left_is in
-          let got : slice_get nodes at ≡ Some node = (λ i. slice_get (split i) (at_is i)) ∙ get-behind before node rest in
-          let one : starts_one env (slice_get nodes at) r e w ≡ (true, started env node r path e.verdict w) = ap (λ (o : Option ℕ). starts_one env o r e w) got ∙ ap (starts_named env node r e w) named in
-          let b : Begun env.n node e.verdict w (started env node r path e.verdict w) = started-begins node r path e.verdict w in
-          let u_next : Work = started env node r path e.verdict w in
-          let further : nodes ≡ (before ++ node ∷ []) ++ rest = split ∙ sym (append_assoc before (node ∷ []) rest) in
-          let all : AllStarted u_next (starts_at env nodes (at + 1) (r + 1) es u_next) ([] ++ given_to (named_paths files es) rest) =
-          later (before ++ node ∷ []) rest (at + 1) u_next [] further (omega (arith, at_is, length-append before (node ∷ []))) (omega (arith, size)) u in
-          let whole : AllStarted w (starts_at env nodes (at + 1) (r + 1) es u_next) ((path, node) ∷ given_to (named_paths files es) rest) =
-          more-started w u_next _ b.entry ((path, node) ∷ []) (given_to (named_paths files es) rest) b.enters (begun-under env.n node e.verdict path w u_next b good) (begun-none env.n node e.verdict w u_next b) all in
-          let names : named_paths files (e ∷ es) ≡ path ∷ named_paths files es = ap (λ (o : Option (List ℕ)). and_path o (named_paths files es)) named in
-          let is_all : (path, node) ∷ given_to (named_paths files es) rest ≡ us ++ given_to (named_paths files (e ∷ es)) left = λ i. sym none i ++ given_to (sym names i) (sym left_is i) in
-          subst (λ (one : Bool × Work). After w at r es (us ++ given_to (named_paths files (e ∷ es)) left) one) (sym one)
-          (subst (AllStarted w (starts_at env nodes (at + 1) (r + 1) es u_next)) is_all whole)
+          -- it starts at the next node
+          begin : (path : List ℕ) → named_path files e ≡ Some path → good_path files e.verdict ≡ Some path → us ≡ [] → Under files env.n es [] → (rest : List ℕ) → left ≡ rest → length rest ≡ suc (length (named_paths files es)) → Later → Goal
+          begin path named good none u [] left_is size later = let no : 0 ≡ suc (length (named_paths files es)) = size in absurd (omega (arith, no))
+          begin path named good none u (node ∷ rest) left_is size later =
+              let split : nodes ≡ before ++ node ∷ rest = is ∙ ap (λ (l : List ℕ). before ++ l) left_is in
+              let got : slice_get nodes at ≡ Some node = (λ i. slice_get (split i) (at_is i)) ∙ get-behind before node rest in
+              let one : starts_one env (slice_get nodes at) r e w ≡ (true, started env node r path e.verdict w) = ap (λ (o : Option ℕ). starts_one env o r e w) got ∙ ap (starts_named env node r e w) named in
+              let b : Begun env.n node e.verdict w (started env node r path e.verdict w) = started-begins node r path e.verdict w in
+              let u_next : Work = started env node r path e.verdict w in
+              let further : nodes ≡ (before ++ node ∷ []) ++ rest = split ∙ sym (append_assoc before (node ∷ []) rest) in
+              let all : AllStarted u_next (starts_at env nodes (at + 1) (r + 1) es u_next) ([] ++ given_to (named_paths files es) rest) =
+              later (before ++ node ∷ []) rest (at + 1) u_next [] further (omega (arith, at_is, length-append before (node ∷ []))) (omega (arith, size)) u in
+              let whole : AllStarted w (starts_at env nodes (at + 1) (r + 1) es u_next) ((path, node) ∷ given_to (named_paths files es) rest) =
+              more-started w u_next _ b.entry ((path, node) ∷ []) (given_to (named_paths files es) rest) b.enters (begun-under env.n node e.verdict path w u_next b good) (begun-none env.n node e.verdict w u_next b) all in
+              let names : named_paths files (e ∷ es) ≡ path ∷ named_paths files es = ap (λ (o : Option (List ℕ)). and_path o (named_paths files es)) named in
+              let is_all : (path, node) ∷ given_to (named_paths files es) rest ≡ us ++ given_to (named_paths files (e ∷ es)) left = λ i. sym none i ++ given_to (sym names i) (sym left_is i) in
+              subst (λ (one : Bool × Work). After w at r es (us ++ given_to (named_paths files (e ∷ es)) left) one) (sym one)
+              (subst (AllStarted w (starts_at env nodes (at + 1) (r + 1) es u_next)) is_all whole)
 
-      named-as : (p : Progress) → e.progress ≡ p → (o : Option (List ℕ)) → path_in files e p ≡ o → named_path files e ≡ o
-      named-as p at o is = ap (path_in files e) at ∙ is
+          named-as : (p : Progress) → e.progress ≡ p → (o : Option (List ℕ)) → path_in files e p ≡ o → named_path files e ≡ o
+          named-as p at o is = ap (path_in files e) at ∙ is
 
-      -- of one that started, its own assignment is the first
-      takes : (path : List ℕ) (p : Progress) → e.progress ≡ p → good_path files e.verdict ≡ Some path → path_in files e p ≡ None → (gs : List Assigned) → us ≡ gs → TakesFirst env.n path p (λ l. Under files env.n es l) gs → Later → Goal
-      takes path p at good none [] split t later = absurd t
-      takes path p at good none (g ∷ gs) split t later =
-          stay (named-as p at None none) (g ∷ []) gs split
-          (subst (λ (q : Progress). Lies env.n q (λ l. l ≡ []) (g ∷ []) (good_path files e.verdict)) (sym at) (subst (Lies env.n p (λ l. l ≡ []) (g ∷ [])) (sym good) (takes-lies env.n path p (λ l. l ≡ []) (g ∷ []) (t.0, t.1, refl))))
-          t.2 later
+          -- of one that started, its own assignment is the first
+          takes : (path : List ℕ) (p : Progress) → e.progress ≡ p → good_path files e.verdict ≡ Some path → path_in files e p ≡ None → (gs : List Assigned) → us ≡ gs → TakesFirst env.n path p (λ l. Under files env.n es l) gs → Later → Goal
+          takes path p at good none [] split t later = absurd t
+          takes path p at good none (g ∷ gs) split t later =
+              stay (named-as p at None none) (g ∷ []) gs split
+              (subst (λ (q : Progress). Lies env.n q (λ l. l ≡ []) (g ∷ []) (good_path files e.verdict)) (sym at) (subst (Lies env.n p (λ l. l ≡ []) (g ∷ [])) (sym good) (takes-lies env.n path p (λ l. l ≡ []) (g ∷ []) (t.0, t.1, refl))))
+              t.2 later
 
-      on : (p : Progress) → e.progress ≡ p → (o : Option (List ℕ)) → good_path files e.verdict ≡ o → Lies env.n p (λ l. Under files env.n es l) us o → Later → Goal
-      on p at None none l later =
-          stay (ap (path_in files e) (at ∙ l.0)) [] us refl
-          (subst (λ (q : Progress). Lies env.n q (λ g. g ≡ []) [] (good_path files e.verdict)) (sym at) (subst (Lies env.n p (λ g. g ≡ []) []) (sym none) (l.0, refl))) l.1 later
-      on progress.Named at (Some path) good l later =
-          let named : named_path files e ≡ Some path = named-as progress.Named at (Some path) good in
-          begin path named good l.0 l.1 left refl (count ∙ ap (λ (o : Option (List ℕ)). length (and_path o (named_paths files es))) named) later
-      on progress.Reading at (Some path) good l later = takes path progress.Reading at good refl us refl l later
-      on (progress.Awaited from) at (Some path) good l later = takes path (progress.Awaited from) at good refl us refl l later
-      on (progress.Ready way) at (Some path) good l later = takes path (progress.Ready way) at good refl us refl l later
+          on : (p : Progress) → e.progress ≡ p → (o : Option (List ℕ)) → good_path files e.verdict ≡ o → Lies env.n p (λ l. Under files env.n es l) us o → Later → Goal
+          on p at None none l later =
+              stay (ap (path_in files e) (at ∙ l.0)) [] us refl
+              (subst (λ (q : Progress). Lies env.n q (λ g. g ≡ []) [] (good_path files e.verdict)) (sym at) (subst (Lies env.n p (λ g. g ≡ []) []) (sym none) (l.0, refl))) l.1 later
+          on progress.Named at (Some path) good l later =
+              let named : named_path files e ≡ Some path = named-as progress.Named at (Some path) good in
+              begin path named good l.0 l.1 left refl (count ∙ ap (λ (o : Option (List ℕ)). length (and_path o (named_paths files es))) named) later
+          on progress.Reading at (Some path) good l later = takes path progress.Reading at good refl us refl l later
+          on (progress.Awaited from) at (Some path) good l later = takes path (progress.Awaited from) at good refl us refl l later
+          on (progress.Ready way) at (Some path) good l later = takes path (progress.Ready way) at good refl us refl l later
 
-      go : (p : Progress) → e.progress ≡ p → (o : Option (List ℕ)) → good_path files e.verdict ≡ o → Lies env.n e.progress (λ l. Under files env.n es l) us (good_path files e.verdict) → Later → Goal
-      go p at o good l later = on p at o good (subst (λ (x : Option (List ℕ)). Lies env.n p (λ gs. Under files env.n es gs) us x) good (subst (λ (q : Progress). Lies env.n q (λ gs. Under files env.n es gs) us (good_path files e.verdict)) at l)) later
+          go : (p : Progress) → e.progress ≡ p → (o : Option (List ℕ)) → good_path files e.verdict ≡ o → Lies env.n e.progress (λ l. Under files env.n es l) us (good_path files e.verdict) → Later → Goal
+          go p at o good l later = on p at o good (subst (λ (x : Option (List ℕ)). Lies env.n p (λ gs. Under files env.n es gs) us x) good (subst (λ (q : Progress). Lies env.n q (λ gs. Under files env.n es gs) us (good_path files e.verdict)) at l)) later

@@ -1,54 +1,41 @@
 -- What the front end answers to nodes, and whom it admits, leaves a connection on its way.
-use Rattle.std.proofs.Common.{◌≡◌, ◌≢◌, ◌≤◌, ◌<◌, ◌+◌, ◌^◌, ◌⊎◌, ◌==◌, ◌&&◌, nat_lt, ℕ, suc, Bool, true, false, cond, List, [], ◌∷◌, ◌++◌, map, length, Option, Some, None, Ok, inl, inr, ⊎_elim, refl, sym, ap, ◌∙◌, subst, arith, append-nil, append_assoc, eqb-true, eq-eqb}
+use Rattle.std.proofs.Common.{◌≡◌, ◌≤◌, ◌<◌, ◌+◌, ◌^◌, ◌==◌, ◌&&◌, nat_lt, ℕ, suc, Bool, true, false, cond, List, [], ◌∷◌, ◌++◌, map, length, Option, Some, None, inl, inr, ⊎_elim, refl, sym, ap, ◌∙◌, subst, arith, append-nil, append_assoc, eqb-true, eq-eqb}
 use Rattle.std.specs.List.{slice_get}
-use Rattle.std.proofs.lemmas.Bool.{and_from, and_parts, cond_both}
+use Rattle.std.proofs.lemmas.Bool.{and_from, and_parts}
 use Rattle.std.proofs.lemmas.List.{map-append}
 use Rattle.lard_answers.specs.Answers.{FilesAt, IsPrefix}
 use Rattle.lard_base.specs.declared.ids.Epoch.{Epoch}
-use Rattle.lard_base.specs.declared.place.Place.{Place}
-use Rattle.lard_base.specs.declared.place.Place.TheVariants.{Client, Front, Node}
+use Rattle.lard_base.specs.declared.place.Place.TheVariants.{Front, Node}
 use Rattle.lard_base.specs.declared.place.TimerKind.TheVariants as timer
-use Rattle.lard_cluster.specs.Bounds.{IsNumber}
-use Rattle.lard_cluster_bytes.specs.Law.{Helps}
-use Rattle.lard_cluster_bytes.proofs.ClientMoves.{has-fair}
 use Rattle.lard_cluster_bytes.proofs.FrontMessages.{past-undecided}
-use Rattle.lard_cluster_bytes.proofs.FrontMoves.{kinds-same}
-use Rattle.lard_cluster_places.specs.Places.{FrontSaid, IsDecided, IsOffered, IsPast, Offers, Sits, StageSits, owning}
+use Rattle.lard_cluster_places.specs.Places.{IsDecided, IsOffered, IsPast, Offers, Sits, StageSits, owning}
 use Rattle.lard_cluster_places.proofs.Turns.{IsPlaced}
 use Rattle.lard_cluster_view.specs.Carry.{tale_at}
-use Rattle.lard_cluster_view.specs.View.{Conn, Move, Part, Was, by_front, front_does, letter, nothing_said, with_front}
-use Rattle.lard_cluster_ways.specs.State.{AskIs, FrontSaysWays, GoesItsWay, IsAsking, IsAway, IsBy, IsPlacedOnce, LetterWays, NodeSaysWays, OfferIs, SeatWays, StageWays, StayAsks, StayGoes, StayWays, TagIs, given_to, marks_at}
+use Rattle.lard_cluster_view.specs.View.{Conn, Move, Part, by_front, front_does, nothing_said}
+use Rattle.lard_cluster_ways.specs.State.{AskIs, FrontSaysWays, GoesItsWay, IsAway, IsBy, IsPlacedOnce, LetterWays, NodeSaysWays, SeatWays, StageWays, StayAsks, StayWays, given_to, marks_at}
 use Rattle.lard_cluster_ways.specs.Under.{Assigned}
-use Rattle.lard_cluster_ways.specs.Ways.{IsNextGood, Marks, paths_assigned, paths_wanted}
+use Rattle.lard_cluster_ways.specs.Ways.{Marks, paths_assigned, paths_wanted}
 use Rattle.lard_cluster_ways.proofs.Fronting.{front-quiet}
 use Rattle.lard_cluster_ways.proofs.Goods.{front-of, next-get}
-use Rattle.lard_cluster_ways.proofs.Letters.{Carries, Counts, carries-none, counts-with}
-use Rattle.lard_cluster_ways.proofs.Marking.{IsPlain, Rightly, mark, marked}
-use Rattle.lard_cluster_ways.proofs.Moving.{IsMade, Keeps, makes, same-marks, stands-makes}
+use Rattle.lard_cluster_ways.proofs.Letters.{Counts, carries-none}
+use Rattle.lard_cluster_ways.proofs.Marking.{Rightly, marked}
+use Rattle.lard_cluster_ways.proofs.Moving.{Keeps, makes, same-marks, stands-makes}
 use Rattle.lard_cluster_ways.proofs.Spelling.{ReadsTag, epoch-reads, tag-reads}
 use Rattle.lard_costs.specs.declared.later.LaterChoice.{LaterChoice}
 use Rattle.lard_dispatch.specs.declared.dispatch.Ask.{Ask}
-use Rattle.lard_dispatch.specs.declared.dispatch.Later.{Later}
 use Rattle.lard_endpoint.specs.declared.control.moving.Final.{Final}
 use Rattle.lard_front_rules.specs.declared.front.FrontRest.{FrontRest}
-use Rattle.lard_front_rules.specs.Front.{Deed, Did, Does, Drops, FrontEnv, FrontPart, Says, ack_sent, ask_of, asked_by, assigned_notes, assigns, ended_by, ends, front_asked, front_ended, front_taken, is_at, is_with, message, over_note, rest_of, saying, tag_sent, taken_by}
+use Rattle.lard_front_rules.specs.Front.{Deed, Did, Does, Drops, FrontEnv, FrontPart, Says, ack_sent, asked_by, assigned_notes, assigns, ended_by, front_asked, is_at, is_with, message, over_note, rest_of, saying, tag_sent, taken_by}
 use Rattle.lard_handoff_front.specs.declared.row.FrontConn.{FrontConn}
 use Rattle.lard_handoff_front.specs.declared.row.FrontConn.TheVariants as stage
 use Rattle.lard_handoff_front.specs.declared.row.FrontRow.{FrontRow}
 use Rattle.lard_handoff_front.specs.declared.table.OnEnded.{OnEnded}
 use Rattle.lard_handoff_front.specs.declared.table.OnEnded.TheVariants.{Again, New, Stale}
-use Rattle.lard_handoff_front.specs.Front.{asked_node, end_answer}
 use Rattle.lard_handoff_front.specs.Row.{offered_to}
 use Rattle.lard_history.specs.Own.{Seen}
-use Rattle.lard_history.proofs.Each.{Each}
 use Rattle.lard_journal.specs.declared.rec.Rec.{Rec}
-use Rattle.lard_journal.specs.declared.rec.Rec.TheVariants as rec
 use Rattle.lard_message.specs.declared.kind.Kind.TheVariants as kind
-use Rattle.lard_message.specs.declared.message.Body.{Body}
 use Rattle.lard_message.specs.declared.message.Body.TheVariants as body
-use Rattle.lard_message.specs.declared.message.Message.{Message}
-use Rattle.lard_message.specs.Message.{kind_of}
-use Rattle.lard_message.specs.Reading.{decoded_message}
 use Rattle.lard_node_rules.specs.declared.stay.Stay.{Stay}
 use Rattle.lard_node_rules.specs.Node.{NodePart}
 use Rattle.lard_node_rules.specs.Stay.{named_paths}
@@ -72,8 +59,7 @@ module _ (files : FilesAt) (c : ℕ) (ask : Ask) where
   assigned-rightly m r [] choices h = tt
   assigned-rightly m r (path ∷ paths) [] h = tt
   assigned-rightly m r (path ∷ paths) (choice ∷ choices) h =
-      let next : Marks = record m { assigned = m.assigned ++ (path, choice.node) ∷ [] } in
-      (
+      let next : Marks = record m { assigned = m.assigned ++ (path, choice.node) ∷ [] } in (
         ap (slice_get (paths_wanted files m)) (sym (length-map m.assigned)) ∙ next-get (paths_assigned m) paths (paths_wanted files m) path h,
         assigned-rightly next (r + 1) paths choices (subst (λ (l : List (List ℕ)). IsPrefix l (paths_wanted files m)) (sym (append_assoc (paths_assigned m) (path ∷ []) paths) ∙ ap (λ (l : List (List ℕ)). l ++ paths) (sym (map-append (λ a. a.0) m.assigned ((path, choice.node) ∷ [])))) h),
       ) where

@@ -1,31 +1,29 @@
 -- A segment of the client, and the front end's timers, leave a connection on its way.
-use Rattle.std.proofs.Common.{◌≡◌, ◌≤◌, ◌<◌, ◌+◌, ◌^◌, ◌⊎◌, ℕ, Bool, true, false, cond, List, [], ◌∷◌, ◌++◌, map, length, take, Option, Some, None, Result, Ok, refl, sym, ap, ◌∙◌, subst, arith, append-nil}
+use Rattle.std.proofs.Common.{◌≡◌, ◌≤◌, ◌^◌, ℕ, Bool, true, false, cond, List, [], ◌∷◌, ◌++◌, map, length, take, Option, Some, None, refl, sym, ap, ◌∙◌, subst, append-nil}
 use Rattle.std.proofs.lemmas.Bool.{cond_both}
-use Rattle.lard_answers.specs.Answers.{FilesAt, IsPrefix, good_path, verdicts}
+use Rattle.lard_answers.specs.Answers.{FilesAt, IsPrefix, verdicts}
 use Rattle.lard_base.specs.declared.ids.Epoch.{Epoch}
 use Rattle.lard_base.specs.declared.place.Place.{Place}
 use Rattle.lard_base.specs.declared.place.Place.TheVariants.{Client, Front, Node}
 use Rattle.lard_cluster.specs.Bounds.{IsNumber}
-use Rattle.lard_cluster_bytes.specs.Agreement.{FrontHolds, FrontWaits, HasRead, HoldsIt, IsOpen, SeatAgrees, StageAgrees}
+use Rattle.lard_cluster_bytes.specs.Agreement.{FrontHolds, FrontWaits, IsOpen, SeatAgrees, StageAgrees}
 use Rattle.lard_cluster_bytes.specs.Keeping.{IsFrontTalk}
-use Rattle.lard_cluster_bytes.specs.Law.{Helps}
-use Rattle.lard_cluster_bytes.proofs.FrontMoves.{IsBefore, home-past, talk-of}
+use Rattle.lard_cluster_bytes.proofs.FrontMoves.{IsBefore, home-past}
 use Rattle.lard_cluster_bytes.proofs.FrontReading.{GoesOver, reads-so}
 use Rattle.lard_cluster_bytes.proofs.Fronts.{frozen-holds}
-use Rattle.lard_cluster_bytes.proofs.Holding.{heard-so, same-so}
+use Rattle.lard_cluster_bytes.proofs.Holding.{heard-so}
 use Rattle.lard_cluster_bytes.proofs.Reading.{batch-read}
 use Rattle.lard_cluster_bytes.proofs.Serving.{So}
 use Rattle.lard_cluster_places.specs.Places.{ArePast, Sits, StageSits, owning}
 use Rattle.lard_cluster_places.proofs.Loops.{settled-is, spoken-to}
 use Rattle.lard_cluster_view.specs.Carry.{tale_at}
-use Rattle.lard_cluster_view.specs.View.{Conn, IsFrontEnv, Part, Setting, by_front, front_admits, front_does, nothing_said, with_front}
+use Rattle.lard_cluster_view.specs.View.{Conn, IsFrontEnv, Setting, by_front, front_admits, front_does, nothing_said, with_front}
 use Rattle.lard_cluster_ways.specs.State.{BeginsWith, GoesItsWay, IsFree, IsWaiting, SeatWays, StageWays, marks_at}
-use Rattle.lard_cluster_ways.specs.Ways.{Marks, good_paths}
+use Rattle.lard_cluster_ways.specs.Ways.{Marks}
 use Rattle.lard_cluster_ways.proofs.Fronting.{IsFrozen, front-quiet, handed-makes, turned-makes}
 use Rattle.lard_cluster_ways.proofs.Looking.{Looks, reads-look, waits-kept}
-use Rattle.lard_cluster_ways.proofs.Marking.{IsPlain, Rightly, marked, marked-append, rightly-append}
-use Rattle.lard_cluster_ways.proofs.Moving.{IsMade, Keeps, clients-say, says-append, sent-say, stands-makes}
-use Rattle.lard_costs.specs.declared.later.LaterChoice.{LaterChoice}
+use Rattle.lard_cluster_ways.proofs.Marking.{Rightly, marked, marked-append, rightly-append}
+use Rattle.lard_cluster_ways.proofs.Moving.{Keeps, sent-say, stands-makes}
 use Rattle.lard_dispatch.specs.declared.dispatch.First.{First}
 use Rattle.lard_dispatch.specs.declared.dispatch.First.TheVariants as first
 use Rattle.lard_endpoint.specs.Arriving.{on_segment}
@@ -36,17 +34,14 @@ use Rattle.lard_endpoint.specs.Moving.{end_reason, final_of, may_end, may_freeze
 use Rattle.lard_endpoint.proofs.Adoption.{frozen_stands}
 use Rattle.lard_front_rules.specs.declared.front.FrontRest.{FrontRest}
 use Rattle.lard_front_rules.specs.declared.front.FrontTurn.{FrontTurn}
-use Rattle.lard_front_rules.specs.Front.{Deed, Did, Does, Drops, FrontEnv, FrontPart, Says, admitted_with, begun, fired, fired_by, fires_at, forwarded, front_gets, front_hears, front_timer, handed_off, hears_at, holds, is_at, leaves_by, message, met, placed, rest_after, rest_of, rests, saying, settled_by, stage_after, turn_here, waits_on}
+use Rattle.lard_front_rules.specs.Front.{Deed, Does, Drops, FrontEnv, FrontPart, Says, admitted_with, begun, fired, fired_by, fires_at, forwarded, front_hears, handed_off, hears_at, holds, is_at, message, met, placed, rest_of, rests, saying, settled_by, stage_after, turn_here}
 use Rattle.lard_front_rules.specs.Reading.{MayMove, Reading, reads}
-use Rattle.lard_front_rules.specs.Sound.{Serves}
 use Rattle.lard_front_rules.proofs.Blocks.{segment-keeps, segment-serves, speaks-keep, timer-keeps}
 use Rattle.lard_front_rules.proofs.Turns.{reads-stop}
 use Rattle.lard_handoff_front.specs.declared.row.FrontConn.{FrontConn}
 use Rattle.lard_handoff_front.specs.declared.row.FrontConn.TheVariants as stage
 use Rattle.lard_handoff_front.specs.declared.row.FrontRow.{FrontRow}
 use Rattle.lard_history.specs.Own.{Seen}
-use Rattle.lard_history.proofs.Each.{Each}
-use Rattle.lard_journal.specs.declared.rec.Rec.{Rec}
 use Rattle.lard_journal.specs.declared.rec.Rec.TheVariants as rec
 use Rattle.lard_laws_bytes.specs.Agreement.{IsWord}
 use Rattle.lard_laws_bytes.specs.Truthful.{Talk}

@@ -1,5 +1,5 @@
 -- What the front end does leaves a connection on its way.
-use Rattle.std.proofs.Common.{◌≡◌, ◌≢◌, ◌≤◌, ◌<◌, ◌+◌, ◌^◌, ◌⊎◌, ◌==◌, ◌&&◌, nat_lt, ℕ, Bool, true, false, cond, List, [], ◌∷◌, ◌++◌, map, length, take, Option, Some, None, Ok, inl, inr, ⊎_elim, refl, sym, ap, ◌∙◌, subst, arith, append-nil, append_assoc, eqb-true}
+use Rattle.std.proofs.Common.{◌≡◌, ◌≢◌, ◌≤◌, ◌+◌, ◌==◌, ℕ, true, List, [], ◌∷◌, ◌++◌, map, length, take, Option, Some, None, Ok, inl, inr, refl, sym, ap, ◌∙◌, subst, arith, append_assoc, eqb-true}
 use Rattle.std.specs.List.{slice_get}
 use Rattle.std.proofs.lemmas.Bool.{and_parts}
 use Rattle.lard_answers.specs.Answers.{FilesAt, IsPrefix, good_path, verdicts}
@@ -8,25 +8,22 @@ use Rattle.lard_base.specs.declared.place.Place.{Place}
 use Rattle.lard_base.specs.declared.place.Place.TheVariants.{Client, Front, Node}
 use Rattle.lard_cluster.specs.Bounds.{IsNumber}
 use Rattle.lard_cluster_bytes.specs.Agreement.{FrontHolds}
-use Rattle.lard_cluster_bytes.specs.Law.{Helps}
 use Rattle.lard_cluster_bytes.proofs.FrontMoves.{kinds-same}
 use Rattle.lard_cluster_bytes.proofs.Messages.{offers-read}
 use Rattle.lard_cluster_places.specs.Places.{ArePast, IsDecided, IsPast}
 use Rattle.lard_cluster_places.proofs.Growing.{past-later}
-use Rattle.lard_cluster_view.specs.View.{Conn, Move, Part, front_does, grown, letter, letters_of, with_front}
-use Rattle.lard_cluster_ways.specs.State.{AskIs, BeginsWith, FrontSaysWays, GoesItsWay, IsAway, IsBy, LetterWays, OfferIs, SeatWays, SaysWays, TagIs, marks_at}
+use Rattle.lard_cluster_view.specs.View.{Conn, Move, Part, front_does, letter, with_front}
+use Rattle.lard_cluster_ways.specs.State.{BeginsWith, FrontSaysWays, IsBy, LetterWays, SeatWays, marks_at}
 use Rattle.lard_cluster_ways.specs.Under.{Assigned}
 use Rattle.lard_cluster_ways.specs.Ways.{IsNextGood, Marks, good_paths, paths_assigned, paths_wanted}
 use Rattle.lard_cluster_ways.proofs.Goods.{good-append, prefix-take}
-use Rattle.lard_cluster_ways.proofs.Letters.{Carries, Counts, carries-none}
+use Rattle.lard_cluster_ways.proofs.Letters.{carries-none}
 use Rattle.lard_cluster_ways.proofs.Looking.{Looks}
 use Rattle.lard_cluster_ways.proofs.Marking.{Rightly, marked, marked-append, rightly-append}
-use Rattle.lard_cluster_ways.proofs.Moving.{IsMade, Keeps, clients-say, makes, same-marks, says-append}
-use Rattle.lard_endpoint.specs.Control.{ControlBlock}
+use Rattle.lard_cluster_ways.proofs.Moving.{Keeps, clients-say, makes, same-marks}
 use Rattle.lard_endpoint.specs.Moving.{may_freeze, parts_of}
-use Rattle.lard_front_rules.specs.declared.front.FrontRest.{FrontRest}
 use Rattle.lard_front_rules.specs.declared.front.FrontTurn.{FrontTurn}
-use Rattle.lard_front_rules.specs.Front.{Deed, Did, Does, Drops, FrontEnv, FrontPart, Says, handed_off, is_at, message, offer_kept, rest_of}
+use Rattle.lard_front_rules.specs.Front.{Did, Does, FrontEnv, FrontPart, handed_off, is_at, message}
 use Rattle.lard_handoff_front.specs.declared.row.FrontConn.TheVariants as stage
 use Rattle.lard_handoff_front.specs.declared.row.FrontRow.{FrontRow}
 use Rattle.lard_handoff_front.specs.Front.{next_epoch}
@@ -118,12 +115,13 @@ module _ (env : FrontEnv) (x : Conn) where
         let all : List Verdict = verdicts m.wrote in
         let none : good_paths files h.before ≡ [] =
         sym (ap (good_paths files) (ap (λ (n : ℕ). take n all) h.counted ∙ prefix-take h.before all (h.next.first ∷ (h.others ++ h.fronts.0), h.fronts.1 ∙ append_assoc h.before (h.next.first ∷ h.others) h.fronts.0))) ∙ h.looks.none in
-        let more : List (List ℕ) = good_paths files (h.others ++ h.fronts.0) in
-        (more,
-        ap (good_paths files) (h.fronts.1 ∙ append_assoc h.before (h.next.first ∷ h.others) h.fronts.0)
-        ∙ good-append files h.before (h.next.first ∷ (h.others ++ h.fronts.0))
-        ∙ ap (λ (l : List (List ℕ)). l ++ and_path (good_path files h.next.first) more) none
-        ∙ ap (λ (o : Option (List ℕ)). and_path o more) h.next.good)
+        let more : List (List ℕ) = good_paths files (h.others ++ h.fronts.0) in (
+          more,
+          ap (good_paths files) (h.fronts.1 ∙ append_assoc h.before (h.next.first ∷ h.others) h.fronts.0)
+              ∙ good-append files h.before (h.next.first ∷ (h.others ++ h.fronts.0))
+              ∙ ap (λ (l : List (List ℕ)). l ++ and_path (good_path files h.next.first) more) none
+              ∙ ap (λ (o : Option (List ℕ)). and_path o more) h.next.good,
+        )
 
     next-good : m.assigned ≡ [] → IsNextGood files (record m { served = s.count }) path
     next-good none = (λ i. slice_get (wanted-first.1 i) (length (none i)))

@@ -1,33 +1,31 @@
 -- A stay goes on turn by turn, from where it was, from what came for one of its requests, from a Tag, or from its first batch.
-use Rattle.std.proofs.Common.{◌≡◌, ◌≤◌, ◌^◌, ◌+◌, ◌-◌, ◌⊎◌, ◌==◌, nat_lt, ℕ, zero, suc, Bool, true, false, cond, List, [], ◌∷◌, ◌++◌, map, length, take, Option, Some, None, inl, inr, ⊎_elim, refl, sym, ap, ◌∙◌, subst, arith, append_assoc, append-nil}
+use Rattle.std.proofs.Common.{◌≡◌, ◌≤◌, ◌^◌, ◌+◌, ◌-◌, nat_lt, ℕ, Bool, true, false, cond, List, [], ◌∷◌, ◌++◌, map, length, take, Option, Some, None, inl, inr, ⊎_elim, refl, sym, ap, ◌∙◌, subst, arith, append_assoc, append-nil}
 use Rattle.std.proofs.lemmas.Bool.{and_parts, cond_both}
 use Rattle.std.specs.Prelude.{not, ◌&&◌}
-use Rattle.lard_answers.specs.Answers.{FilesAt, IsPrefix, good_path, verdicts}
+use Rattle.lard_answers.specs.Answers.{FilesAt, good_path, verdicts}
 use Rattle.lard_cluster_bytes.proofs.Working.{Right, StepsSo, Works, turn-so}
 use Rattle.lard_cluster_bytes.proofs.Ways.{StepsRight, turn-right}
-use Rattle.lard_cluster_ways.specs.State.{IsAsking, StayAsks, StayGoes, given_to}
-use Rattle.lard_cluster_ways.specs.Under.{Assigned, Lies, Under}
-use Rattle.lard_cluster_ways.specs.Ways.{Marks, good_paths, paths_answered}
-use Rattle.lard_cluster_ways.proofs.Entering.{AllStarted, Begun, Enters, all-start, begun-none, begun-under, enters-both, here-begins, read-enter, read-under}
+use Rattle.lard_cluster_ways.specs.State.{StayAsks, StayGoes, given_to}
+use Rattle.lard_cluster_ways.specs.Under.{Assigned, Under}
+use Rattle.lard_cluster_ways.specs.Ways.{Marks, good_paths}
+use Rattle.lard_cluster_ways.proofs.Entering.{AllStarted, Begun, Enters, all-start, begun-under, enters-both, here-begins, read-enter, read-under}
 use Rattle.lard_cluster_ways.proofs.Lying.{KeepsStarted, came-named, came-under, under-append}
-use Rattle.lard_cluster_ways.proofs.Marking.{IsPlain, Rightly, marked, plain-marked, plain-rightly}
-use Rattle.lard_cluster_ways.proofs.Staying.{AskIn, AsksFor, Goes, Home, Reads, StepGoes, StepReads, all_verdicts, asks-go, entered-notes, entered-told, entered-walked, served_now, turned-goes, unasked, works-read}
+use Rattle.lard_cluster_ways.proofs.Marking.{Rightly, marked}
+use Rattle.lard_cluster_ways.proofs.Staying.{AskIn, Goes, Home, StepGoes, StepReads, asks-go, entered-notes, entered-told, entered-walked, turned-goes, unasked, works-read}
 use Rattle.lard_endpoint.specs.Control.{ControlBlock}
 use Rattle.lard_front_rules.specs.declared.front.FrontRest.{FrontRest}
-use Rattle.lard_history.proofs.Each.{Each}
-use Rattle.lard_journal.specs.declared.rec.Rec.{Rec}
 use Rattle.lard_node_rules.specs.declared.stay.Asked.{Asked}
 use Rattle.lard_node_rules.specs.declared.stay.Entry.{Entry}
 use Rattle.lard_node_rules.specs.declared.stay.Next.{Next}
 use Rattle.lard_node_rules.specs.declared.stay.Next.TheVariants as next
 use Rattle.lard_node_rules.specs.declared.stay.Progress.{Progress}
 use Rattle.lard_node_rules.specs.declared.stay.Stay.{Stay}
-use Rattle.lard_node_rules.specs.Node.{stay_after, work_of}
-use Rattle.lard_node_rules.specs.Stay.{NodeEnv, Work, asks_for, came_for, come_on, enters, enters_first, enters_one, goes_on, left, named_paths, next_in, noted, reads_batch, reads_these, read_entry, starts_at, started_here, tagged, turn, turned}
+use Rattle.lard_node_rules.specs.Node.{work_of}
+use Rattle.lard_node_rules.specs.Stay.{NodeEnv, Work, asks_for, came_for, come_on, enters, enters_first, goes_on, left, named_paths, next_in, reads_these, read_entry, started_here, tagged, turn, turned}
 use Rattle.lard_reader.specs.Batches.{batch_of, bytes_used}
 use Rattle.lard_request.specs.declared.verdict.Verdict.{Verdict}
-use Rattle.lard_rules.specs.Loop.{Step, More, Done, state_of}
-use Rattle.lard_rules.specs.Serving.{Service, consumed, may_read, serving}
+use Rattle.lard_rules.specs.Loop.{state_of}
+use Rattle.lard_rules.specs.Serving.{Service, consumed, may_read}
 use Rattle.lard_rules.proofs.Runs.{runs_keep}
 use Rattle.lard_truth.specs.Truth.{Stream}
 

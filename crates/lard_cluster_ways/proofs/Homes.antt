@@ -1,32 +1,27 @@
 -- The rules of a node leave a connection on its way.
-use Rattle.std.proofs.Common.{◌≡◌, ◌≢◌, ◌≤◌, ◌<◌, ◌+◌, ◌^◌, ◌⊎◌, ◌==◌, ◌&&◌, nat_lt, ℕ, Bool, true, false, cond, List, [], ◌∷◌, ◌++◌, map, length, Option, Some, None, Ok, inl, inr, ⊎_elim, refl, sym, ap, ◌∙◌, subst, arith, append-nil, eqb-true}
+use Rattle.std.proofs.Common.{◌≡◌, ◌≢◌, ◌≤◌, ◌<◌, ◌+◌, ◌^◌, ◌⊎◌, nat_lt, ℕ, Bool, true, false, cond, List, [], ◌∷◌, ◌++◌, map, Option, Some, None, Ok, inl, inr, ⊎_elim, refl, sym, ap, ◌∙◌, subst, arith}
 use Rattle.std.specs.Prelude.{is_some}
 use Rattle.std.proofs.lemmas.Bool.{ltb-false, ltb-true}
-use Rattle.std.proofs.lemmas.List.{map-append}
-use Rattle.lard_answers.specs.Answers.{FilesAt, IsPrefix}
+use Rattle.lard_answers.specs.Answers.{FilesAt}
 use Rattle.lard_base.specs.declared.place.Place.{Place}
-use Rattle.lard_base.specs.declared.place.Place.TheVariants.{Client, Front, Node}
-use Rattle.lard_cluster_bytes.specs.Agreement.{SeatAgrees}
+use Rattle.lard_base.specs.declared.place.Place.TheVariants.{Front, Node}
 use Rattle.lard_cluster_bytes.specs.Law.{Helps}
-use Rattle.lard_cluster_bytes.proofs.ClientMoves.{has-fair}
 use Rattle.lard_cluster_bytes.proofs.FrontMoves.{kinds-same}
 use Rattle.lard_cluster_bytes.proofs.FrontMessages.{past-undecided}
-use Rattle.lard_cluster_bytes.proofs.NodeMoves.{HasIt, IsAt}
+use Rattle.lard_cluster_bytes.proofs.NodeMoves.{IsAt}
 use Rattle.lard_cluster_places.specs.Places.{IsDecided, IsPast}
 use Rattle.lard_cluster_places.proofs.Growing.{put-each, put-same}
-use Rattle.lard_cluster_places.proofs.Turns.{IsPlaced}
-use Rattle.lard_cluster_view.specs.View.{AreSent, Conn, Move, Part, grown, letter, letters_of, named, node_does, node_put, reads_first, stands, nothing_said, with_node}
-use Rattle.lard_cluster_ways.specs.State.{AskIs, GoesItsWay, IsAway, IsPlacedOnce, LetterWays, NodeSaysWays, SeatWays, StageWays, StayAsks, StayWays, marks_at}
+use Rattle.lard_cluster_view.specs.View.{AreSent, Conn, Move, Part, letter, named, node_put, stands, nothing_said, with_node}
+use Rattle.lard_cluster_ways.specs.State.{GoesItsWay, IsAway, IsPlacedOnce, LetterWays, NodeSaysWays, SeatWays, StageWays, StayAsks, StayWays, marks_at}
 use Rattle.lard_cluster_ways.specs.Under.{Assigned}
-use Rattle.lard_cluster_ways.specs.Ways.{Marks, paths_assigned, paths_wanted}
+use Rattle.lard_cluster_ways.specs.Ways.{Marks}
 use Rattle.lard_cluster_ways.proofs.Letters.{Counts, carries-same}
 use Rattle.lard_cluster_ways.proofs.Marking.{IsPlain, Rightly, mark, marked}
-use Rattle.lard_cluster_ways.proofs.Moving.{IsMade, Keeps, clients-say, makes, same-marks, says-append, sent-say, stands-makes}
-use Rattle.lard_cluster_ways.proofs.Short.{AreShort}
+use Rattle.lard_cluster_ways.proofs.Moving.{Keeps, clients-say, makes, same-marks, says-append, sent-say, stands-makes}
 use Rattle.lard_cluster_ways.proofs.Spelling.{ReadsAsk, ask-reads, epoch-reads}
-use Rattle.lard_cluster_ways.proofs.Turning.{BodyIs, DeedWays, SaysIt, TurnWays}
+use Rattle.lard_cluster_ways.proofs.Turning.{BodyIs, SaysIt, TurnWays}
 use Rattle.lard_front_rules.specs.declared.front.FrontRest.{FrontRest}
-use Rattle.lard_front_rules.specs.Front.{is_at, rest_of}
+use Rattle.lard_front_rules.specs.Front.{rest_of}
 use Rattle.lard_handoff_front.specs.declared.row.FrontConn.{FrontConn}
 use Rattle.lard_handoff_front.specs.declared.row.FrontConn.TheVariants as stage
 use Rattle.lard_handoff_front.specs.declared.row.FrontRow.{FrontRow}
@@ -34,8 +29,6 @@ use Rattle.lard_history.specs.Own.{Seen, whose}
 use Rattle.lard_history.proofs.Each.{Each}
 use Rattle.lard_journal.specs.declared.rec.Rec.{Rec}
 use Rattle.lard_journal.specs.declared.rec.Rec.TheVariants as rec
-use Rattle.lard_laws_bytes.specs.Truthful.{Talk}
-use Rattle.lard_message.specs.declared.kind.Kind.{Kind}
 use Rattle.lard_message.specs.declared.kind.Kind.TheVariants as kind
 use Rattle.lard_message.specs.declared.message.Body.{Body}
 use Rattle.lard_message.specs.declared.message.Body.TheVariants as body
@@ -43,10 +36,8 @@ use Rattle.lard_message.specs.declared.message.Message.{Message}
 use Rattle.lard_message.specs.Message.{kind_of}
 use Rattle.lard_message.specs.Reading.{decoded_message}
 use Rattle.lard_node_rules.specs.declared.node.NodeTurn.{NodeTurn}
-use Rattle.lard_node_rules.specs.declared.stay.Stay.{Stay}
-use Rattle.lard_node_rules.specs.Node.{Deed, Does, Drops, NodePart, Says, again_sent, message}
+use Rattle.lard_node_rules.specs.Node.{NodePart, again_sent, message}
 use Rattle.lard_node_rules.specs.Stay.{NodeEnv}
-use Rattle.lard_request.specs.declared.verdict.Verdict.{Verdict}
 use Rattle.lard_resend.specs.declared.kept.Kept.{Kept}
 
 -- ---- what is named of the notes
@@ -115,8 +106,7 @@ module _ (env : NodeEnv) (m : Marks) (p : Part) (n : ℕ) (small : env.epoch < 2
       let read : ReadsAsk number paths msg.body = ask-reads env.serve.c env.epoch number queue size paths h.1 msg d in
       let same : msg.epoch.0 ≡ env.epoch = epoch-reads env.serve.c env.epoch (body.Ask number queue size paths) small msg d in
       let le = read.less in
-      subst (NodeSaysWays files m p n msg.epoch.0) (sym read.is)
-      (
+      subst (NodeSaysWays files m p n msg.epoch.0) (sym read.is) (
         subst (λ (e : ℕ). IsDecided e (p.nodes n).row) (sym same) decided,
         λ at. ⊎_elim (λ (a : read.read ≤ r.asks). inl a) (λ (a : read.read ≡ r.asks + 1). inr (a, h.2, h.3)) (less-or-same read.read r.asks (omega (arith, h.0, le))),
       )

@@ -1,12 +1,12 @@
 -- What packets say of Asks, Tags and Offers stays so while the front end and the nodes go on.
-use Rattle.std.proofs.Common.{◌≡◌, ◌≤◌, ◌<◌, ◌+◌, ◌⊎◌, ◌==◌, ◌&&◌, ℕ, Bool, true, false, List, [], ◌∷◌, ◌++◌, map, Option, Some, None, Ok, inl, inr, ⊎_elim, refl, sym, ap, ◌∙◌, subst, arith, eqb-true}
+use Rattle.std.proofs.Common.{◌≡◌, ◌≤◌, ◌+◌, ◌⊎◌, ◌==◌, ℕ, true, false, List, [], ◌∷◌, ◌++◌, map, Option, Some, None, inl, inr, ⊎_elim, sym, ap, ◌∙◌, subst, arith, eqb-true}
 use Rattle.std.proofs.lemmas.Bool.{and_parts}
 use Rattle.lard_answers.specs.Answers.{FilesAt, IsPrefix}
 use Rattle.lard_answers.proofs.Growing.{IsPrefix-trans}
 use Rattle.lard_base.specs.declared.parts.EndpointParts.{EndpointParts}
 use Rattle.lard_base.specs.declared.place.Place.{Place}
 use Rattle.lard_base.specs.declared.place.Place.TheVariants.{Client, Front, Node}
-use Rattle.lard_cluster_places.specs.Places.{FrontSaid, Head, IsDecided, IsOffered, LetterMay, MaySay, Offers}
+use Rattle.lard_cluster_places.specs.Places.{FrontSaid, IsDecided, LetterMay, MaySay}
 use Rattle.lard_cluster_places.proofs.Growing.{FrontGrows, Grows, decided-grows}
 use Rattle.lard_cluster_places.proofs.Heads.{decoded-head}
 use Rattle.lard_cluster_view.specs.View.{Part}
@@ -23,9 +23,7 @@ use Rattle.lard_history.proofs.Each.{Each}
 use Rattle.lard_message.specs.declared.kind.Kind.TheVariants as kind
 use Rattle.lard_message.specs.declared.message.Body.{Body}
 use Rattle.lard_message.specs.declared.message.Body.TheVariants as body
-use Rattle.lard_message.specs.declared.message.Message.{Message}
 use Rattle.lard_message.specs.Message.{kind_of}
-use Rattle.lard_message.specs.Reading.{decoded_message}
 use Rattle.lard_node_rules.specs.declared.stay.Stay.{Stay}
 use Rattle.lard_node_rules.specs.Node.{NodePart}
 

@@ -1,34 +1,31 @@
 -- What the front end answers until a request is to be placed is not for files, and what it leaves unread begins with that request.
-use Rattle.std.proofs.Common.{◌≡◌, ◌≤◌, ◌+◌, ◌^◌, ℕ, zero, suc, Bool, true, false, cond, nat_lt, List, [], ◌∷◌, ◌++◌, length, take, drop, Option, Some, None, refl, sym, ap, ◌∙◌, subst, arith, append-nil, length-append}
+use Rattle.std.proofs.Common.{◌≡◌, ◌≤◌, ◌+◌, ◌^◌, ℕ, zero, suc, cond, nat_lt, List, [], ◌∷◌, ◌++◌, length, take, Option, Some, None, refl, sym, ap, ◌∙◌, subst, arith, append-nil, length-append}
 use Rattle.std.specs.List.{slice_get}
 use Rattle.std.proofs.lemmas.Bool.{cond_both}
 use Rattle.lard_answers.specs.Answers.{FilesAt, IsPrefix, answer, answer_code, good_path, verdicts}
 use Rattle.lard_answers.proofs.Firsts.{verdicts-block}
 use Rattle.lard_answers.proofs.Growing.{verdicts-grow}
-use Rattle.lard_base.specs.declared.place.Place.{Place}
 use Rattle.lard_base.specs.declared.place.Via.TheVariants.{Own}
 use Rattle.lard_block.specs.declared.block.Found.{Found}
 use Rattle.lard_block.specs.declared.block.Found.TheVariants as found
 use Rattle.lard_block.specs.Blocks.{cut_of}
 use Rattle.lard_cluster_bytes.specs.Agreement.{HasRead}
-use Rattle.lard_cluster_bytes.proofs.FrontReading.{HasStopped, IsOn, ReadsSo, block-read, long-read, turn-so}
+use Rattle.lard_cluster_bytes.proofs.FrontReading.{IsOn, ReadsSo, block-read, long-read, turn-so}
 use Rattle.lard_cluster_bytes.proofs.Serving.{MayGo, So, may-go}
 use Rattle.lard_cluster_ways.specs.State.{BeginsWith, IsWaiting}
 use Rattle.lard_cluster_ways.specs.Ways.{AnswersBy, AnswersNext, ComesAsAssigned, Marks, good_paths}
-use Rattle.lard_cluster_ways.proofs.Goods.{get-behind, good-append, next-get, prefix-take}
+use Rattle.lard_cluster_ways.proofs.Goods.{good-append, next-get, prefix-take}
 use Rattle.lard_cluster_ways.proofs.Marking.{Rightly, marked, marked-append, rightly-append}
 use Rattle.lard_endpoint.specs.Control.{ControlBlock, consuming}
 use Rattle.lard_endpoint.specs.Moving.{may_freeze}
-use Rattle.lard_front_rules.specs.Reading.{Reading, block_at, left, reads, reads_block, reads_found, targeted, turn, with_service}
+use Rattle.lard_front_rules.specs.Reading.{Reading, block_at, left, reads, reads_block, reads_found, turn}
 use Rattle.lard_front_rules.proofs.Blocks.{KeptByTurns}
-use Rattle.lard_journal.specs.declared.rec.Rec.{Rec}
 use Rattle.lard_journal.specs.declared.rec.Rec.TheVariants as rec
 use Rattle.lard_node_rules.specs.Stay.{and_path}
-use Rattle.lard_recv.specs.Recv.{Received, arrived, awaited, begins_after, ends, fresh, taken}
+use Rattle.lard_recv.specs.Recv.{Received, awaited, begins_after, ends, fresh, taken}
 use Rattle.lard_request.specs.declared.verdict.Code.TheVariants as code
 use Rattle.lard_request.specs.declared.verdict.Verdict.{Verdict}
 use Rattle.lard_request.specs.declared.verdict.Verdict.TheVariants.{Fault}
-use Rattle.lard_request.specs.Verdict.{closes}
 use Rattle.lard_rules.specs.Loop.{Step, More, Done, runs_on}
 use Rattle.lard_rules.specs.Serving.{ServeEnv, Service, answered, consumed, ended_at_fin, may_read, passed_over, queued}
 use Rattle.lard_truth.specs.Truth.{Stream}

@@ -1,13 +1,12 @@
 -- Batches and their assignments: one batch behind another, what came for one of the requests, and the nodes of those that had none.
-use Rattle.std.proofs.Common.{◌≡◌, ◌≢◌, ◌⊎◌, ◌+◌, ◌==◌, ℕ, zero, suc, Bool, true, false, cond, List, [], ◌∷◌, ◌++◌, map, length, Option, Some, None, inl, inr, ⊎_elim, refl, sym, ap, ◌∙◌, subst, arith, append_assoc, append-nil, eqb-true}
-use Rattle.std.specs.List.{slice_get}
+use Rattle.std.proofs.Common.{◌≡◌, ◌⊎◌, ◌==◌, ℕ, zero, suc, List, [], ◌∷◌, ◌++◌, map, Option, Some, None, inl, inr, ⊎_elim, refl, sym, ap, ◌∙◌, subst, eqb-true}
 use Rattle.std.proofs.lemmas.Bool.{cond_both}
 use Rattle.lard_answers.specs.Answers.{FilesAt, good_path}
 use Rattle.lard_base.specs.declared.place.Via.{Via}
 use Rattle.lard_base.specs.declared.place.Via.TheVariants as via
 use Rattle.lard_cluster_bytes.proofs.Working.{verdicts_of}
 use Rattle.lard_cluster_ways.specs.Under.{Assigned, IsStarted, Lies, LiesGood, TakesFirst, Under}
-use Rattle.lard_cluster_ways.specs.Ways.{ComesFrom, good_paths}
+use Rattle.lard_cluster_ways.specs.Ways.{good_paths}
 use Rattle.lard_node_rules.specs.declared.stay.Entry.{Entry}
 use Rattle.lard_node_rules.specs.declared.stay.Progress.{Progress}
 use Rattle.lard_node_rules.specs.declared.stay.Progress.TheVariants as progress

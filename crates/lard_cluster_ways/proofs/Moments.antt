@@ -4,9 +4,9 @@ use Rattle.std.specs.List.{slice_get}
 use Rattle.std.proofs.lemmas.Bool.{both_ways, eqb-true}
 use Rattle.std.proofs.lemmas.List.{map-append}
 use Rattle.std.proofs.lemmas.List.Sums.{fold-append}
-use Rattle.lard_answers.specs.Answers.{FilesAt, IsPrefix, goods, verdicts}
+use Rattle.lard_answers.specs.Answers.{FilesAt, IsPrefix, verdicts}
 use Rattle.lard_answers.proofs.Growing.{IsPrefix-trans}
-use Rattle.lard_cluster_ways.specs.Ways.{AssignsAPrefix, MayBeAssigned, good_paths, marks}
+use Rattle.lard_cluster_ways.specs.Ways.{AssignsAPrefix, MayBeAssigned, good_paths}
 use Rattle.lard_cluster_ways.proofs.Goods.{goods-paths, wanted-grow}
 use Rattle.lard_history.specs.Journal.{assigned, assigned_step, is_touched, touched_step, wrote, wrote_step}
 use Rattle.lard_history.specs.Laws.{EachMay}

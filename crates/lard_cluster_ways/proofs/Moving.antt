@@ -1,19 +1,18 @@
 -- A move leaves a connection on its way, where its notes may stand, its seat agrees, and what is said agrees.
-use Rattle.std.proofs.Common.{◌≡◌, ℕ, List, [], ◌∷◌, ◌++◌, map, refl, sym, ap, ◌∙◌, subst, append-nil}
+use Rattle.std.proofs.Common.{◌≡◌, ℕ, List, [], ◌∷◌, ◌++◌, map, refl, sym, ◌∙◌, subst, append-nil}
 use Rattle.lard_answers.specs.Answers.{FilesAt, IsPrefix}
 use Rattle.lard_base.specs.declared.place.Place.{Place}
 use Rattle.lard_base.specs.declared.place.Place.TheVariants.{Client, Front, Node}
 use Rattle.lard_cluster_bytes.specs.Law.{Helps}
 use Rattle.lard_cluster_bytes.proofs.ClientMoves.{has-fair}
-use Rattle.lard_cluster_places.proofs.Growing.{Grows, grows-still}
-use Rattle.lard_cluster_view.specs.View.{AreSent, Conn, Move, Part, Said, grown, letter, letters_of, nothing_said, seen_in, stands}
+use Rattle.lard_cluster_places.proofs.Growing.{grows-still}
+use Rattle.lard_cluster_view.specs.View.{AreSent, Conn, Move, Part, Said, grown, letter, letters_of, seen_in, stands}
 use Rattle.lard_cluster_ways.specs.State.{GoesItsWay, LetterWays, SeatWays, marks_at}
 use Rattle.lard_cluster_ways.specs.Ways.{Marks, paths_assigned, paths_wanted}
 use Rattle.lard_cluster_ways.proofs.Letters.{Carries, IsSame, carries-same, letters-on}
 use Rattle.lard_cluster_ways.proofs.Marking.{IsPlain, Mine, Rightly, marked, marks-after, plain-marked, plain-rightly, rows-mine}
-use Rattle.lard_history.specs.Own.{EachRow, Letter, Seen}
+use Rattle.lard_history.specs.Own.{EachRow, Seen}
 use Rattle.lard_history.proofs.Each.{Each, Each-append}
-use Rattle.lard_journal.specs.declared.rec.Rec.{Rec}
 use Rattle.lard_resend.specs.declared.kept.Kept.{Kept}
 use Rattle.lard_resend.specs.Pending.{sent_of}
 
@@ -56,8 +55,7 @@ module _ (files : FilesAt) (x : Conn) (v : Move) (help : Helps x v) (g : GoesIts
       → Carries files (marks_at x) n x.part v.part → (Each (LetterWays files n v.part) x.letters → Each (LetterWays files n v.part) (letters_of v)) → IsMade files x v
   makes n notes told paths seat carries new =
       let after : marks_at (grown x v) ≡ n = marks-after files x v help.own help.heads ∙ told in
-      let old : Each (LetterWays files n v.part) x.letters = letters-on files (marks_at x) n x.part v.part carries x.letters help.placed.letters g.letters in
-      (
+      let old : Each (LetterWays files n v.part) x.letters = letters-on files (marks_at x) n x.part v.part carries x.letters help.placed.letters g.letters in (
         record {
           paths = subst (λ (m : Marks). IsPrefix (paths_assigned m) (paths_wanted files m)) (sym after) paths;
           seat = subst (λ (m : Marks). SeatWays files m v.part v.part.front.row) (sym after) seat;

@@ -1,76 +1,41 @@
 -- Each rule of a node leaves a connection on its way.
-use Rattle.std.proofs.Common.{◌≡◌, ◌≤◌, ◌<◌, ◌+◌, ◌^◌, ◌⊎◌, ◌==◌, ◌&&◌, nat_lt, ℕ, Bool, true, false, cond, List, [], ◌∷◌, ◌++◌, map, length, take, Option, Some, None, Result, Ok, inl, inr, ⊎_elim, refl, sym, ap, ◌∙◌, subst, arith, eqb-true}
-use Rattle.std.proofs.lemmas.Bool.{and_from, and_parts, eq-eqb, ltb-true}
-use Rattle.lard_answers.specs.Answers.{FilesAt, good_path, verdicts}
-use Rattle.lard_base.specs.declared.ids.Epoch.{Epoch}
-use Rattle.lard_base.specs.declared.parts.EndpointParts.{EndpointParts}
-use Rattle.lard_base.specs.declared.place.Place.{Place}
-use Rattle.lard_base.specs.declared.place.Place.TheVariants.{Client, Front, Node}
-use Rattle.lard_base.specs.declared.place.TimerKind.TheVariants as timer
-use Rattle.lard_cluster_bytes.specs.Agreement.{AwayAgrees, FrontTells, IsFair, IsFairOn, IsKept, IsOffering, IsOpen, IsTruthful, NodeAgrees, SeatAgrees, StageAgrees, StayComesOn}
-use Rattle.lard_cluster_bytes.specs.Law.{Helps}
-use Rattle.lard_cluster_bytes.proofs.ClientMoves.{has-fair, open-at}
-use Rattle.lard_cluster_bytes.proofs.FrontMessages.{opened-at, past-undecided}
-use Rattle.lard_cluster_bytes.proofs.Messages.{offers-read}
+use Rattle.std.proofs.Common.{◌≡◌, ◌≤◌, ◌<◌, ◌^◌, ◌==◌, ℕ, true, false, List, [], ◌∷◌, ◌++◌, length, Option, Some, None, Ok, inl, ⊎_elim, refl, sym, ap, ◌∙◌, subst, arith, eqb-true}
+use Rattle.std.proofs.lemmas.Bool.{and_from, and_parts, eq-eqb}
+use Rattle.lard_answers.specs.Answers.{FilesAt}
+use Rattle.lard_base.specs.declared.place.Place.TheVariants.{Front, Node}
+use Rattle.lard_cluster_bytes.specs.Agreement.{IsOpen}
+use Rattle.lard_cluster_bytes.proofs.ClientMoves.{has-fair}
 use Rattle.lard_cluster_bytes.proofs.NodeMoves.{HasIt, IsAt}
-use Rattle.lard_cluster_bytes.proofs.NodeRest.{by-station, front-opens, nothing-here}
 use Rattle.lard_cluster_bytes.proofs.NodeTurns.{It, agrees-by, endpoint-or, here-or, talk-of, ways-here}
-use Rattle.lard_cluster_bytes.proofs.Serving.{So, MayGo, go-on}
-use Rattle.lard_cluster_bytes.proofs.Stays.{offered-so}
-use Rattle.lard_cluster_bytes.proofs.Working.{Right, StepsSo, Works, first-so}
-use Rattle.lard_cluster_bytes.proofs.Ways.{batch-right}
-use Rattle.lard_cluster_places.specs.Places.{HasEnded, IsDecided, IsLeft, IsOffered, IsPast, Offers, Sits, StageSits, owning}
-use Rattle.lard_cluster_places.proofs.FrontMessages.{came-says}
+use Rattle.lard_cluster_places.specs.Places.{IsDecided, Sits, StageSits, owning}
 use Rattle.lard_cluster_places.proofs.Turns.{IsPlaced}
 use Rattle.lard_cluster_view.specs.Carry.{tale_at}
-use Rattle.lard_cluster_view.specs.View.{Conn, IsNodeEnv, Move, Part, Said, Setting, Spells, Was, contents, epoch_in, event_seen, grown, letter, named, node_does, nothing_said, packet_seen, reads_first, stands, with_node}
-use Rattle.lard_cluster_ways.specs.State.{BeginsWith, FrontSaysWays, GoesItsWay, IsAway, IsPlacedOnce, LetterWays, OfferIs, SeatWays, StageWays, StayAsks, StayWays, TagIs, marks_at}
-use Rattle.lard_cluster_ways.specs.Under.{Assigned}
-use Rattle.lard_cluster_ways.specs.Ways.{Marks, good_paths, paths_answered}
-use Rattle.lard_cluster_ways.proofs.Going.{first-goes, stay-goes}
-use Rattle.lard_cluster_ways.proofs.Homes.{AtHome, KeepsStay, at-home, does-makes, named-marked, named-rightly, says-makes, seat-kept, sent-append}
-use Rattle.lard_cluster_ways.proofs.Letters.{Counts, carries-same}
-use Rattle.lard_cluster_ways.proofs.Marking.{IsPlain, Rightly, mark, marked}
-use Rattle.lard_cluster_ways.proofs.Moving.{IsMade, Keeps, makes, same-marks, sent-say, stands-makes}
-use Rattle.lard_cluster_ways.proofs.Staying.{Goes, Home}
-use Rattle.lard_cluster_ways.proofs.Turning.{Asked_by, DeedWays, SaysIt, TurnWays, comes-ways, fires-ways, hears-ways, reads-ways, tags-ways, work-ways}
+use Rattle.lard_cluster_view.specs.View.{Conn, IsNodeEnv, Move, Setting, Spells, Was, epoch_in, named, node_does, nothing_said, reads_first}
+use Rattle.lard_cluster_ways.specs.State.{FrontSaysWays, GoesItsWay, LetterWays, StayWays, TagIs, marks_at}
+use Rattle.lard_cluster_ways.specs.Ways.{Marks}
+use Rattle.lard_cluster_ways.proofs.Homes.{AtHome, at-home, does-makes, named-marked, named-rightly, says-makes, sent-append}
+use Rattle.lard_cluster_ways.proofs.Moving.{Keeps, sent-say, stands-makes}
+use Rattle.lard_cluster_ways.proofs.Staying.{Home}
+use Rattle.lard_cluster_ways.proofs.Turning.{Asked_by, DeedWays, TurnWays, comes-ways, fires-ways, hears-ways, reads-ways, tags-ways}
 use Rattle.lard_endpoint.specs.Control.{ControlBlock}
-use Rattle.lard_endpoint.specs.Moving.{adopted, parts_of}
 use Rattle.lard_front_rules.specs.declared.front.FrontRest.{FrontRest}
-use Rattle.lard_front_rules.specs.Front as front
 use Rattle.lard_front_rules.specs.Front.{is_at, is_with, rest_of}
-use Rattle.lard_handoff_back.specs.declared.row.BackConn.TheVariants as back
-use Rattle.lard_handoff_back.specs.declared.row.BackRow.{BackRow}
-use Rattle.lard_handoff_back.specs.declared.table.Adopt.{Adopt}
-use Rattle.lard_handoff_back.specs.declared.table.Adopt.TheVariants.{Again, New, Stale}
-use Rattle.lard_handoff_back.specs.Back.{awaits_ack, endpoint_of, offer_answer, staying}
-use Rattle.lard_handoff_back.specs.Row.{is_ended, is_gone}
+use Rattle.lard_handoff_back.specs.Back.{endpoint_of}
 use Rattle.lard_handoff_front.specs.declared.row.FrontConn.{FrontConn}
 use Rattle.lard_handoff_front.specs.declared.row.FrontConn.TheVariants as stage
 use Rattle.lard_handoff_front.specs.declared.row.FrontRow.{FrontRow}
-use Rattle.lard_history.specs.Own.{Letter, Seen}
-use Rattle.lard_history.proofs.Each.{Each}
-use Rattle.lard_journal.specs.declared.rec.Rec.{Rec}
+use Rattle.lard_history.specs.Own.{Seen}
 use Rattle.lard_journal.specs.declared.rec.Rec.TheVariants as rec
 use Rattle.lard_laws_bytes.specs.Agreement.{IsWord}
 use Rattle.lard_laws_bytes.specs.Truthful.{Talk}
 use Rattle.lard_message.specs.declared.message.Body.TheVariants as body
-use Rattle.lard_message.specs.Reading.{decoded_message}
 use Rattle.lard_node_rules.specs.declared.stay.Stay.{Stay}
-use Rattle.lard_node_rules.specs.Node.{Deed, Does, Drops, NodePart, Says, again_sent, begins, both_of, come_by, fired_by, gone, heard_by, here, message, node_acknowledged, node_content, node_forwarded, node_offered, node_read, node_tagged, node_timer, offered_by, read_by, saying, tagged_by, taken_sent}
-use Rattle.lard_node_rules.specs.Stay.{NodeEnv, Work, goes_on, reads_batch, reads_these}
-use Rattle.lard_reader.specs.Batches.{batch_of, bytes_used}
+use Rattle.lard_node_rules.specs.Node.{Deed, Does, Drops, NodePart, Says, again_sent, both_of, come_by, fired_by, heard_by, here, node_content, node_forwarded, node_read, node_tagged, node_timer, read_by, tagged_by}
+use Rattle.lard_node_rules.specs.Stay.{NodeEnv}
 use Rattle.lard_request.specs.declared.verdict.Verdict.{Verdict}
-use Rattle.lard_resend.specs.declared.kept.Kept.{Kept}
-use Rattle.lard_resend.specs.Kept.{without}
 use Rattle.lard_rules.specs.declared.places.Station.{Station}
-use Rattle.lard_rules.specs.Loop.{state_of}
-use Rattle.lard_segment.specs.declared.fault.SegFault.{SegFault}
-use Rattle.lard_segment.specs.declared.segment.Dir.TheVariants.{ToCluster}
 use Rattle.lard_segment.specs.Segment.{decoded}
 use Rattle.lard_segment.specs.Segment as spelling
-use Rattle.lard_segment.proofs.Again.{again}
-use Rattle.lard_truth.specs.Truth.{Stream}
 
 -- where it is at a node it is in the second epoch
 at-second : (x : Conn) (placed : IsPlaced x) (row : FrontRow) (n : ℕ) → x.part.front.row ≡ Some row → IsAt n row.stage → row.epoch.0 ≡ 2

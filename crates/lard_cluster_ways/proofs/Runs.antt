@@ -1,15 +1,14 @@
 -- Each rule leaves a connection on its way, so it is in every run; and what its records say the journal says.
-use Rattle.std.proofs.Common.{◌≡◌, ◌≤◌, ◌^◌, ◌⊎◌, ℕ, false, List, [], Option, Some, None, Result, Ok, refl, sym, ap, ◌∙◌, subst}
+use Rattle.std.proofs.Common.{◌≡◌, ◌≤◌, ◌^◌, ℕ, false, List, [], Option, Some, None, Result, Ok, refl, sym, ap, ◌∙◌, subst}
 use Rattle.lard_answers.specs.Answers.{FilesAt}
 use Rattle.lard_base.specs.declared.config.Config.{Config}
 use Rattle.lard_base.specs.declared.event.Event.TheVariants as event
 use Rattle.lard_base.specs.declared.place.Place.TheVariants.{Client, Front, Node}
 use Rattle.lard_cluster.specs.declared.machine.Machine.{Machine}
-use Rattle.lard_cluster.specs.Bounds.{IsNumber}
 use Rattle.lard_cluster.specs.Machine.{IsReached}
-use Rattle.lard_cluster_bytes.specs.Agreement.{FrontWaits, IsFair, IsFairOn, IsOpen, IsTruthful, SeatAgrees, StageAgrees}
+use Rattle.lard_cluster_bytes.specs.Agreement.{IsFair, IsFairOn, IsTruthful}
 use Rattle.lard_cluster_bytes.proofs.ClientMoves.{has-fair, open-at}
-use Rattle.lard_cluster_bytes.proofs.FrontMessages.{node-opens, opened-at}
+use Rattle.lard_cluster_bytes.proofs.FrontMessages.{opened-at}
 use Rattle.lard_cluster_bytes.proofs.FrontMoves.{talk-of}
 use Rattle.lard_cluster_bytes.proofs.Owners.{Known, Knows, known}
 use Rattle.lard_cluster_bytes.proofs.Runs.{states-truthful}
@@ -18,39 +17,35 @@ use Rattle.lard_cluster_places.proofs.Runs.{each-placed}
 use Rattle.lard_cluster_places.proofs.Turns.{IsPlaced}
 use Rattle.lard_cluster_places.proofs.Turns as places
 use Rattle.lard_cluster_view.specs.Carry.{Guarded, IsGuardedLaw, MayMove, OfEach, Untouched, WhileUntouched, setting, tale_at}
-use Rattle.lard_cluster_view.specs.View.{Conn, FrontRules, IsFrontEnv, Move, Setting, Spells, UntouchedRules, Was, conn, event_seen, front_admits, front_does, grown, packet_seen, seen_in}
+use Rattle.lard_cluster_view.specs.View.{Conn, FrontRules, IsFrontEnv, Move, Setting, UntouchedRules, Was, conn, event_seen, front_admits, front_does, grown, packet_seen, seen_in}
 use Rattle.lard_cluster_view.proofs.Carried.{carried}
 use Rattle.lard_cluster_view.proofs.Fine.{IsFine, IsItsOwn, fine}
 use Rattle.lard_cluster_view.proofs.Guarded.{guarded-law, untouched-both, untouched-weaker}
 use Rattle.lard_cluster_view.proofs.InSteps.{carried-records}
 use Rattle.lard_cluster_ways.specs.Runs.{ContentsComeAsAssigned, JournalsAssignAPrefix, JournalsAssignInOrder}
-use Rattle.lard_cluster_ways.specs.State.{GoesItsWay, IsFree, IsWaiting, LetterWays, NodeSaysWays, SeatWays, StageWays, marks_at, marks_of}
+use Rattle.lard_cluster_ways.specs.State.{GoesItsWay, LetterWays, marks_at, marks_of}
 use Rattle.lard_cluster_ways.specs.Ways.{AnswersNext, IsNextGood, Marks, MayBeAssigned, MayCome, marks, paths_wanted}
 use Rattle.lard_cluster_ways.proofs.Clients.{clients}
 use Rattle.lard_cluster_ways.proofs.FrontAnswers.{asked-makes, ended-makes, taken-row}
-use Rattle.lard_cluster_ways.proofs.Fronting.{handed-makes}
 use Rattle.lard_cluster_ways.proofs.FrontStays.{fires-row, hears-row, waits-frozen}
 use Rattle.lard_cluster_ways.proofs.Marking.{MayTell, Mine}
 use Rattle.lard_cluster_ways.proofs.Moments.{assigns-a-prefix}
-use Rattle.lard_cluster_ways.proofs.Moving.{IsMade, Keeps}
+use Rattle.lard_cluster_ways.proofs.Moving.{Keeps}
 use Rattle.lard_cluster_ways.proofs.NodeRules.{Owes, ignores, nodes}
 use Rattle.lard_files.specs.Files.{file_at}
-use Rattle.lard_front_rules.specs.Front.{FrontEnv, FrontPart, admitted_at, admitted_by, ask_of, front_admitted, front_asked, front_ended, front_gets, front_taken, front_timer}
+use Rattle.lard_front_rules.specs.Front.{FrontEnv, FrontPart, admitted_at, admitted_by, ask_of, front_gets, front_timer}
 use Rattle.lard_front_rules.specs.declared.front.FrontTurn.{FrontTurn}
 use Rattle.lard_handoff_front.specs.declared.row.FrontConn.{FrontConn}
 use Rattle.lard_handoff_front.specs.declared.row.FrontConn.TheVariants as stage
 use Rattle.lard_handoff_front.specs.declared.row.FrontRow.{FrontRow}
 use Rattle.lard_handoff_front.specs.Front.{end_answer}
-use Rattle.lard_history.specs.Journal.{Tale, is_touched, tale}
-use Rattle.lard_history.specs.Own.{EachRow, Letter, Seen, own, plain, tale_of, whose}
+use Rattle.lard_history.specs.Journal.{Tale, is_touched}
+use Rattle.lard_history.specs.Own.{EachRow, Seen, own, plain, tale_of, whose}
 use Rattle.lard_history.proofs.Lifting.{tale-own}
 use Rattle.lard_history.proofs.Tales.{assigned-tale, served-tale, touched-tale, wrote-tale}
 use Rattle.lard_journal.specs.declared.rec.Rec.{Rec}
 use Rattle.lard_journal.specs.declared.rec.Rec.TheVariants as rec
-use Rattle.lard_laws_bytes.specs.Truthful.{Talk}
-use Rattle.lard_message.specs.declared.message.Body.TheVariants as body
 use Rattle.lard_policy.specs.declared.first.FirstChoice.{FirstChoice}
-use Rattle.lard_request.specs.declared.verdict.Verdict.{Verdict}
 use Rattle.lard_rules.specs.declared.places.Station.{Station}
 use Rattle.lard_segment.specs.declared.fault.SegFault.{SegFault}
 use Rattle.lard_segment.specs.declared.segment.Dir.TheVariants.{ToCluster}

@@ -1,12 +1,12 @@
 -- The path of a request is no longer than its block.
-use Rattle.std.proofs.Common.{◌≡◌, ◌≤◌, ◌<◌, ◌+◌, ◌^◌, ℕ, zero, suc, Bool, true, false, cond, nat_eq, nat_lt, not, codes, List, [], ◌∷◌, ◌++◌, map, length, take, drop, Option, Some, None, refl, sym, ap, ◌∙◌, subst, arith}
+use Rattle.std.proofs.Common.{◌≡◌, ◌≤◌, ◌<◌, ◌+◌, ◌^◌, ℕ, zero, suc, Bool, false, cond, nat_eq, nat_lt, not, codes, List, [], ◌∷◌, ◌++◌, map, length, take, drop, Option, Some, None, refl, sym, ap, subst, arith}
 use Rattle.std.specs.List.{position_or_len, starts_with}
 use Rattle.std.specs.Prelude.{◌||◌}
 use Rattle.std.specs.Str.{str_eq_ignore_ascii_case}
 use Rattle.std.proofs.lemmas.Bool.{cond_both}
 use Rattle.std.proofs.lemmas.List.{length-append, length-drop, length-take}
 use Rattle.httparse.specs.Grammar.{RequestHead, print_blank, print_end, print_request, print_section, print_version}
-use Rattle.lard_answers.specs.Answers.{FilesAt, good_path, piece_verdict, until_close, verdicts, verdicts_on}
+use Rattle.lard_answers.specs.Answers.{FilesAt, good_path, until_close, verdicts, verdicts_on}
 use Rattle.lard_answers.proofs.Growing.{until_close-cons, until_close-nil, verdicts-are}
 use Rattle.lard_base.specs.declared.limits.TheConstants.{MAX_FIELDS}
 use Rattle.lard_block.specs.declared.block.Found.{Found}

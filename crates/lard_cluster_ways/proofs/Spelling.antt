@@ -1,18 +1,17 @@
 -- What is read of an Ask and of a Tag is what was said.
-use Rattle.std.proofs.Common.{◌≡◌, ◌≤◌, ◌<◌, ◌+◌, ◌^◌, ℕ, Bool, true, false, cond, List, [], ◌∷◌, ◌++◌, length, take, drop, Option, Some, None, Ok, nat_lt, refl, sym, ap, ◌∙◌, subst, arith}
+use Rattle.std.proofs.Common.{◌≡◌, ◌≤◌, ◌<◌, ◌^◌, ℕ, Bool, true, false, List, [], ◌∷◌, ◌++◌, length, Option, Some, None, Ok, nat_lt, refl, sym, ap, ◌∙◌, subst, arith}
 use Rattle.std.proofs.lemmas.Bool.{cond-false, le-ltb, ltb-false, ltb-true}
 use Rattle.std.proofs.lemmas.List.{append-nil}
 use Rattle.std.proofs.lemmas.Nat.{from_be_bytes-to_be_bytes_4}
 use Rattle.std.specs.Int.{from_be_bytes, to_be_bytes, w32}
 use Rattle.std.specs.List.{AllByRecursion, flat_map}
-use Rattle.lard_cluster_bytes.proofs.FrontMoves.{kinds-same}
-use Rattle.lard_cluster_places.specs.Places.{Head, head_of}
-use Rattle.lard_cluster_places.proofs.Heads.{decoded-head, head, spelled-body, spelled-head}
+use Rattle.lard_cluster_places.specs.Places.{Head}
+use Rattle.lard_cluster_places.proofs.Heads.{decoded-head, spelled-body, spelled-head}
 use Rattle.lard_cluster_ways.proofs.Short.{AreShort}
 use Rattle.lard_message.specs.declared.message.Body.{Body}
 use Rattle.lard_message.specs.declared.message.Body.TheVariants as body
 use Rattle.lard_message.specs.declared.message.Message.{Message}
-use Rattle.lard_message.specs.Message.{body_bytes, counted, kind_of, spelled_message}
+use Rattle.lard_message.specs.Message.{body_bytes, counted, spelled_message}
 use Rattle.lard_message.specs.Reading.{ask_at, byte_at, decoded_message, nodes_of, number_at, paths_at, tag_at, taken_at}
 use Rattle.lard_message.proofs.Fields.{bind_then, nodes_are, paths_again, some_same, taken_again}
 use Rattle.lard_node_rules.specs.Node.{message}

@@ -1,24 +1,21 @@
 -- While a stay goes on, its batch and its connection's assignments agree, and each response goes with its own.
-use Rattle.std.proofs.Common.{◌≡◌, ◌≤◌, ◌^◌, ◌+◌, ◌-◌, ◌⊎◌, ◌==◌, nat_lt, ℕ, zero, suc, Bool, true, false, cond, List, [], ◌∷◌, ◌++◌, map, length, take, Option, Some, None, inl, inr, ⊎_elim, refl, sym, ap, ◌∙◌, subst, arith, append_assoc, append-nil}
+use Rattle.std.proofs.Common.{◌≡◌, ◌+◌, nat_lt, ℕ, suc, false, List, [], ◌∷◌, ◌++◌, map, length, take, Option, Some, None, inl, inr, ⊎_elim, refl, sym, ap, ◌∙◌, subst, arith, append_assoc, append-nil}
 use Rattle.std.specs.List.{slice_get}
-use Rattle.std.proofs.lemmas.Bool.{and_parts, cond_both}
+use Rattle.std.proofs.lemmas.Bool.{cond_both}
 use Rattle.std.proofs.lemmas.List.{length-append, map-append}
-use Rattle.std.specs.Prelude.{not, ◌&&◌}
 use Rattle.lard_answers.specs.Answers.{FilesAt, IsPrefix, answer, answer_code, good_path, verdicts}
 use Rattle.lard_base.specs.declared.place.Place.TheVariants.{Node}
 use Rattle.lard_base.specs.declared.place.Via.{Via}
 use Rattle.lard_base.specs.declared.place.Via.TheVariants as via
 use Rattle.lard_cluster_bytes.specs.Turning.{IsReading}
-use Rattle.lard_cluster_bytes.proofs.Serving.{So}
-use Rattle.lard_cluster_bytes.proofs.Working.{Right, StepsSo, Works, turn-so, verdicts_of}
-use Rattle.lard_cluster_bytes.proofs.Ways.{StepsRight, turn-right}
+use Rattle.lard_cluster_bytes.proofs.Working.{Works, verdicts_of}
 use Rattle.lard_cluster_ways.specs.State.{IsAsking, given_to}
-use Rattle.lard_cluster_ways.specs.Under.{Assigned, IsStarted, Lies, LiesGood, TakesFirst, Under}
-use Rattle.lard_cluster_ways.specs.Ways.{AnswersBy, AnswersNext, ComesAsAssigned, GoesWith, Marks, good_paths, paths_answered, paths_assigned, paths_wanted}
-use Rattle.lard_cluster_ways.proofs.Entering.{AllStarted, Begun, Enters, all-start, begun-none, begun-under, enters-both, here-begins, read-enter, read-under}
+use Rattle.lard_cluster_ways.specs.Under.{Assigned, Lies, Under}
+use Rattle.lard_cluster_ways.specs.Ways.{AnswersBy, AnswersNext, ComesAsAssigned, Marks, good_paths, paths_assigned, paths_wanted}
+use Rattle.lard_cluster_ways.proofs.Entering.{Enters, read-enter, read-under}
 use Rattle.lard_cluster_ways.proofs.Goods.{get-behind, get-front, good-append, good-prefix, next-get, prefix-take}
-use Rattle.lard_cluster_ways.proofs.Lying.{KeepsStarted, came-named, came-under, named-append, under-append, under-paths}
-use Rattle.lard_cluster_ways.proofs.Marking.{IsPlain, MayMark, Rightly, marked, marked-append, plain-marked, plain-rightly, rightly-append}
+use Rattle.lard_cluster_ways.proofs.Lying.{under-paths}
+use Rattle.lard_cluster_ways.proofs.Marking.{IsPlain, Rightly, marked, marked-append, plain-marked, plain-rightly, rightly-append}
 use Rattle.lard_front_rules.specs.declared.front.FrontRest.{FrontRest}
 use Rattle.lard_history.proofs.Each.{Each}
 use Rattle.lard_journal.specs.declared.rec.Rec.{Rec}
@@ -30,12 +27,11 @@ use Rattle.lard_node_rules.specs.declared.stay.Next.TheVariants as next
 use Rattle.lard_node_rules.specs.declared.stay.Progress.{Progress}
 use Rattle.lard_node_rules.specs.declared.stay.Progress.TheVariants as progress
 use Rattle.lard_node_rules.specs.Node.{stay_after}
-use Rattle.lard_node_rules.specs.Stay.{NodeEnv, Work, and_path, asks_for, came_for, come_on, enters, enters_one, goes_on, left, left_by, named_path, named_paths, next_by, next_in, next_of, noted, path_in, reads_batch, reads_these, read_entry, serves_by, serves_first, serves_with, starts_at, tagged, turn, turned}
+use Rattle.lard_node_rules.specs.Stay.{NodeEnv, Work, and_path, asks_for, enters, left, named_path, named_paths, next_by, next_in, path_in, reads_these, read_entry, serves_by, serves_first, serves_with, turned}
 use Rattle.lard_reader.specs.Batches.{batch_of, bytes_used}
 use Rattle.lard_request.specs.declared.verdict.Verdict.{Verdict}
-use Rattle.lard_rules.specs.Loop.{Step, More, Done, state_of}
-use Rattle.lard_rules.specs.Serving.{Service, answered, consumed, ended_at_fin, may_read, passed_over, queued, replied}
-use Rattle.lard_rules.proofs.Runs.{runs_keep}
+use Rattle.lard_rules.specs.Loop.{Step, More, Done}
+use Rattle.lard_rules.specs.Serving.{Service, answered, consumed, ended_at_fin, passed_over, queued}
 use Rattle.lard_truth.specs.Truth.{Stream}
 
 -- a batch is read where none is left

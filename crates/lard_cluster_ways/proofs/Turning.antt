@@ -1,11 +1,10 @@
 -- What a turn of a node leaves: its responses go with their assignments, its batch still agrees with them, and an Ask names the next
 -- good requests.
-use Rattle.std.proofs.Common.{◌≡◌, ◌≤◌, ◌<◌, ◌+◌, ◌^◌, ◌⊎◌, ◌==◌, ◌&&◌, ℕ, Bool, true, false, List, [], ◌∷◌, ◌++◌, map, length, Option, Some, None, Ok, inl, inr, ⊎_elim, refl, sym, ap, ◌∙◌, subst, arith, append_assoc, append-nil, eqb-true}
+use Rattle.std.proofs.Common.{◌≡◌, ◌+◌, ◌⊎◌, ◌==◌, ◌&&◌, ℕ, Bool, List, [], ◌∷◌, ◌++◌, length, Option, Some, None, Ok, inl, inr, ⊎_elim, refl, sym, ap, ◌∙◌, subst, arith, append_assoc, append-nil, eqb-true}
 use Rattle.std.specs.Prelude.{is_some}
 use Rattle.std.specs.List.{find}
 use Rattle.std.proofs.lemmas.Bool.{and_parts, cond_both}
-use Rattle.lard_answers.specs.Answers.{FilesAt, IsPrefix, good_path, verdicts}
-use Rattle.lard_base.specs.declared.parts.EndpointParts.{EndpointParts}
+use Rattle.lard_answers.specs.Answers.{FilesAt, IsPrefix}
 use Rattle.lard_base.specs.declared.place.Place.{Place}
 use Rattle.lard_base.specs.declared.place.Place.TheVariants.{Client, Front, Node}
 use Rattle.lard_base.specs.declared.place.TimerKind.TheVariants as timer
@@ -19,7 +18,7 @@ use Rattle.lard_cluster_bytes.proofs.Working.{Right, Works, came-so, tagged-so}
 use Rattle.lard_cluster_bytes.proofs.Ways.{came-right, come_progress-on, read_progress-on, tagged-right}
 use Rattle.lard_cluster_places.specs.Places.{IsDecided}
 use Rattle.lard_cluster_places.proofs.Loops.{settled-is, spoken-to}
-use Rattle.lard_cluster_ways.specs.State.{StayAsks, StayGoes, StayWays, TagIs}
+use Rattle.lard_cluster_ways.specs.State.{StayAsks, StayWays, TagIs}
 use Rattle.lard_cluster_ways.specs.Ways.{Marks, paths_assigned, paths_wanted}
 use Rattle.lard_cluster_ways.proofs.Going.{Awaits, came-goes, stay-goes, tagged-goes, work-goes}
 use Rattle.lard_cluster_ways.proofs.Lying.{come-keeps, read-keeps}

@@ -11,7 +11,7 @@ use Rattle.lard_cluster_view.specs.View.{Conn, Part}
 use Rattle.lard_cluster_ways.specs.Under.{Assigned, Under}
 use Rattle.lard_cluster_ways.specs.Ways.{Marks, paths_answered, paths_assigned, paths_wanted}
 use Rattle.lard_front_rules.specs.declared.front.FrontRest.{FrontRest}
-use Rattle.lard_front_rules.specs.Front.{FrontPart, is_at, rest_of}
+use Rattle.lard_front_rules.specs.Front.{is_at, rest_of}
 use Rattle.lard_handoff_front.specs.declared.row.FrontConn.{FrontConn}
 use Rattle.lard_handoff_front.specs.declared.row.FrontConn.TheVariants as stage
 use Rattle.lard_handoff_front.specs.declared.row.FrontRow.{FrontRow}
