@@ -29,7 +29,7 @@ module _ (w : Stream) (b : ControlBlock) (vs : List Verdict) (heard : Hears w b.
   judged = (read-alone w b vs read).cut keeps
 
   -- a block is the next
-  block-read : (skip len : ℕ) → cut_of b.recv.unread ≡ found.Block skip len → HasRead w (consuming b (skip + len)) vs (verdict (take len (drop skip b.recv.unread)) ∷ [])
+  pub block-read : (skip len : ℕ) → cut_of b.recv.unread ≡ found.Block skip len → HasRead w (consuming b (skip + len)) vs (verdict (take len (drop skip b.recv.unread)) ∷ [])
   block-read skip len e =
       let unread = b.recv.unread in
       let v = verdict (take len (drop skip unread)) in
@@ -41,7 +41,7 @@ module _ (w : Stream) (b : ControlBlock) (vs : List Verdict) (heard : Hears w b.
       }
 
   -- or a head that is too long
-  long-read : (skip n : ℕ) → cut_of b.recv.unread ≡ found.TooLong skip → HasRead w (consuming b n) vs (Fault code.FieldsTooLarge ∷ [])
+  pub long-read : (skip n : ℕ) → cut_of b.recv.unread ≡ found.TooLong skip → HasRead w (consuming b n) vs (Fault code.FieldsTooLarge ∷ [])
   long-read skip n e = record {
     cut = λ f g. absurd cc;
     goes_on = λ f. read.goes_on keeps;
@@ -68,13 +68,13 @@ module _ (env : ServeEnv) (w out : Stream) (vs : List Verdict) (most : env.strea
   Reads s = So env w out vs s []
 
   -- while it goes on nothing is to be placed
-  abbrev IsOn : Reading → Type 0
+  abbrev pub IsOn : Reading → Type 0
   IsOn x = Reads x.service × (x.target ≡ None)
 
   abbrev pub HasStopped : Reading → Type 0
   HasStopped x = Reads x.service × GoesOver x.target x.service
 
-  abbrev ReadsSo : Step Reading → Type 0
+  abbrev pub ReadsSo : Step Reading → Type 0
   ReadsSo (More y) = IsOn y
   ReadsSo (Done y) = HasStopped y
 
@@ -120,7 +120,7 @@ module _ (env : ServeEnv) (w out : Stream) (vs : List Verdict) (most : env.strea
       let all = length x.service.block.recv.unread in
       (answers-so (Fault code.FieldsTooLarge) refl all x.service h.0 may (long-read w x.service.block h.0.vs_now h.0.between.hears may.keeps may.read skip all e), h.1)
 
-  turn-so : (x : Reading) → IsOn x → ReadsSo (turn env x)
+  pub turn-so : (x : Reading) → IsOn x → ReadsSo (turn env x)
   turn-so x h = cond_both (may_read x.service) (reads_found env x (cut_of x.service.block.recv.unread)) (Done x) ReadsSo
       (λ may. found-so x h (may-go w h.0.vs_now [] x.service may h.0.reading) (cut_of x.service.block.recv.unread) refl)
       (λ may. still x x.service h.0 h.1)

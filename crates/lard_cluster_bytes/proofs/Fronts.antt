@@ -90,7 +90,7 @@ module _ (env : FrontEnv) (w out : Stream) (vs : List Verdict) (was_reset : Bool
     read : HasRead w s.block so.vs_now []
     read = subst (λ (o : Option ℕ). IsReading w so.vs_now [] s.block s.notes o) none so.reading
 
-    frozen-holds : HoldsIt w so.out_now so.vs_now [] s.block s.count
+    pub frozen-holds : HoldsIt w so.out_now so.vs_now [] s.block s.count
     frozen-holds =
         let sound = between-sound w so.out_now s.block so.between in
         record {

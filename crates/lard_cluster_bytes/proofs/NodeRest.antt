@@ -181,7 +181,7 @@ module _ (files : FilesAt) (x : Conn) (none : x.part.station ≡ None) (h : IsTr
         )
 
   -- no node has it
-  nothing-here : (n e : ℕ) → Sits (owning (tale_at x)) x.part.nodes x.part.front.row → both_of (staying e (x.part.nodes n).row) (x.part.nodes n).stay ≡ None
+  pub nothing-here : (n e : ℕ) → Sits (owning (tale_at x)) x.part.nodes x.part.front.row → both_of (staying e (x.part.nodes n).row) (x.part.nodes n).stay ≡ None
   nothing-here n e sits = go (x.part.nodes n).row ((subst (Sits (owning (tale_at x)) x.part.nodes) never.front sits).1 n) where
     go : (r : Option BackRow) → IsPast 0 r → both_of (staying e r) (x.part.nodes n).stay ≡ None
     go None past = refl
@@ -190,7 +190,7 @@ module _ (files : FilesAt) (x : Conn) (none : x.part.station ≡ None) (h : IsTr
 -- ---- the rules
 
 -- of one whose client did not open no packet comes between the front end and a node
-front-opens : (x : Conn) (n : ℕ) (bytes : List ℕ) → Was x Front (Node n) bytes → IsUnopened x → ⊥
+pub front-opens : (x : Conn) (n : ℕ) (bytes : List ℕ) → Was x Front (Node n) bytes → IsUnopened x → ⊥
 front-opens x n bytes was u = (has-fair IsInner (record { from = Front; to = Node n; bytes = bytes }) x.letters was u.inner).0
 
 node-quiet : (x : Conn) (from : Place) (n : ℕ) (bytes : List ℕ) (d : Deed) → bytes_of (tale_before x (node_does x n (packet_seen from (Node n) bytes) d)) ≡ bytes_of (tale_at x)
@@ -205,7 +205,7 @@ event-quiet x n (Does given) = refl
 
 module _ (k : Setting) (small : k.stream ≤ 2 ^ 30) where
   -- by whether its client opened
-  by-station : (x : Conn) (P : Type 0) → ((s : Station) → x.part.station ≡ Some s → P) → (x.part.station ≡ None → P) → P
+  pub by-station : (x : Conn) (P : Type 0) → ((s : Station) → x.part.station ≡ Some s → P) → (x.part.station ≡ None → P) → P
   by-station x P opened none = go x.part.station refl where
     go : (o : Option Station) → x.part.station ≡ o → P
     go None e = none e

@@ -57,13 +57,13 @@ named-noted : (c : ℕ) (notes : List Rec) (k : Setting) (small : k.stream ≤ 2
 named-noted c notes k small x s there l pend o n heads = record { each = named-each c notes; served = named-served c notes; size = named-size c notes; reset = named-resets c notes; serve = λ e t f. named-tells (AnswersAfter k.files c) c t notes e f }
 
 module _ (k : Setting) (small : k.stream ≤ 2 ^ 30) (x : Conn) (s : Station) (there : x.part.station ≡ Some s) (l : Talk) (pend : List Verdict) (o : IsOpen k.files x l pend s) (n : ℕ) (env : NodeEnv) (epoch : ℕ) (is : IsNodeEnv k x.c n epoch env) where
-  abbrev p : NodePart
+  abbrev pub p : NodePart
   p = x.part.nodes n
 
-  abbrev It : ℕ → Type 0
+  abbrev pub It : ℕ → Type 0
   It e = (placed : IsPlaced x) → HasIt x l pend o.seat placed n e × ((f : ℕ) → IsOver f p.row → HasEnded f x.part.front.row)
 
-  talk-of : IsTalk env l.w l.out l.vs
+  pub talk-of : IsTalk env l.w l.out l.vs
   talk-of = record {
     most = subst (λ (m : ℕ). m ≤ 2 ^ 30) (sym is.stream) small;
     stream = subst IsStream (sym o.client.w_is) (speaks-stream s.client.send l.w.bytes o.client.speaks);
@@ -120,7 +120,7 @@ module _ (k : Setting) (small : k.stream ≤ 2 ^ 30) (x : Conn) (s : Station) (t
     go true e = stage-or row found (held_in row.stage) refl (eqb-true row.epoch.0 env.epoch e)
     go false e = inl refl
 
-  here-or : (here env.epoch p ≡ None) ⊎ It env.epoch
+  pub here-or : (here env.epoch p ≡ None) ⊎ It env.epoch
   here-or = here-row p.row refl
 
   -- a rule over what is here
@@ -130,10 +130,10 @@ module _ (k : Setting) (small : k.stream ≤ 2 ^ 30) (x : Conn) (s : Station) (t
       (λ (e : here env.epoch p ≡ None). subst (Goes heads) (sym (ap rule e ∙ none)) (drops-goes heads quiet) help)
       (λ (it : It env.epoch). deed-goes heads quiet (rule (here env.epoch p)) (keeps it help.placed) it help) here-or
 
-  agrees-by : It env.epoch → IsPlaced x → NodeAgrees l.w l.out l.vs pend l.was_reset env.serve.c p
+  pub agrees-by : It env.epoch → IsPlaced x → NodeAgrees l.w l.out l.vs pend l.was_reset env.serve.c p
   agrees-by it placed = own-agrees (it placed).0.agrees
 
-  ways-here : StayComesOn env.serve.files p.stay
+  pub ways-here : StayComesOn env.serve.files p.stay
   ways-here = subst (λ (files : FilesAt). StayComesOn files p.stay) (sym is.files) (o.ways n)
 
   pub forwards-goes : (heads : List Seen) → IsQuiet heads → (sd : Said) → IsWord l.w sd → Goes heads (node_forwarded env p (Ok sd))
@@ -147,7 +147,7 @@ module _ (k : Setting) (small : k.stream ≤ 2 ^ 30) (x : Conn) (s : Station) (t
 
   -- ---- its timers
 
-  endpoint-or : (r : Option BackRow) → p.row ≡ r → env.epoch ≡ elim r [ None ↦ 0 | Some row ↦ row.epoch.0 ] → (both_of (endpoint_of r) p.stay ≡ None) ⊎ It env.epoch
+  pub endpoint-or : (r : Option BackRow) → p.row ≡ r → env.epoch ≡ elim r [ None ↦ 0 | Some row ↦ row.epoch.0 ] → (both_of (endpoint_of r) p.stay ≡ None) ⊎ It env.epoch
   endpoint-or None found same = inl refl
   endpoint-or (Some row) found same = stage-or row found (held_in row.stage) refl (sym same)
 

@@ -134,10 +134,10 @@ module _ (env : NodeEnv) (w out : Stream) (vs : List Verdict) (was_reset : Bool)
   work-turns old p before k first h right = rests-turn old p before k (settled env.serve k.service) (first _) right (settled-ends env.serve w out vs was_reset k.service (verdicts_of k.batch) h)
 
   -- a stay that agrees
-  abbrev IsHeld : List Verdict → ControlBlock × Stay → Type 0
+  abbrev pub IsHeld : List Verdict → ControlBlock × Stay → Type 0
   IsHeld pend x = (pend ≡ verdicts_of x.1.batch) × HoldsIt w out vs pend x.0 x.1.served × AreOnTheWay env.serve.files x.1.batch
 
-  same-works : (pend : List Verdict) (x : ControlBlock × Stay) → SaysAnswers env.serve.files w out vs → IsHeld pend x → Works env w out vs (work_of x.0 x.1)
+  pub same-works : (pend : List Verdict) (x : ControlBlock × Stay) → SaysAnswers env.serve.files w out vs → IsHeld pend x → Works env w out vs (work_of x.0 x.1)
   same-works pend x says h = subst (So env.serve w out vs (serving x.0 x.1.served [])) h.0 (same-so env.serve w out vs says pend x.0 x.1.served h.1)
 
   -- ---- where the node has it
@@ -154,11 +154,11 @@ module _ (env : NodeEnv) (w out : Stream) (vs : List Verdict) (was_reset : Bool)
     of-stage p c e back.Ended h ways = none
     of-stage p c e back.Gone h ways = none
 
-    at-endpoint : (p : NodePart) (c : ℕ) (o : Option BackRow) → RowAgrees w out vs pend was_reset c p o → StayComesOn env.serve.files p.stay → P (both_of (endpoint_of o) p.stay)
+    pub at-endpoint : (p : NodePart) (c : ℕ) (o : Option BackRow) → RowAgrees w out vs pend was_reset c p o → StayComesOn env.serve.files p.stay → P (both_of (endpoint_of o) p.stay)
     at-endpoint p c None h ways = absurd h
     at-endpoint p c (Some row) h ways = of-stage p c row.epoch.0 row.stage h ways
 
-    at-epoch : (p : NodePart) (c : ℕ) (o : Option BackRow) → RowAgrees w out vs pend was_reset c p o → StayComesOn env.serve.files p.stay → P (both_of (staying env.epoch o) p.stay)
+    pub at-epoch : (p : NodePart) (c : ℕ) (o : Option BackRow) → RowAgrees w out vs pend was_reset c p o → StayComesOn env.serve.files p.stay → P (both_of (staying env.epoch o) p.stay)
     at-epoch p c None h ways = absurd h
     at-epoch p c (Some row) h ways = cond_both (row.epoch.0 == env.epoch) (held_in row.stage) None (λ b. P (both_of b p.stay))
         (λ t. of-stage p c row.epoch.0 row.stage h ways) (λ t. none)
@@ -226,13 +226,13 @@ module _ (env : NodeEnv) (w out : Stream) (vs : List Verdict) (was_reset : Bool)
     abbrev parts : EndpointParts
     parts = parts_of b count
 
-    abbrev Begins : ControlBlock → Type 0
+    abbrev pub Begins : ControlBlock → Type 0
     Begins d = So env.serve w out vs (serving d count (rec.Took (place.Node env.n) env.serve.c (record { 0 = env.epoch }) ∷ [])) []
 
     stands : Stands b
     stands = frozen_stands b h.holds.sound frozen
 
-    offered-so : Begins (adopted parts)
+    pub offered-so : Begins (adopted parts)
     offered-so =
         let held = h.holds in
         let read = held.has_read in

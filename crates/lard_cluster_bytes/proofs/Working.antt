@@ -161,7 +161,7 @@ module _ (env : NodeEnv) (w out : Stream) (vs : List Verdict) where
   entered-so : (k u : Work) (us pend : List Verdict) → Enters k u us → So env.serve w out vs k.service pend → So env.serve w out vs u.service pend
   entered-so k u us pend e h = subst (λ (s : Service). So env.serve w out vs s pend) (sym e.service) (noted-so e.notes k.service pend e.mute h)
 
-  abbrev StepsSo : Step Work → Type 0
+  abbrev pub StepsSo : Step Work → Type 0
   StepsSo (More k) = Works k
   StepsSo (Done k) = Works k
 
@@ -241,7 +241,7 @@ module _ (env : NodeEnv) (w out : Stream) (vs : List Verdict) where
     serves-none (progress.Awaited node) f = cc
   next-so most k may h right es is next.Stop e = h
 
-  turn-so : env.serve.stream ≤ 2 ^ 30 → (k : Work) → Works k → Right k → StepsSo (turn env k)
+  pub turn-so : env.serve.stream ≤ 2 ^ 30 → (k : Work) → Works k → Right k → StepsSo (turn env k)
   turn-so most k h right = go (may_read k.service) refl where
     go : (b : Bool) → may_read k.service ≡ b → StepsSo (turned env k (cond b (next_in k.batch) next.Stop))
     go true may = next-so most k may h right k.batch refl (next_in k.batch) refl

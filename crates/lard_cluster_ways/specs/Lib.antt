@@ -1,0 +1,4 @@
+pub mod Ways
+pub mod Under
+pub mod State
+pub mod Runs
