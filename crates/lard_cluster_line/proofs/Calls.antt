@@ -40,7 +40,7 @@ use Rattle.lard_message.specs.declared.message.Message.{Message}
 use Rattle.lard_message.specs.Message.{IsOfTable}
 use Rattle.lard_message.specs.Reading.{decoded_message}
 use Rattle.lard_policy.specs.declared.first.FirstChoice.{FirstChoice}
-use Rattle.lard_front_rules.proofs.Stepping.{IsTold, message-told}
+use Rattle.lard_cluster_policy.proofs.Messages.{IsTold, message-told}
 use Rattle.lard_rules.specs.declared.front.FrontIn.{FrontIn}
 use Rattle.lard_rules.specs.declared.front.FrontIn.TheVariants as input
 use Rattle.lard_rules.specs.declared.front.Out.{Out}

@@ -8,6 +8,7 @@ pub mod Ins
 pub mod Leading
 pub mod Lines
 pub mod Loads
+pub mod Messages
 pub mod Numbers
 pub mod Order
 pub mod Reading

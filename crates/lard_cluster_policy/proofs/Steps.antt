@@ -13,7 +13,7 @@ use Rattle.lard_cluster_policy.proofs.Fronts.{DeedTells, IsMute, Tells, asked-te
 use Rattle.lard_cluster_policy.proofs.Ins.{AreIn}
 use Rattle.lard_cluster_policy.proofs.Leading.{Leads, admit-leads, aside-leads, both-lead, release-leads}
 use Rattle.lard_cluster_policy.proofs.Lines.{AreLined, lined-absent, target_of, targets}
-use Rattle.lard_front_rules.proofs.Stepping.{IsTold, message-told}
+use Rattle.lard_cluster_policy.proofs.Messages.{IsTold, message-told}
 use Rattle.lard_cluster_policy.proofs.Order.{IsOrdered, alone-ordered, none-ordered}
 use Rattle.lard_cluster_policy.proofs.Waiting.{Leaves, head-within, idle-leaves}
 use Rattle.lard_dispatch.specs.declared.line.Waiting.{Waiting}

@@ -36,7 +36,7 @@ use Rattle.std.proofs.lemmas.Bool.{cond_both}
 
 -- ---- a message that was read is in the ranges of its table
 
-abbrev pub IsTold : Result Message MsgFault → Type 0
+abbrev IsTold : Result Message MsgFault → Type 0
 IsTold (Ok m) = IsOfTable m.body
 IsTold (Err e) = Unit {0}
 
@@ -58,7 +58,7 @@ kind-told bytes (Some kind) =
     cond_both (nat_lt (10 + length_at bytes) (length bytes)) (Err fault.Trailing) third IsTold (λ u. tt) (λ u.
     cond_both (not (nat_le 1 (connection_at bytes) && nat_le (connection_at bytes) MAX)) (Err fault.Field) last IsTold (λ v. tt) (λ v. body-told (connection_at bytes) (epoch_at bytes) (body_at kind (drop 10 bytes)))))
 
-pub message-told : (bytes : List ℕ) → IsTold (decoded_message bytes)
+message-told : (bytes : List ℕ) → IsTold (decoded_message bytes)
 unfolding decoded_message
 message-told bytes =
     let last : Result Message MsgFault = with_kind bytes (kind_named (version_at bytes) (number_byte bytes)) in
