@@ -8,7 +8,7 @@ use Rattle.lard_cluster_clients.proofs.Taking.{clients-take}
 use Rattle.lard_cluster_clients.proofs.Writers.{writers-are}
 use Rattle.lard_cluster_laws.specs.Lawful.{JournalsAreLawful}
 use Rattle.lard_cluster_limits.proofs.Runs.{resets-lawful}
-use Rattle.lard_cluster_line.proofs.Bounds.{loads-near-the-thresholds, loads-within-the-room}
+use Rattle.lard_cluster_line.proofs.Bounds.{connections-stay-few, never-all-busy, loads-near-the-thresholds, loads-within-the-room}
 use Rattle.lard_cluster_line.proofs.Runs.{line-passes, takes-release, waits-at-a-full-room}
 use Rattle.lard_cluster_motion.proofs.Runs.{connections-move}
 use Rattle.lard_cluster_offers.proofs.Runs.{offers-carry}
@@ -21,6 +21,7 @@ use Rattle.lard_cluster_steps.proofs.Places.{reached-in-place}
 use Rattle.lard_cluster_steps.proofs.Timers.{timers-change}
 use Rattle.lard_cluster_stores.proofs.Disks.{disks-read}
 use Rattle.lard_cluster_stores.proofs.Stored.{lawful}
+use Rattle.lard_cluster_ways.proofs.Runs.{assign-a-prefix, assign-in-order, contents-come}
 
 pub journals-lawful : JournalsAreLawful
 journals-lawful config files m checked r =
@@ -56,8 +57,13 @@ journals-lawful config files m checked r =
       servers = servers-are-told config files m checked r;
       most_by_room = loads-within-the-room config files m checked r;
       most_by_policy = loads-near-the-thresholds config files m checked r;
+      few = connections-stay-few config files m checked r;
+      never_all_busy = never-all-busy config files m checked r;
       answers = asks-answered config files m r;
       batch_ends = batches-end config files m checked r;
+      requests = assign-in-order config files m small r;
+      paths = assign-a-prefix config files m small r;
+      ways = contents-come config files m small r;
       offers = offers-carry config files m small r;
       quiet = journals-complete config files m checked r;
     }

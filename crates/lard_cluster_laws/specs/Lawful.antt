@@ -7,13 +7,14 @@ use Rattle.lard_cluster.specs.declared.machine.Machine.{Machine}
 use Rattle.lard_cluster.specs.Machine.{IsReached}
 use Rattle.lard_cluster_asks.specs.Answers.{MustAnswer, MustEnd}
 use Rattle.lard_cluster_bytes.specs.Records.{ServesTheAnswers}
-use Rattle.lard_cluster_line.specs.Laws.{IsNearTheThresholds, IsWithinTheRoom, MustPass, MustRelease, WaitsForRoom}
+use Rattle.lard_cluster_line.specs.Laws.{HasFewConnections, IsNearTheThresholds, IsNotBusy, IsWithinTheRoom, MustPass, MustRelease, WaitsForRoom}
 use Rattle.lard_cluster_motion.specs.Motion.{MustMove}
 use Rattle.lard_cluster_offers.specs.Offers.{CarryTheEndpoint}
 use Rattle.lard_cluster_policy.specs.Laws.{AreLoadsCharged, ArePaired, AreServersTold, MayAdmit, MayAssign, MayRelease, MayShare, Nothing, last_of}
 use Rattle.lard_cluster_policy.specs.Ledger.{Ledger, admitted, ledger}
 use Rattle.lard_cluster_quiet.specs.Quiet.{CompletesWhenQuiet}
 use Rattle.lard_cluster_stores.specs.Laws.{MayStore, MustRead}
+use Rattle.lard_cluster_ways.specs.Ways.{AreAssignedInOrder, AssignsAPrefix, ComeAsAssigned}
 use Rattle.lard_files.specs.Files.{file_at}
 use Rattle.lard_history.specs.Laws.{AcceptsOnlyAnswers, ActsInPlace, EachMay, IsNetwork, IsOwnership, IsSoleSender, KeepsTime, ResetsAtTheLimit, TellsTheTruth, WritesWhileOpen}
 use Rattle.lard_history.specs.Steps.{AtEachEnd, EachStep, steps}
@@ -72,12 +73,18 @@ pub record IsLawful (config : Config) (files : FilesAt) (J : List Rec) : Type 0 
   pub batches : EachMay (λ past r. MayShare (last_of past) (ledger config past) r) [] J
   pub loads : Throughout (AreLoadsCharged config) config J
   pub servers : Throughout AreServersTold config J
-  -- how great a load may be
+  -- how great a load may be, and how many connections a node may have
   pub most_by_room : Throughout (IsWithinTheRoom config) config J
   pub most_by_policy : Throughout (IsNearTheThresholds config) config J
+  pub few : Throughout (HasFewConnections config) config J
+  pub never_all_busy : Throughout (IsNotBusy config) config J
   -- in which steps later requests are assigned and Tags are sent, and a batch is over
   pub answers : EachStep MustAnswer [] (steps J)
   pub batch_ends : EachStep (MustEnd config) [] (steps J)
+  -- which request each assignment is for, and by which way its content comes
+  pub requests : AreAssignedInOrder files J
+  pub paths : AssignsAPrefix files J
+  pub ways : ComeAsAssigned files J
   -- what an Offer carries where it is sent first
   pub offers : CarryTheEndpoint files J
   -- a connection on which nothing more is to come is complete, or in the line
