@@ -6,4 +6,8 @@ pub mod Rules
 pub mod Coming
 pub mod Filling
 pub mod Ending
+pub mod Working
+pub mod Sending
+pub mod NodeAsks
+pub mod Sends
 pub mod Runs
