@@ -10,4 +10,6 @@ pub mod Working
 pub mod Sending
 pub mod NodeAsks
 pub mod Sends
+pub mod Steps
+pub mod Queues
 pub mod Runs
