@@ -12,4 +12,6 @@ pub mod NodeAsks
 pub mod Sends
 pub mod Steps
 pub mod Queues
+pub mod Rows
+pub mod Asking
 pub mod Runs

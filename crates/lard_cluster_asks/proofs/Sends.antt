@@ -77,7 +77,7 @@ Goes k x v = IsPlaced x → PartsAsk x → IsItsOwn x v → Sends x v
 
 -- ---- what is seen of a move
 
-ask-unsent : (n e : ℕ) (r : Rec) → IsUnsent r → ask_by n e r ≡ None
+pub ask-unsent : (n e : ℕ) (r : Rec) → IsUnsent r → ask_by n e r ≡ None
 ask-unsent n e (rec.Sent k from to bytes) h = absurd h
 ask-unsent n e _ h = refl
 
@@ -89,12 +89,12 @@ ask-first n e (Row _) h = absurd h
 ask-first n e (Came l) h = refl
 
 -- another place than a node sends no Ask
-abbrev IsNoNode : Place → Type 0
+abbrev pub IsNoNode : Place → Type 0
 IsNoNode Front = Unit {0}
 IsNoNode (Client d) = Unit {0}
 IsNoNode (Node n) = ⊥
 
-else-asks : (n e : ℕ) (place : Place) (ss : List (Place × List ℕ)) → IsNoNode place → pick (ask_by n e) (map (sending place) ss) ≡ []
+pub else-asks : (n e : ℕ) (place : Place) (ss : List (Place × List ℕ)) → IsNoNode place → pick (ask_by n e) (map (sending place) ss) ≡ []
 else-asks n e Front [] m = refl
 else-asks n e Front (s ∷ ss) m = else-asks n e Front ss m
 else-asks n e (Client d) [] m = refl
@@ -102,7 +102,7 @@ else-asks n e (Client d) (s ∷ ss) m = else-asks n e (Client d) ss m
 else-asks n e (Node k) ss m = absurd m
 
 -- nor does one node that of another
-other-asks : (n e m : ℕ) (ss : List (Place × List ℕ)) → m ≢ n → pick (ask_by n e) (map (sending (Node m)) ss) ≡ []
+pub other-asks : (n e m : ℕ) (ss : List (Place × List ℕ)) → m ≢ n → pick (ask_by n e) (map (sending (Node m)) ss) ≡ []
 other-asks n e m [] other = refl
 other-asks n e m (s ∷ ss) other = (λ i. listed (one s.0 i) ++ other-asks n e m ss other i) where
   one : (to : Place) → ask_by n e (sending (Node m) (to, s.1)) ≡ None

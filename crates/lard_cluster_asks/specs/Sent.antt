@@ -1,6 +1,6 @@
 -- Which Asks a node sends, in words of the journal: the next one of a stay, or the last one again.
-use Rattle.std.specs.Prelude.{◌≡◌, ◌⊎◌, ℕ, ◌+◌, ◌==◌, nat_eq, ◌&&◌, Bool, false, if◌then◌else◌, List, [], ◌∷◌, ◌++◌, length, Option, Some, None}
-use Rattle.std.specs.List.{fold}
+use Rattle.std.specs.Prelude.{◌≡◌, ◌⊎◌, ℕ, ◌+◌, ◌==◌, nat_eq, ◌&&◌, Bool, true, false, if◌then◌else◌, List, [], ◌∷◌, ◌++◌, length, Option, Some, None}
+use Rattle.std.specs.List.{AllByRecursion, fold}
 use Rattle.lard_base.specs.declared.place.Place.TheVariants.{Front, Node}
 use Rattle.lard_cluster_motion.specs.Story.{of_row, picked}
 use Rattle.lard_cluster_places.specs.Places.{Head, head_of}
@@ -56,8 +56,28 @@ abbrev pub AsksGoOn : (Option (List ℕ) → List ℕ → Type 0) → Option (Li
 AsksGoOn next last [] = Unit {0}
 AsksGoOn next last (bytes ∷ more) = ((last ≡ Some bytes) × AsksGoOn next last more) ⊎ (next last bytes × (more ≡ []))
 
--- In each step a node sends the last Ask of a connection and an epoch again, as it was, or the next one, at most one: its number is
--- one more, and it says how many jobs wait at the node by the journal with this step. All that a step queues and reads stands before
--- what it sends, so these are the jobs just before the Ask is sent.
-abbrev pub MustAsk : List Rec → List Rec → Type 0
-MustAsk past step = (c n e : ℕ) → AsksGoOn (IsNext c e (length (jobs (past ++ step) n))) (last_ask n e (own c past)) (picked (of_row (ask_by n e)) (seen_on c (net_of past) step))
+-- ---- the jobs at that moment
+
+-- a job is queued, or read
+abbrev pub is_job : Rec → Bool
+is_job (rec.Queued n m c r path) = true
+is_job (rec.Read n m c r path) = true
+is_job _ = false
+
+abbrev pub NoJobs : List Rec → Type 0
+NoJobs rs = AllByRecursion (λ r. is_job r ≡ false) rs
+
+-- behind a packet that is sent none is
+abbrev pub JobsFirst : List Rec → Type 0
+JobsFirst [] = Unit {0}
+JobsFirst (rec.Sent k from to bytes ∷ rs) = NoJobs rs
+JobsFirst (_ ∷ rs) = JobsFirst rs
+
+-- ---- a step
+
+-- In each step all jobs are queued and read before anything is sent. A node sends the last Ask of a connection and an epoch again, as it
+-- was, or the next one, at most one: its number is one more, and it says how many jobs wait at the node by the journal with this step.
+-- So these are the jobs just before the Ask is sent.
+pub record MustAsk (past step : List Rec) : Type 0 where
+  pub jobs_first : JobsFirst step
+  pub asks : (c n e : ℕ) → AsksGoOn (IsNext c e (length (jobs (past ++ step) n))) (last_ask n e (own c past)) (picked (of_row (ask_by n e)) (seen_on c (net_of past) step))
