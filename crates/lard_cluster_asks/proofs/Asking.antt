@@ -1,5 +1,5 @@
 -- What nodes ask, in every run.
-use Rattle.std.proofs.Common.{◌≡◌, ◌⊎◌, ℕ, List, [], ◌∷◌, ◌++◌, length, Option, Some, None, Ok, refl, sym, ap, ◌∙◌, subst, inl, inr, ⊎_elim}
+use Rattle.std.proofs.Common.{◌≡◌, ℕ, List, [], ◌∷◌, ◌++◌, length, Option, Some, Ok, refl, sym, ◌∙◌, subst, inl, inr, ⊎_elim}
 use Rattle.lard_base.specs.declared.config.Config.{Config}
 use Rattle.lard_base.specs.declared.event.Event.{Event}
 use Rattle.lard_cluster.specs.declared.machine.Machine.{Machine}
@@ -9,22 +9,21 @@ use Rattle.lard_cluster_asks.specs.Runs.{AsksGoOnInSteps}
 use Rattle.lard_cluster_asks.specs.Sent.{AsksGoOn, IsNext, MustAsk, ask_by, last_ask}
 use Rattle.lard_cluster_asks.proofs.Queues.{Waits, asks-seen, go-on, last-named}
 use Rattle.lard_cluster_asks.proofs.Rows.{IsTold, step-first, step-told}
-use Rattle.lard_cluster_asks.proofs.Sends.{Goes, GoesOn, IsSomeNext, PartsAsk, Sends, all-send}
+use Rattle.lard_cluster_asks.proofs.Sends.{Goes, GoesOn, PartsAsk, Sends, all-send}
 use Rattle.lard_cluster_motion.specs.Story.{of_row, picked}
 use Rattle.lard_cluster_motion.proofs.Picking.{pick}
 use Rattle.lard_cluster_places.proofs.Runs.{each-placed}
 use Rattle.lard_cluster_places.proofs.Turns.{IsPlaced}
 use Rattle.lard_cluster_stores.specs.Stores.{jobs}
 use Rattle.lard_cluster_view.specs.Carry.{IsLaw, MayMove, OfEach, setting}
-use Rattle.lard_cluster_view.specs.View.{Conn, Move, Rules, Setting, conn, grown, seen_in}
-use Rattle.lard_cluster_view.specs.View as view
+use Rattle.lard_cluster_view.specs.View.{Conn, Move, Rules, Setting, conn, grown}
 use Rattle.lard_cluster_view.proofs.After.{IsAfter, step-after}
 use Rattle.lard_cluster_view.proofs.Carried.{IsOn, carried, carried-keep, goes-on}
 use Rattle.lard_cluster_view.proofs.Fine.{IsFine, fine}
 use Rattle.lard_cluster_view.proofs.Guarded.{both, weaker}
 use Rattle.lard_cluster_view.proofs.InSteps.{seen-step}
 use Rattle.lard_cluster_view.proofs.Runs.{passes-more}
-use Rattle.lard_history.specs.Own.{Seen, named_in, net_of, own, seen_on}
+use Rattle.lard_history.specs.Own.{named_in, net_of, own, seen_on}
 use Rattle.lard_history.proofs.Each.{Each, Each-weaker}
 use Rattle.lard_history.proofs.Stepping.{AreLawful, one-more}
 use Rattle.lard_journal.specs.declared.rec.Rec.{Rec}

@@ -1,5 +1,5 @@
 -- Each rule of a node, by the Asks that it sends.
-use Rattle.std.proofs.Common.{◌≡◌, ◌<◌, ◌^◌, ℕ, ◌+◌, ◌==◌, ◌&&◌, nat_lt, Bool, true, false, cond, List, [], ◌∷◌, ◌++◌, length, map, Option, Some, None, Result, Ok, Err, refl, sym, ap, ◌∙◌, subst, arith, eqb-true, eq-eqb, append-nil}
+use Rattle.std.proofs.Common.{◌≡◌, ◌<◌, ◌^◌, ℕ, ◌+◌, ◌==◌, Bool, true, false, cond, List, [], ◌++◌, length, map, Option, Some, None, Result, Ok, Err, refl, sym, ap, ◌∙◌, subst, arith, eqb-true, eq-eqb, append-nil}
 use Rattle.std.proofs.lemmas.Bool.{cond_both}
 use Rattle.std.proofs.lemmas.List.{map-append}
 use Rattle.std.specs.List.{find}
@@ -27,7 +27,6 @@ use Rattle.lard_lateral.specs.Lateral.{is_from}
 use Rattle.lard_node_rules.specs.declared.stay.Stay.{Stay}
 use Rattle.lard_node_rules.specs.Node.{Deed, Drops, Says, Does, NodePart, again_sent, begins, both_of, come_by, fired_by, gone, heard_by, here, is_awaited, node_acknowledged, node_content, node_forwarded, node_offered, node_read, node_tagged, node_timer, offered_by, read_by, saying, tagged_by, taken_sent, turn_by, with_work, work_of}
 use Rattle.lard_node_rules.specs.Stay.{NodeEnv, Work, came_for, come_progress, goes_on, read_progress, reads_batch, tagged}
-use Rattle.lard_resend.specs.declared.kept.Kept.{Kept}
 use Rattle.lard_resend.specs.Kept.{is_under, without}
 use Rattle.lard_resend.specs.Pending.{sent_of}
 use Rattle.lard_rules.specs.declared.places.Ending.{Ending}
@@ -146,10 +145,11 @@ module _ (c n : ℕ) (last : ℕ → Option (List ℕ)) (env : NodeEnv) (number 
         let known : HereAsks y.1 = here-asks y.0 y.1 it_is in
         let w : Work = work_of (after_timer y.0) y.1 in
         let given : Ending × Turn = spoken env.serve (serving (after_timer y.0) y.1.served []) (ready_of env.serve (after_timer y.0) (timed y.0)) in
-        let ms : List (Place × List ℕ) = (turn_by env (again_sent p) w given).messages in
-        (again-outcome c n last (env.queue + 0) ms _ (λ e. subst (Each (λ bytes. last e ≡ Some bytes)) (sym (turn-asks c n last env number e (again_sent p) w given.0 ∙ append-nil (asks_in n e (again_sent p)))) (again-asks e))
-        (unasked-part c n last env number p w given.0 y.1.asks refl refl h.kept h.fetches known.fresh known.counted),
-        spoken-to env.serve (serving (after_timer y.0) y.1.served []) (ready_of env.serve (after_timer y.0) (timed y.0)) (ready-to env.serve (after_timer y.0) (timed y.0)))
+        let ms : List (Place × List ℕ) = (turn_by env (again_sent p) w given).messages in (
+          again-outcome c n last (env.queue + 0) ms _ (λ e. subst (Each (λ bytes. last e ≡ Some bytes)) (sym (turn-asks c n last env number e (again_sent p) w given.0 ∙ append-nil (asks_in n e (again_sent p)))) (again-asks e))
+              (unasked-part c n last env number p w given.0 y.1.asks refl refl h.kept h.fetches known.fresh known.counted),
+          spoken-to env.serve (serving (after_timer y.0) y.1.served []) (ready_of env.serve (after_timer y.0) (timed y.0)) (ready-to env.serve (after_timer y.0) (timed y.0)),
+        )
 
     pub timer-asks : env.epoch ≡ epoch_in p → DeedAsks (node_timer env p)
     timer-asks at = fires-by at (both_of (endpoint_of p.row) p.stay) refl
@@ -171,8 +171,11 @@ module _ (c n : ℕ) (last : ℕ → Option (List ℕ)) (env : NodeEnv) (number 
   acknowledged-asks =
       let q : NodePart = record p { row = gone p.row; kept = without timer.Ended 0 p.kept } in
       cond_both (awaits_ack env.epoch p.row) (Does (q, saying [])) Drops DeedAsks
-      (λ t. (none-outcome c n last (env.queue + 0) [] q (λ e. refl)
-      (record { fresh = λ e less. h.fresh e (subst (λ (d : ℕ). d < e) (gone-epoch p.row) less); kept = filter-each (IsLast last) _ p.kept h.kept; fetches = h.fetches; stay = gone-asks p.row }), tt))
+      (λ t. (
+        none-outcome c n last (env.queue + 0) [] q (λ e. refl)
+            (record { fresh = λ e less. h.fresh e (subst (λ (d : ℕ). d < e) (gone-epoch p.row) less); kept = filter-each (IsLast last) _ p.kept h.kept; fetches = h.fetches; stay = gone-asks p.row }),
+        tt,
+      ))
       (λ t. tt)
 
   -- ---- an Offer
@@ -187,10 +190,11 @@ module _ (c n : ℕ) (last : ℕ → Option (List ℕ)) (env : NodeEnv) (number 
   offered-by parts New new =
       let newer : IsNewer = new refl in
       let none : last env.epoch ≡ None = h.fresh env.epoch newer.above in
-      let w : Work = state_of (reads_batch env true (begins env parts)) in
-      (turn-outcome c n last env number newer.small p (taken_sent env) (goes_on env w) (settled env.serve (goes_on env w).service) 0 (goes-so env 0 w (batch-state env 0 true (begins env parts) (refl, refl)))
-      (taken-unsent c n last env number) h.kept h.fetches (λ e less. h.fresh e (omega (arith, less, newer.above))) (subst (λ (o : Option (List ℕ)). IsNumbered c env.epoch o 0) (sym none) refl),
-      (settled-is env.serve (goes_on env w).service).to)
+      let w : Work = state_of (reads_batch env true (begins env parts)) in (
+        turn-outcome c n last env number newer.small p (taken_sent env) (goes_on env w) (settled env.serve (goes_on env w).service) 0 (goes-so env 0 w (batch-state env 0 true (begins env parts) (refl, refl)))
+            (taken-unsent c n last env number) h.kept h.fetches (λ e less. h.fresh e (omega (arith, less, newer.above))) (subst (λ (o : Option (List ℕ)). IsNumbered c env.epoch o 0) (sym none) refl),
+        (settled-is env.serve (goes_on env w).service).to,
+      )
   offered-by parts Again new = λ waiting. none-outcome c n last waiting (taken_sent env) p (taken-unsent c n last env number) h
 
   pub offered-asks : (parts : EndpointParts) → (offer_answer env.epoch p.row ≡ New → IsNewer) → DeedAsks (node_offered env p parts)

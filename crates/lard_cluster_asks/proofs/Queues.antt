@@ -1,9 +1,7 @@
 -- Each Ask that is sent in a step is the last one again, or says how many jobs the journal counts then.
-use Rattle.std.proofs.Common.{◌≡◌, ◌≢◌, ◌⊎◌, ℕ, suc, ◌+◌, ◌&&◌, ◌==◌, nat_eq, Bool, true, false, cond, List, [], ◌∷◌, ◌++◌, drop, take, length, map, Option, Some, None, Result, Ok, Err, refl, sym, ap, ◌∙◌, subst, inl, inr, ⊎_elim, eq-eqb, eqb-true, append-nil, append_assoc, arith}
-use Rattle.std.proofs.lemmas.Bool.{both_ways}
+use Rattle.std.proofs.Common.{◌≡◌, ◌⊎◌, ℕ, suc, ◌+◌, ◌&&◌, nat_eq, Bool, true, false, cond, List, [], ◌∷◌, ◌++◌, drop, length, Option, Some, None, Result, Ok, Err, refl, sym, ap, ◌∙◌, subst, inl, inr, ⊎_elim, eqb-true}
 use Rattle.std.specs.FinMap as table
 use Rattle.std.specs.List.{fold}
-use Rattle.lard_base.specs.declared.config.Config.{Config}
 use Rattle.lard_base.specs.declared.event.Event.{Event}
 use Rattle.lard_base.specs.declared.event.Event.TheVariants as event
 use Rattle.lard_base.specs.declared.place.Place.{Place}
@@ -14,17 +12,15 @@ use Rattle.lard_cluster.specs.declared.machine.Machine.{Machine}
 use Rattle.lard_cluster.specs.Machine.{completes, disk_at, happens, is_no_job, is_no_node, limit_reached, machine_step, node_acts, node_at, node_gave, node_setting, passed, timer, to_place}
 use Rattle.lard_cluster_asks.specs.Sent.{AsksGoOn, IsNext, ask_by, is_ask, last_ask}
 use Rattle.lard_cluster_asks.proofs.Filling.{arrived, unlimited}
-use Rattle.lard_cluster_asks.proofs.Sending.{asks_in}
 use Rattle.lard_cluster_asks.proofs.Sends.{IsSomeNext, PartsAsk}
 use Rattle.lard_cluster_asks.proofs.Steps.{Told, disk-told, message-told, timer-told}
 use Rattle.lard_cluster_motion.specs.Story.{of_row, picked}
-use Rattle.lard_cluster_motion.proofs.Elsewhere.{IsUnsent}
 use Rattle.lard_cluster_motion.proofs.Picking.{pick, picked-append}
 use Rattle.lard_cluster_places.specs.Places.{head_of}
 use Rattle.lard_cluster_places.proofs.Turns.{IsPlaced}
 use Rattle.lard_cluster_view.specs.View.{IsViewed, conn}
 use Rattle.lard_cluster_view.proofs.Heads.{ActsAt}
-use Rattle.lard_history.specs.Own.{Came, Letter, Row, Seen, came, conn_of, letter_of, named_in, net_step, one_of, own, plain, seen_of, seen_on, whose}
+use Rattle.lard_history.specs.Own.{Came, Row, Seen, came, conn_of, letter_of, named_in, net_step, one_of, own, plain, seen_of, seen_on, whose}
 use Rattle.lard_history.proofs.Each.{Each}
 use Rattle.lard_journal.specs.declared.rec.Rec.{Rec}
 use Rattle.lard_journal.specs.declared.rec.Rec.TheVariants as rec

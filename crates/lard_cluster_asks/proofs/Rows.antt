@@ -21,7 +21,7 @@ use Rattle.lard_cluster_places.proofs.Turns.{IsPlaced}
 use Rattle.lard_cluster_stores.specs.Stores.{jobs}
 use Rattle.lard_cluster_policy.proofs.Calm.{first_rows, last_rows, told-journal}
 use Rattle.lard_cluster_stores.proofs.Stored.{jobs-told}
-use Rattle.lard_cluster_view.specs.View.{Conn, IsViewed, Move, Part, conn, part_of, sending, setting_of, timer_rows}
+use Rattle.lard_cluster_view.specs.View.{IsViewed, Move, Part, conn, part_of, sending, setting_of, timer_rows}
 use Rattle.lard_cluster_view.proofs.Acts.{ActsAlone, ActsBoth, IsPassing, IsStepOf, Moves, said_rows, step_acts}
 use Rattle.lard_cluster_view.proofs.Fine.{IsFine, IsItsOwn, fine}
 use Rattle.lard_cluster_view.proofs.Heads.{ActsAt}

@@ -1,44 +1,33 @@
 -- What each rule of a node makes of the Asks that it sends.
-use Rattle.std.proofs.Common.{◌≡◌, ◌≢◌, ◌<◌, ◌≤◌, ◌^◌, ℕ, ◌+◌, ◌==◌, ◌&&◌, not, nat_eq, nat_lt, Bool, true, false, cond, filter, List, [], ◌∷◌, ◌++◌, length, map, Option, Some, None, Result, Ok, Err, refl, sym, ap, ◌∙◌, subst, arith, eqb-true, inl, inr, ⊎_elim, append-nil}
-use Rattle.std.proofs.lemmas.Bool.{both_ways, cond_both, ltb-true}
+use Rattle.std.proofs.Common.{◌≡◌, ◌<◌, ◌^◌, ℕ, ◌+◌, ◌==◌, ◌&&◌, not, nat_eq, Bool, true, false, cond, filter, List, [], ◌∷◌, ◌++◌, length, map, Option, Some, None, refl, sym, ap, ◌∙◌, subst, arith, eqb-true, inl, inr, append-nil}
+use Rattle.std.proofs.lemmas.Bool.{both_ways, cond_both}
 use Rattle.std.proofs.lemmas.List.{map-append}
-use Rattle.std.specs.List.{AllByRecursion, find, fold}
-use Rattle.lard_base.specs.declared.parts.EndpointParts.{EndpointParts}
+use Rattle.std.specs.List.{AllByRecursion, fold}
 use Rattle.lard_base.specs.declared.place.Place.{Place}
 use Rattle.lard_base.specs.declared.place.Place.TheVariants.{Client, Front, Node}
-use Rattle.lard_base.specs.declared.place.TimerKind.{TimerKind}
 use Rattle.lard_base.specs.declared.place.TimerKind.TheVariants as timer
 use Rattle.lard_cluster_asks.specs.Sent.{AsksGoOn, IsNext, IsNumbered, ask_by, is_ask}
-use Rattle.lard_cluster_asks.proofs.Working.{AskedSo, IsAsking, batch-state, came-idle, goes-so, idle-asking, tagged-idle}
+use Rattle.lard_cluster_asks.proofs.Working.{AskedSo, IsAsking}
 use Rattle.lard_cluster_motion.proofs.Picking.{pick, pick-append}
 use Rattle.lard_cluster_places.specs.Places.{head_of}
 use Rattle.lard_cluster_places.proofs.Heads.{head, spelled-head, spelled-some}
 use Rattle.lard_cluster_view.specs.View.{epoch_in, sending}
-use Rattle.lard_endpoint.specs.Arriving.{on_segment}
-use Rattle.lard_endpoint.specs.Control.{ControlBlock}
-use Rattle.lard_endpoint.specs.Leaving.{after_timer, timed}
 use Rattle.lard_handoff_back.specs.declared.row.BackConn.{BackConn}
 use Rattle.lard_handoff_back.specs.declared.row.BackConn.TheVariants as back
 use Rattle.lard_handoff_back.specs.declared.row.BackRow.{BackRow}
-use Rattle.lard_handoff_back.specs.declared.table.Adopt.{Adopt}
-use Rattle.lard_handoff_back.specs.declared.table.Adopt.TheVariants.{New, Again, Stale}
-use Rattle.lard_handoff_back.specs.Back.{awaits_ack, endpoint_of, offer_answer, staying}
-use Rattle.lard_handoff_back.specs.Row.{held_in, is_gone}
 use Rattle.lard_history.proofs.Each.{Each, Each-append, Each-weaker}
 use Rattle.lard_history.proofs.Seeing.{same_number}
-use Rattle.lard_lateral.specs.Lateral.{is_from}
 use Rattle.lard_message.specs.declared.kind.Kind.{Kind}
 use Rattle.lard_message.specs.declared.kind.Kind.TheVariants as kind
 use Rattle.lard_message.specs.declared.message.Body.{Body}
 use Rattle.lard_message.specs.declared.message.Body.TheVariants as body
 use Rattle.lard_message.specs.Message.{kind_of}
 use Rattle.lard_message.specs.Reading.{epoch_at}
-use Rattle.lard_node_rules.specs.declared.node.NodeTurn.{NodeTurn}
 use Rattle.lard_node_rules.specs.declared.stay.Asked.{Asked}
 use Rattle.lard_node_rules.specs.declared.stay.Stay.{Stay}
 use Rattle.lard_node_rules.specs.declared.stay.Want.{Want}
-use Rattle.lard_node_rules.specs.Node.{Deed, Drops, Says, Does, NodePart, again_sent, all_sent, anew, ask_kept, asked_kept, asked_sent, begins, both_of, come_by, count_of, ended_kept, ended_sent, fetch_of, fired_by, gone, heard_by, here, is_awaited, kept_after, message, node_acknowledged, node_content, node_forwarded, node_offered, node_read, node_tagged, node_timer, offered_by, read_by, saying, tagged_by, taken_sent, turn_by, wants_kept, wants_sent, with_work, work_of}
-use Rattle.lard_node_rules.specs.Stay.{NodeEnv, Work, came_for, come_progress, goes_on, read_progress, reads_batch, tagged}
+use Rattle.lard_node_rules.specs.Node.{NodePart, all_sent, anew, ask_kept, asked_kept, asked_sent, count_of, ended_kept, ended_sent, fetch_of, kept_after, message, taken_sent, turn_by, wants_kept, wants_sent}
+use Rattle.lard_node_rules.specs.Stay.{NodeEnv, Work}
 use Rattle.lard_resend.specs.declared.kept.Kept.{Kept}
 use Rattle.lard_resend.specs.Kept.{is_under, without}
 use Rattle.lard_resend.specs.Pending.{sent_of}
@@ -46,11 +35,7 @@ use Rattle.lard_resend.proofs.Ordered.{put_all}
 use Rattle.lard_rules.specs.declared.places.Ending.{Ending}
 use Rattle.lard_rules.specs.declared.places.Ending.TheVariants as ending
 use Rattle.lard_rules.specs.declared.places.Turn.{Turn}
-use Rattle.lard_rules.specs.Loop.{state_of}
-use Rattle.lard_rules.specs.Serving.{ready_of, serving, settled, spoken}
 use Rattle.lard_rules.specs.Speaking.{listed}
-use Rattle.lard_segment.specs.declared.fault.SegFault.{SegFault}
-use Rattle.lard_segment.specs.Segment.{Said as Segment}
 
 -- ---- what is kept
 

@@ -1,5 +1,5 @@
 -- In each move the Asks of a node go on, and what is known of them stays known.
-use Rattle.std.proofs.Common.{◌≡◌, ◌≢◌, ◌⊎◌, ◌<◌, ◌≤◌, ◌+◌, ◌^◌, ◌==◌, ◌&&◌, nat_eq, nat_lt, ℕ, Bool, true, false, cond, List, [], ◌∷◌, ◌++◌, length, map, Option, Some, None, refl, sym, ap, ◌∙◌, subst, arith, append-nil, eq-eqb, eqb-true, inl, inr, ⊎_elim}
+use Rattle.std.proofs.Common.{◌≡◌, ◌≢◌, ◌⊎◌, ◌<◌, ◌≤◌, ◌+◌, ◌^◌, ◌==◌, ◌&&◌, nat_lt, ℕ, Bool, true, false, cond, List, [], ◌∷◌, ◌++◌, length, map, Option, Some, None, refl, sym, ap, ◌∙◌, subst, arith, append-nil, eq-eqb, eqb-true, inl, inr, ⊎_elim}
 use Rattle.std.proofs.lemmas.Bool.{and_parts, both_ways, ltb-true}
 use Rattle.std.proofs.lemmas.List.Sums.{fold-append}
 use Rattle.std.specs.List.{fold}
@@ -21,14 +21,13 @@ use Rattle.lard_cluster_places.proofs.Growing.{put-same}
 use Rattle.lard_cluster_places.proofs.NodeRules.{here-has}
 use Rattle.lard_cluster_places.proofs.Turns.{IsPlaced}
 use Rattle.lard_cluster_view.specs.Carry.{tale_at}
-use Rattle.lard_cluster_view.specs.View.{ClientRules, Conn, IsFrontEnv, IsNodeEnv, IsNobody, IsUnheard, Move, Rules, Setting, Spells, Was, client_begins, client_does, contents, epoch_in, event_seen, front_admits, front_does, grown, inject_seen, node_does, node_put, nothing_said, packet_seen, reads_first, rows_of, seen_in, sending, stands, timer_rows, with_node}
+use Rattle.lard_cluster_view.specs.View.{ClientRules, Conn, IsNodeEnv, Move, Rules, Setting, Spells, Was, client_begins, client_does, epoch_in, event_seen, front_admits, front_does, grown, inject_seen, node_does, node_put, nothing_said, packet_seen, reads_first, rows_of, seen_in, sending, stands, timer_rows}
 use Rattle.lard_cluster_view.proofs.Fine.{IsItsOwn}
 use Rattle.lard_cluster_view.proofs.Saying.{GaveAt, NotedAt}
 use Rattle.lard_front_rules.specs.declared.front.FrontTurn.{FrontTurn}
 use Rattle.lard_front_rules.specs.Front as front
 use Rattle.lard_front_rules.specs.Front.{FrontEnv, FrontPart, ask_of, front_asked, front_ended, front_gets, front_taken, front_timer}
 use Rattle.lard_handoff_back.specs.declared.row.BackRow.{BackRow}
-use Rattle.lard_handoff_back.specs.declared.table.Adopt.{Adopt}
 use Rattle.lard_handoff_back.specs.declared.table.Adopt.TheVariants.{New, Again, Stale}
 use Rattle.lard_handoff_back.specs.Back.{offer_answer}
 use Rattle.lard_handoff_back.specs.Row.{is_gone}

@@ -1,23 +1,18 @@
 -- What a node sends in its step: its Asks go on with the jobs that its disk has then.
-use Rattle.std.proofs.Common.{◌≡◌, ◌⊎◌, ◌<◌, ◌^◌, ℕ, zero, suc, ◌+◌, ◌-◌, ◌==◌, Bool, true, false, cond, List, [], ◌∷◌, ◌++◌, length, map, Option, Some, None, Result, Ok, Err, refl, sym, ap, ◌∙◌, subst, inl, inr, eqb-true}
+use Rattle.std.proofs.Common.{◌≡◌, ◌<◌, ◌^◌, ℕ, zero, suc, ◌+◌, ◌-◌, ◌==◌, Bool, true, false, cond, List, [], ◌∷◌, ◌++◌, length, map, Option, Some, None, Result, Ok, Err, refl, sym, ap, ◌∙◌, subst}
 use Rattle.std.specs.Prelude.{slice_get}
 use Rattle.std.proofs.lemmas.Bool.{cond_both}
 use Rattle.std.proofs.lemmas.List.{length-append}
 use Rattle.std.specs.FinMap as table
-use Rattle.std.specs.List.{AllByRecursion, list_any}
-use Rattle.lard_base.specs.declared.config.Config.{Config}
-use Rattle.lard_base.specs.declared.event.Event.{Event}
-use Rattle.lard_base.specs.declared.event.Event.TheVariants as event
+use Rattle.std.specs.List.{list_any}
 use Rattle.lard_base.specs.declared.parts.EndpointParts.{EndpointParts}
 use Rattle.lard_base.specs.declared.place.Place.{Place}
 use Rattle.lard_base.specs.declared.place.Place.TheVariants.{Client, Front, Node}
 use Rattle.lard_cache.specs.Recency.{Recency, has}
-use Rattle.lard_cluster.specs.declared.fault.StepFault.{StepFault}
 use Rattle.lard_cluster.specs.declared.machine.Machine.{Machine}
 use Rattle.lard_cluster.specs.Bounds.{IsNumber}
-use Rattle.lard_cluster.specs.Machine.{completes, disk_at, happens, is_no_job, is_no_node, limit_reached, machine_step, node_acts, node_at, node_gave, node_setting, passed, timer, to_place}
+use Rattle.lard_cluster.specs.Machine.{node_at, node_setting}
 use Rattle.lard_cluster_asks.specs.Sent.{AsksGoOn, IsNext, ask_by, last_ask}
-use Rattle.lard_cluster_asks.proofs.Filling.{arrived, done, unlimited}
 use Rattle.lard_cluster_asks.proofs.NodeAsks.{DeedAsks, IsNewer, acknowledged-asks, content-asks, forwarded-asks, offered-asks, read-asks, tagged-asks, timer-asks}
 use Rattle.lard_cluster_asks.proofs.Sending.{PartAsks, asks_in}
 use Rattle.lard_cluster_asks.proofs.Sends.{PartsAsk, lasts, newer, offer-said, small-here}
@@ -25,11 +20,10 @@ use Rattle.lard_cluster_motion.proofs.Elsewhere.{IsUnsent, gave-unsent, note-uns
 use Rattle.lard_cluster_motion.proofs.Picking.{pick, segments-none}
 use Rattle.lard_cluster_places.proofs.Turns.{IsPlaced}
 use Rattle.lard_cluster_view.specs.View.{AreNumbered, Conn, IsNodeEnv, IsViewed, Part, Spells, Was, conn, epoch_in, part_of, sending, setting_of, timer_rows}
-use Rattle.lard_cluster_view.proofs.Heads.{ActsAt, was}
-use Rattle.lard_cluster_view.proofs.Naming.{Names, decoded-names}
+use Rattle.lard_cluster_view.proofs.Heads.{was}
+use Rattle.lard_cluster_view.proofs.Naming.{decoded-names}
 use Rattle.lard_cluster_view.proofs.Nodes as nodes
 use Rattle.lard_cluster_view.proofs.Nodes.{IsNodeDeed}
-use Rattle.lard_cluster_view.proofs.Nothing.{numbered}
 use Rattle.lard_cluster_view.proofs.Numbers.{client-number}
 use Rattle.lard_cluster_view.proofs.Parts.{node-kept}
 use Rattle.lard_cluster_view.proofs.Saying.{AreMessages, GaveAt, NotedAt}
@@ -39,7 +33,7 @@ use Rattle.lard_disk.specs.declared.disk.Job.{Job}
 use Rattle.lard_disk.specs.Jobs.{is_for, job_at}
 use Rattle.lard_handoff_back.specs.declared.table.Adopt.TheVariants.{New}
 use Rattle.lard_handoff_back.specs.Back.{offer_answer}
-use Rattle.lard_history.specs.Own.{conn_of, own}
+use Rattle.lard_history.specs.Own.{own}
 use Rattle.lard_history.proofs.Each.{Each, Each-weaker}
 use Rattle.lard_journal.specs.declared.rec.Rec.{Rec}
 use Rattle.lard_journal.specs.declared.rec.Rec.TheVariants as rec
@@ -53,7 +47,7 @@ use Rattle.lard_node_rules.specs.declared.node.BackIn.TheVariants as back
 use Rattle.lard_node_rules.specs.declared.node.NodeState.{NodeState}
 use Rattle.lard_node_rules.specs.declared.node.NodeTurn.{NodeTurn}
 use Rattle.lard_node_rules.specs.Node.{Deed, Drops, Says, Does, NodePart, here, node_acknowledged, node_content, node_forwarded, node_offered, node_read, node_tagged, node_timer, saying}
-use Rattle.lard_node_rules.specs.NodePlace.{aside, brought, completed, content_sent, disk_step, epoch_at, fetched, fetched_file, node_deed, node_env, node_gets, node_hears, node_part, node_step, timers_of, with_first}
+use Rattle.lard_node_rules.specs.NodePlace.{aside, completed, content_sent, disk_step, epoch_at, fetched, fetched_file, node_deed, node_env, node_gets, node_hears, node_part, node_step, timers_of, with_first}
 use Rattle.lard_node_rules.specs.Stay.{NodeEnv}
 use Rattle.lard_resend.specs.Pending.{sent_of}
 use Rattle.lard_rules.specs.declared.front.Out.{Out}

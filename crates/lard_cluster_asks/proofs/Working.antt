@@ -74,7 +74,7 @@ module _ (env : NodeEnv) (was : ℕ) where
     next-idle = one-idle (slice_get nodes at) r e w h
 
     go : (b : Bool) → IsIdle (starts_at env nodes (at + 1) (r + 1) es next-of) → IsIdle (starts_at env nodes at (r + 1) es next-of)
-        → IsIdle (elim b as (λ t. Work) [ | true ↦ starts_at env nodes (at + 1) (r + 1) es next-of | false ↦ starts_at env nodes at (r + 1) es next-of ])
+        → IsIdle (elim b as (λ t. Work) [ true ↦ starts_at env nodes (at + 1) (r + 1) es next-of | false ↦ starts_at env nodes at (r + 1) es next-of ])
     go true a b = a
     go false a b = b
 
