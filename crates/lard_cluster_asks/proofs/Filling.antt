@@ -44,10 +44,10 @@ choices-fill cfg ask now (path ∷ paths) b = ap suc (choices-fill cfg ask now p
 -- ---- the step in which a packet of a node comes to the front end
 
 module _ (m n : Machine) where
-  done : (given : Machine) → ◌≡◌ {A = Result Machine StepFault} (Ok given) (Ok n) → given ≡ n
+  pub done : (given : Machine) → ◌≡◌ {A = Result Machine StepFault} (Ok given) (Ok n) → given ≡ n
   done given e = cc
 
-  unlimited : (o : Option What) (given : Result Machine StepFault) → unless_limit o given ≡ Ok n → given ≡ Ok n
+  pub unlimited : (o : Option What) (given : Result Machine StepFault) → unless_limit o given ≡ Ok n → given ≡ Ok n
   unlimited None given e = e
   unlimited (Some what) given e = cc
 
@@ -55,7 +55,7 @@ module _ (m n : Machine) where
   unlost k p true e = cc
   unlost k p false e = done (to_place m k p p.to) e
 
-  arrived : (k : ℕ) (p : Packet) → packet_at m.net k ≡ Some p → machine_step m (event.Deliver k) ≡ Ok n → to_place m k p p.to ≡ n
+  pub arrived : (k : ℕ) (p : Packet) → packet_at m.net k ≡ Some p → machine_step m (event.Deliver k) ≡ Ok n → to_place m k p p.to ≡ n
   unfolding machine_step delivered
   arrived k p at is = unlost k p p.lost (ap (delivered m k) (sym at) ∙ unlimited (limit_reached m) (happens m (event.Deliver k)) is)
 

@@ -6,4 +6,12 @@ pub mod Rules
 pub mod Coming
 pub mod Filling
 pub mod Ending
+pub mod Working
+pub mod Sending
+pub mod NodeAsks
+pub mod Sends
+pub mod Steps
+pub mod Queues
+pub mod Rows
+pub mod Asking
 pub mod Runs

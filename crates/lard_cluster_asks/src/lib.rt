@@ -3,7 +3,7 @@
 //! It stands above the law of motion of the cluster, by which it knows where a connection is. It has no code.
 #![tactic(auto)]
 
-ghost use Rattle.lard_cluster_asks.specs.Runs.{AsksAreAnswered, BatchesEndInSteps};
+ghost use Rattle.lard_cluster_asks.specs.Runs.{AsksAreAnswered, AsksGoOnInSteps, BatchesEndInSteps};
 
 /// In every run of the cluster's machine, and also of a connection that the schedule touched, whatever is lost, repeated or
 /// comes out of order. While the front end has given a connection up, an Ask that comes from the connection's node with its
@@ -15,4 +15,12 @@ ghost use Rattle.lard_cluster_asks.specs.Runs.{AsksAreAnswered, BatchesEndInStep
 pub fn asks_are_answered()
     ensures answers { AsksAreAnswered }
     ensures batches { BatchesEndInSteps }
+{}
+
+/// The Asks that a node sends for one connection and epoch go on one by one. Each that is sent is the last one again, byte for
+/// byte, or the next one, of which a step sends at most one: its number is one more, or 1 where there was none, and its queue is
+/// how many jobs wait at the node, as the journal counts them just before it is sent: all that a step queues and reads stands
+/// before what it sends.
+pub fn nodes_ask()
+    ensures { AsksGoOnInSteps }
 {}
