@@ -82,7 +82,7 @@ IsAt n (stage.Moved m d) = m ≡ n
 IsAt n _ = ⊥
 
 module _ (x : Conn) (n : ℕ) (q : NodePart) where
-  pub put-at : (m : ℕ) → m ≡ n → node_put x.part.nodes n q m ≡ q
+  put-at : (m : ℕ) → m ≡ n → node_put x.part.nodes n q m ≡ q
   put-at m e = ap (node_put x.part.nodes n q) e ∙ put-same x.part.nodes n q
 
   -- what node n keeps anew agrees, so the connection does
