@@ -1,6 +1,7 @@
 -- Each law is proved in a crate of its own.
 use Rattle.std.specs.Prelude.{◌≤◌}
 use Rattle.lard_base.specs.declared.limits.TheConstants.{MAX_STREAM_BYTES}
+use Rattle.lard_cluster_asks.proofs.Asking.{asks-go-on}
 use Rattle.lard_cluster_asks.proofs.Runs.{asks-answered, batches-end}
 use Rattle.lard_cluster_bytes.proofs.Runs.{clients-accept, journals-serve, journals-tell, states-truthful}
 use Rattle.lard_cluster_clients.proofs.Tables.{clients-keep}
@@ -59,6 +60,7 @@ journals-lawful config files m checked r =
       most_by_policy = loads-near-the-thresholds config files m checked r;
       few = connections-stay-few config files m checked r;
       never_all_busy = never-all-busy config files m checked r;
+      asks = asks-go-on config files m r;
       answers = asks-answered config files m r;
       batch_ends = batches-end config files m checked r;
       requests = assign-in-order config files m small r;

@@ -6,6 +6,7 @@ use Rattle.lard_base.specs.declared.config.Config.{Config}
 use Rattle.lard_cluster.specs.declared.machine.Machine.{Machine}
 use Rattle.lard_cluster.specs.Machine.{IsReached}
 use Rattle.lard_cluster_asks.specs.Answers.{MustAnswer, MustEnd}
+use Rattle.lard_cluster_asks.specs.Sent.{MustAsk}
 use Rattle.lard_cluster_bytes.specs.Records.{ServesTheAnswers}
 use Rattle.lard_cluster_line.specs.Laws.{HasFewConnections, IsNearTheThresholds, IsNotBusy, IsWithinTheRoom, MustPass, MustRelease, WaitsForRoom}
 use Rattle.lard_cluster_motion.specs.Motion.{MustMove}
@@ -78,7 +79,8 @@ pub record IsLawful (config : Config) (files : FilesAt) (J : List Rec) : Type 0 
   pub most_by_policy : Throughout (IsNearTheThresholds config) config J
   pub few : Throughout (HasFewConnections config) config J
   pub never_all_busy : Throughout (IsNotBusy config) config J
-  -- in which steps later requests are assigned and Tags are sent, and a batch is over
+  -- which Asks a node sends; in which steps later requests are assigned and Tags are sent, and a batch is over
+  pub asks : EachStep MustAsk [] (steps J)
   pub answers : EachStep MustAnswer [] (steps J)
   pub batch_ends : EachStep (MustEnd config) [] (steps J)
   -- which request each assignment is for, and by which way its content comes
