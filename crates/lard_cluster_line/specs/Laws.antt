@@ -12,6 +12,7 @@ use Rattle.lard_cluster_policy.specs.Ledger.{Ledger, admitted, is_in, ledger}
 use Rattle.lard_cluster_policy.specs.Loads.{load}
 use Rattle.lard_dispatch.specs.Loads.{is_at}
 use Rattle.lard_history.specs.Journal.{home}
+use Rattle.lard_history.specs.Laws.{EachMay}
 use Rattle.lard_history.specs.Steps.{AtEachEnd, EachStep, steps}
 use Rattle.lard_journal.specs.declared.rec.Rec.{Rec}
 use Rattle.lard_journal.specs.declared.rec.Rec.TheVariants as rec
@@ -51,6 +52,10 @@ AdmitsHead _ _ = Unit {0}
 abbrev pub admission_due : List ℕ → Rec → Option Rec
 admission_due line (rec.Released d) = elim line [ [] ↦ None | c ∷ cs ↦ Some (rec.Admitted c) ]
 admission_due line _ = None
+
+-- Wherever one is admitted while somebody waits, it is the first of the line.
+abbrev pub AdmitsTheFirst : Type 0
+AdmitsTheFirst = Always (λ config m. EachMay (λ past r. AdmitsHead (line past) r) [] m.journal)
 
 -- in a step, behind this past
 abbrev pub MustPass : List Rec → List Rec → Type 0
