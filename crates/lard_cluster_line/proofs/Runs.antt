@@ -18,7 +18,7 @@ use Rattle.lard_cluster_line.proofs.Stands.{Stand, stand_at, stand_step, unknown
 use Rattle.lard_cluster_line.proofs.Telling.{stands-told}
 use Rattle.lard_cluster_line.proofs.Steps.{HeadEnters, IsInOrder, IsNoRelease, step-adds, unreleased-passes}
 use Rattle.lard_cluster_line.proofs.Turns.{Notes, noting}
-use Rattle.lard_cluster_line.specs.Laws.{AdmitsHead, AdmitsTheFirst, AreFollowed, LineIsKept, LinePasses, MustPass, MustRelease, TakesRelease, WaitsAtAFullRoom, WaitsForRoom, admission_due}
+use Rattle.lard_cluster_line.specs.Laws.{AdmitsHead, AdmitsTheFirst, AreFollowed, LineIsKept, LineIsOfThoseWhoWait, LinePasses, MustPass, MustRelease, TakesRelease, WaitsAtAFullRoom, WaitsForRoom, admission_due, waits_there}
 use Rattle.lard_cluster_line.specs.Line.{Line, leaves, left_at, left_by, line, line_step, nobody, without}
 use Rattle.lard_cluster_places.proofs.Runs.{each-placed}
 use Rattle.lard_cluster_places.proofs.Turns.{IsPlaced}
@@ -44,6 +44,7 @@ use Rattle.lard_front_rules.specs.Sound.{IsRowSound, IsStageSound, Standing, sta
 use Rattle.lard_handoff_front.specs.declared.row.FrontConn.{FrontConn}
 use Rattle.lard_handoff_front.specs.declared.row.FrontConn.TheVariants as stage
 use Rattle.lard_handoff_front.specs.declared.row.FrontRow.{FrontRow}
+use Rattle.lard_handoff_front.specs.Row.{is_waiting}
 use Rattle.lard_history.specs.Own.{Has, own}
 use Rattle.lard_history.specs.Laws.{EachMay}
 use Rattle.lard_history.proofs.Each.{Each, Each-weaker, each_append}
@@ -135,6 +136,24 @@ module _ (config : Config) (files : List (List ℕ × List ℕ)) (checked : conf
 
 pub line-is-kept : LineIsKept
 line-is-kept config files m checked r = line-kept config files checked m r
+
+-- ---- those who wait at the front end
+
+stage-so : (s : Stand) (at : FrontConn) → StageStands s at → s.waits ≡ is_waiting at
+stage-so s (stage.Held b) k = k.0.waits_is
+stage-so s (stage.Waiting b) k = k.0.waits_is
+stage-so s stage.Lent k = k.waits_is
+stage-so s (stage.Offering n epoch) k = k.waits_is
+stage-so s (stage.Moved n epoch) k = k.waits_is
+stage-so s (stage.Closed last) k = k.waits_is
+
+row-so : (s : Stand) (o : Option FrontRow) → RowStands s o → s.waits ≡ waits_there o
+row-so s None k = k.waits_is
+row-so s (Some row) k = stage-so s row.stage k
+
+pub line-is-of-those-who-wait : LineIsOfThoseWhoWait
+line-is-of-those-who-wait config files m checked r c =
+    (stands-told c m.journal).waits_is ∙ row-so (fold (stand_step c) unknown (own c m.journal)) (front_part m.front c).row (stood config files checked m r c)
 
 -- ---- it waits for room
 
