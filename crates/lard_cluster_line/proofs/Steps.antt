@@ -1,4 +1,5 @@
--- The records of a step: each release that is due stands where it is due, and what takes loads away stands before what adds to them.
+-- The records of a step: each release that is due stands directly behind its record, and the admission of the first of the line directly
+-- behind each release; and what takes from loads stands before what adds to them.
 use Rattle.std.proofs.Common.{◌≡◌, ℕ, ◌+◌, ◌-◌, Bool, true, false, cond, List, [], ◌∷◌, ◌++◌, map, length, Option, Some, None, Ok, refl, sym, ap, ◌∙◌, subst, append_assoc, append-nil, ⊎_elim, ◌||◌, nat_lt, ◌⊎◌, inl, inr}
 use Rattle.lard_base.specs.declared.event.Event.{Event}
 use Rattle.lard_base.specs.declared.event.Event.TheVariants as event
