@@ -58,16 +58,8 @@ abbrev pub RowStands : Stand → Option FrontRow → Type 0
 RowStands s None = Counts s false 0 false
 RowStands s (Some row) = StageStands s row.stage
 
-counts-alike : (s t : Stand) (w : Bool) (most : ℕ) (i : Bool) → IsAlike s t → Counts s w most i → Counts t w most i
+pub counts-alike : (s t : Stand) (w : Bool) (most : ℕ) (i : Bool) → IsAlike s t → Counts s w most i → Counts t w most i
 counts-alike s t w most i a k = record { waits_is = a.waits ∙ k.waits_is; times = subst (λ (n : ℕ). n ≤ most) (sym a.times) k.times; inside_is = a.inside ∙ k.inside_is }
-
-counts-more : (s : Stand) (w : Bool) (i : Bool) → Counts s w 0 i → Counts s w 1 i
-counts-more s w i k = record { waits_is = k.waits_is; times = let few = k.times in omega (arith, few); inside_is = k.inside_is }
-
--- a stage of which nothing is said of what the client was told
-abbrev pub IsApart : Option FrontRow → Type 0
-IsApart None = Unit {0}
-IsApart (Some row) = elim row.stage [ stage.Held b ↦ ⊥ | stage.Waiting b ↦ ⊥ | stage.Lent ↦ Unit {0} | stage.Offering n e ↦ Unit {0} | stage.Moved n e ↦ Unit {0} | stage.Closed last ↦ Unit {0} ]
 
 stage-alike : (s t : Stand) → IsAlike s t → t.told ≡ s.told → (at : FrontConn) → StageStands s at → StageStands t at
 stage-alike s t a e (stage.Held b) h = (counts-alike s t false 0 false a h.0, subst (λ (o : Option Said). IsHeld o b) (sym e) h.1)

@@ -1,5 +1,5 @@
 -- Each rule leaves a connection standing as its stage at the front end says.
-use Rattle.std.proofs.Common.{◌≡◌, ℕ, ◌^◌, ◌<◌, ◌≤◌, List, [], ◌∷◌, ◌++◌, map, Bool, true, false, cond, Option, Some, None, refl, sym, ap, ◌∙◌, subst, arith}
+use Rattle.std.proofs.Common.{◌≡◌, ℕ, ◌^◌, ◌<◌, ◌≤◌, List, [], ◌∷◌, ◌++◌, map, true, false, cond, Option, Some, None, refl, sym, ap, ◌∙◌, subst, arith}
 use Rattle.std.specs.List.{fold}
 use Rattle.lard_base.specs.declared.event.Event.TheVariants as event
 use Rattle.lard_base.specs.declared.place.Place.{Place}
@@ -7,7 +7,7 @@ use Rattle.lard_base.specs.declared.place.Place.TheVariants.{Client, Front, Node
 use Rattle.lard_client.specs.Control.{ClientBlock}
 use Rattle.lard_cluster.specs.Bounds.{HasRule}
 use Rattle.lard_cluster_line.proofs.FrontMessages.{admitted-stands, asked-stands, ended-stands, taken-stands}
-use Rattle.lard_cluster_line.proofs.Fronts.{Counts, DeedStands, RowStands, StageStands, came-out, came_so, gets-stands, timer-stands}
+use Rattle.lard_cluster_line.proofs.Fronts.{DeedStands, RowStands, StageStands, came-out, came_so, counts-alike, gets-stands, timer-stands}
 use Rattle.lard_cluster_line.proofs.Stands.{IsAlike, IsElsewhere, Stand, all-same, came_stand, client-behind, node-behind, notes-same, row_step, sends-alike, stand-grown, stand_at, stand_before, stand_behind, stand_step}
 use Rattle.lard_cluster_places.specs.Places.{Owning, Sits, StageSits, owning}
 use Rattle.lard_cluster_places.proofs.Rows.{MayOwnBy, OwnsBy, after, after_all}
@@ -105,32 +105,21 @@ module _ (x : Conn) (v : Move) (own : IsItsOwn x v) (owes : Owes x v) (placed : 
       subst (λ (s : Stand). IsAlike s (behind (Node n))) same (sends-alike x.c (Node n) (fold (row_step x.c) (stand_at x) v.said.notes) v.said.segments)
 
   -- so it stands as it stood
-  node-stands : (n : ℕ) → v.place ≡ Node n → (o : Option FrontRow) → x.part.front.row ≡ o → RowStands (stand_at x) o → RowStands (behind (Node n)) o
-  node-stands n at None found h = let a = node-alike n at in record { waits_is = a.waits ∙ h.waits_is; times = subst (λ (k : ℕ). k ≤ 0) (sym a.times) h.times; inside_is = a.inside ∙ h.inside_is }
-  node-stands n at (Some row) found h = go row.stage refl h where
-    a : IsAlike (stand_at x) (behind (Node n))
-    a = node-alike n at
+  node-stage : (n : ℕ) → v.place ≡ Node n → (e : ℕ) (at : FrontConn) → StageSits e (owning (tale_at x)) x.part.nodes at → StageStands (stand_at x) at → StageStands (behind (Node n)) at
+  node-stage n acts e (stage.Held b) sits h = subst (λ (s : Stand). StageStands s (stage.Held b)) (sym (node-silent n acts (ap (λ (w : Owning). w.owner) sits.1.0))) h
+  node-stage n acts e (stage.Waiting b) sits h = subst (λ (s : Stand). StageStands s (stage.Waiting b)) (sym (node-silent n acts (ap (λ (w : Owning). w.owner) sits.1.0))) h
+  node-stage n acts e stage.Lent sits h = absurd sits
+  node-stage n acts e (stage.Offering m epoch) sits h = counts-alike (stand_at x) (behind (Node n)) false 1 true (node-alike n acts) h
+  node-stage n acts e (stage.Moved m epoch) sits h = counts-alike (stand_at x) (behind (Node n)) false 1 true (node-alike n acts) h
+  node-stage n acts e (stage.Closed last) sits h = counts-alike (stand_at x) (behind (Node n)) false 1 false (node-alike n acts) h
 
-    counted : (w : Bool) (i : Bool) → Counts (stand_at x) w 1 i → Counts (behind (Node n)) w 1 i
-    counted w i k = record { waits_is = a.waits ∙ k.waits_is; times = subst (λ (m : ℕ). m ≤ 1) (sym a.times) k.times; inside_is = a.inside ∙ k.inside_is }
-
-    sits : Sits (owning (tale_at x)) x.part.nodes (Some row)
-    sits = subst (λ (o : Option FrontRow). Sits (owning (tale_at x)) x.part.nodes o) found placed.sits
-
-    home : (b : Bool) → (owning (tale_at x)).owner ≡ Some Front → behind (Node n) ≡ stand_at x
-    home b mine = node-silent n at mine
-
-    go : (at_ : FrontConn) → row.stage ≡ at_ → StageStands (stand_at x) at_ → StageStands (behind (Node n)) at_
-    go (stage.Held b) is k = subst (λ (s : Stand). StageStands s (stage.Held b)) (sym (home true (ap (λ (w : Owning). w.owner) (subst (StageSits row.epoch.0 (owning (tale_at x)) x.part.nodes) is sits.0).1.0))) k
-    go (stage.Waiting b) is k = subst (λ (s : Stand). StageStands s (stage.Waiting b)) (sym (home true (ap (λ (w : Owning). w.owner) (subst (StageSits row.epoch.0 (owning (tale_at x)) x.part.nodes) is sits.0).1.0))) k
-    go stage.Lent is k = absurd (subst (StageSits row.epoch.0 (owning (tale_at x)) x.part.nodes) is sits.0)
-    go (stage.Offering m epoch) is k = counted false true k
-    go (stage.Moved m epoch) is k = counted false true k
-    go (stage.Closed last) is k = counted false false k
+  node-stands : (n : ℕ) → v.place ≡ Node n → (o : Option FrontRow) → Sits (owning (tale_at x)) x.part.nodes o → RowStands (stand_at x) o → RowStands (behind (Node n)) o
+  node-stands n acts None sits h = counts-alike (stand_at x) (behind (Node n)) false 0 false (node-alike n acts) h
+  node-stands n acts (Some row) sits h = node-stage n acts row.epoch.0 row.stage sits.0 h
 
   place-stands : (p : Place) → v.place ≡ p → IsElsewhere p → RowStands (stand_at x) x.part.front.row → RowStands (behind p) x.part.front.row
   place-stands Front at there h = absurd there
-  place-stands (Node n) at there h = node-stands n at x.part.front.row refl h
+  place-stands (Node n) at there h = node-stands n at x.part.front.row placed.sits h
   place-stands (Client d) at there h =
       let noted : Each (NotedAt (Client d) x.c) v.said.notes = subst (λ (p : Place). Each (NotedAt p x.c) v.said.notes) at own.notes in
       let same : behind (Client d) ≡ stand_at x = client-behind x.c d (fold (row_step x.c) (stand_at x) v.said.notes) v.said.segments (subst (λ (p : Place). AllBetween x.c p v.said.segments) at own.segments)

@@ -7,6 +7,7 @@ pub mod Hearing
 pub mod Holding
 pub mod Law
 pub mod Lists
+pub mod Moments
 pub mod Notes
 pub mod Runs
 pub mod Speaking

@@ -38,22 +38,22 @@ abbrev pub IsLater : Rec → Type 0
 IsLater (rec.AssignedLater c r path n add size queue) = Unit {0}
 IsLater _ = ⊥
 
--- How the notes of a turn read, on connection c, which was admitted before it or not.
-pub data Noted (c : ℕ) (inside : Bool) : List Rec → Type 0 where
-  Reads : (rs : List Rec) → Each IsRead rs → Noted c inside rs
-  Begins : inside ≡ false → Noted c inside (rec.Took place.Front c (record { 0 = 1 }) ∷ [])
-  Waits : (rs : List Rec) → Each IsRead rs → Noted c inside (rs ++ rec.Waits c ∷ [])
-  Goes : (rs : List Rec) (r : ℕ) (path : List ℕ) (n : ℕ) (add remove : Option ℕ) → Each IsRead rs → Noted c inside (rs ++ rec.Admitted c ∷ rec.AssignedFirst c r path n add remove ∷ [])
-  Shares : (over : Bool) (rs : List Rec) → Each IsLater rs → Noted c inside (over_note c over ++ rs)
-  Ends : (epoch : Epoch) → inside ≡ true → Noted c inside (rec.Took place.Front c epoch ∷ rec.Released c ∷ [])
+-- How the notes of a turn read, on connection c, which stood so before it.
+pub data Noted (c : ℕ) (s : Stand) : List Rec → Type 0 where
+  Reads : (rs : List Rec) → Each IsRead rs → Noted c s rs
+  Begins : s.inside ≡ false → Noted c s (rec.Took place.Front c (record { 0 = 1 }) ∷ [])
+  Waits : (rs : List Rec) → Each IsRead rs → Noted c s (rs ++ rec.Waits c ∷ [])
+  Goes : (rs : List Rec) (r : ℕ) (path : List ℕ) (n : ℕ) (add remove : Option ℕ) → Each IsRead rs → s.waits ≡ false → Noted c s (rs ++ rec.Admitted c ∷ rec.AssignedFirst c r path n add remove ∷ [])
+  Shares : (over : Bool) (rs : List Rec) → Each IsLater rs → Noted c s (over_note c over ++ rs)
+  Ends : (epoch : Epoch) → s.inside ≡ true → Noted c s (rec.Took place.Front c epoch ∷ rec.Released c ∷ [])
 
-abbrev pub DeedNotes : ℕ → Bool → Deed → Type 0
-DeedNotes c inside Drops = Unit {0}
-DeedNotes c inside (Says t) = Noted c inside t.notes
-DeedNotes c inside (Does x) = Noted c inside x.turn.notes
+abbrev pub DeedNotes : ℕ → Stand → Deed → Type 0
+DeedNotes c s Drops = Unit {0}
+DeedNotes c s (Says t) = Noted c s t.notes
+DeedNotes c s (Does x) = Noted c s x.turn.notes
 
-pub none-noted : (c : ℕ) (inside : Bool) → Noted c inside []
-none-noted c inside = Reads [] tt
+pub none-noted : (c : ℕ) (s : Stand) → Noted c s []
+none-noted c s = Reads [] tt
 
 -- ---- a segment
 
@@ -62,30 +62,30 @@ module _ (env : FrontEnv) (small : env.serve.stream ≤ 2 ^ 30) (number : env.is
   c = env.serve.c
 
   abbrev NotesOf : Deed → Type 0
-  NotesOf d = DeedNotes c s.inside d
+  NotesOf d = DeedNotes c s d
 
-  placed-noted : (row : FrontRow) (rest : FrontRest) (w : Service) (path : List ℕ) (f : First) → Each IsRead w.notes → NotesOf (Does (placed env p row rest w path f))
-  placed-noted row rest w path (first.Go choice) read = Goes w.notes (w.count + 1) path choice.node choice.add choice.remove read
-  placed-noted row rest w path first.Waits read = Waits w.notes read
+  placed-noted : (row : FrontRow) (rest : FrontRest) (w : Service) (path : List ℕ) (f : First) → Each IsRead w.notes → s.waits ≡ false → NotesOf (Does (placed env p row rest w path f))
+  placed-noted row rest w path (first.Go choice) read out = Goes w.notes (w.count + 1) path choice.node choice.add choice.remove read out
+  placed-noted row rest w path first.Waits read out = Waits w.notes read
 
-  settled-noted : (row : FrontRow) (rest : FrontRest) (w : Service) (target : Option (List ℕ)) → (settled env.serve w).1.notes ≡ w.notes → Each IsRead w.notes → NotesOf (settled_by env p row rest w target)
-  settled-noted row rest w None same read = subst (Noted c s.inside) (sym same) (Reads w.notes read)
-  settled-noted row rest w (Some path) same read = placed-noted row rest w path (env.first path) read
+  settled-noted : (row : FrontRow) (rest : FrontRest) (w : Service) (target : Option (List ℕ)) → (settled env.serve w).1.notes ≡ w.notes → Each IsRead w.notes → s.waits ≡ false → NotesOf (settled_by env p row rest w target)
+  settled-noted row rest w None same read out = subst (Noted c s) (sym same) (Reads w.notes read)
+  settled-noted row rest w (Some path) same read out = placed-noted row rest w path (env.first path) read out
 
   hears-noted : (row : FrontRow) (bytes : List ℕ) (said : Said) (at : FrontConn) → StageStands s at → NotesOf (hears_at env p row bytes said at)
   hears-noted row bytes said (stage.Held b) h =
       let w : Service = serving (on_segment b said).1 (rest_of p.rest).count [] in
       let x : Reading = reads env.serve (record { service = w; target = None }) in
       let read : HasRead s.told env.serve small x = all-read s.told env.serve small w (record { ready = heard-ready env small number p s b said h.1; notes = tt }) in
-      settled-noted row (rest_of p.rest) x.service x.target (settled-ends env.serve s.told x.service read.0.ready).noted read.0.notes
-  hears-noted row bytes said (stage.Waiting b) h = none-noted c s.inside
+      settled-noted row (rest_of p.rest) x.service x.target (settled-ends env.serve s.told x.service read.0.ready).noted read.0.notes h.0.waits_is
+  hears-noted row bytes said (stage.Waiting b) h = none-noted c s
   hears-noted row bytes said stage.Lent h = tt
-  hears-noted row bytes said (stage.Offering node epoch) h = none-noted c s.inside
-  hears-noted row bytes said (stage.Moved node epoch) h = none-noted c s.inside
+  hears-noted row bytes said (stage.Offering node epoch) h = none-noted c s
+  hears-noted row bytes said (stage.Moved node epoch) h = none-noted c s
   hears-noted row bytes said (stage.Closed last) h = words (last_words last.reason last said) where
-    words : (o : Option Said) → Noted c s.inside (tombstone env.serve o).notes
-    words None = none-noted c s.inside
-    words (Some said) = none-noted c s.inside
+    words : (o : Option Said) → Noted c s (tombstone env.serve o).notes
+    words None = none-noted c s
+    words (Some said) = none-noted c s
 
   pub gets-noted : (bytes : List ℕ) (r : Result Said SegFault) → RowStands s p.row → NotesOf (front_gets env p bytes r)
   gets-noted bytes (Err fault) h = tt
@@ -96,50 +96,50 @@ module _ (env : FrontEnv) (small : env.serve.stream ≤ 2 ^ 30) (number : env.is
 
 -- ---- timers, and messages
 
-pub timer-noted : (env : FrontEnv) (p : FrontPart) (inside : Bool) → DeedNotes env.serve.c inside (front_timer env p)
-timer-noted env p inside = go p.row where
-  at : (row : FrontRow) (conn : FrontConn) → DeedNotes env.serve.c inside (fires_at env p row conn)
-  at row (stage.Held b) = none-noted env.serve.c inside
-  at row (stage.Waiting b) = none-noted env.serve.c inside
+pub timer-noted : (env : FrontEnv) (p : FrontPart) (s : Stand) → DeedNotes env.serve.c s (front_timer env p)
+timer-noted env p s = go p.row where
+  at : (row : FrontRow) (conn : FrontConn) → DeedNotes env.serve.c s (fires_at env p row conn)
+  at row (stage.Held b) = none-noted env.serve.c s
+  at row (stage.Waiting b) = none-noted env.serve.c s
   at row stage.Lent = tt
-  at row (stage.Offering node epoch) = none-noted env.serve.c inside
+  at row (stage.Offering node epoch) = none-noted env.serve.c s
   at row (stage.Moved node epoch) = tt
   at row (stage.Closed last) = tt
 
-  go : (o : Option FrontRow) → DeedNotes env.serve.c inside (fired_by env p o)
+  go : (o : Option FrontRow) → DeedNotes env.serve.c s (fired_by env p o)
   go None = tt
   go (Some row) = at row row.stage
 
-pub taken-noted : (c : ℕ) (inside : Bool) (p : FrontPart) (epoch : ℕ) → DeedNotes c inside (front_taken p epoch)
-taken-noted c inside p epoch = go p.row (asked_node epoch p.row) where
-  go : (o : Option FrontRow) (a : Option ℕ) → DeedNotes c inside (taken_by p epoch o a)
+pub taken-noted : (c : ℕ) (s : Stand) (p : FrontPart) (epoch : ℕ) → DeedNotes c s (front_taken p epoch)
+taken-noted c s p epoch = go p.row (asked_node epoch p.row) where
+  go : (o : Option FrontRow) (a : Option ℕ) → DeedNotes c s (taken_by p epoch o a)
   go None a = tt
   go (Some row) None = tt
-  go (Some row) (Some node) = none-noted c inside
+  go (Some row) (Some node) = none-noted c s
 
 assigned-later : (c : ℕ) (ask : Ask) (r : ℕ) (paths : List (List ℕ)) (choices : List LaterChoice) → Each IsLater (assigned_notes c ask r paths choices)
 assigned-later c ask r [] choices = tt
 assigned-later c ask r (path ∷ paths) [] = tt
 assigned-later c ask r (path ∷ paths) (choice ∷ choices) = (tt, assigned-later c ask (r + 1) paths choices)
 
-pub asked-noted : (env : FrontEnv) (p : FrontPart) (inside : Bool) (from epoch : ℕ) (ask : Ask) → DeedNotes env.serve.c inside (front_asked env p from epoch ask)
-asked-noted env p inside from epoch ask = cond_both (is_at from epoch p.row) (asked_by env p from epoch ask p.rest) Drops (DeedNotes env.serve.c inside) (λ t. by p.rest) (λ t. tt) where
-  by : (o : Option FrontRest) → DeedNotes env.serve.c inside (asked_by env p from epoch ask o)
+pub asked-noted : (env : FrontEnv) (p : FrontPart) (s : Stand) (from epoch : ℕ) (ask : Ask) → DeedNotes env.serve.c s (front_asked env p from epoch ask)
+asked-noted env p s from epoch ask = cond_both (is_at from epoch p.row) (asked_by env p from epoch ask p.rest) Drops (DeedNotes env.serve.c s) (λ t. by p.rest) (λ t. tt) where
+  by : (o : Option FrontRest) → DeedNotes env.serve.c s (asked_by env p from epoch ask o)
   by None = tt
   by (Some rest) =
       let again : Deed = Says (saying (tag_sent env from epoch rest.asks rest.tag)) in
-      cond_both (ask.number == rest.asks + 1) (Does (assigns env p rest from epoch ask (env.later ask))) (cond (ask.number == rest.asks && nat_lt 0 rest.asks) again Drops) (DeedNotes env.serve.c inside)
+      cond_both (ask.number == rest.asks + 1) (Does (assigns env p rest from epoch ask (env.later ask))) (cond (ask.number == rest.asks && nat_lt 0 rest.asks) again Drops) (DeedNotes env.serve.c s)
       (λ t. Shares (env.later ask).over (assigned_notes env.serve.c ask rest.assigned ask.paths (env.later ask).choices) (assigned-later env.serve.c ask rest.assigned ask.paths (env.later ask).choices))
-      (λ t. cond_both (ask.number == rest.asks && nat_lt 0 rest.asks) again Drops (DeedNotes env.serve.c inside) (λ u. none-noted env.serve.c inside) (λ u. tt))
+      (λ t. cond_both (ask.number == rest.asks && nat_lt 0 rest.asks) again Drops (DeedNotes env.serve.c s) (λ u. none-noted env.serve.c s) (λ u. tt))
 
-pub ended-noted : (env : FrontEnv) (p : FrontPart) (s : Stand) → RowStands s p.row → (from epoch : ℕ) (last : Final) → DeedNotes env.serve.c s.inside (front_ended env p from epoch last)
+pub ended-noted : (env : FrontEnv) (p : FrontPart) (s : Stand) → RowStands s p.row → (from epoch : ℕ) (last : Final) → DeedNotes env.serve.c s (front_ended env p from epoch last)
 ended-noted env p s h from epoch last = go p.row h where
-  by : (row : FrontRow) (a b : Bool) → is_away epoch row.stage ≡ a → RowStands s (Some row) → DeedNotes env.serve.c s.inside (ended_by env p from epoch last (Some row) (cond a (New (next_epoch row)) (cond b Again Stale)))
+  by : (row : FrontRow) (a b : Bool) → is_away epoch row.stage ≡ a → RowStands s (Some row) → DeedNotes env.serve.c s (ended_by env p from epoch last (Some row) (cond a (New (next_epoch row)) (cond b Again Stale)))
   by row true b away k = Ends (next_epoch row) (away-counts env p s h epoch row.stage away k).inside_is
-  by row false true away k = none-noted env.serve.c s.inside
+  by row false true away k = none-noted env.serve.c s
   by row false false away k = tt
 
-  go : (o : Option FrontRow) → RowStands s o → DeedNotes env.serve.c s.inside (ended_by env p from epoch last o (end_answer epoch o))
+  go : (o : Option FrontRow) → RowStands s o → DeedNotes env.serve.c s (ended_by env p from epoch last o (end_answer epoch o))
   go None k = tt
   go (Some row) k = by row (is_away epoch row.stage) (ended_with epoch row.ended_by) refl k
 
@@ -148,9 +148,6 @@ ended-noted env p s h from epoch last = go p.row h where
 -- it is nothing but that
 pub data Enters (c : ℕ) : List Rec → Type 0 where
   Alone : (r : ℕ) (path : List ℕ) (n : ℕ) (add remove : Option ℕ) → Enters c (rec.Admitted c ∷ rec.AssignedFirst c r path n add remove ∷ [])
-
-pub enters-noted : (c : ℕ) (inside : Bool) (rs : List Rec) → Enters c rs → Noted c inside rs
-enters-noted c inside rs (Alone r path n add remove) = Goes [] r path n add remove tt
 
 abbrev AllEnter : ℕ → Option (FrontPart × FrontTurn) → Type 0
 AllEnter c None = Unit {0}
@@ -173,3 +170,18 @@ admitted-enters env p choice given e = subst (AllEnter env.serve.c) e (go p.row)
   go : (o : Option FrontRow) → AllEnter env.serve.c (admitted_by env p choice o)
   go None = tt
   go (Some row) = at row row.stage
+
+-- who is admitted so was in the line
+pub admitted-waits : (env : FrontEnv) (p : FrontPart) (s : Stand) → RowStands s p.row → (choice : FirstChoice) (given : FrontPart × FrontTurn) → front_admitted env p choice ≡ Some given → s.waits ≡ true
+admitted-waits env p s h choice given e = go p.row h e where
+  at : (row : FrontRow) (conn : FrontConn) → StageStands s conn → admitted_at env p choice row conn ≡ Some given → s.waits ≡ true
+  at row (stage.Waiting b) k is = k.0.waits_is
+  at row (stage.Held b) k is = let no : None ≡ Some given = is in absurd cc
+  at row stage.Lent k is = let no : None ≡ Some given = is in absurd cc
+  at row (stage.Offering n epoch) k is = let no : None ≡ Some given = is in absurd cc
+  at row (stage.Moved n epoch) k is = let no : None ≡ Some given = is in absurd cc
+  at row (stage.Closed last) k is = let no : None ≡ Some given = is in absurd cc
+
+  go : (o : Option FrontRow) → RowStands s o → admitted_by env p choice o ≡ Some given → s.waits ≡ true
+  go None k is = let no : None ≡ Some given = is in absurd cc
+  go (Some row) k is = at row row.stage k is

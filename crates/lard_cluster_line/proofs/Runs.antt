@@ -12,12 +12,13 @@ use Rattle.lard_cluster.specs.Bounds.{HasRule}
 use Rattle.lard_cluster.specs.Machine.{IsReached, machine_step}
 use Rattle.lard_cluster_line.proofs.Fronts.{RowStands, StageStands}
 use Rattle.lard_cluster_line.proofs.Law.{IsLined, line-law}
+use Rattle.lard_cluster_line.proofs.Moments.{heads-may, step-heads}
 use Rattle.lard_cluster_line.proofs.Lists.{both-within, less-within, within-same}
 use Rattle.lard_cluster_line.proofs.Stands.{Stand, stand_at, stand_step, unknown}
 use Rattle.lard_cluster_line.proofs.Telling.{stands-told}
 use Rattle.lard_cluster_line.proofs.Steps.{HeadEnters, IsInOrder, IsNoRelease, step-adds, unreleased-passes}
 use Rattle.lard_cluster_line.proofs.Turns.{Notes, noting}
-use Rattle.lard_cluster_line.specs.Laws.{AdmitsHead, AreFollowed, LineIsKept, LinePasses, MustPass, MustRelease, TakesRelease, WaitsAtAFullRoom, WaitsForRoom, admission_due}
+use Rattle.lard_cluster_line.specs.Laws.{AdmitsHead, AdmitsTheFirst, AreFollowed, LineIsKept, LineIsOfThoseWhoWait, LinePasses, MustPass, MustRelease, TakesRelease, WaitsAtAFullRoom, WaitsForRoom, admission_due, waits_there}
 use Rattle.lard_cluster_line.specs.Line.{Line, leaves, left_at, left_by, line, line_step, nobody, without}
 use Rattle.lard_cluster_places.proofs.Runs.{each-placed}
 use Rattle.lard_cluster_places.proofs.Turns.{IsPlaced}
@@ -43,8 +44,10 @@ use Rattle.lard_front_rules.specs.Sound.{IsRowSound, IsStageSound, Standing, sta
 use Rattle.lard_handoff_front.specs.declared.row.FrontConn.{FrontConn}
 use Rattle.lard_handoff_front.specs.declared.row.FrontConn.TheVariants as stage
 use Rattle.lard_handoff_front.specs.declared.row.FrontRow.{FrontRow}
+use Rattle.lard_handoff_front.specs.Row.{is_waiting}
 use Rattle.lard_history.specs.Own.{Has, own}
-use Rattle.lard_history.proofs.Each.{Each, Each-weaker}
+use Rattle.lard_history.specs.Laws.{EachMay}
+use Rattle.lard_history.proofs.Each.{Each, Each-weaker, each_append}
 use Rattle.lard_history.proofs.Seeing.{by_number, other_number, same_number, has-each}
 use Rattle.lard_history.proofs.Stepping.{AreLawful, cancel, one-more}
 use Rattle.lard_journal.specs.declared.rec.Rec.{Rec}
@@ -134,6 +137,24 @@ module _ (config : Config) (files : List (List ℕ × List ℕ)) (checked : conf
 pub line-is-kept : LineIsKept
 line-is-kept config files m checked r = line-kept config files checked m r
 
+-- ---- those who wait at the front end
+
+stage-so : (s : Stand) (at : FrontConn) → StageStands s at → s.waits ≡ is_waiting at
+stage-so s (stage.Held b) k = k.0.waits_is
+stage-so s (stage.Waiting b) k = k.0.waits_is
+stage-so s stage.Lent k = k.waits_is
+stage-so s (stage.Offering n epoch) k = k.waits_is
+stage-so s (stage.Moved n epoch) k = k.waits_is
+stage-so s (stage.Closed last) k = k.waits_is
+
+row-so : (s : Stand) (o : Option FrontRow) → RowStands s o → s.waits ≡ waits_there o
+row-so s None k = k.waits_is
+row-so s (Some row) k = stage-so s row.stage k
+
+pub line-is-of-those-who-wait : LineIsOfThoseWhoWait
+line-is-of-those-who-wait config files m checked r c =
+    (stands-told c m.journal).waits_is ∙ row-so (fold (stand_step c) unknown (own c m.journal)) (front_part m.front c).row (stood config files checked m r c)
+
 -- ---- it waits for room
 
 pub waits-for-room : (config : Config) (files : List (List ℕ × List ℕ)) (m : Machine) → config_check config ≡ Ok tt → IsReached config files m → WaitsForRoom config m.journal
@@ -197,6 +218,23 @@ line-passes config files m checked r = (carried-keep config files (λ k. AreLawf
       (one-more MustPass k.journal after.step after.one h
       (subst (λ (s : List Rec). MustPass k.journal s) same
       (subst (λ (cs : List ℕ). Each (AdmitsHead cs) rows × AreFollowed (admission_due cs) None rows) (line-kept config files checked k on.reached) passes)))
+
+-- the same at the moment of each admission
+pub admits-the-first : AdmitsTheFirst
+admits-the-first config files m checked r = carried-keep config files (λ k. EachMay First [] k.journal) tt step m r where
+  First : List Rec → Rec → Type 0
+  First past r = AdmitsHead (line past) r
+
+  step : (k n : Machine) (e : Event) → IsOn config files k → EachMay First [] k.journal → HasRule e → machine_step k e ≡ Ok n → EachMay First [] n.journal
+  step k n e on h rule is =
+      let Kept : List Waiting = k.front.dispatch.books.line in
+      let ordered = step-ordered config k (reached-counted config files checked k on.reached) n e on.view rule is in
+      let adds = step-heads k on.view (each-lined config files checked k on.reached) (subst (λ (s : Setting). Rules s Notes) (on-setting config files k on) (noting (setting config files) (usable config checked).stream)) n e rule is in
+      let rows : List Rec = adds.0 in
+      let agree : ordered.0 ≡ rows = cancel k.journal ordered.0 rows (sym ordered.1 ∙ adds.1) in
+      let heads : Each (AdmitsHead (line k.journal)) rows = subst (λ (cs : List ℕ). Each (AdmitsHead cs) rows) (line-kept config files checked k on.reached)
+      (subst (Each (AdmitsHead (who Kept))) agree (Each-weaker (AdmitsFirst Kept) (AdmitsHead (who Kept)) (head-so Kept) ordered.0 ordered.2)) in
+      subst (EachMay First []) (sym adds.1) (each_append First [] k.journal rows h (heads-may k.journal rows (adds.2 heads)))
 
 -- ---- releases
 

@@ -1,4 +1,5 @@
--- The records of a step: each release that is due stands where it is due, and what takes loads away stands before what adds to them.
+-- The records of a step: each release that is due stands directly behind its record, and the admission of the first of the line directly
+-- behind each release; and what takes from loads stands before what adds to them.
 use Rattle.std.proofs.Common.{◌≡◌, ℕ, ◌+◌, ◌-◌, Bool, true, false, cond, List, [], ◌∷◌, ◌++◌, map, length, Option, Some, None, Ok, refl, sym, ap, ◌∙◌, subst, append_assoc, append-nil, ⊎_elim, ◌||◌, nat_lt, ◌⊎◌, inl, inr}
 use Rattle.lard_base.specs.declared.event.Event.{Event}
 use Rattle.lard_base.specs.declared.event.Event.TheVariants as event
@@ -11,11 +12,11 @@ use Rattle.lard_cluster.specs.Machine.{clocked, machine_step, passed, segments_s
 use Rattle.lard_cluster_line.proofs.Holding.{IsRead}
 use Rattle.lard_cluster_line.proofs.Law.{IsLined}
 use Rattle.lard_cluster_line.proofs.Notes.{Begins, Ends, Enters, Alone, Goes, IsLater, Noted, Reads, Shares, Waits}
-use Rattle.lard_cluster_line.proofs.Stands.{stand_at}
-use Rattle.lard_cluster_line.proofs.Turns.{Notes}
+use Rattle.lard_cluster_line.proofs.Stands.{Stand, stand_at}
+use Rattle.lard_cluster_line.proofs.Turns.{IsEntry, IsNoted, Notes}
 use Rattle.lard_cluster_line.specs.Laws.{AreFollowed, admission_due, release_due}
 use Rattle.lard_cluster_policy.proofs.Calm.{first_rows, last_rows, told-journal}
-use Rattle.lard_cluster_view.specs.View.{IsViewed, Part, Rules, conn, part_of, setting_of, timer_rows}
+use Rattle.lard_cluster_view.specs.View.{IsViewed, Move, Part, Rules, conn, part_of, setting_of, timer_rows}
 use Rattle.lard_cluster_view.proofs.Saying.{GaveAt, NamesAll, NotedAt, notes-all}
 use Rattle.lard_cluster_view.proofs.Shapes.{IsPut, Shapes, both_out, move_of}
 use Rattle.lard_cluster_view.proofs.Stepping.{step-has}
@@ -54,12 +55,12 @@ IsQuiet r = ((inside : ℕ → Bool) → release_due inside r ≡ None) × IsFal
 
 -- ---- what another place notes, what is sent, given up and told of timers is quiet
 
-read-quiet : (r : Rec) → IsRead r → IsQuiet r
+pub read-quiet : (r : Rec) → IsRead r → IsQuiet r
 read-quiet (rec.Served place c r code size via) h = ((λ inside. refl), tt, tt, tt)
 read-quiet (rec.Reset place c total) h = ((λ inside. refl), tt, tt, tt)
 read-quiet _ h = absurd h
 
-note-quiet : (place : Place) (c : ℕ) (r : Rec) → (place ≡ Front → ⊥) → NotedAt place c r → IsQuiet r
+pub note-quiet : (place : Place) (c : ℕ) (r : Rec) → (place ≡ Front → ⊥) → NotedAt place c r → IsQuiet r
 note-quiet Front c r never h = absurd (never refl)
 note-quiet (Client e) c (rec.Wrote d bytes) never h = ((λ inside. refl), tt, tt, tt)
 note-quiet (Client e) c (rec.Accepted d bytes) never h = ((λ inside. refl), tt, tt, tt)
@@ -87,12 +88,26 @@ sents-quiet : (k : ℕ) (place : Place) (ss : List (Place × List ℕ)) → Each
 sents-quiet k place [] = tt
 sents-quiet k place (s ∷ ss) = (((λ inside. refl), tt, tt, tt), sents-quiet (k + 1) place ss)
 
-behind-quiet : (e : Event) → Each IsQuiet (behind e)
+pub behind-quiet : (e : Event) → Each IsQuiet (behind e)
 behind-quiet (event.Open c isn iss wnd mss) = (((λ inside. refl), tt, tt, tt), tt)
 behind-quiet (event.Deliver k) = (((λ inside. refl), tt, tt, tt), tt)
 behind-quiet (event.Lose k) = (((λ inside. refl), tt, tt, tt), tt)
 behind-quiet (event.Inject c bytes) = (((λ inside. refl), tt, tt, tt), tt)
 behind-quiet _ = tt
+
+pub last-quiet : (w : Machine) (place : Place) (o : Out) → Each IsQuiet o.gave → Each IsQuiet o.timers → Each IsQuiet (last_rows w place o)
+last-quiet w place o gave timers =
+    let S : List Rec = sent_records (length w.net + 1) place o.segments in
+    let M : List Rec = sent_records (length (segments_sent w place o) + 1) place o.messages in
+    Each-append IsQuiet (S ++ o.gave ++ M) o.timers
+    (Each-append IsQuiet (S ++ o.gave) M (Each-append IsQuiet S o.gave (sents-quiet (length w.net + 1) place o.segments) gave) (sents-quiet (length (segments_sent w place o) + 1) place o.messages))
+    timers
+
+pub timers-quiet : (place : Place) (c : ℕ) (p q : Part) (rs : List Rec) → rs ≡ timer_rows place c p q → Each IsQuiet rs
+timers-quiet place c p q rs e = subst (Each IsQuiet) (sym e) (Each-weaker (IsTimerAt place c) IsQuiet (timer-quiet place c) (timer_rows place c p q) (timer_rows-are place c p q))
+
+pub gifts-quiet : (place : Place) (c : ℕ) (rs : List Rec) → Each (GaveAt place c) rs → Each IsQuiet rs
+gifts-quiet place c rs e = Each-weaker (GaveAt place c) IsQuiet (gave-quiet place c) rs e
 
 -- ---- lists of records
 
@@ -258,13 +273,13 @@ module _ (inside : ℕ → Bool) where
       never : (d : ℕ) → Has (rec.Admitted d) (rec.Took Front c epoch ∷ rec.Released c ∷ []) → ⊥
       never d h = ⊎_elim (λ (e : rec.Took Front c epoch ≡ rec.Admitted d). absurd (cc)) (λ k. ⊎_elim (λ (e : rec.Released c ≡ rec.Admitted d). absurd (cc)) (λ m. m) k) h
 
-  pub noted-order : (c : ℕ) (i : Bool) → inside c ≡ i → (rs : List Rec) → Noted c i rs → IsInOrder rs
-  noted-order c i is all (Reads rs e) = quiet-order rs (Each-weaker IsRead IsQuiet read-quiet rs e)
-  noted-order c i is all (Begins out) = begins-order c (is ∙ out)
-  noted-order c i is all (Waits reads e) = behind-read reads (rec.Waits c ∷ []) e tt (tt, tt)
-  noted-order c i is all (Goes reads r path n add remove e) = behind-read reads (rec.Admitted c ∷ rec.AssignedFirst c r path n add remove ∷ []) e tt (tt, (tt, tt))
-  noted-order c i is all (Shares over later e) = over-order c over later e
-  noted-order c i is all (Ends epoch in_) = ends-order c epoch (is ∙ in_)
+  pub noted-order : (c : ℕ) (s : Stand) → inside c ≡ s.inside → (rs : List Rec) → Noted c s rs → IsInOrder rs
+  noted-order c s is all (Reads rs e) = quiet-order rs (Each-weaker IsRead IsQuiet read-quiet rs e)
+  noted-order c s is all (Begins out) = begins-order c (is ∙ out)
+  noted-order c s is all (Waits reads e) = behind-read reads (rec.Waits c ∷ []) e tt (tt, tt)
+  noted-order c s is all (Goes reads r path n add remove e out) = behind-read reads (rec.Admitted c ∷ rec.AssignedFirst c r path n add remove ∷ []) e tt (tt, (tt, tt))
+  noted-order c s is all (Shares over later e) = over-order c over later e
+  noted-order c s is all (Ends epoch in_) = ends-order c epoch (is ∙ in_)
 
   -- ---- and of an admission behind them
 
@@ -291,21 +306,21 @@ module _ (inside : ℕ → Bool) where
     over-unreleased c true rs e = (tt, Each-weaker IsRising IsNoRelease rising-unreleased rs (later-rising rs e))
     over-unreleased c false rs e = Each-weaker IsRising IsNoRelease rising-unreleased rs (later-rising rs e)
 
-    entry-passes : (c : ℕ) (i : Bool) (xs : List Rec) → Noted c i xs → (line : List ℕ) → HeadEnters line (xs ++ entry) → AreFollowed (admission_due line) None (xs ++ entry)
-    entry-passes c i all (Reads rs e) line h = more-passes line rs (read-unreleased rs e)
-    entry-passes c i all (Begins out) line h = tt
-    entry-passes c i all (Waits reads e) line h = more-passes line (reads ++ rec.Waits c ∷ []) (Each-append IsNoRelease reads (rec.Waits c ∷ []) (read-unreleased reads e) (tt, tt))
-    entry-passes c i all (Goes reads r path n add remove e) line h =
+    entry-passes : (c : ℕ) (s : Stand) (xs : List Rec) → Noted c s xs → (line : List ℕ) → HeadEnters line (xs ++ entry) → AreFollowed (admission_due line) None (xs ++ entry)
+    entry-passes c s all (Reads rs e) line h = more-passes line rs (read-unreleased rs e)
+    entry-passes c s all (Begins out) line h = tt
+    entry-passes c s all (Waits reads e) line h = more-passes line (reads ++ rec.Waits c ∷ []) (Each-append IsNoRelease reads (rec.Waits c ∷ []) (read-unreleased reads e) (tt, tt))
+    entry-passes c s all (Goes reads r path n add remove e out) line h =
         more-passes line (reads ++ rec.Admitted c ∷ rec.AssignedFirst c r path n add remove ∷ []) (Each-append IsNoRelease reads (rec.Admitted c ∷ rec.AssignedFirst c r path n add remove ∷ []) (read-unreleased reads e) (tt, (tt, tt)))
-    entry-passes c i all (Shares over later e) line h = more-passes line (over_note c over ++ later) (over-unreleased c over later e)
-    entry-passes c i all (Ends epoch in_) line h = first-passes c epoch line h
+    entry-passes c s all (Shares over later e) line h = more-passes line (over_note c over ++ later) (over-unreleased c over later e)
+    entry-passes c s all (Ends epoch in_) line h = first-passes c epoch line h
 
-    entry-order : (c : ℕ) (i : Bool) → inside c ≡ i → (xs : List Rec) → Noted c i xs → IsInOrder (xs ++ entry)
-    entry-order c i is xs noted =
-        let o : IsInOrder xs = noted-order c i is xs noted in
+    entry-order : (c : ℕ) (s : Stand) → inside c ≡ s.inside → (xs : List Rec) → Noted c s xs → IsInOrder (xs ++ entry)
+    entry-order c s is xs noted =
+        let o : IsInOrder xs = noted-order c s is xs noted in
         record {
           released = followed-append (release_due inside) None xs entry o.released tt;
-          passes = entry-passes c i xs noted;
+          passes = entry-passes c s xs noted;
           falls = o.falls;
           rises = o.rises ++ entry;
           split = ap (λ (zs : List Rec). zs ++ entry) o.split ∙ append_assoc o.falls o.rises entry;
@@ -313,13 +328,21 @@ module _ (inside : ℕ → Bool) where
           rising = Each-append IsRising o.rises entry o.rising (tt, (tt, tt));
         }
 
-  pub enters-order : (c : ℕ) (i : Bool) → inside c ≡ i → (d : ℕ) (xs ys : List Rec) → Noted c i xs → Enters d ys → IsInOrder (xs ++ ys)
-  enters-order c i is d xs ys noted (Alone r path n add remove) = entry-order d r path n add remove c i is xs noted
+  pub enters-order : (c : ℕ) (s : Stand) → inside c ≡ s.inside → (d : ℕ) (xs ys : List Rec) → Noted c s xs → Enters d ys → IsInOrder (xs ++ ys)
+  enters-order c s is d xs ys noted (Alone r path n add remove) = entry-order d r path n add remove c s is xs noted
+
+  -- an admission by itself, and one behind another
+  pub alone-order : (d : ℕ) (ys : List Rec) → Enters d ys → IsInOrder ys
+  alone-order d ys (Alone r path n add remove) = behind-read [] (rec.Admitted d ∷ rec.AssignedFirst d r path n add remove ∷ []) tt tt (tt, (tt, tt))
+
+  pub both-enter : (c d : ℕ) (xs ys : List Rec) → Enters c xs → Enters d ys → IsInOrder (xs ++ ys)
+  both-enter c d xs ys (Alone r path n add remove) (Alone r2 path2 n2 add2 remove2) =
+      behind-read [] (rec.Admitted c ∷ rec.AssignedFirst c r path n add remove ∷ rec.Admitted d ∷ rec.AssignedFirst d r2 path2 n2 add2 remove2 ∷ []) tt tt (tt, (tt, (tt, (tt, tt))))
 
 -- ---- a step
 
 -- a list is known by what is seen of it
-rows-same : (xs ys : List Rec) → map Row xs ≡ map Row ys → xs ≡ ys
+pub rows-same : (xs ys : List Rec) → map Row xs ≡ map Row ys → xs ≡ ys
 rows-same [] [] e = refl
 rows-same [] (y ∷ ys) e = let no : [] ≡ Row y ∷ map Row ys = e in absurd cc
 rows-same (x ∷ xs) [] e = let no : Row x ∷ map Row xs ≡ [] = e in absurd cc
@@ -337,14 +360,6 @@ module _ (m : Machine) (lined : (q : ℕ) → IsLined (conn m q)) (inside : ℕ 
   passed-adds w e own same quiet =
       (rec.Event (w.events + 1) e ∷ own, ap (λ (J : List Rec). J ++ rec.Event (w.events + 1) e ∷ own) same, quiet-order inside (rec.Event (w.events + 1) e ∷ own) (((λ i. refl), tt, tt, tt), quiet))
 
-  last-quiet : (w : Machine) (place : Place) (o : Out) → Each IsQuiet o.gave → Each IsQuiet o.timers → Each IsQuiet (last_rows w place o)
-  last-quiet w place o gave timers =
-      let S : List Rec = sent_records (length w.net + 1) place o.segments in
-      let M : List Rec = sent_records (length (segments_sent w place o) + 1) place o.messages in
-      Each-append IsQuiet (S ++ o.gave ++ M) o.timers
-      (Each-append IsQuiet (S ++ o.gave) M (Each-append IsQuiet S o.gave (sents-quiet (length w.net + 1) place o.segments) gave) (sents-quiet (length (segments_sent w place o) + 1) place o.messages))
-      timers
-
   told-adds : (w : Machine) (e : Event) (place : Place) (o : Out) → IsPut m w → IsInOrder inside o.notes → Each IsQuiet o.gave → Each IsQuiet o.timers → Adds (told w e (behind e) place o)
   told-adds w e place o put notes gave timers = (
     first_rows w e ++ o.notes ++ last_rows w place o,
@@ -352,17 +367,20 @@ module _ (m : Machine) (lined : (q : ℕ) → IsLined (conn m q)) (inside : ℕ 
     between-order inside (first_rows w e) o.notes (last_rows w place o) (((λ i. refl), tt, tt, tt), behind-quiet e) notes (last-quiet w place o gave timers),
   )
 
-  timers-quiet : (place : Place) (c : ℕ) (p q : Part) (rs : List Rec) → rs ≡ timer_rows place c p q → Each IsQuiet rs
-  timers-quiet place c p q rs e = subst (Each IsQuiet) (sym e) (Each-weaker (IsTimerAt place c) IsQuiet (timer-quiet place c) (timer_rows place c p q) (timer_rows-are place c p q))
-
   -- a connection has its number
-  own-noted : (c : ℕ) (i : Bool) (rs : List Rec) → Noted (conn m c).c i rs → Noted c i rs
+  own-noted : (c : ℕ) (v : Move) → IsNoted (conn m c) v → v.place ≡ Front → Noted c (stand_at (conn m c)) v.said.notes ⊎ Enters c v.said.notes
   unfolding conn
-  own-noted c i rs h = h
+  own-noted c v h at = ⊎_elim (λ (k : Noted c (stand_at (conn m c)) v.said.notes). inl k) (λ (k : IsEntry (conn m c) v). inr k.enters) (h.noted at)
 
-  own-enters : (c : ℕ) (rs : List Rec) → Enters (conn m c).c rs → Enters c rs
+  own-enters : (c : ℕ) (v : Move) → IsNoted (conn m c) v → v.place ≡ Front → v.heads ≡ [] → Enters c v.said.notes
   unfolding conn
-  own-enters c rs h = h
+  own-enters c v h at none = (h.alone at none).enters
+
+  turn-order : (c : ℕ) (rs : List Rec) → Noted c (stand_at (conn m c)) rs ⊎ Enters c rs → IsInOrder inside rs
+  turn-order c rs h = ⊎_elim (λ (k : Noted c (stand_at (conn m c)) rs). noted-order inside c (stand_at (conn m c)) (told_is c) rs k) (λ (k : Enters c rs). alone-order inside c rs k) h
+
+  turns-order : (c d : ℕ) (xs ys : List Rec) → Noted c (stand_at (conn m c)) xs ⊎ Enters c xs → Enters d ys → IsInOrder inside (xs ++ ys)
+  turns-order c d xs ys h e = ⊎_elim (λ (k : Noted c (stand_at (conn m c)) xs). enters-order inside c (stand_at (conn m c)) (told_is c) d xs ys k e) (λ (k : Enters c xs). both-enter inside c d xs ys k e) h
 
   -- what another place than the front end notes
   other-order : (place : Place) (c : ℕ) (rs : List Rec) → (place ≡ Front → ⊥) → Each (NotedAt place c) rs → IsInOrder inside rs
@@ -372,23 +390,20 @@ module _ (m : Machine) (lined : (q : ℕ) → IsLined (conn m q)) (inside : ℕ 
       → IsInOrder inside o.notes
   notes-order Front c heads ns o p noted seen does =
       let same : o.notes ≡ ns = rows-same o.notes ns (sym (notes-all Front c [] o.notes tt noted) ∙ seen []) in
-      subst (IsInOrder inside) (sym same) (noted-order inside c (stand_at (conn m c)).inside (told_is c) ns (own-noted c (stand_at (conn m c)).inside ns ((does (lined c)).noted refl)))
+      subst (IsInOrder inside) (sym same) (turn-order c ns (own-noted c (move_of Front heads ns o p) (does (lined c)) refl))
   notes-order (Node n) c heads ns o p noted seen does = other-order (Node n) c o.notes (λ e. let no : Node n ≡ Front = e in absurd cc) noted
   notes-order (Client d) c heads ns o p noted seen does = other-order (Client d) c o.notes (λ e. let no : Client d ≡ Front = e in absurd cc) noted
 
   both-order : (place : Place) (c d : ℕ) (heads : List Seen) (a b : Out) (p r : Part) → NamesAll place → Each (NotedAt place c) a.notes → Each (NotedAt place d) b.notes
       → Notes (conn m c) (move_of place heads a.notes a p) → Notes (conn m d) (move_of place [] b.notes b r) → IsInOrder inside (a.notes ++ b.notes)
-  both-order Front c d heads a b p r names noted too does then = enters-order inside c (stand_at (conn m c)).inside (told_is c) d a.notes b.notes
-      (own-noted c (stand_at (conn m c)).inside a.notes ((does (lined c)).noted refl)) (own-enters d b.notes ((then (lined d)).alone refl refl))
+  both-order Front c d heads a b p r names noted too does then =
+      turns-order c d a.notes b.notes (own-noted c (move_of Front heads a.notes a p) (does (lined c)) refl) (own-enters d (move_of Front [] b.notes b r) (then (lined d)) refl refl)
   both-order (Node n) c d heads a b p r names noted too does then = absurd names
   both-order (Client q) c d heads a b p r names noted too does then =
       let never : Client q ≡ Front → ⊥ = λ e. absurd (cc) in
       quiet-order inside (a.notes ++ b.notes) (Each-append IsQuiet a.notes b.notes
       (Each-weaker (NotedAt (Client q) c) IsQuiet (λ r h. note-quiet (Client q) c r never h) a.notes noted)
       (Each-weaker (NotedAt (Client q) d) IsQuiet (λ r h. note-quiet (Client q) d r never h) b.notes too))
-
-  gifts-quiet : (place : Place) (c : ℕ) (rs : List Rec) → Each (GaveAt place c) rs → Each IsQuiet rs
-  gifts-quiet place c rs e = Each-weaker (GaveAt place c) IsQuiet (gave-quiet place c) rs e
 
   shapes-add : Shapes m Notes (λ e n. Adds n)
   unfolding clocked

@@ -1,11 +1,11 @@
 -- What each rule notes, as a fact of each move.
-use Rattle.std.proofs.Common.{◌≡◌, ℕ, ◌^◌, ◌<◌, ◌≤◌, List, [], ◌∷◌, sym, subst}
+use Rattle.std.proofs.Common.{◌≡◌, ℕ, ◌^◌, ◌<◌, ◌≤◌, List, [], ◌∷◌, sym, subst, ◌⊎◌, inl, inr, true, refl}
 use Rattle.lard_base.specs.declared.place.Place.{Place}
 use Rattle.lard_base.specs.declared.place.Place.TheVariants.{Client, Front, Node}
 use Rattle.lard_cluster_line.proofs.Law.{IsLined, node-there}
-use Rattle.lard_cluster_line.proofs.Notes.{DeedNotes, Enters, Noted, admitted-enters, asked-noted, ended-noted, enters-noted, gets-noted, none-noted, taken-noted, timer-noted}
+use Rattle.lard_cluster_line.proofs.Notes.{DeedNotes, Enters, Noted, admitted-enters, admitted-waits, asked-noted, ended-noted, gets-noted, none-noted, taken-noted, timer-noted}
 use Rattle.lard_cluster_line.proofs.Stands.{IsElsewhere, stand_at}
-use Rattle.lard_cluster_view.specs.View.{ClientRules, Conn, FrontRules, Move, NodeRules, Rules, Setting, front_does, node_does, nothing_said, packet_seen, stands}
+use Rattle.lard_cluster_view.specs.View.{ClientRules, Conn, FrontRules, Move, NodeRules, Rules, Setting, front_admits, front_does, node_does, nothing_said, packet_seen, stands}
 use Rattle.lard_front_rules.specs.Front as front
 use Rattle.lard_front_rules.specs.Front.{FrontEnv, ask_of, front_asked, front_ended, front_gets, front_taken, front_timer}
 use Rattle.lard_history.specs.Own.{Seen}
@@ -13,10 +13,16 @@ use Rattle.lard_node_rules.specs.Node as node
 use Rattle.lard_segment.specs.declared.segment.Dir.TheVariants.{ToCluster}
 use Rattle.lard_segment.specs.Segment.{decoded}
 
--- The front end's notes read as those of a turn; where nothing is seen before them, they are those of an admission.
+-- It is the admission of one that waits, before which nothing is seen.
+pub record IsEntry (x : Conn) (v : Move) : Type 0 where
+  pub none : v.heads ≡ []
+  pub enters : Enters x.c v.said.notes
+  pub waits : (stand_at x).waits ≡ true
+
+-- The front end's notes read as those of a turn, or as that of an admission, as they do where nothing is seen before them.
 pub record IsNoted (x : Conn) (v : Move) : Type 0 where
-  pub noted : v.place ≡ Front → Noted x.c (stand_at x).inside v.said.notes
-  pub alone : v.place ≡ Front → v.heads ≡ [] → Enters x.c v.said.notes
+  pub noted : v.place ≡ Front → Noted x.c (stand_at x) v.said.notes ⊎ IsEntry x v
+  pub alone : v.place ≡ Front → v.heads ≡ [] → IsEntry x v
 
 abbrev pub Notes : Conn → Move → Type 0
 Notes x v = IsLined x → IsNoted x v
@@ -34,15 +40,15 @@ by-node : (x : Conn) (n : ℕ) (heads : List Seen) (d : node.Deed) → Notes x (
 by-node x n heads d = aside x (node_does x n heads d) (node-there x n heads d).place
 
 -- something is seen before what the front end does
-by-front : (x : Conn) (env : FrontEnv) (first : Seen) (rest : List Seen) (d : front.Deed) → env.serve.c ≡ x.c → (IsLined x → DeedNotes env.serve.c (stand_at x).inside d) → Notes x (front_does x (first ∷ rest) d)
-by-front x env first rest d same noted h = go d (subst (λ (c : ℕ). DeedNotes c (stand_at x).inside d) same (noted h)) where
+by-front : (x : Conn) (env : FrontEnv) (first : Seen) (rest : List Seen) (d : front.Deed) → env.serve.c ≡ x.c → (IsLined x → DeedNotes env.serve.c (stand_at x) d) → Notes x (front_does x (first ∷ rest) d)
+by-front x env first rest d same noted h = go d (subst (λ (c : ℕ). DeedNotes c (stand_at x) d) same (noted h)) where
   some : first ∷ rest ≡ [] → ⊥
   some e = cc
 
-  go : (d : front.Deed) → DeedNotes x.c (stand_at x).inside d → IsNoted x (front_does x (first ∷ rest) d)
-  go front.Drops k = record { noted = λ at. none-noted x.c (stand_at x).inside; alone = λ at none. absurd (some none) }
-  go (front.Says t) k = record { noted = λ at. k; alone = λ at none. absurd (some none) }
-  go (front.Does did) k = record { noted = λ at. k; alone = λ at none. absurd (some none) }
+  go : (d : front.Deed) → DeedNotes x.c (stand_at x) d → IsNoted x (front_does x (first ∷ rest) d)
+  go front.Drops k = record { noted = λ at. inl (none-noted x.c (stand_at x)); alone = λ at none. absurd (some none) }
+  go (front.Says t) k = record { noted = λ at. inl k; alone = λ at none. absurd (some none) }
+  go (front.Does did) k = record { noted = λ at. inl k; alone = λ at none. absurd (some none) }
 
 module _ (k : Setting) (small : k.stream ≤ 2 ^ 30) where
   clients : ClientRules k Notes
@@ -62,15 +68,19 @@ module _ (k : Setting) (small : k.stream ≤ 2 ^ 30) where
   fronts = record {
     hears = λ x s env bytes there is iss was. by-front x env _ [] (front_gets env x.part.front bytes (decoded bytes x.c ToCluster)) is.number
         (λ h. gets-noted env (subst (λ (n : ℕ). n ≤ 2 ^ 30) (sym is.stream) small) (subst (λ (n : ℕ). n < 2 ^ 32) (sym iss) (h.number s there)) x.part.front (stand_at x) bytes (decoded bytes x.c ToCluster) h.stands);
-    fires = λ x s env there is. by-front x env _ [] (front_timer env x.part.front) is.number (λ h. timer-noted env x.part.front (stand_at x).inside);
-    taken = λ x env n epoch bytes is spells was. by-front x env _ [] (front_taken x.part.front epoch) is.number (λ h. taken-noted env.serve.c (stand_at x).inside x.part.front epoch);
+    fires = λ x s env there is. by-front x env _ [] (front_timer env x.part.front) is.number (λ h. timer-noted env x.part.front (stand_at x));
+    taken = λ x env n epoch bytes is spells was. by-front x env _ [] (front_taken x.part.front epoch) is.number (λ h. taken-noted env.serve.c (stand_at x) x.part.front epoch);
     asked = λ x env n epoch number queue size paths bytes is spells was. by-front x env _ [] (front_asked env x.part.front n epoch (ask_of x.c n number queue size paths)) is.number
-        (λ h. asked-noted env x.part.front (stand_at x).inside n epoch (ask_of x.c n number queue size paths));
+        (λ h. asked-noted env x.part.front (stand_at x) n epoch (ask_of x.c n number queue size paths));
     ended = λ x env n epoch reason snd rcv count bytes is spells was. by-front x env _ [] (front_ended env x.part.front n epoch (record { reason = reason; snd = record { 0 = snd }; rcv = record { 0 = rcv } })) is.number
         (λ h. ended-noted env x.part.front (stand_at x) h.stands n epoch (record { reason = reason; snd = record { 0 = snd }; rcv = record { 0 = rcv } }));
     admitted = λ x env choice given is e h.
-        let enters : Enters x.c given.1.notes = subst (λ (c : ℕ). Enters c given.1.notes) is.number (admitted-enters env x.part.front choice given e) in
-        record { noted = λ at. enters-noted x.c (stand_at x).inside given.1.notes enters; alone = λ at none. enters };
+        let entry : IsEntry x (front_admits x given) = record {
+          none = refl;
+          enters = subst (λ (c : ℕ). Enters c given.1.notes) is.number (admitted-enters env x.part.front choice given e);
+          waits = admitted-waits env x.part.front (stand_at x) h.stands choice given e;
+        } in
+        record { noted = λ at. inr entry; alone = λ at none. entry };
   }
 
   nodes : NodeRules k Notes
@@ -89,7 +99,7 @@ module _ (k : Setting) (small : k.stream ≤ 2 ^ 30) where
 
   -- nothing is noted of what is not heard
   ignored : (x : Conn) (from to : Place) (bytes : List ℕ) → Notes x (stands x to (packet_seen from to bytes) nothing_said)
-  ignored x from to bytes h = record { noted = λ at. none-noted x.c (stand_at x).inside; alone = λ at none. absurd (some none) } where
+  ignored x from to bytes h = record { noted = λ at. inl (none-noted x.c (stand_at x)); alone = λ at none. absurd (some none) } where
     some : packet_seen from to bytes ≡ [] → ⊥
     some e = cc
 

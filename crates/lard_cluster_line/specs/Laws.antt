@@ -1,6 +1,7 @@
 -- What is so of the line, of releases and of loads in every run, with a configuration that may be used.
-use Rattle.std.specs.Prelude.{◌≡◌, ℕ, ◌+◌, ◌*◌, ◌<◌, ◌≤◌, ◌||◌, nat_lt, nat_le, count_by, Bool, if◌then◌else◌, List, [], ◌∷◌, length, map, Option, Some, None, Ok}
-use Rattle.std.specs.List.{AllByRecursion}
+use Rattle.std.specs.Prelude.{◌≡◌, ℕ, ◌+◌, ◌*◌, ◌<◌, ◌≤◌, ◌||◌, nat_lt, nat_le, count_by, Bool, if◌then◌else◌, List, [], ◌∷◌, length, map, Option, Some, None, Ok, nat_eq, false}
+use Rattle.std.specs.FinMap as table
+use Rattle.std.specs.List.{AllByRecursion, list_any}
 use Rattle.lard_base.specs.declared.config.Config.{Config}
 use Rattle.lard_base.specs.declared.place.Place.TheVariants.{Front}
 use Rattle.lard_base.specs.Config.{config_check, room_of}
@@ -11,7 +12,10 @@ use Rattle.lard_cluster_policy.specs.Laws.{AtEveryMoment}
 use Rattle.lard_cluster_policy.specs.Ledger.{Ledger, admitted, is_in, ledger}
 use Rattle.lard_cluster_policy.specs.Loads.{load}
 use Rattle.lard_dispatch.specs.Loads.{is_at}
+use Rattle.lard_handoff_front.specs.declared.row.FrontRow.{FrontRow}
+use Rattle.lard_handoff_front.specs.Row.{is_waiting}
 use Rattle.lard_history.specs.Journal.{home}
+use Rattle.lard_history.specs.Laws.{EachMay}
 use Rattle.lard_history.specs.Steps.{AtEachEnd, EachStep, steps}
 use Rattle.lard_journal.specs.declared.rec.Rec.{Rec}
 use Rattle.lard_journal.specs.declared.rec.Rec.TheVariants as rec
@@ -26,6 +30,15 @@ Always P = (config : Config) (files : List (List ℕ × List ℕ)) (m : Machine)
 -- The front end keeps the line that the journal tells, in its order.
 abbrev pub LineIsKept : Type 0
 LineIsKept = Always (λ config m. map (λ w. w.c) m.front.dispatch.books.line ≡ line m.journal)
+
+-- a connection waits at the front end
+abbrev pub waits_there : Option FrontRow → Bool
+waits_there None = false
+waits_there (Some row) = is_waiting row.stage
+
+-- Those who wait there are in the line, and nobody else.
+abbrev pub LineIsOfThoseWhoWait : Type 0
+LineIsOfThoseWhoWait = Always (λ config m. (c : ℕ) → list_any (nat_eq c) (line m.journal) ≡ waits_there (table.get m.front.conns c))
 
 -- somebody waits only where as many are admitted as there is room for
 abbrev pub WaitsForRoom : Config → List Rec → Type 0
@@ -51,6 +64,10 @@ AdmitsHead _ _ = Unit {0}
 abbrev pub admission_due : List ℕ → Rec → Option Rec
 admission_due line (rec.Released d) = elim line [ [] ↦ None | c ∷ cs ↦ Some (rec.Admitted c) ]
 admission_due line _ = None
+
+-- Wherever one is admitted while somebody waits, it is the first of the line.
+abbrev pub AdmitsTheFirst : Type 0
+AdmitsTheFirst = Always (λ config m. EachMay (λ past r. AdmitsHead (line past) r) [] m.journal)
 
 -- in a step, behind this past
 abbrev pub MustPass : List Rec → List Rec → Type 0
