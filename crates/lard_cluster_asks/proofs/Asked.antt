@@ -1,5 +1,6 @@
 -- The front end gets an Ask: the next one is assigned and answered, the last one is answered again, and any other is dropped.
 use Rattle.std.proofs.Common.{◌≡◌, ◌+◌, ◌==◌, ◌&&◌, nat_lt, ℕ, Bool, true, false, cond, List, [], ◌∷◌, ◌++◌, length, map, Option, Some, None, refl, sym, ap, ◌∙◌, subst, arith, append-nil, append_assoc, eqb-true}
+use Rattle.std.proofs.lemmas.Bool.{and_parts}
 use Rattle.std.proofs.lemmas.List.{length-map}
 use Rattle.std.proofs.lemmas.List.Sums.{fold-append}
 use Rattle.std.specs.List.{fold}
@@ -235,14 +236,10 @@ module _ (k : Setting) (x : Conn) (told : Told x) (known : IsKnown x) (env : Fro
     again-is : (b : Bool) → (number == rest.asks && nat_lt 0 rest.asks) ≡ b → is_again t comes ≡ b
     again-is b e = (λ i. (its-at ∙ at) i && (number == sym same.0 i && nat_lt 0 (sym same.0 i))) ∙ e
 
-    and-first : (a b : Bool) → a && b ≡ true → a ≡ true
-    and-first true b e = refl
-    and-first false b e = e
-
     go : (b : Bool) → (number == rest.asks + 1) ≡ b → (c : Bool) → (number == rest.asks && nat_lt 0 rest.asks) ≡ c
         → Goes (cond b (Does (assigns env p rest n epoch its (env.later its))) (cond c (Says (saying (tag_sent env n epoch rest.asks rest.tag))) Drops))
     go true e c f = assigned rest found at same (eqb-true number (rest.asks + 1) e) (next-is true e) (env.later its)
-    go false e true f = again rest same (eqb-true number rest.asks (and-first (number == rest.asks) (nat_lt 0 rest.asks) f)) (next-is false e) (again-is true f)
+    go false e true f = again rest same (eqb-true number rest.asks ((and_parts (number == rest.asks) (nat_lt 0 rest.asks) f).0)) (next-is false e) (again-is true f)
     go false e false f = drops (next-is false e) (again-is false f)
 
   pub asked-answers : Goes (front_asked env p n epoch its)

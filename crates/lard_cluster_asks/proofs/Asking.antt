@@ -27,6 +27,7 @@ use Rattle.lard_history.specs.Own.{named_in, net_of, own, seen_on}
 use Rattle.lard_history.proofs.Each.{Each, Each-weaker}
 use Rattle.lard_history.proofs.Stepping.{AreLawful, one-more}
 use Rattle.lard_journal.specs.declared.rec.Rec.{Rec}
+use Rattle.lard_message.proofs.Fields.{some_same}
 
 module _ (k : Setting) where
   abbrev All : Conn → Move → Type 0
@@ -70,14 +71,11 @@ module _ (config : Config) (files : List (List ℕ × List ℕ)) where
       abbrev IsMine : List ℕ → Type 0
       IsMine bytes = IsTold m.journal n.journal j d bytes × (named_in bytes ≡ Some q)
 
-      some-same : (c d : ℕ) → Some c ≡ Some d → c ≡ d
-      some-same c d e = cc
-
       -- the last Ask of whatever connection is that of this one
       waits : (bytes : List ℕ) → IsMine bytes → Waits q j d (length (jobs n.journal j)) last bytes
       waits bytes h = ⊎_elim
           (λ (again : (c : ℕ) × (last_ask j d (own c m.journal) ≡ Some bytes)).
-          let same : again.0 ≡ q = some-same again.0 q (sym (last-named j d again.0 m.journal bytes again.1) ∙ h.1) in inl (subst (λ (c : ℕ). last_ask j d (own c m.journal) ≡ Some bytes) same again.1))
+          let same : again.0 ≡ q = some_same again.0 q (sym (last-named j d again.0 m.journal bytes again.1) ∙ h.1) in inl (subst (λ (c : ℕ). last_ask j d (own c m.journal) ≡ Some bytes) same again.1))
           (λ new. inr new)
           h.0
 

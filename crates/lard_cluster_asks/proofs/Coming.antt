@@ -1,8 +1,8 @@
 -- What comes on a connection in a step is the packet that the event delivers.
-use Rattle.std.proofs.Common.{◌≡◌, ℕ, Bool, true, false, cond, not, ◌&&◌, List, [], ◌∷◌, ◌++◌, Option, Some, None, nat_eq, eqb-true, refl, sym, ap, ◌∙◌, subst, inl, inr, ⊎_elim}
+use Rattle.std.proofs.Common.{◌≡◌, ℕ, Bool, true, false, cond, not, List, [], ◌∷◌, ◌++◌, Option, Some, None, nat_eq, eqb-true, refl, sym, ap, ◌∙◌, subst, inl, inr, ⊎_elim}
 use Rattle.std.specs.Prelude.{◌⊎◌}
 use Rattle.std.specs.List.{list_all}
-use Rattle.std.proofs.lemmas.Bool.{cond_both}
+use Rattle.std.proofs.lemmas.Bool.{and_parts, cond_both}
 use Rattle.lard_base.specs.declared.event.Event.{Event}
 use Rattle.lard_base.specs.declared.event.Event.TheVariants as event
 use Rattle.lard_cluster.specs.declared.machine.Machine.{Machine}
@@ -53,15 +53,7 @@ rows-unasked (Came l ∷ ss) e = absurd e.0
 
 others-ungot : (rs : List Rec) → list_all (λ r. not (is_own r)) rs ≡ true → Each IsUngot rs
 others-ungot [] e = tt
-others-ungot (r ∷ rs) e = (one r (first-true (not (is_own r)) _ e), others-ungot rs (second-true (not (is_own r)) _ e)) where
-  first-true : (a b : Bool) → a && b ≡ true → a ≡ true
-  first-true true b h = refl
-  first-true false b h = h
-
-  second-true : (a b : Bool) → a && b ≡ true → b ≡ true
-  second-true true b h = h
-  second-true false b h = let no : false ≡ true = h in absurd cc
-
+others-ungot (r ∷ rs) e = (one r ((and_parts (not (is_own r)) (list_all (λ q. not (is_own q)) rs) e).0), others-ungot rs ((and_parts (not (is_own r)) (list_all (λ q. not (is_own q)) rs) e).1)) where
   one : (r : Rec) → not (is_own r) ≡ true → IsUngot r
   one (rec.Got k) h = let no : false ≡ true = h in absurd cc
   one _ h = tt

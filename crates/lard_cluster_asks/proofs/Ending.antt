@@ -1,5 +1,6 @@
 -- The batch before is over where later requests are assigned and shares were open, and nowhere else.
-use Rattle.std.proofs.Common.{◌≡◌, ◌≤◌, ℕ, ◌+◌, ◌==◌, ◌&&◌, nat_lt, nat_eq, Bool, true, false, cond, if◌then◌else◌, List, [], ◌∷◌, ◌++◌, length, Option, Some, None, Result, Ok, Err, refl, sym, ap, ◌∙◌, subst, arith, append-nil, append_assoc, eqb-true, ⊎_elim}
+use Rattle.std.proofs.Common.{◌≡◌, ◌≤◌, ℕ, ◌+◌, ◌==◌, nat_lt, nat_eq, Bool, true, false, cond, if◌then◌else◌, List, [], ◌∷◌, ◌++◌, length, Option, Some, None, Result, Ok, Err, refl, sym, ap, ◌∙◌, subst, arith, append-nil, append_assoc, eqb-true, ⊎_elim}
+use Rattle.std.proofs.lemmas.Bool.{and_parts}
 use Rattle.lard_base.specs.declared.event.Event.{Event}
 use Rattle.lard_base.specs.declared.event.Event.TheVariants as event
 use Rattle.lard_base.specs.declared.place.Place.{Place}
@@ -39,6 +40,7 @@ use Rattle.lard_message.specs.declared.message.Body.{Body}
 use Rattle.lard_message.specs.declared.message.Body.TheVariants as body
 use Rattle.lard_message.specs.declared.message.Message.{Message}
 use Rattle.lard_message.specs.Reading.{decoded_message}
+use Rattle.lard_message.proofs.Fields.{some_same}
 use Rattle.lard_net.specs.Net.{Packet, packet_at}
 use Rattle.lard_rules.specs.Speaking.{listed}
 
@@ -157,23 +159,15 @@ module _ (m n : Machine) (e : Event) (after : IsAfter m e n) (is : machine_step 
     asked-ended : IsEnded
     unfolding conn part_of
     asked-ended = go (is_next t a) refl where
-      and-first : (a b : Bool) → a && b ≡ true → a ≡ true
-      and-first true b e = refl
-      and-first false b e = e
-
-      and-second : (a b : Bool) → a && b ≡ true → b ≡ true
-      and-second true b e = e
-      and-second false b e = let no : false ≡ true = e in absurd cc
-
       with-rest : is_next t a ≡ true → is_at i epoch (front_part m.front q).row ≡ true → (o : Option FrontRest) → (front_part m.front q).rest ≡ o → IsTold t.done o → IsEnded
       with-rest next there None found h = absurd h
-      with-rest next there (Some r) found h = next-ended next r there found (eqb-true number (t.done.last + 1) (and-second (is_its t.way a) (number == t.done.last + 1) next) ∙ ap (λ x. x + 1) (sym h.0))
+      with-rest next there (Some r) found h = next-ended next r there found (eqb-true number (t.done.last + 1) ((and_parts (is_its t.way a) (number == t.done.last + 1) next).1) ∙ ap (λ x. x + 1) (sym h.0))
 
       go : (b : Bool) → is_next t a ≡ b → IsEnded
       go false next = nothing-ended (ap (dues t) comes ∙ ap (λ b. cond b (assigned_of a t.done.assigned paths) [] ++ []) next)
       go true next =
           let there : is_at i epoch (front_part m.front q).row ≡ true =
-          sym (ap (λ (s : Story). is_its s a) (way-told q (own q m.journal)) ∙ its-is (story q (own q m.journal)) (front_part m.front q).row a known.row) ∙ and-first (is_its t.way a) (number == t.done.last + 1) next in
+          sym (ap (λ (s : Story). is_its s a) (way-told q (own q m.journal)) ∙ its-is (story q (own q m.journal)) (front_part m.front q).row a known.row) ∙ (and_parts (is_its t.way a) (number == t.done.last + 1) next).0 in
           with-rest next there (front_part m.front q).rest refl (with-told t.done (front_part m.front q).rest (front_part m.front q).row i epoch there told)
 
   -- by what comes
@@ -191,13 +185,10 @@ module _ (m n : Machine) (e : Event) (after : IsAfter m e n) (is : machine_step 
       on-is : (r : Result Message MsgFault) → decoded_message l.bytes ≡ r → ask_on l.from l.to l.bytes ≡ ask_from i r
       on-is r is = (λ j. ask_on (is-from j) (is-to j) l.bytes) ∙ ap (ask_from i) is
 
-      some-same : (c d : ℕ) → Some c ≡ Some d → c ≡ d
-      some-same c d e = cc
-
       by-ask : (msg : Message) → decoded_message l.bytes ≡ Ok msg → (number queue size : ℕ) (paths : List (List ℕ)) → msg.body ≡ body.Ask number queue size paths → IsEnded
       by-ask msg reads number queue size paths says =
           let named : Names l.bytes msg.c = decoded-names msg l.bytes reads in
-          let whose_is : msg.c ≡ q = some-same msg.c q (sym named.named ∙ sym (λ j. conn_of (is-from j) (is-to j) l.bytes) ∙ d.of) in
+          let whose_is : msg.c ≡ q = some_same msg.c q (sym named.named ∙ sym (λ j. conn_of (is-from j) (is-to j) l.bytes) ∙ d.of) in
           let spells : decoded_message l.bytes ≡ Ok (record { c = q; epoch = record { 0 = msg.epoch.0 }; body = body.Ask number queue size paths }) = reads ∙ (λ j. Ok (record { c = whose_is j; epoch = record { 0 = msg.epoch.0 }; body = says j })) in
           asked-ended d.k l d.is (ap (λ net. packet_at net d.k) (sym told_is) ∙ d.at) i is-from is-to msg.epoch.0 number queue size paths spells (subst IsDecoded spells (message-told l.bytes)).1 (came-is ∙ ap listed (on-is _ spells))
 

@@ -1,5 +1,5 @@
--- An Ask that the event delivers is assigned by the dispatcher: each path gets a node, and the batch before is over where some of its
--- shares were open.
+-- An Ask that the event delivers is assigned by the dispatcher, and each of its paths gets a node. No rule of one connection tells
+-- this, since the view hides what the dispatcher answers.
 use Rattle.std.proofs.Common.{◌≡◌, ℕ, suc, ◌+◌, ◌==◌, ◌&&◌, Bool, true, false, cond, nat_lt, List, [], ◌∷◌, ◌++◌, length, map, Option, Some, None, Result, Ok, Err, refl, sym, ap, ◌∙◌, subst, eq-eqb, ⊎_elim}
 use Rattle.std.proofs.lemmas.List.{length-map}
 use Rattle.lard_base.specs.declared.config.Config.{Config}

@@ -44,8 +44,8 @@ RowTold d rest (Some row) = StageTold d rest row.stage
 abbrev pub Told : Conn → Type 0
 Told x = RowTold (asks x.c x.seen).done x.part.front.rest x.part.front.row
 
--- The dispatcher assigns each path: where x becomes y by the next Ask of its node, in its epoch, as many nodes are kept for the Tag as
--- the Ask has paths. The view does not say so, since it hides what the dispatcher answers.
+-- The dispatcher assigns each path: where x becomes y by the next Ask of its node, in its epoch, as many nodes are kept for the Tag
+-- as the Ask has paths. The view does not say so, since it hides what the dispatcher answers.
 abbrev pub Fills : Conn → Conn → Type 0
 Fills x y = (n epoch number queue size : ℕ) (paths : List (List ℕ)) (bytes : List ℕ) (rest : List Seen) (r q : FrontRest)
     → y.seen ≡ x.seen ++ Came (record { from = Node n; to = Front; bytes = bytes }) ∷ rest → Spells x.c epoch (body.Ask number queue size paths) bytes

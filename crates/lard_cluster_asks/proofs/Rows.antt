@@ -247,15 +247,15 @@ module _ (config : Config) (files : List (List ℕ × List ℕ)) (m n : Machine)
 
     alone-told : ActsAlone IsFine m e stepped.adds → AllTold
     unfolding conn
-    alone-told a = by-place a.move.place a.acts (λ m_. rest-none _ a.are (λ j d.
+    alone-told a = by-place a.move.place a.acts (λ quiet. rest-none _ a.are (λ j d.
         let own_is = own-of a.c a.move a.noted a.moves in
         acts-sent j d (behind e) m.net a.move.place a.noted a.move.said.segments a.move.said.gave a.move.said.messages (timer_rows a.move.place a.c (part_of m a.c) a.move.part)
         (behind-unsent e) (notes-unsent a.move.place a.c a.noted a.moves.notes) (gifts-unsent a.move.place a.c a.move.said.gave own_is.gave) (timers-unsent a.move.place a.c (part_of m a.c) a.move.part)
-        ∙ (λ i. else-asks j d a.move.place a.move.said.segments m_ i ++ else-asks j d a.move.place a.move.said.messages m_ i)))
+        ∙ (λ i. else-asks j d a.move.place a.move.said.segments quiet i ++ else-asks j d a.move.place a.move.said.messages quiet i)))
 
     both-told : ActsBoth IsFine m e stepped.adds → AllTold
     unfolding conn
-    both-told a = by-place a.first.place a.acts (λ m_. rest-none _ a.are (λ j d.
+    both-told a = by-place a.first.place a.acts (λ quiet. rest-none _ a.are (λ j d.
         let own_is = own-of a.c a.first a.first.said.notes a.moves in
         let own_too = own-of a.d a.second a.second.said.notes a.moves_too in
         let cs : List Rec = timer_rows a.first.place a.c (part_of m a.c) a.first.part in
@@ -270,7 +270,7 @@ module _ (config : Config) (files : List (List ℕ × List ℕ)) (m n : Machine)
         (λ (o : a.timers ≡ cs ++ ds). subst (Each IsUnsent) (sym o) (Each-append IsUnsent cs ds hc hd))
         (λ (o : a.timers ≡ ds ++ cs). subst (Each IsUnsent) (sym o) (Each-append IsUnsent ds cs hd hc))
         a.order)
-        ∙ (λ i. else-asks j d a.first.place (a.first.said.segments ++ a.second.said.segments) m_ i ++ else-asks j d a.first.place (a.first.said.messages ++ a.second.said.messages) m_ i)))
+        ∙ (λ i. else-asks j d a.first.place (a.first.said.segments ++ a.second.said.segments) quiet i ++ else-asks j d a.first.place (a.first.said.messages ++ a.second.said.messages) quiet i)))
 
     pub step-told : AllTold
     step-told = ⊎_elim

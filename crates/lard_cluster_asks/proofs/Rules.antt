@@ -138,9 +138,9 @@ module _ (k : Setting) (x : Conn) (env : FrontEnv) (is : IsFrontEnv k x.c env) w
       → Goes k x (front_does x (packet_seen (Node n) Front bytes) (front_asked env x.part.front n epoch (ask_of x.c n number queue size paths)))
   asked-goes n epoch number queue size paths bytes spells known told own fills =
       let table : IsOfTable (body.Ask number queue size paths) = subst IsTold spells (message-told bytes) in
-      asked-answers k x told known env is n epoch number queue size paths bytes spells (λ none. omega_none table.1 none) own fills where
-        omega_none : 1 ≤ length paths → length paths ≡ 0 → ⊥
-        omega_none some none = omega (arith, some, none)
+      asked-answers k x told known env is n epoch number queue size paths bytes spells (λ none. some-path table.1 none) own fills where
+        some-path : 1 ≤ length paths → length paths ≡ 0 → ⊥
+        some-path some none = omega (arith, some, none)
 
   ended-goes : (n epoch : ℕ) (reason : _) (snd rcv count : ℕ) (bytes : List ℕ) → Spells x.c epoch (body.Ended reason snd rcv count) bytes
       → Goes k x (front_does x (packet_seen (Node n) Front bytes) (front_ended env x.part.front n epoch (record { reason = reason; snd = record { 0 = snd }; rcv = record { 0 = rcv } })))

@@ -199,8 +199,8 @@ module _ (c n : ℕ) (last : ℕ → Option (List ℕ)) where
     wants-unsent e [] = refl
     wants-unsent e (w ∷ ws) = (λ i. listed (none-sent n e (fetch_of env w).to (fetch_of env w).bytes (fetch-none w e) i) ++ wants-unsent e ws i)
 
-    ended-none : (last_ : _) (count : ℕ) → IsNoAsk (ended_kept env.serve.c env.epoch last_ count)
-    ended-none last_ count e = other-kind e env.serve.c env.epoch (body.Ended last_.reason last_.snd.0 last_.rcv.0 count) (λ i. cc)
+    ended-none : (final : _) (count : ℕ) → IsNoAsk (ended_kept env.serve.c env.epoch final count)
+    ended-none final count e = other-kind e env.serve.c env.epoch (body.Ended final.reason final.snd.0 final.rcv.0 count) (λ i. cc)
 
     ended-unsent : (e : ℕ) (over : Option ℕ) (given : Ending) → asks_in n e (ended_sent env over given) ≡ []
     ended-unsent e over (ending.Here b count) = refl

@@ -1,4 +1,4 @@
--- The Ask that a node makes in a turn: at most one, whose number is the next, with the jobs that the disk has at the end of the turn.
+-- The Ask that a node makes in a turn: at most one, whose number is the next, with the jobs that the disk has at the end of it.
 use Rattle.std.proofs.Common.{◌≡◌, ℕ, ◌+◌, ◌-◌, ◌==◌, nat_lt, Bool, true, false, cond, List, [], ◌∷◌, ◌++◌, length, Option, Some, None, refl, sym, ap, ◌∙◌, subst}
 use Rattle.std.proofs.lemmas.Bool.{cond_both}
 use Rattle.std.specs.Prelude.{slice_get}

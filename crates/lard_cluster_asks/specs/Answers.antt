@@ -22,8 +22,8 @@ abbrev pub dues : Asks → List Asking → List Assigned
 dues t [] = []
 dues t (a ∷ more) = (if is_next t a then assigned_of a t.done.assigned a.paths else []) ++ dues t more
 
--- Later requests are assigned exactly in the step in which the next Ask comes, of the connection's node in its epoch: the paths that
--- it names, in order.
+-- Later requests are assigned exactly in the step in which the next Ask comes, of the connection's node in its epoch: the paths
+-- that it names, in order.
 abbrev pub Assigns : ℕ → List Seen → List Seen → Type 0
 Assigns c past step = picked (of_row later_in) step ≡ dues (asks c past) (picked ask_in step)
 

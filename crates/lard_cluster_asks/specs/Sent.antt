@@ -75,9 +75,9 @@ JobsFirst (_ ∷ rs) = JobsFirst rs
 
 -- ---- a step
 
--- In each step all jobs are queued and read before anything is sent. A node sends the last Ask of a connection and an epoch again, as it
--- was, or the next one, at most one: its number is one more, and it says how many jobs wait at the node by the journal with this step.
--- So these are the jobs just before the Ask is sent.
+-- In each step all jobs are queued and read before anything is sent. A node sends the last Ask of a connection and an epoch again,
+-- as it was, or the next one, at most one: its number is one more, and it says how many jobs wait at the node by the journal with
+-- this step. So these are the jobs just before the Ask is sent.
 pub record MustAsk (past step : List Rec) : Type 0 where
   pub jobs_first : JobsFirst step
   pub asks : (c n e : ℕ) → AsksGoOn (IsNext c e (length (jobs (past ++ step) n))) (last_ask n e (own c past)) (picked (of_row (ask_by n e)) (seen_on c (net_of past) step))
