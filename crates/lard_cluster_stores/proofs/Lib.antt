@@ -1,5 +1,5 @@
 mod Asides
-mod Calm
+pub mod Calm
 pub mod Disks
 pub mod Forms
 mod Hits

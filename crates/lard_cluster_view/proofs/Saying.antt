@@ -53,7 +53,7 @@ GaveAt _ _ _ = ⊥
 abbrev pub IsOf : ℕ → Rec → Type 0
 IsOf c r = ((whose r ≡ Some c) × (plain r ≡ r)) ⊎ ((whose r ≡ None) × ((q : ℕ) (net : List Packet) → seen_of q net r ≡ []))
 
-note-of : (place : Place) (c : ℕ) (r : Rec) → NotedAt place c r → IsOf c r
+pub note-of : (place : Place) (c : ℕ) (r : Rec) → NotedAt place c r → IsOf c r
 note-of (Client e) c (rec.Wrote d bytes) h = inl (ap Some h, refl)
 note-of (Client e) c (rec.Accepted d bytes) h = inl (ap Some h, refl)
 note-of (Client e) c (rec.Eof d) h = inl (ap Some h, refl)

@@ -20,3 +20,7 @@ pub mod FrontAnswers
 pub mod Clients
 pub mod Moments
 pub mod Runs
+pub mod Quiet
+pub mod Sending
+pub mod Bringing
+pub mod Steps

@@ -2,3 +2,4 @@ pub mod Ways
 pub mod Under
 pub mod State
 pub mod Runs
+pub mod Contents

@@ -1,8 +1,9 @@
 //! By which way the content of each response came, and in which order requests are assigned.
 //!
-//! It stands above the laws of places and of bytes of the cluster. It has no code.
+//! It stands above the laws of places, of bytes and of disks and caches of the cluster. It has no code.
 #![tactic(auto)]
 
+ghost use Rattle.lard_cluster_ways.specs.Contents.{ContentsAreFiles};
 ghost use Rattle.lard_cluster_ways.specs.Runs.{ContentsComeAsAssigned, JournalsAssignAPrefix, JournalsAssignInOrder};
 
 /// In every run of the cluster's machine, whatever is lost, repeated or comes out of order: each assignment of a connection that the
@@ -20,4 +21,11 @@ pub fn requests_are_assigned_in_order()
 /// assignment where it is another one.
 pub fn contents_come_as_assigned()
     ensures ways { ContentsComeAsAssigned }
+{}
+
+/// In every run of the cluster's machine, and of each connection, also of one that the schedule touched: each content that a node
+/// sends to another one carries the file of a path, and the step in which it is sent answers that node's Fetch for the path by a hit
+/// of the cache, or reads the job that was queued for it.
+pub fn contents_are_files()
+    ensures contents { ContentsAreFiles }
 {}
