@@ -1,0 +1,6 @@
+mod Assembling
+mod Costs
+mod Listing
+mod Making
+mod Paths
+mod Ranges

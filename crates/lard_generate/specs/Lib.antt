@@ -1,0 +1,5 @@
+pub mod Clients
+pub mod Draws
+pub mod Files
+pub mod Generated
+pub mod Rounds
