@@ -4,3 +4,4 @@ mod Listing
 mod Making
 mod Paths
 mod Ranges
+mod Spelled

@@ -16,7 +16,7 @@ use Rattle.lard_generate.proofs.Making.{All-each, sum_by-each, length-each}
 
 -- ---- sizes
 
-length-sizes : (g : Lcg) → length (each drawn_size 256 g).0 ≡ 256
+pub length-sizes : (g : Lcg) → length (each drawn_size 256 g).0 ≡ 256
 length-sizes g = length-each drawn_size 256 g (λ k h. refl)
 
 abbrev pub IsSmall : ℕ → Type 0

@@ -3,10 +3,8 @@ use Rattle.std.specs.Prelude.{ℕ, ◌+◌, ◌*◌, nat_eq, List, [], ◌∷◌
 use Rattle.rand_pcg.specs.Lcg.{Lcg}
 use Rattle.lard_base.specs.declared.event.Event.{Event}
 use Rattle.lard_base.specs.declared.event.Event.TheVariants as event
-use Rattle.lard_base.specs.declared.limits.TheConstants.{MAX_SEGMENT_DATA}
 use Rattle.lard_generate.specs.declared.action.Action.{Action}
 use Rattle.lard_generate.specs.declared.action.Action.TheVariants.{Ask, Shut}
-use Rattle.lard_generate.specs.declared.files.TheConstants.{FILES}
 use Rattle.lard_generate.specs.Draws.{draw, word, behind, each}
 use Rattle.lard_generate.specs.Files.{path_of}
 
@@ -14,7 +12,7 @@ use Rattle.lard_generate.specs.Files.{path_of}
 
 -- client c opens, with two draws for its initial sequence number and for the cluster's
 abbrev pub drawn_open : ℕ → Lcg → List Event × Lcg
-drawn_open c g = (event.Open c (word g) (word (behind g)) 65535 MAX_SEGMENT_DATA ∷ [], behind (behind g))
+drawn_open c g = (event.Open c (word g) (word (behind g)) 65535 1460 ∷ [], behind (behind g))
 
 -- ---- requests
 
@@ -43,11 +41,11 @@ fields =
 abbrev pub head_of : ℕ → List ℕ
 head_of file = codes "GET " ++ path_of file ++ fields
 
--- client c asks for a file
+-- client c asks for a file, with a request of its own
 abbrev pub drawn_ask : ℕ → ℕ → Lcg → List Action × Lcg
-drawn_ask c _ g = (Ask c (draw FILES g) ∷ [], behind g)
+drawn_ask c _ g = (Ask c (draw 256 g) ∷ [], behind g)
 
--- a client shuts unless the draw is 0
+-- a client shuts its side unless the draw is 0
 abbrev pub shut_at : ℕ → ℕ → List Action
 shut_at c draw = if nat_eq draw 0 then [] else Shut c ∷ []
 

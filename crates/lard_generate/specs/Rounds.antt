@@ -2,7 +2,6 @@
 use Rattle.std.specs.Prelude.{ℕ, ◌+◌, ◌*◌, ◌<◌, List}
 use Rattle.lard_generate.specs.declared.action.Action.{Action}
 use Rattle.lard_generate.specs.declared.action.Action.TheVariants.{Ask, Shut}
-use Rattle.lard_generate.specs.declared.files.TheConstants.{FILES}
 use Rattle.lard_generate.specs.Clients.{requests, written, answered}
 
 -- the rounds that an action takes at most
@@ -11,5 +10,5 @@ cost sizes action = 64 * requests action + 16 * (written action + answered sizes
 
 -- an action asks for one of the files
 abbrev pub AsksBelow : Action → Type 0
-AsksBelow (Ask c file) = file < FILES
+AsksBelow (Ask c file) = file < 256
 AsksBelow (Shut c) = Unit {0}

@@ -20,7 +20,7 @@ pub const MAX_SIZE: u32 = 8_192;
 
 /// The sizes of the files, 1 to 8,192 bytes each.
 pub fn sizes(alloc: Global, draws: &mut Lcg64Xsh32) -> Result<Items<u32>, NoMemory>
-    ensures { IfOk result (λ sizes. each drawn_size FILES draws.old ≡ (sizes, draws.new)) }
+    ensures { IfOk result (λ sizes. each drawn_size 256 draws.old ≡ (sizes, draws.new)) }
 {
     let mut sizes = Items::new(alloc);
     for _i in 0..FILES {

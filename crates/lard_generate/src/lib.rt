@@ -7,10 +7,12 @@
 mod action;
 mod draws;
 mod files;
+pub mod laws;
 mod opens;
 mod rounds;
 mod schedule;
 mod syns;
+#[cfg(test)]
+mod tests;
 
-pub use files::FILES;
 pub use schedule::{MAX_CLIENTS, Schedule, generate};
