@@ -1,0 +1,7 @@
+mod Assembling
+mod Costs
+mod Listing
+mod Making
+mod Paths
+mod Ranges
+mod Spelled

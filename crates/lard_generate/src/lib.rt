@@ -1,0 +1,18 @@
+//! A large schedule from two numbers, a seed and a number of clients: files, and clients that ask for them as browsers do.
+//!
+//! It stands above `lard_base` and `lard_files`, of whose events and files a schedule is made, and calls `rand_pcg` for the
+//! draws. Nothing calls it yet: its schedules end by `settle`, which is not built.
+#![tactic(auto)]
+
+mod action;
+mod draws;
+mod files;
+pub mod laws;
+mod opens;
+mod rounds;
+mod schedule;
+mod syns;
+#[cfg(test)]
+mod tests;
+
+pub use schedule::{MAX_CLIENTS, Schedule, generate};
