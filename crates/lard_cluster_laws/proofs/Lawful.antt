@@ -23,6 +23,7 @@ use Rattle.lard_cluster_steps.proofs.Timers.{timers-change}
 use Rattle.lard_cluster_stores.proofs.Disks.{disks-read}
 use Rattle.lard_cluster_stores.proofs.Stored.{lawful}
 use Rattle.lard_cluster_ways.proofs.Runs.{assign-a-prefix, assign-in-order, contents-come}
+use Rattle.lard_cluster_ways.proofs.Steps.{contents-are-files}
 
 pub journals-lawful : JournalsAreLawful
 journals-lawful config files m checked r =
@@ -66,6 +67,7 @@ journals-lawful config files m checked r =
       requests = assign-in-order config files m small r;
       paths = assign-a-prefix config files m small r;
       ways = contents-come config files m small r;
+      contents = contents-are-files config files m r;
       offers = offers-carry config files m small r;
       quiet = journals-complete config files m checked r;
     }
