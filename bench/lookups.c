@@ -1,5 +1,7 @@
 // The look-ups of `lard_bench lookups N` in plain C, beside which bench/run measures the cache: lookups N. A path that is
-// there goes to the front, any other is put in front, and paths drop from the end while there are too many.
+// there goes to the front, any other is put in front, and paths drop from the end while there are too many. Each path
+// has its bytes in a buffer of its own, as a `Vec<u8>` of Rust has; with -DINLINE they stand in the entry, one wait for
+// memory less for each look-up.
 #include <stdint.h>
 #include <stdio.h>
 #include <stdlib.h>
@@ -7,10 +9,20 @@
 
 enum { PATHS = 100000, MOST = 65536, BUCKETS = 1 << 17, SIZE = 1024 };
 
+#ifdef INLINE
+#define ROOM(len) (len)
+#else
+#define ROOM(len) 0
+#endif
+
 struct entry {
     struct entry *chained, *before, *behind;
     uint32_t len, size;
+#ifdef INLINE
     unsigned char path[];
+#else
+    unsigned char *path;
+#endif
 };
 
 static struct entry *buckets[BUCKETS], ends;
@@ -52,8 +64,12 @@ static int put(const unsigned char *path, uint32_t len, uint32_t size) {
         unlink_entry(*at);
         bytes -= (*at)->size;
     } else {
-        *at = malloc(sizeof **at + len);
+        *at = malloc(sizeof **at + ROOM(len));
         if (!*at) return 0;
+#ifndef INLINE
+        (*at)->path = malloc(len);
+        if (!(*at)->path) return 0;
+#endif
         (*at)->chained = NULL;
         (*at)->len = len;
         memcpy((*at)->path, path, len);
@@ -68,6 +84,9 @@ static int put(const unsigned char *path, uint32_t len, uint32_t size) {
         unlink_entry(last);
         count--;
         bytes -= last->size;
+#ifndef INLINE
+        free(last->path);
+#endif
         free(last);
     }
     return 1;
