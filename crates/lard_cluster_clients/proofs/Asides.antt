@@ -82,9 +82,14 @@ rows-machine x v m own =
 
 -- ---- what is seen of it
 
--- it gives the client no turn, and the client wrote nothing of it
+-- the client did not write it
+abbrev pub IsUnwritten : Seen → Type 0
+IsUnwritten (Row r) = is_of_client r ≡ false
+IsUnwritten (Came l) = Unit {0}
+
+-- it gives the client no turn, and the client did not write it
 abbrev pub IsAside : ℕ → Seen → Type 0
-IsAside c s = ((o : Option ClientBlock) → client_turn c o s ≡ None) × NoneOfClient (s ∷ [])
+IsAside c s = ((o : Option ClientBlock) → client_turn c o s ≡ None) × IsUnwritten s
 
 turn-none : (c : ℕ) (o : Option ClientBlock) (r : Rec) → is_opening r ≡ false → row_turn c o r ≡ None
 turn-none c o (rec.Event i e) n = let no : true ≡ false = n in absurd cc
@@ -92,7 +97,7 @@ turn-none c None _ n = refl
 turn-none c (Some x) _ n = refl
 
 row-aside : (c : ℕ) (r : Rec) → IsOfMachine r → IsAside c (Row r)
-row-aside c r h = ((λ o. turn-none c o r h.0), (h.1, tt))
+row-aside c r h = ((λ o. turn-none c o r h.0), h.1)
 
 pub rows-aside : (c : ℕ) (rs : List Rec) → Each IsOfMachine rs → Each (IsAside c) (map Row rs)
 rows-aside c [] e = tt
@@ -111,7 +116,7 @@ came-none c from (Node n) bytes m (Some x) = refl
 came-none c from (Client d) bytes m (Some x) = absurd m
 
 pub head-aside : (place : Place) (c : ℕ) (s : Seen) → IsMachine place → IsHeadAt place c s → IsAside c s
-head-aside place c (Row (rec.Event i (event.Timer p d))) m h = (timer-none c i p d (subst IsMachine (sym h.0) m), (refl, tt))
+head-aside place c (Row (rec.Event i (event.Timer p d))) m h = (timer-none c i p d (subst IsMachine (sym h.0) m), refl)
 head-aside place c (Came l) m h = (came-none c l.from l.to l.bytes (subst IsMachine (sym h) m), tt)
 head-aside place c _ m h = absurd h
 
@@ -123,14 +128,14 @@ machine-aside x v at own = Each-append (IsAside x.c) v.heads (map Row (rows_of x
 
 -- ---- what that makes of the client
 
-none-of : (c : ℕ) (ss : List Seen) → Each (IsAside c) ss → NoneOfClient ss
-none-of c [] e = tt
-none-of c (Row r ∷ ss) e = (e.0.1.0, none-of c ss e.1)
-none-of c (Came l ∷ ss) e = none-of c ss e.1
+none-of : (c : ℕ) (o : Option ClientBlock) (ss : List Seen) → Each (IsAside c) ss → NoneOfClient c o ss
+none-of c o [] e = tt
+none-of c o (Row r ∷ ss) e = (e.0.1, none-of c o ss e.1)
+none-of c o (Came l ∷ ss) e = (e.0.0 o, none-of c o ss e.1)
 
 pub asides-step : (c : ℕ) (o : Option ClientBlock) (ss : List Seen) → Each (IsAside c) ss → IsClientStep c o ss
 asides-step c o [] e = tt
-asides-step c o (s ∷ ss) e = subst (IsGiven c o s ss) (sym (e.0.0 o)) (none-of c ss e.1)
+asides-step c o (s ∷ ss) e = subst (IsGiven c o s ss) (sym (e.0.0 o)) (none-of c o (s ∷ ss) e)
 
 pub asides-still : (c : ℕ) (o : Option ClientBlock) (ss : List Seen) → Each (IsAside c) ss → fold (client_step c) o ss ≡ o
 asides-still c o [] e = refl

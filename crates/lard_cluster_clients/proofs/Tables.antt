@@ -148,7 +148,7 @@ ignores-owes x from to bytes nobody =
     let none : client_turn x.c o h ≡ None = came-nobody x.c x.part.station from to bytes nobody in
     record {
       state = ap (after_turn o) none;
-      step = subst (IsGiven x.c o h (map Row (rows_of x v))) (sym none) (subst (λ (rs : List Rec). NoneOfClient (map Row rs)) (sym (timer_rows-same to x.c x.part)) tt);
+      step = subst (IsGiven x.c o h (map Row (rows_of x v))) (sym none) (none, subst (λ (rs : List Rec). NoneOfClient x.c o (map Row rs)) (sym (timer_rows-same to x.c x.part)) tt);
     }
 
 -- ---- every rule

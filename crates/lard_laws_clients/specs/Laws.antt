@@ -25,7 +25,9 @@ got_step last _ = last
 abbrev pub last_got : List Rec → Option ℕ
 last_got J = fold got_step None J
 
--- The segment that client c got: that of the packet that was delivered last, which was sent to it.
+-- The segment that client c got: that of the packet that was delivered last, which was sent to it. This law knows no
+-- steps. That the packet was delivered in the step of the record is said by `KeepsTables` (lard_laws_steps): `accepted`
+-- and `eof` stand nowhere but behind a packet that the client gets in that step.
 pub record Gets (past : List Rec) (c : ℕ) : Type 0 where
   pub number : ℕ
   pub last : last_got past ≡ Some number

@@ -101,9 +101,9 @@ note-other c (rec.Served Front d r code size via) h = refl
 note-other c (rec.Reset Front d total) h = refl
 note-other c _ h = absurd h
 
-none-of : (rs : List Rec) → Each (λ r. is_of_client r ≡ false) rs → NoneOfClient (map Row rs)
-none-of [] e = tt
-none-of (r ∷ rs) e = (e.0, none-of rs e.1)
+none-of : (c : ℕ) (o : Option ClientBlock) (rs : List Rec) → Each (λ r. is_of_client r ≡ false) rs → NoneOfClient c o (map Row rs)
+none-of c o [] e = tt
+none-of c o (r ∷ rs) e = (e.0, none-of c o rs e.1)
 
 front-timer : (c : ℕ) (a b : Bool) → Each (λ r. is_of_client r ≡ false) (timer_change Front c a b)
 front-timer c false false = tt
@@ -116,13 +116,13 @@ front-sends [] = tt
 front-sends (s ∷ ss) = (refl, front-sends ss)
 
 front-owes : (x : Conn) (s : Station) (h : Seen) (given : Seat × Turn) → x.part.station ≡ Some s → Each (NotedAt Front x.c) given.1.notes → client_step x.c (Some s.client) h ≡ Some s.client
-    → ((later : List Seen) → NoneOfClient later → IsClientStep x.c (Some s.client) (h ∷ later)) → Owes x (front_does x (h ∷ []) given)
+    → ((later : List Seen) → NoneOfClient x.c (Some s.client) later → IsClientStep x.c (Some s.client) (h ∷ later)) → Owes x (front_does x (h ∷ []) given)
 unfolding timer_rows
 front-owes x s h given there notes state step =
     let v : Move = front_does x (h ∷ []) given in
     let at : client_at x.part.station ≡ Some s.client = ap client_at there in
     let P : Rec → Type 0 = λ r. is_of_client r ≡ false in
-    let none : NoneOfClient (map Row (rows_of x v)) = none-of (rows_of x v)
+    let none : NoneOfClient x.c (Some s.client) (map Row (rows_of x v)) = none-of x.c (Some s.client) (rows_of x v)
     (Each-append P (given.1.notes ++ map (sending Front) given.1.segments) (timer_change Front x.c (armed_at Front x.part) (armed_at Front v.part))
     (Each-append P given.1.notes (map (sending Front) given.1.segments) (Each-weaker (NotedAt Front x.c) P (note-other x.c) given.1.notes notes) (front-sends given.1.segments))
     (front-timer x.c (armed_at Front x.part) (armed_at Front v.part))) in
@@ -140,7 +140,7 @@ ignores-owes x from to bytes none =
     record {
       state = ap (λ o. client_step x.c o h) at ∙ sym at;
       step = subst (λ (o : Option ClientBlock). IsClientStep x.c o (seen_in x (ignoring x from to bytes))) (sym at)
-          (subst (λ (rs : List Rec). NoneOfClient (map Row rs)) (sym rows) tt);
+          (refl, subst (λ (rs : List Rec). NoneOfClient x.c None (map Row rs)) (sym rows) tt);
     }
 
 -- ---- every rule
@@ -157,9 +157,9 @@ owing k = record {
     takes = λ x s there sound. client-owes x s (Row (rec.Event 0 (event.Take x.c))) [] (client_takes s.client) there refl (λ later is. is);
     client_fires = λ x s there sound. client-owes x s (Row (rec.Event 0 (event.Timer (Client x.c) x.c))) [] (client_timer s.client) there refl (λ later is. is);
     client_hears = λ x s bytes there was sound. client-owes x s (Came (record { from = Front; to = Client x.c; bytes = bytes })) [] (client_gets s.client (decoded bytes x.c ToClient)) there refl (λ later is. is);
-    front_fires = λ x s there sound. front-owes x s (Row (rec.Event 0 (event.Timer Front x.c))) (front_timer (env_at k x s) x.part.seat) there ((fine k).untouched.front_fires x s there sound).0.notes refl (λ later none. none);
+    front_fires = λ x s there sound. front-owes x s (Row (rec.Event 0 (event.Timer Front x.c))) (front_timer (env_at k x s) x.part.seat) there ((fine k).untouched.front_fires x s there sound).0.notes refl (λ later none. (refl, none));
     front_hears = λ x s bytes there was sound. front-owes x s (Came (record { from = Client x.c; to = Front; bytes = bytes })) (front_gets (env_at k x s) x.part.seat (decoded bytes x.c ToCluster)) there
-        ((fine k).untouched.front_hears x s bytes there was sound).0.notes refl (λ later none. none);
+        ((fine k).untouched.front_hears x s bytes there was sound).0.notes refl (λ later none. (refl, none));
     ignores = λ x from to bytes was sound. ignores-owes x from to bytes was.1;
   };
   injects = λ x s bytes there rule sound. client-owes x s (Row (rec.Event 0 (event.Inject x.c bytes))) (rec.Injected x.c ∷ []) (client_injects s.client bytes) there refl (λ later is. is);

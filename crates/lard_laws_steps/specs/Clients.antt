@@ -117,19 +117,21 @@ is_of_client (rec.Armed place c kind) = at_client place
 is_of_client (rec.Cleared place c kind) = at_client place
 is_of_client _ = false
 
-abbrev pub NoneOfClient : List Seen → Type 0
-NoneOfClient [] = Unit {0}
-NoneOfClient (Row r ∷ ss) = (is_of_client r ≡ false) × NoneOfClient ss
-NoneOfClient (Came l ∷ ss) = NoneOfClient ss
+-- not one of these is a record that the client writes, or a packet that gives it a turn
+abbrev pub NoneOfClient : ℕ → Option ClientBlock → List Seen → Type 0
+NoneOfClient c o [] = Unit {0}
+NoneOfClient c o (Row r ∷ ss) = (is_of_client r ≡ false) × NoneOfClient c o ss
+NoneOfClient c o (Came l ∷ ss) = (came_turn c o l ≡ None) × NoneOfClient c o ss
 
 -- ---- the law
 
+-- what stands in a step, by what the first that is seen of it gives the client
 abbrev pub IsGiven : ℕ → Option ClientBlock → Seen → List Seen → Option (ClientBlock × Turn) → Type 0
-IsGiven c o s later None = NoneOfClient later
+IsGiven c o s later None = NoneOfClient c o (s ∷ later)
 IsGiven c o s later (Some given) = later ≡ map Row (own_rows c s ++ turn_rows c o given)
 
--- Behind a client's event, or a packet that it got, stand exactly the records that its table gives; in any other step
--- stands none that a client writes.
+-- A client's event, or a packet that it gets, is the first that its connection sees of the step, and behind it stand
+-- exactly the records that its table gives. In any other step stands none that a client writes.
 abbrev pub IsClientStep : ℕ → Option ClientBlock → List Seen → Type 0
 IsClientStep c o [] = Unit {0}
 IsClientStep c o (s ∷ later) = IsGiven c o s later (client_turn c o s)
