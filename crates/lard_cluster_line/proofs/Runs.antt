@@ -18,7 +18,7 @@ use Rattle.lard_cluster_line.proofs.Stands.{Stand, stand_at, stand_step, unknown
 use Rattle.lard_cluster_line.proofs.Telling.{stands-told}
 use Rattle.lard_cluster_line.proofs.Steps.{HeadEnters, IsInOrder, IsNoRelease, step-adds, unreleased-passes}
 use Rattle.lard_cluster_line.proofs.Turns.{Notes, noting}
-use Rattle.lard_cluster_line.specs.Laws.{AdmitsHead, AdmitsTheFirst, AreFollowed, LineIsKept, LineIsOfThoseWhoWait, LinePasses, MustPass, MustRelease, TakesRelease, WaitsAtAFullRoom, WaitsForRoom, admission_due, waits_there}
+use Rattle.lard_cluster_line.specs.Laws.{AdmitsHead, AdmitsTheFirst, AreFollowed, LineIsKept, LineIsOfThoseWhoWait, LineNeedsAFullRoom, LinePasses, MustPass, MustRelease, TakesRelease, WaitsAtAFullRoom, admission_due, waits_there}
 use Rattle.lard_cluster_line.specs.Line.{Line, leaves, left_at, left_by, line, line_step, nobody, without}
 use Rattle.lard_cluster_places.proofs.Runs.{each-placed}
 use Rattle.lard_cluster_places.proofs.Turns.{IsPlaced}
@@ -157,13 +157,13 @@ line-is-of-those-who-wait config files m checked r c =
 
 -- ---- it waits for room
 
-pub waits-for-room : (config : Config) (files : List (List ℕ × List ℕ)) (m : Machine) → config_check config ≡ Ok tt → IsReached config files m → WaitsForRoom config m.journal
-waits-for-room config files m checked r some =
+pub line-needs-a-full-room : (config : Config) (files : List (List ℕ × List ℕ)) (m : Machine) → config_check config ≡ Ok tt → IsReached config files m → LineNeedsAFullRoom config m.journal
+line-needs-a-full-room config files m checked r some =
     let same : length m.front.dispatch.books.line ≡ length (line m.journal) = sym (length-map m.front.dispatch.books.line (λ (w : Waiting). w.c)) ∙ ap (λ (cs : List ℕ). length cs) (line-kept config files checked m r) in
     (books-are-told config files m checked r).3 (subst (λ (n : ℕ). 0 < n) (sym same) some)
 
 pub waits-at-a-full-room : WaitsAtAFullRoom
-waits-at-a-full-room config files m checked r = carried-ends config files (WaitsForRoom config) (λ k reached. waits-for-room config files k checked reached) m r
+waits-at-a-full-room config files m checked r = carried-ends config files (LineNeedsAFullRoom config) (λ k reached. line-needs-a-full-room config files k checked reached) m r
 
 -- ---- the records of a step
 

@@ -1,5 +1,5 @@
 -- What is so of the line, of releases and of loads in every run, with a configuration that may be used.
-use Rattle.std.specs.Prelude.{◌≡◌, ℕ, ◌+◌, ◌*◌, ◌<◌, ◌≤◌, ◌||◌, nat_lt, nat_le, count_by, Bool, if◌then◌else◌, List, [], ◌∷◌, length, map, Option, Some, None, Ok, nat_eq, false}
+use Rattle.std.specs.Prelude.{◌≡◌, ℕ, ◌+◌, ◌*◌, ◌<◌, ◌≤◌, ◌||◌, nat_lt, nat_le, max, count_by, Bool, if◌then◌else◌, List, [], ◌∷◌, length, map, Option, Some, None, Ok, nat_eq, false}
 use Rattle.std.specs.FinMap as table
 use Rattle.std.specs.List.{AllByRecursion, list_any}
 use Rattle.lard_base.specs.declared.config.Config.{Config}
@@ -40,13 +40,13 @@ waits_there (Some row) = is_waiting row.stage
 abbrev pub LineIsOfThoseWhoWait : Type 0
 LineIsOfThoseWhoWait = Always (λ config m. (c : ℕ) → list_any (nat_eq c) (line m.journal) ≡ waits_there (table.get m.front.conns c))
 
--- somebody waits only where as many are admitted as there is room for
-abbrev pub WaitsForRoom : Config → List Rec → Type 0
-WaitsForRoom config J = 0 < length (line J) → admitted (ledger config J) ≡ room_of config
+-- somebody is in the line only where as many are admitted as there is room for
+abbrev pub LineNeedsAFullRoom : Config → List Rec → Type 0
+LineNeedsAFullRoom config J = 0 < length (line J) → admitted (ledger config J) ≡ room_of config
 
 -- So it is at the end of each step.
 abbrev pub WaitsAtAFullRoom : Type 0
-WaitsAtAFullRoom = Always (λ config m. AtEachEnd (WaitsForRoom config) m.journal)
+WaitsAtAFullRoom = Always (λ config m. AtEachEnd (LineNeedsAFullRoom config) m.journal)
 
 -- each record that is due directly behind another one stands there
 abbrev pub AreFollowed : (Rec → Option Rec) → Option Rec → List Rec → Type 0
@@ -101,9 +101,13 @@ IsWithinTheRoom config l past = (n : ℕ) → load past n ≤ 840 * room_of conf
 abbrev pub LoadsStayWithinTheRoom : Type 0
 LoadsStayWithinTheRoom = AtEveryMoment IsWithinTheRoom
 
--- nor above the greatest of twice `high`, `over` and `idle` by more than a whole
+-- the greatest of twice `high`, `over` and `idle`
+abbrev pub greatest_threshold : Config → ℕ
+greatest_threshold config = max (2 * config.high) (max config.over config.idle)
+
+-- nor above it by more than a whole
 abbrev pub IsNearTheThresholds : Config → Ledger → List Rec → Type 0
-IsNearTheThresholds config l past = (most : ℕ) → 2 * config.high ≤ most → config.over ≤ most → config.idle ≤ most → (n : ℕ) → load past n ≤ 840 * (most + 1)
+IsNearTheThresholds config l past = (n : ℕ) → load past n ≤ 840 * (greatest_threshold config + 1)
 
 abbrev pub LoadsStayNearTheThresholds : Type 0
 LoadsStayNearTheThresholds = AtEveryMoment IsNearTheThresholds
