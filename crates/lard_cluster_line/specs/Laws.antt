@@ -1,14 +1,14 @@
 -- What is so of the line, of releases and of loads in every run, with a configuration that may be used.
 use Rattle.std.specs.Prelude.{◌≡◌, ℕ, ◌+◌, ◌*◌, ◌<◌, ◌≤◌, ◌||◌, nat_lt, nat_le, max, count_by, Bool, if◌then◌else◌, List, [], ◌∷◌, length, map, Option, Some, None, Ok, nat_eq, false}
 use Rattle.std.specs.FinMap as table
-use Rattle.std.specs.List.{AllByRecursion, list_any}
+use Rattle.std.specs.List.{list_any}
 use Rattle.lard_base.specs.declared.config.Config.{Config}
 use Rattle.lard_base.specs.declared.place.Place.TheVariants.{Front}
 use Rattle.lard_base.specs.Config.{config_check, room_of}
 use Rattle.lard_cluster.specs.declared.machine.Machine.{Machine}
 use Rattle.lard_cluster.specs.Machine.{IsReached}
 use Rattle.lard_cluster_line.specs.Line.{line}
-use Rattle.lard_cluster_policy.specs.Laws.{AtEveryMoment}
+use Rattle.lard_cluster_policy.specs.Laws.{AtEveryMoment, last_of}
 use Rattle.lard_cluster_policy.specs.Ledger.{Ledger, admitted, is_in, ledger}
 use Rattle.lard_cluster_policy.specs.Loads.{load}
 use Rattle.lard_dispatch.specs.Loads.{is_at}
@@ -48,44 +48,45 @@ LineNeedsAFullRoom config J = 0 < length (line J) → admitted (ledger config J)
 abbrev pub WaitsAtAFullRoom : Type 0
 WaitsAtAFullRoom = Always (λ config m. AtEachEnd (LineNeedsAFullRoom config) m.journal)
 
--- each record that is due directly behind another one stands there
-abbrev pub AreFollowed : (Rec → Option Rec) → Option Rec → List Rec → Type 0
-AreFollowed due None [] = Unit {0}
-AreFollowed due (Some q) [] = ⊥
-AreFollowed due None (r ∷ rs) = AreFollowed due (due r) rs
-AreFollowed due (Some q) (r ∷ rs) = (r ≡ q) × AreFollowed due (due r) rs
-
--- who is admitted while somebody waits is the first of the line
+-- who is admitted while somebody is in the line is its first
 abbrev pub AdmitsHead : List ℕ → Rec → Type 0
 AdmitsHead (c ∷ cs) (rec.Admitted d) = d ≡ c
 AdmitsHead _ _ = Unit {0}
 
--- and its admission is due where another one is released
-abbrev pub admission_due : List ℕ → Rec → Option Rec
-admission_due line (rec.Released d) = elim line [ [] ↦ None | c ∷ cs ↦ Some (rec.Admitted c) ]
-admission_due line _ = None
+-- and directly behind a release its first is admitted
+abbrev pub AdmitsBehind : List ℕ → Option Rec → Rec → Type 0
+AdmitsBehind (c ∷ cs) (Some (rec.Released d)) r = r ≡ rec.Admitted c
+AdmitsBehind _ _ _ = Unit {0}
 
--- Wherever one is admitted while somebody waits, it is the first of the line.
-abbrev pub AdmitsTheFirst : Type 0
-AdmitsTheFirst = Always (λ config m. EachMay (λ past r. AdmitsHead (line past) r) [] m.journal)
+-- Both are by the line as it is just before the record.
+abbrev pub MayPass : List Rec → Rec → Type 0
+MayPass past r = AdmitsHead (line past) r × AdmitsBehind (line past) (last_of past) r
 
--- in a step, behind this past
-abbrev pub MustPass : List Rec → List Rec → Type 0
-MustPass past s = AllByRecursion (AdmitsHead (line past)) s × AreFollowed (admission_due (line past)) None s
-
--- In each step who is admitted while somebody waits is the first of the line, and is admitted directly behind each release.
+-- That no journal ends directly behind a release while somebody is in the line follows: there the room is not full.
 abbrev pub LinePasses : Type 0
-LinePasses = Always (λ config m. EachStep MustPass [] (steps m.journal))
+LinePasses = Always (λ config m. EachMay MayPass [] m.journal)
 
 -- ---- releases
 
--- the release of a connection is due where the front end takes it, and it was admitted before the step, or taken before
-abbrev pub release_due : (ℕ → Bool) → Rec → Option Rec
-release_due inside (rec.Took Front c epoch) = if inside c || nat_lt 1 epoch.0 then Some (rec.Released c) else None
-release_due inside _ = None
+-- what is due directly behind a record: nothing, or the release of a connection
+pub data Due : Type 0 where
+  Nothing : Due
+  Release : ℕ → Due
+
+-- A release is due where the front end takes a connection that was admitted before the step, or takes it in an epoch behind the first.
+abbrev pub due_behind : (ℕ → Bool) → Rec → Due
+due_behind inside (rec.Took Front c epoch) = if inside c || nat_lt 1 epoch.0 then Release c else Nothing
+due_behind inside _ = Nothing
+
+-- each that is due stands there
+abbrev pub AreReleased : (ℕ → Bool) → Due → List Rec → Type 0
+AreReleased inside Nothing [] = Unit {0}
+AreReleased inside (Release c) [] = ⊥
+AreReleased inside Nothing (r ∷ rs) = AreReleased inside (due_behind inside r) rs
+AreReleased inside (Release c) (r ∷ rs) = (r ≡ rec.Released c) × AreReleased inside Nothing rs
 
 abbrev pub MustRelease : Config → List Rec → List Rec → Type 0
-MustRelease config past s = AreFollowed (release_due (is_in (ledger config past))) None s
+MustRelease config past s = AreReleased (is_in (ledger config past)) Nothing s
 
 -- Where the front end takes a connection that is admitted, or takes it in an epoch behind the first, the connection is released,
 -- directly behind that record.
