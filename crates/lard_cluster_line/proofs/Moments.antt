@@ -12,11 +12,11 @@ use Rattle.lard_cluster.specs.Bounds.{HasRule}
 use Rattle.lard_cluster.specs.Machine.{clocked, machine_step, passed, told}
 use Rattle.lard_cluster_line.proofs.Holding.{IsRead}
 use Rattle.lard_cluster_line.proofs.Law.{IsLined}
-use Rattle.lard_cluster_line.proofs.Notes.{Alone, Begins, Ends, Enters, Goes, IsLater, Noted, Reads, Shares, Waits}
-use Rattle.lard_cluster_line.proofs.Stands.{Stand, stand_at, stand_step, unknown}
+use Rattle.lard_cluster_line.proofs.Notes.{Alone, Begins, Ends, Enters, Goes, IsLater, Noted, Reads, Shares, Was, Waits}
+use Rattle.lard_cluster_line.proofs.Stands.{stand_at, stand_step, unknown}
 use Rattle.lard_cluster_line.proofs.Steps.{IsNoEntry, IsQuiet, IsRising, behind-quiet, gifts-quiet, last-quiet, note-quiet, read-quiet, rows-same, timers-quiet}
 use Rattle.lard_cluster_line.proofs.Telling.{stands-told}
-use Rattle.lard_cluster_line.proofs.Turns.{IsEntry, IsNoted, Notes}
+use Rattle.lard_cluster_line.proofs.Turns.{IsEntry, IsNoted, Notes, was_at}
 use Rattle.lard_cluster_line.specs.Laws.{AdmitsBehind, AdmitsHead, MayPass}
 use Rattle.lard_cluster_line.specs.Line.{Line, leaves, left_at, left_by, line, line_step, nobody, without}
 use Rattle.lard_cluster_policy.proofs.Calm.{first_rows, last_rows, told-journal}
@@ -235,10 +235,10 @@ enters-head c w ws (r ∷ rs) last e = enters-head c w ws rs last e.1
 
 module _ (L : List ℕ) (l : Line) (less : IsLess l.waits L) where
   -- of a connection that stood so, by the line before the step
-  noted-pass : (c : ℕ) (s : Stand) → has c L ≡ s.waits → (rs : List Rec) → Noted c s rs → Each (AdmitsHead L) rs → LetsIn L rs → Pass l rs
+  noted-pass : (c : ℕ) (s : Was) → has c L ≡ s.waits → (rs : List Rec) → Noted c s rs → Each (AdmitsHead L) rs → LetsIn L rs → Pass l rs
   noted-pass c s is all (Reads rs e) heads lets = plain-pass l rs (Each-weaker IsRead IsPlain read-plain rs e)
   noted-pass c s is all (Begins out) heads lets = plain-pass l (rec.Took Front c (record { 0 = 1 }) ∷ []) ((tt, tt), tt)
-  noted-pass c s is all (Waits rs e) heads lets = plain-pass l (rs ++ rec.Waits c ∷ []) (Each-append IsPlain rs (rec.Waits c ∷ []) (Each-weaker IsRead IsPlain read-plain rs e) ((tt, tt), tt))
+  noted-pass c s is all (Waits rs e held) heads lets = plain-pass l (rs ++ rec.Waits c ∷ []) (Each-append IsPlain rs (rec.Waits c ∷ []) (Each-weaker IsRead IsPlain read-plain rs e) ((tt, tt), tt))
   noted-pass c s is all (Shares over rs e) heads lets = plain-pass l (over_note c over ++ rs) (Each-weaker (λ r. IsStill r × IsPlain r) IsPlain (λ r h. h.1) (over_note c over ++ rs) (shares-still c over rs e))
   noted-pass c s is all (Ends epoch in_) heads lets = λ before settled. ((no-entry l.waits (rec.Took Front c epoch) tt, settled (rec.Took Front c epoch)), ((no-entry l.waits (rec.Released c) tt, undue l.waits (rec.Took Front c epoch) tt (rec.Released c)), subst (λ (ws : List ℕ). IsSettled ws (Some (rec.Released c))) (sym (none-less l.waits (subst (IsLess l.waits) (nobody-left L (lets c (inr (inl refl)))) less))) (λ r. tt)))
     where
@@ -284,7 +284,7 @@ module _ (L : List ℕ) (l : Line) (less : IsLess l.waits L) where
         let its : d ≡ w = (subst (λ (K : List ℕ). Each (AdmitsHead K) (rec.Admitted d ∷ rec.AssignedFirst d r path n add remove ∷ [])) same then).0 in
         apart (its ∙ sym mine)
 
-  module _ (c d : ℕ) (s : Stand) (apart : d ≢ c) (es : List ℕ) (there : l.waits ≡ d ∷ es) (in_ : has d L ≡ true) (ys : List Rec) (enters : Enters d ys) (then : Each (AdmitsHead L) ys) where
+  module _ (c d : ℕ) (s : Was) (apart : d ≢ c) (es : List ℕ) (there : l.waits ≡ d ∷ es) (in_ : has d L ≡ true) (ys : List Rec) (enters : Enters d ys) (then : Each (AdmitsHead L) ys) where
     -- behind the notes of another connection it is the first yet
     first-keeps : (xs : List Rec) → Noted c s xs → Each (AdmitsHead L) xs → (before : Option Rec) → IsSettled l.waits before → PassTo (IsFirst d) l before xs
     first-keeps all (Reads rs e) heads = still-keeps d es l rs there (reads-still rs e)
@@ -292,7 +292,7 @@ module _ (L : List ℕ) (l : Line) (less : IsLess l.waits L) where
     first-keeps all (Shares over rs e) heads = still-keeps d es l (over_note c over ++ rs) there (shares-still c over rs e)
     first-keeps all (Ends epoch in_) heads = λ before settled. ((no-entry l.waits (rec.Took Front c epoch) tt, settled (rec.Took Front c epoch)), ((no-entry l.waits (rec.Released c) tt, undue l.waits (rec.Took Front c epoch) tt (rec.Released c)), (es, there)))
     first-keeps all (Goes rs r path n add remove e out) heads = absurd (not-first c d apart in_ rs (rec.AssignedFirst c r path n add remove ∷ []) ys heads enters then)
-    first-keeps all (Waits rs e) heads =
+    first-keeps all (Waits rs e held) heads =
         still-then (IsFirst d) l rs (rec.Waits c ∷ []) (reads-still rs e) (λ before settled. ((no-entry l.waits (rec.Waits c) tt, settled (rec.Waits c)), (es ++ c ∷ [], ap (λ (cs : List ℕ). cs ++ c ∷ []) there)))
 
     alone-keeps : (xs : List Rec) → Enters c xs → Each (AdmitsHead L) xs → (before : Option Rec) → IsSettled l.waits before → PassTo (IsFirst d) l before xs
@@ -371,7 +371,7 @@ module _ (m : Machine) (view : IsViewed m) (lined : (q : ℕ) → IsLined (conn 
   own-pass : (i : ℕ) (e : Event) (c : ℕ) (v : Move) → seen_on c m.net (rec.Event i e ∷ behind e) ≡ v.heads → IsNoted (conn m c) v → v.place ≡ Front → LetsFirst v.said.notes → Pass (behind_first i e) v.said.notes
   unfolding conn
   own-pass i e c v seen h at lets = ⊎_elim
-      (λ (k : Noted c (stand_at (conn m c)) v.said.notes). noted-pass (line m.journal) (behind_first i e) (first-less before i e) c (stand_at (conn m c)) (waits-told c) v.said.notes k lets.0 lets.1)
+      (λ (k : Noted c (was_at (conn m c)) v.said.notes). noted-pass (line m.journal) (behind_first i e) (first-less before i e) c (was_at (conn m c)) (waits-told c) v.said.notes k lets.0 lets.1)
       (λ (k : IsEntry (conn m c) v).
       let in_ : has c (line m.journal) ≡ true = waits-told c ∙ k.waits in
       alone-pass (line m.journal) (behind_first i e) (first-less before i e) c v.said.notes in_ (unseen-stays c i e (seen ∙ k.none) ∙ in_) lets.0 k.enters)
@@ -397,8 +397,8 @@ module _ (m : Machine) (view : IsViewed m) (lined : (q : ℕ) → IsLined (conn 
       let mine : Each (AdmitsHead L) v.said.notes = part-before (AdmitsHead L) v.said.notes z.said.notes lets.0 in
       let its : Each (AdmitsHead L) z.said.notes = part-behind (AdmitsHead L) v.said.notes z.said.notes lets.0 in
       let there : (es : List ℕ) × (l.waits ≡ d ∷ es) = its-there L l d z.said.notes (first-less before i e) in_ (unseen-stays d i e unseen ∙ in_) its entry.enters in
-      both-pass L l (first-less before i e) c d (stand_at (conn m c)) apart there.0 there.1 in_ z.said.notes entry.enters its v.said.notes
-      (⊎_elim (λ (n : Noted c (stand_at (conn m c)) v.said.notes). inl n) (λ (n : IsEntry (conn m c) v). inr n.enters) (h.noted at)) mine
+      both-pass L l (first-less before i e) c d (was_at (conn m c)) apart there.0 there.1 in_ z.said.notes entry.enters its v.said.notes
+      (⊎_elim (λ (n : Noted c (was_at (conn m c)) v.said.notes). inl n) (λ (n : IsEntry (conn m c) v). inr n.enters) (h.noted at)) mine
     where
       its-there : (L : List ℕ) (l : Line) (d : ℕ) (ys : List Rec) → IsLess l.waits L → has d L ≡ true → has d l.waits ≡ true → Each (AdmitsHead L) ys → Enters d ys → (es : List ℕ) × (l.waits ≡ d ∷ es)
       its-there L l d ys less in_ stays heads (Alone r path n add remove) = first-there L l less d (rec.AssignedFirst d r path n add remove ∷ []) in_ stays heads

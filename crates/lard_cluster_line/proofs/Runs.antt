@@ -11,6 +11,7 @@ use Rattle.lard_cluster.specs.declared.machine.Machine.{Machine}
 use Rattle.lard_cluster.specs.Bounds.{HasRule}
 use Rattle.lard_cluster.specs.Machine.{IsReached, machine_step}
 use Rattle.lard_cluster_line.proofs.Fronts.{RowStands, StageStands}
+use Rattle.lard_cluster_line.proofs.Joining.{IsLinedThere, JoinsFree, MayJoin, joining-law}
 use Rattle.lard_cluster_line.proofs.Law.{IsLined, line-law}
 use Rattle.lard_cluster_line.proofs.Moments.{HeadEnters, IsSettled, LetsIn, PassTo, pass-may, pass-on, step-pass}
 use Rattle.lard_cluster_line.proofs.Lists.{both-within, less-within, within-same}
@@ -18,7 +19,7 @@ use Rattle.lard_cluster_line.proofs.Stands.{Stand, stand_at, stand_step, unknown
 use Rattle.lard_cluster_line.proofs.Telling.{stands-told}
 use Rattle.lard_cluster_line.proofs.Steps.{IsInOrder, step-adds}
 use Rattle.lard_cluster_line.proofs.Turns.{Notes, noting}
-use Rattle.lard_cluster_line.specs.Laws.{AdmitsHead, LineIsKept, LineIsOfThoseWhoWait, LineNeedsAFullRoom, LinePasses, MustRelease, TakesRelease, WaitsAtAFullRoom, waits_there}
+use Rattle.lard_cluster_line.specs.Laws.{AdmitsHead, LineIsKept, LineIsOfThoseWhoWait, LineNeedsAFullRoom, LinePasses, MayWait, MustRelease, TakesRelease, WaitsAtAFullRoom, WaitsAtTheFrontEnd, waits_there}
 use Rattle.lard_cluster_line.specs.Line.{Line, leaves, left_at, left_by, line, line_step, nobody, without}
 use Rattle.lard_cluster_places.proofs.Runs.{each-placed}
 use Rattle.lard_cluster_places.proofs.Turns.{IsPlaced}
@@ -34,7 +35,7 @@ use Rattle.lard_cluster_view.specs.Carry.{setting}
 use Rattle.lard_cluster_view.specs.View.{Rules, Setting, conn, part_of}
 use Rattle.lard_cluster_view.proofs.After.{IsAfter, step-after}
 use Rattle.lard_cluster_view.proofs.Carried.{IsOn, carried, carried-keep, on-setting}
-use Rattle.lard_cluster_view.proofs.InSteps.{carried-ends}
+use Rattle.lard_cluster_view.proofs.InSteps.{carried-ends, carried-records}
 use Rattle.lard_dispatch.specs.declared.line.Waiting.{Waiting}
 use Rattle.lard_dispatch.specs.Line.{waits}
 use Rattle.lard_front_rules.specs.declared.front.FrontRest.{FrontRest}
@@ -45,9 +46,13 @@ use Rattle.lard_handoff_front.specs.declared.row.FrontConn.{FrontConn}
 use Rattle.lard_handoff_front.specs.declared.row.FrontConn.TheVariants as stage
 use Rattle.lard_handoff_front.specs.declared.row.FrontRow.{FrontRow}
 use Rattle.lard_handoff_front.specs.Row.{is_waiting}
-use Rattle.lard_history.specs.Own.{own}
+use Rattle.lard_history.specs.Journal.{Tale}
+use Rattle.lard_history.specs.Laws.{EachMay}
+use Rattle.lard_history.specs.Own.{own, plain, whose}
 use Rattle.lard_history.proofs.Each.{Each, Each-weaker}
+use Rattle.lard_history.proofs.Lifting.{tale-own}
 use Rattle.lard_history.proofs.Seeing.{by_number, other_number, same_number, has-each}
+use Rattle.lard_history.proofs.Tales.{owner-tale}
 use Rattle.lard_history.proofs.Stepping.{AreLawful, cancel, one-more}
 use Rattle.lard_journal.specs.declared.rec.Rec.{Rec}
 use Rattle.lard_journal.specs.declared.rec.Rec.TheVariants as rec
@@ -153,6 +158,36 @@ row-so s (Some row) k = stage-so s row.stage k
 pub line-is-of-those-who-wait : LineIsOfThoseWhoWait
 line-is-of-those-who-wait config files m checked r c =
     (stands-told c m.journal).waits_is ∙ row-so (fold (stand_step c) unknown (own c m.journal)) (front_part m.front c).row (stood config files checked m r c)
+
+-- ---- who joins it
+
+module _ (config : Config) (files : List (List ℕ × List ℕ)) (checked : config_check config ≡ Ok tt) where
+  each-joins : (m : Machine) → IsReached config files m → (q : ℕ) → JoinsFree (conn m q)
+  each-joins = carried config files IsLinedThere JoinsFree (joining-law (setting config files) (usable config checked).stream) (λ m r q. (each-lined config files checked m r q, each-placed config files m r q))
+
+  abbrev May : List Rec → Rec → Type 0
+  May past r = MayWait (ledger config past) past r
+
+  joins-nobody : (J : List Rec) (r : Rec) → whose r ≡ None → May J r
+  joins-nobody J (rec.Waits d) e = let no : Some d ≡ None = e in absurd cc
+  joins-nobody J _ e = tt
+
+  joins-somebody : (J : List Rec) (r : Rec) (c : ℕ) → whose r ≡ Some c → MayJoin c (own c J) (plain r) → May J r
+  joins-somebody J (rec.Waits d) c e h = subst (λ (n : ℕ). May J (rec.Waits n)) (sym same) (
+    (stands-so config J c).0 ∙ (stands-told c J).inside ∙ h.inside_is,
+    (stands-told c J).waits_is ∙ h.waits_is,
+    owner-tale J c ∙ ap (λ (t : Tale). t.owner) (tale-own J c) ∙ h.owner_is,
+  ) where
+    same : d ≡ c
+    same = cc
+  joins-somebody J _ c e h = tt
+
+  joins-free : (m : Machine) → IsReached config files m → EachMay May [] m.journal
+  unfolding conn
+  joins-free m r = carried-records config files May MayJoin joins-nobody joins-somebody (λ n s q. each-joins n s q) m r
+
+pub waits-at-the-front-end : WaitsAtTheFrontEnd
+waits-at-the-front-end config files m checked r = joins-free config files checked m r
 
 -- ---- it waits for room
 

@@ -11,9 +11,9 @@ use Rattle.lard_cluster.specs.Bounds.{HasRule}
 use Rattle.lard_cluster.specs.Machine.{clocked, machine_step, passed, segments_sent, told}
 use Rattle.lard_cluster_line.proofs.Holding.{IsRead}
 use Rattle.lard_cluster_line.proofs.Law.{IsLined}
-use Rattle.lard_cluster_line.proofs.Notes.{Begins, Ends, Enters, Alone, Goes, IsLater, Noted, Reads, Shares, Waits}
-use Rattle.lard_cluster_line.proofs.Stands.{Stand, stand_at}
-use Rattle.lard_cluster_line.proofs.Turns.{IsEntry, IsNoted, Notes}
+use Rattle.lard_cluster_line.proofs.Notes.{Begins, Ends, Enters, Alone, Goes, IsLater, Noted, Reads, Shares, Was, Waits}
+use Rattle.lard_cluster_line.proofs.Stands.{stand_at}
+use Rattle.lard_cluster_line.proofs.Turns.{IsEntry, IsNoted, Notes, was_at}
 use Rattle.lard_cluster_line.specs.Laws.{AreReleased, Due, Nothing, Release, due_behind}
 use Rattle.lard_cluster_policy.proofs.Calm.{first_rows, last_rows, told-journal}
 use Rattle.lard_cluster_view.specs.View.{IsViewed, Move, Part, Rules, conn, part_of, setting_of, timer_rows}
@@ -218,10 +218,10 @@ module _ (inside : ℕ → Bool) where
     rising = tt;
   }
 
-  pub noted-order : (c : ℕ) (s : Stand) → inside c ≡ s.inside → (rs : List Rec) → Noted c s rs → IsInOrder rs
+  pub noted-order : (c : ℕ) (s : Was) → inside c ≡ s.inside → (rs : List Rec) → Noted c s rs → IsInOrder rs
   noted-order c s is all (Reads rs e) = quiet-order rs (Each-weaker IsRead IsQuiet read-quiet rs e)
   noted-order c s is all (Begins out) = begins-order c (is ∙ out)
-  noted-order c s is all (Waits reads e) = behind-read reads (rec.Waits c ∷ []) e tt (tt, tt)
+  noted-order c s is all (Waits reads e held) = behind-read reads (rec.Waits c ∷ []) e tt (tt, tt)
   noted-order c s is all (Goes reads r path n add remove e out) = behind-read reads (rec.Admitted c ∷ rec.AssignedFirst c r path n add remove ∷ []) e tt (tt, (tt, tt))
   noted-order c s is all (Shares over later e) = over-order c over later e
   noted-order c s is all (Ends epoch in_) = ends-order c epoch (is ∙ in_)
@@ -232,7 +232,7 @@ module _ (inside : ℕ → Bool) where
     abbrev entry : List Rec
     entry = rec.Admitted d ∷ rec.AssignedFirst d r path n add remove ∷ []
 
-    entry-order : (c : ℕ) (s : Stand) → inside c ≡ s.inside → (xs : List Rec) → Noted c s xs → IsInOrder (xs ++ entry)
+    entry-order : (c : ℕ) (s : Was) → inside c ≡ s.inside → (xs : List Rec) → Noted c s xs → IsInOrder (xs ++ entry)
     entry-order c s is xs noted =
         let o : IsInOrder xs = noted-order c s is xs noted in
         record {
@@ -244,7 +244,7 @@ module _ (inside : ℕ → Bool) where
           rising = Each-append IsRising o.rises entry o.rising (tt, (tt, tt));
         }
 
-  pub enters-order : (c : ℕ) (s : Stand) → inside c ≡ s.inside → (d : ℕ) (xs ys : List Rec) → Noted c s xs → Enters d ys → IsInOrder (xs ++ ys)
+  pub enters-order : (c : ℕ) (s : Was) → inside c ≡ s.inside → (d : ℕ) (xs ys : List Rec) → Noted c s xs → Enters d ys → IsInOrder (xs ++ ys)
   enters-order c s is d xs ys noted (Alone r path n add remove) = entry-order d r path n add remove c s is xs noted
 
   -- an admission by itself, and one behind another
@@ -284,19 +284,19 @@ module _ (m : Machine) (lined : (q : ℕ) → IsLined (conn m q)) (inside : ℕ 
   )
 
   -- a connection has its number
-  own-noted : (c : ℕ) (v : Move) → IsNoted (conn m c) v → v.place ≡ Front → Noted c (stand_at (conn m c)) v.said.notes ⊎ Enters c v.said.notes
+  own-noted : (c : ℕ) (v : Move) → IsNoted (conn m c) v → v.place ≡ Front → Noted c (was_at (conn m c)) v.said.notes ⊎ Enters c v.said.notes
   unfolding conn
-  own-noted c v h at = ⊎_elim (λ (k : Noted c (stand_at (conn m c)) v.said.notes). inl k) (λ (k : IsEntry (conn m c) v). inr k.enters) (h.noted at)
+  own-noted c v h at = ⊎_elim (λ (k : Noted c (was_at (conn m c)) v.said.notes). inl k) (λ (k : IsEntry (conn m c) v). inr k.enters) (h.noted at)
 
   own-enters : (c : ℕ) (v : Move) → IsNoted (conn m c) v → v.place ≡ Front → v.heads ≡ [] → Enters c v.said.notes
   unfolding conn
   own-enters c v h at none = (h.alone at none).enters
 
-  turn-order : (c : ℕ) (rs : List Rec) → Noted c (stand_at (conn m c)) rs ⊎ Enters c rs → IsInOrder inside rs
-  turn-order c rs h = ⊎_elim (λ (k : Noted c (stand_at (conn m c)) rs). noted-order inside c (stand_at (conn m c)) (told_is c) rs k) (λ (k : Enters c rs). alone-order inside c rs k) h
+  turn-order : (c : ℕ) (rs : List Rec) → Noted c (was_at (conn m c)) rs ⊎ Enters c rs → IsInOrder inside rs
+  turn-order c rs h = ⊎_elim (λ (k : Noted c (was_at (conn m c)) rs). noted-order inside c (was_at (conn m c)) (told_is c) rs k) (λ (k : Enters c rs). alone-order inside c rs k) h
 
-  turns-order : (c d : ℕ) (xs ys : List Rec) → Noted c (stand_at (conn m c)) xs ⊎ Enters c xs → Enters d ys → IsInOrder inside (xs ++ ys)
-  turns-order c d xs ys h e = ⊎_elim (λ (k : Noted c (stand_at (conn m c)) xs). enters-order inside c (stand_at (conn m c)) (told_is c) d xs ys k e) (λ (k : Enters c xs). both-enter inside c d xs ys k e) h
+  turns-order : (c d : ℕ) (xs ys : List Rec) → Noted c (was_at (conn m c)) xs ⊎ Enters c xs → Enters d ys → IsInOrder inside (xs ++ ys)
+  turns-order c d xs ys h e = ⊎_elim (λ (k : Noted c (was_at (conn m c)) xs). enters-order inside c (was_at (conn m c)) (told_is c) d xs ys k e) (λ (k : Enters c xs). both-enter inside c d xs ys k e) h
 
   -- what another place than the front end notes
   other-order : (place : Place) (c : ℕ) (rs : List Rec) → (place ≡ Front → ⊥) → Each (NotedAt place c) rs → IsInOrder inside rs

@@ -14,7 +14,7 @@ use Rattle.lard_cluster_policy.specs.Loads.{load}
 use Rattle.lard_dispatch.specs.Loads.{is_at}
 use Rattle.lard_handoff_front.specs.declared.row.FrontRow.{FrontRow}
 use Rattle.lard_handoff_front.specs.Row.{is_waiting}
-use Rattle.lard_history.specs.Journal.{home}
+use Rattle.lard_history.specs.Journal.{home, owner}
 use Rattle.lard_history.specs.Laws.{EachMay}
 use Rattle.lard_history.specs.Steps.{AtEachEnd, EachStep, steps}
 use Rattle.lard_journal.specs.declared.rec.Rec.{Rec}
@@ -47,6 +47,14 @@ LineNeedsAFullRoom config J = 0 < length (line J) → admitted (ledger config J)
 -- So it is at the end of each step.
 abbrev pub WaitsAtAFullRoom : Type 0
 WaitsAtAFullRoom = Always (λ config m. AtEachEnd (LineNeedsAFullRoom config) m.journal)
+
+-- A connection is to wait only where it is not admitted, is not in the line, and the front end owns it.
+abbrev pub MayWait : Ledger → List Rec → Rec → Type 0
+MayWait l past (rec.Waits c) = (is_in l c ≡ false) × (list_any (nat_eq c) (line past) ≡ false) × (owner past c ≡ Some Front)
+MayWait l past _ = Unit {0}
+
+abbrev pub WaitsAtTheFrontEnd : Type 0
+WaitsAtTheFrontEnd = Always (λ config m. EachMay (λ past r. MayWait (ledger config past) past r) [] m.journal)
 
 -- who is admitted while somebody is in the line is its first
 abbrev pub AdmitsHead : List ℕ → Rec → Type 0
