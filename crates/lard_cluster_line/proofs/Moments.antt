@@ -5,6 +5,7 @@ use Rattle.std.proofs.lemmas.List.Sums.{fold-append}
 use Rattle.std.specs.List.{fold, list_any}
 use Rattle.lard_base.specs.declared.event.Event.{Event}
 use Rattle.lard_base.specs.declared.event.Event.TheVariants as event
+use Rattle.lard_base.specs.declared.ids.Epoch.{Epoch}
 use Rattle.lard_base.specs.declared.place.Place.{Place}
 use Rattle.lard_base.specs.declared.place.Place.TheVariants.{Client, Front, Node}
 use Rattle.lard_cluster.specs.declared.machine.Machine.{Machine}
@@ -228,6 +229,14 @@ entry-pass d k before ys first (Alone r path n add remove) =
 still-keeps : (d : ℕ) (es : List ℕ) (l : Line) (rs : List Rec) → l.waits ≡ d ∷ es → Each (λ r. IsStill r × IsPlain r) rs → (before : Option Rec) → IsSettled l.waits before → PassTo (IsFirst d) l before rs
 still-keeps d es l rs e still before settled = subst (PassTo (IsFirst d) l before) (append-nil rs) (still-then (IsFirst d) l rs [] still (λ o s. (es, e)) before settled)
 
+-- one is released
+release-pass : (End : List ℕ → Option Rec → Type 0) (c : ℕ) (epoch : Epoch) (l : Line) → End l.waits (Some (rec.Released c)) → (before : Option Rec) → IsSettled l.waits before
+    → PassTo End l before (rec.Took Front c epoch ∷ rec.Released c ∷ [])
+release-pass End c epoch l end before settled = (
+  (no-entry l.waits (rec.Took Front c epoch) tt, settled (rec.Took Front c epoch)),
+  ((no-entry l.waits (rec.Released c) tt, undue l.waits (rec.Took Front c epoch) tt (rec.Released c)), end),
+)
+
 -- it has an admission of c, which the first of the line is
 enters-head : (c w : ℕ) (ws : List ℕ) (rs last : List Rec) → Each (AdmitsHead (w ∷ ws)) (rs ++ rec.Admitted c ∷ last) → c ≡ w
 enters-head c w ws [] last e = e.0
@@ -240,7 +249,7 @@ module _ (L : List ℕ) (l : Line) (less : IsLess l.waits L) where
   noted-pass c s is all (Begins out) heads lets = plain-pass l (rec.Took Front c (record { 0 = 1 }) ∷ []) ((tt, tt), tt)
   noted-pass c s is all (Waits rs e held) heads lets = plain-pass l (rs ++ rec.Waits c ∷ []) (Each-append IsPlain rs (rec.Waits c ∷ []) (Each-weaker IsRead IsPlain read-plain rs e) ((tt, tt), tt))
   noted-pass c s is all (Shares over rs e) heads lets = plain-pass l (over_note c over ++ rs) (Each-weaker (λ r. IsStill r × IsPlain r) IsPlain (λ r h. h.1) (over_note c over ++ rs) (shares-still c over rs e))
-  noted-pass c s is all (Ends epoch in_) heads lets = λ before settled. ((no-entry l.waits (rec.Took Front c epoch) tt, settled (rec.Took Front c epoch)), ((no-entry l.waits (rec.Released c) tt, undue l.waits (rec.Took Front c epoch) tt (rec.Released c)), subst (λ (ws : List ℕ). IsSettled ws (Some (rec.Released c))) (sym (none-less l.waits (subst (IsLess l.waits) (nobody-left L (lets c (inr (inl refl)))) less))) (λ r. tt)))
+  noted-pass c s is all (Ends epoch in_) heads lets = release-pass IsSettled c epoch l (subst (λ (ws : List ℕ). IsSettled ws (Some (rec.Released c))) (sym (none-less l.waits (subst (IsLess l.waits) (nobody-left L (lets c (inr (inl refl)))) less))) (λ r. tt))
     where
       -- none of the line is let in, so nobody waits
       nobody-left : (K : List ℕ) → HeadEnters K (rec.Took Front c epoch ∷ rec.Released c ∷ []) → K ≡ []
@@ -290,7 +299,7 @@ module _ (L : List ℕ) (l : Line) (less : IsLess l.waits L) where
     first-keeps all (Reads rs e) heads = still-keeps d es l rs there (reads-still rs e)
     first-keeps all (Begins out) heads = still-keeps d es l (rec.Took Front c (record { 0 = 1 }) ∷ []) there (((λ l. refl), (tt, tt)), tt)
     first-keeps all (Shares over rs e) heads = still-keeps d es l (over_note c over ++ rs) there (shares-still c over rs e)
-    first-keeps all (Ends epoch in_) heads = λ before settled. ((no-entry l.waits (rec.Took Front c epoch) tt, settled (rec.Took Front c epoch)), ((no-entry l.waits (rec.Released c) tt, undue l.waits (rec.Took Front c epoch) tt (rec.Released c)), (es, there)))
+    first-keeps all (Ends epoch in_) heads = release-pass (IsFirst d) c epoch l (es, there)
     first-keeps all (Goes rs r path n add remove e out) heads = absurd (not-first c d apart in_ rs (rec.AssignedFirst c r path n add remove ∷ []) ys heads enters then)
     first-keeps all (Waits rs e held) heads =
         still-then (IsFirst d) l rs (rec.Waits c ∷ []) (reads-still rs e) (λ before settled. ((no-entry l.waits (rec.Waits c) tt, settled (rec.Waits c)), (es ++ c ∷ [], ap (λ (cs : List ℕ). cs ++ c ∷ []) there)))

@@ -53,6 +53,7 @@ abbrev pub MayWait : Ledger → List Rec → Rec → Type 0
 MayWait l past (rec.Waits c) = (is_in l c ≡ false) × (list_any (nat_eq c) (line past) ≡ false) × (owner past c ≡ Some Front)
 MayWait l past _ = Unit {0}
 
+-- So it is of each record.
 abbrev pub WaitsAtTheFrontEnd : Type 0
 WaitsAtTheFrontEnd = Always (λ config m. EachMay (λ past r. MayWait (ledger config past) past r) [] m.journal)
 
@@ -66,11 +67,12 @@ abbrev pub AdmitsBehind : List ℕ → Option Rec → Rec → Type 0
 AdmitsBehind (c ∷ cs) (Some (rec.Released d)) r = r ≡ rec.Admitted c
 AdmitsBehind _ _ _ = Unit {0}
 
--- Both are by the line as it is just before the record.
+-- Both are by the line as it is just before the record. No journal ends directly behind a release while somebody is in the line, since
+-- the room is not full there.
 abbrev pub MayPass : List Rec → Rec → Type 0
 MayPass past r = AdmitsHead (line past) r × AdmitsBehind (line past) (last_of past) r
 
--- That no journal ends directly behind a release while somebody is in the line follows: there the room is not full.
+-- So it is of each record.
 abbrev pub LinePasses : Type 0
 LinePasses = Always (λ config m. EachMay MayPass [] m.journal)
 
