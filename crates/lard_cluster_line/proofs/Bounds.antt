@@ -13,7 +13,7 @@ use Rattle.lard_cluster.specs.Machine.{IsReached, clocked, front_gave, front_set
 use Rattle.lard_cluster_line.proofs.Calls.{StepCalls, step-calls}
 use Rattle.lard_cluster_line.proofs.Charging.{IsBelow, below-same, falls-below, rises-below}
 use Rattle.lard_cluster_line.proofs.Runs.{step-ordered-so}
-use Rattle.lard_cluster_line.specs.Laws.{ConnectionsStayFew, HasFewConnections, IsNearTheThresholds, IsNotBusy, IsWithinTheRoom, LoadsStayNearTheThresholds, LoadsStayWithinTheRoom, NeverAllBusy, connections}
+use Rattle.lard_cluster_line.specs.Laws.{ConnectionsStayFew, HasFewConnections, IsNearTheThresholds, IsNotBusy, IsWithinTheRoom, LoadsStayNearTheThresholds, LoadsStayWithinTheRoom, NeverAllBusy, connections, greatest_threshold}
 use Rattle.lard_cluster_policy.proofs.Asides.{EachFrom, May, from-append, from-may, may-from}
 use Rattle.lard_cluster_policy.proofs.Calm.{first_rows, last_rows, told-journal}
 use Rattle.lard_cluster_policy.proofs.Counted.{books-are-told, loads-are-charges, reached-counted, standings-are-told}
@@ -213,7 +213,7 @@ module _ (config : Config) (files : List (List ℕ × List ℕ)) (checked : conf
     room-so n = load-most n (840 * room_of config) (within-the-room config calls.calls calls.may n).1
 
     thresholds-so : IsNearTheThresholds config (ledger config past) past
-    thresholds-so bound high over idle n = load-most n (840 * (bound + 1)) (near-the-thresholds config calls.calls calls.may calls.closes bound high over idle n)
+    thresholds-so n = load-most n (840 * (greatest_threshold config + 1)) (near-the-thresholds config calls.calls calls.may calls.closes (greatest_threshold config) (omega arith) (omega arith) (omega arith) n)
 
     few-so : HasFewConnections config (ledger config past) past
     few-so n = let few = few-at-homes config calls.calls calls.may calls.closes n in let less = connections-most n in omega (arith, few, less)

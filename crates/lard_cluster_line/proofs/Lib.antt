@@ -5,6 +5,7 @@ pub mod FrontMessages
 pub mod Fronts
 pub mod Hearing
 pub mod Holding
+pub mod Joining
 pub mod Law
 pub mod Lists
 pub mod Moments

@@ -1,5 +1,5 @@
 -- In every state that events lead to, the line that the journal tells is the one that the front end keeps; and what follows of it.
-use Rattle.std.proofs.Common.{◌≡◌, ℕ, ◌<◌, ◌≤◌, ◌||◌, nat_eq, Bool, true, false, cond, List, [], ◌∷◌, length, map, Option, Some, None, Ok, arith, refl, sym, ap, ◌∙◌, subst, ◌++◌, ◌⊎◌, inl, inr, ⊎_elim}
+use Rattle.std.proofs.Common.{◌≡◌, ℕ, ◌<◌, ◌≤◌, ◌||◌, nat_eq, Bool, true, false, cond, List, [], ◌∷◌, length, map, Option, Some, None, Ok, arith, refl, sym, ap, ◌∙◌, subst, ◌++◌}
 use Rattle.std.proofs.lemmas.List.{length-map}
 use Rattle.std.specs.List.{fold, list_any}
 use Rattle.lard_base.specs.Config.{config_check}
@@ -11,14 +11,15 @@ use Rattle.lard_cluster.specs.declared.machine.Machine.{Machine}
 use Rattle.lard_cluster.specs.Bounds.{HasRule}
 use Rattle.lard_cluster.specs.Machine.{IsReached, machine_step}
 use Rattle.lard_cluster_line.proofs.Fronts.{RowStands, StageStands}
+use Rattle.lard_cluster_line.proofs.Joining.{IsLinedThere, JoinsFree, MayJoin, joining-law}
 use Rattle.lard_cluster_line.proofs.Law.{IsLined, line-law}
-use Rattle.lard_cluster_line.proofs.Moments.{heads-may, step-heads}
+use Rattle.lard_cluster_line.proofs.Moments.{HeadEnters, IsSettled, LetsIn, PassTo, pass-may, pass-on, step-pass}
 use Rattle.lard_cluster_line.proofs.Lists.{both-within, less-within, within-same}
 use Rattle.lard_cluster_line.proofs.Stands.{Stand, stand_at, stand_step, unknown}
 use Rattle.lard_cluster_line.proofs.Telling.{stands-told}
-use Rattle.lard_cluster_line.proofs.Steps.{HeadEnters, IsInOrder, IsNoRelease, step-adds, unreleased-passes}
+use Rattle.lard_cluster_line.proofs.Steps.{IsInOrder, step-adds}
 use Rattle.lard_cluster_line.proofs.Turns.{Notes, noting}
-use Rattle.lard_cluster_line.specs.Laws.{AdmitsHead, AdmitsTheFirst, AreFollowed, LineIsKept, LineIsOfThoseWhoWait, LinePasses, MustPass, MustRelease, TakesRelease, WaitsAtAFullRoom, WaitsForRoom, admission_due, waits_there}
+use Rattle.lard_cluster_line.specs.Laws.{AdmitsHead, LineIsKept, LineIsOfThoseWhoWait, LineNeedsAFullRoom, LinePasses, MayWait, MustRelease, TakesRelease, WaitsAtAFullRoom, WaitsAtTheFrontEnd, waits_there}
 use Rattle.lard_cluster_line.specs.Line.{Line, leaves, left_at, left_by, line, line_step, nobody, without}
 use Rattle.lard_cluster_places.proofs.Runs.{each-placed}
 use Rattle.lard_cluster_places.proofs.Turns.{IsPlaced}
@@ -34,7 +35,7 @@ use Rattle.lard_cluster_view.specs.Carry.{setting}
 use Rattle.lard_cluster_view.specs.View.{Rules, Setting, conn, part_of}
 use Rattle.lard_cluster_view.proofs.After.{IsAfter, step-after}
 use Rattle.lard_cluster_view.proofs.Carried.{IsOn, carried, carried-keep, on-setting}
-use Rattle.lard_cluster_view.proofs.InSteps.{carried-ends}
+use Rattle.lard_cluster_view.proofs.InSteps.{carried-ends, carried-records}
 use Rattle.lard_dispatch.specs.declared.line.Waiting.{Waiting}
 use Rattle.lard_dispatch.specs.Line.{waits}
 use Rattle.lard_front_rules.specs.declared.front.FrontRest.{FrontRest}
@@ -45,10 +46,13 @@ use Rattle.lard_handoff_front.specs.declared.row.FrontConn.{FrontConn}
 use Rattle.lard_handoff_front.specs.declared.row.FrontConn.TheVariants as stage
 use Rattle.lard_handoff_front.specs.declared.row.FrontRow.{FrontRow}
 use Rattle.lard_handoff_front.specs.Row.{is_waiting}
-use Rattle.lard_history.specs.Own.{Has, own}
+use Rattle.lard_history.specs.Journal.{Tale}
 use Rattle.lard_history.specs.Laws.{EachMay}
-use Rattle.lard_history.proofs.Each.{Each, Each-weaker, each_append}
+use Rattle.lard_history.specs.Own.{own, plain, whose}
+use Rattle.lard_history.proofs.Each.{Each, Each-weaker}
+use Rattle.lard_history.proofs.Lifting.{tale-own}
 use Rattle.lard_history.proofs.Seeing.{by_number, other_number, same_number, has-each}
+use Rattle.lard_history.proofs.Tales.{owner-tale}
 use Rattle.lard_history.proofs.Stepping.{AreLawful, cancel, one-more}
 use Rattle.lard_journal.specs.declared.rec.Rec.{Rec}
 use Rattle.lard_journal.specs.declared.rec.Rec.TheVariants as rec
@@ -155,15 +159,45 @@ pub line-is-of-those-who-wait : LineIsOfThoseWhoWait
 line-is-of-those-who-wait config files m checked r c =
     (stands-told c m.journal).waits_is ∙ row-so (fold (stand_step c) unknown (own c m.journal)) (front_part m.front c).row (stood config files checked m r c)
 
+-- ---- who joins it
+
+module _ (config : Config) (files : List (List ℕ × List ℕ)) (checked : config_check config ≡ Ok tt) where
+  each-joins : (m : Machine) → IsReached config files m → (q : ℕ) → JoinsFree (conn m q)
+  each-joins = carried config files IsLinedThere JoinsFree (joining-law (setting config files) (usable config checked).stream) (λ m r q. (each-lined config files checked m r q, each-placed config files m r q))
+
+  abbrev May : List Rec → Rec → Type 0
+  May past r = MayWait (ledger config past) past r
+
+  joins-nobody : (J : List Rec) (r : Rec) → whose r ≡ None → May J r
+  joins-nobody J (rec.Waits d) e = let no : Some d ≡ None = e in absurd cc
+  joins-nobody J _ e = tt
+
+  joins-somebody : (J : List Rec) (r : Rec) (c : ℕ) → whose r ≡ Some c → MayJoin c (own c J) (plain r) → May J r
+  joins-somebody J (rec.Waits d) c e h = subst (λ (n : ℕ). May J (rec.Waits n)) (sym same) (
+    (stands-so config J c).0 ∙ (stands-told c J).inside ∙ h.inside_is,
+    (stands-told c J).waits_is ∙ h.waits_is,
+    owner-tale J c ∙ ap (λ (t : Tale). t.owner) (tale-own J c) ∙ h.owner_is,
+  ) where
+    same : d ≡ c
+    same = cc
+  joins-somebody J _ c e h = tt
+
+  joins-free : (m : Machine) → IsReached config files m → EachMay May [] m.journal
+  unfolding conn
+  joins-free m r = carried-records config files May MayJoin joins-nobody joins-somebody (λ n s q. each-joins n s q) m r
+
+pub waits-at-the-front-end : WaitsAtTheFrontEnd
+waits-at-the-front-end config files m checked r = joins-free config files checked m r
+
 -- ---- it waits for room
 
-pub waits-for-room : (config : Config) (files : List (List ℕ × List ℕ)) (m : Machine) → config_check config ≡ Ok tt → IsReached config files m → WaitsForRoom config m.journal
-waits-for-room config files m checked r some =
+pub line-needs-a-full-room : (config : Config) (files : List (List ℕ × List ℕ)) (m : Machine) → config_check config ≡ Ok tt → IsReached config files m → LineNeedsAFullRoom config m.journal
+line-needs-a-full-room config files m checked r some =
     let same : length m.front.dispatch.books.line ≡ length (line m.journal) = sym (length-map m.front.dispatch.books.line (λ (w : Waiting). w.c)) ∙ ap (λ (cs : List ℕ). length cs) (line-kept config files checked m r) in
     (books-are-told config files m checked r).3 (subst (λ (n : ℕ). 0 < n) (sym same) some)
 
 pub waits-at-a-full-room : WaitsAtAFullRoom
-waits-at-a-full-room config files m checked r = carried-ends config files (WaitsForRoom config) (λ k reached. waits-for-room config files k checked reached) m r
+waits-at-a-full-room config files m checked r = carried-ends config files (LineNeedsAFullRoom config) (λ k reached. line-needs-a-full-room config files k checked reached) m r
 
 -- ---- the records of a step
 
@@ -184,57 +218,25 @@ head-so [] r h = tt
 head-so (w ∷ ws) (rec.Admitted c) h = h
 head-so (w ∷ ws) _ h = tt
 
--- one is released among these, or none
-any-release : (rs : List Rec) → ((c : ℕ) × Has (rec.Released c) rs) ⊎ Each IsNoRelease rs
-any-release [] = inr tt
-any-release (rec.Released c ∷ rs) = inl (c, inl refl)
-any-release (_ ∷ rs) = ⊎_elim (λ (h : (c : ℕ) × Has (rec.Released c) rs). inl (h.0, inr h.1)) (λ (e : Each IsNoRelease rs). inr (tt, e)) (any-release rs)
-
-passes-so : (ws : List Waiting) (rs : List Rec) → Each (PassesOn ws rs) rs → ((line : List ℕ) → HeadEnters line rs → AreFollowed (admission_due line) None rs) → AreFollowed (admission_due (who ws)) None rs
-passes-so ws rs each order = ⊎_elim
-    (λ (h : (c : ℕ) × Has (rec.Released c) rs). order (who ws) (enters h.0 ws (has-each (rec.Released h.0) (PassesOn ws rs) rs h.1 each)))
-    (λ (e : Each IsNoRelease rs). unreleased-passes (who ws) rs e)
-    (any-release rs)
-  where
-    enters : (c : ℕ) (ws : List Waiting) → PassesOn ws rs (rec.Released c) → HeadEnters (who ws) rs
-    enters c [] h = tt
-    enters c (w ∷ ws) h = h
+lets-so : (ws : List Waiting) (rs : List Rec) → Each (PassesOn ws rs) rs → LetsIn (who ws) rs
+lets-so ws rs each c h = enters ws (has-each (rec.Released c) (PassesOn ws rs) rs h each) where
+  enters : (ws : List Waiting) → PassesOn ws rs (rec.Released c) → HeadEnters (who ws) rs
+  enters [] h = tt
+  enters (w ∷ ws) h = h
 
 pub line-passes : LinePasses
-line-passes config files m checked r = (carried-keep config files (λ k. AreLawful MustPass k.journal) (refl, tt) step m r).1 where
-  step : (k n : Machine) (e : Event) → IsOn config files k → AreLawful MustPass k.journal → HasRule e → machine_step k e ≡ Ok n → AreLawful MustPass n.journal
-  step k n e on h rule is =
-      let after : IsAfter k e n = step-after k on.view e n rule is in
-      let Kept : List Waiting = k.front.dispatch.books.line in
-      let ordered = step-ordered config k (reached-counted config files checked k on.reached) n e on.view rule is in
-      let adds = step-ordered-so config files checked k n e on rule is in
-      let rows : List Rec = ordered.0 in
-      let same : rows ≡ after.step = cancel k.journal rows after.step (sym ordered.1 ∙ after.is) in
-      let agree : adds.0 ≡ rows = cancel k.journal adds.0 rows (sym adds.1 ∙ ordered.1) in
-      let order : IsInOrder (is_in (ledger config k.journal)) rows = subst (IsInOrder (is_in (ledger config k.journal))) agree adds.2 in
-      let passes : Each (AdmitsHead (who Kept)) rows × AreFollowed (admission_due (who Kept)) None rows =
-      (Each-weaker (AdmitsFirst Kept) (AdmitsHead (who Kept)) (head-so Kept) rows ordered.2, passes-so Kept rows ordered.3 order.passes) in
-      subst (AreLawful MustPass) (sym after.is)
-      (one-more MustPass k.journal after.step after.one h
-      (subst (λ (s : List Rec). MustPass k.journal s) same
-      (subst (λ (cs : List ℕ). Each (AdmitsHead cs) rows × AreFollowed (admission_due cs) None rows) (line-kept config files checked k on.reached) passes)))
-
--- the same at the moment of each admission
-pub admits-the-first : AdmitsTheFirst
-admits-the-first config files m checked r = carried-keep config files (λ k. EachMay First [] k.journal) tt step m r where
-  First : List Rec → Rec → Type 0
-  First past r = AdmitsHead (line past) r
-
-  step : (k n : Machine) (e : Event) → IsOn config files k → EachMay First [] k.journal → HasRule e → machine_step k e ≡ Ok n → EachMay First [] n.journal
+line-passes config files m checked r = pass-may [] m.journal (carried-keep config files (λ k. PassTo IsSettled nobody None k.journal) (λ q. tt) step m r) where
+  step : (k n : Machine) (e : Event) → IsOn config files k → PassTo IsSettled nobody None k.journal → HasRule e → machine_step k e ≡ Ok n → PassTo IsSettled nobody None n.journal
   step k n e on h rule is =
       let Kept : List Waiting = k.front.dispatch.books.line in
       let ordered = step-ordered config k (reached-counted config files checked k on.reached) n e on.view rule is in
-      let adds = step-heads k on.view (each-lined config files checked k on.reached) (subst (λ (s : Setting). Rules s Notes) (on-setting config files k on) (noting (setting config files) (usable config checked).stream)) n e rule is in
+      let adds = step-pass k on.view (each-lined config files checked k on.reached) (subst (λ (s : Setting). Rules s Notes) (on-setting config files k on) (noting (setting config files) (usable config checked).stream)) n e rule is in
       let rows : List Rec = adds.0 in
       let agree : ordered.0 ≡ rows = cancel k.journal ordered.0 rows (sym ordered.1 ∙ adds.1) in
-      let heads : Each (AdmitsHead (line k.journal)) rows = subst (λ (cs : List ℕ). Each (AdmitsHead cs) rows) (line-kept config files checked k on.reached)
-      (subst (Each (AdmitsHead (who Kept))) agree (Each-weaker (AdmitsFirst Kept) (AdmitsHead (who Kept)) (head-so Kept) ordered.0 ordered.2)) in
-      subst (EachMay First []) (sym adds.1) (each_append First [] k.journal rows h (heads-may k.journal rows (adds.2 heads)))
+      let lets : Each (AdmitsHead (who Kept)) ordered.0 × LetsIn (who Kept) ordered.0 = (Each-weaker (AdmitsFirst Kept) (AdmitsHead (who Kept)) (head-so Kept) ordered.0 ordered.2, lets-so Kept ordered.0 ordered.3) in
+      subst (PassTo IsSettled nobody None) (sym adds.1) (pass-on k.journal rows h (adds.2
+      (subst (λ (cs : List ℕ). Each (AdmitsHead cs) rows × LetsIn cs rows) (line-kept config files checked k on.reached)
+      (subst (λ (rs : List Rec). Each (AdmitsHead (who Kept)) rs × LetsIn (who Kept) rs) agree lets))))
 
 -- ---- releases
 

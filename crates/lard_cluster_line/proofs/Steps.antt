@@ -1,6 +1,6 @@
--- The records of a step: each release that is due stands directly behind its record, and the admission of the first of the line directly
--- behind each release; and what takes from loads stands before what adds to them.
-use Rattle.std.proofs.Common.{◌≡◌, ℕ, ◌+◌, ◌-◌, Bool, true, false, cond, List, [], ◌∷◌, ◌++◌, map, length, Option, Some, None, Ok, refl, sym, ap, ◌∙◌, subst, append_assoc, append-nil, ⊎_elim, ◌||◌, nat_lt, ◌⊎◌, inl, inr}
+-- The records of a step: each release that is due stands directly behind its record; and what takes from loads stands before what adds
+-- to them.
+use Rattle.std.proofs.Common.{◌≡◌, ℕ, ◌+◌, ◌-◌, Bool, true, false, cond, List, [], ◌∷◌, ◌++◌, map, length, Option, Ok, refl, sym, ap, ◌∙◌, subst, append_assoc, append-nil, ⊎_elim, ◌||◌, nat_lt, ◌⊎◌, inl, inr}
 use Rattle.lard_base.specs.declared.event.Event.{Event}
 use Rattle.lard_base.specs.declared.event.Event.TheVariants as event
 use Rattle.lard_base.specs.declared.ids.Epoch.{Epoch}
@@ -11,10 +11,10 @@ use Rattle.lard_cluster.specs.Bounds.{HasRule}
 use Rattle.lard_cluster.specs.Machine.{clocked, machine_step, passed, segments_sent, told}
 use Rattle.lard_cluster_line.proofs.Holding.{IsRead}
 use Rattle.lard_cluster_line.proofs.Law.{IsLined}
-use Rattle.lard_cluster_line.proofs.Notes.{Begins, Ends, Enters, Alone, Goes, IsLater, Noted, Reads, Shares, Waits}
-use Rattle.lard_cluster_line.proofs.Stands.{Stand, stand_at}
-use Rattle.lard_cluster_line.proofs.Turns.{IsEntry, IsNoted, Notes}
-use Rattle.lard_cluster_line.specs.Laws.{AreFollowed, admission_due, release_due}
+use Rattle.lard_cluster_line.proofs.Notes.{Begins, Ends, Enters, Alone, Goes, IsLater, Noted, Reads, Shares, Was, Waits}
+use Rattle.lard_cluster_line.proofs.Stands.{stand_at}
+use Rattle.lard_cluster_line.proofs.Turns.{IsEntry, IsNoted, Notes, was_at}
+use Rattle.lard_cluster_line.specs.Laws.{AreReleased, Due, Nothing, Release, due_behind}
 use Rattle.lard_cluster_policy.proofs.Calm.{first_rows, last_rows, told-journal}
 use Rattle.lard_cluster_view.specs.View.{IsViewed, Move, Part, Rules, conn, part_of, setting_of, timer_rows}
 use Rattle.lard_cluster_view.proofs.Saying.{GaveAt, NamesAll, NotedAt, notes-all}
@@ -22,9 +22,8 @@ use Rattle.lard_cluster_view.proofs.Shapes.{IsPut, Shapes, both_out, move_of}
 use Rattle.lard_cluster_view.proofs.Stepping.{step-has}
 use Rattle.lard_cluster_view.proofs.Timers.{IsTimerAt, timer_rows-are}
 use Rattle.lard_front_rules.specs.Front.{over_note}
-use Rattle.lard_history.specs.Own.{Has, Row, Seen, seen_on}
+use Rattle.lard_history.specs.Own.{Row, Seen, seen_on}
 use Rattle.lard_history.proofs.Each.{Each, Each-append, Each-weaker}
-use Rattle.lard_history.proofs.Seeing.{has-each}
 use Rattle.lard_journal.specs.declared.rec.Rec.{Rec}
 use Rattle.lard_journal.specs.declared.rec.Rec.TheVariants as rec
 use Rattle.lard_machine.specs.Machine.{sent_records}
@@ -51,7 +50,7 @@ IsNoEntry _ = Unit {0}
 
 -- it does none of these, and no release is due behind it
 abbrev pub IsQuiet : Rec → Type 0
-IsQuiet r = ((inside : ℕ → Bool) → release_due inside r ≡ None) × IsFalling r × IsRising r × IsNoEntry r
+IsQuiet r = ((inside : ℕ → Bool) → due_behind inside r ≡ Nothing) × IsFalling r × IsRising r × IsNoEntry r
 
 -- ---- what another place notes, what is sent, given up and told of timers is quiet
 
@@ -111,66 +110,24 @@ gifts-quiet place c rs e = Each-weaker (GaveAt place c) IsQuiet (gave-quiet plac
 
 -- ---- lists of records
 
-module _ (due : Rec → Option Rec) where
-  followed-append : (o : Option Rec) (xs ys : List Rec) → AreFollowed due o xs → AreFollowed due None ys → AreFollowed due o (xs ++ ys)
-  followed-append None [] ys h k = k
-  followed-append (Some q) [] ys h k = absurd h
-  followed-append None (x ∷ xs) ys h k = followed-append (due x) xs ys h k
-  followed-append (Some q) (x ∷ xs) ys h k = (h.0, followed-append (due x) xs ys h.1 k)
+module _ (inside : ℕ → Bool) where
+  released-append : (o : Due) (xs ys : List Rec) → AreReleased inside o xs → AreReleased inside Nothing ys → AreReleased inside o (xs ++ ys)
+  released-append Nothing [] ys h k = k
+  released-append (Release c) [] ys h k = absurd h
+  released-append Nothing (x ∷ xs) ys h k = released-append (due_behind inside x) xs ys h k
+  released-append (Release c) (x ∷ xs) ys h k = (h.0, released-append Nothing xs ys h.1 k)
 
   -- where nothing is due
-  none-due : (rs : List Rec) → Each (λ r. due r ≡ None) rs → AreFollowed due None rs
+  none-due : (rs : List Rec) → Each (λ r. due_behind inside r ≡ Nothing) rs → AreReleased inside Nothing rs
   none-due [] e = tt
-  none-due (r ∷ rs) e = subst (λ (o : Option Rec). AreFollowed due o rs) (sym e.0) (none-due rs e.1)
+  none-due (r ∷ rs) e = subst (λ (o : Due). AreReleased inside o rs) (sym e.0) (none-due rs e.1)
 
--- it releases nobody
-abbrev pub IsNoRelease : Rec → Type 0
-IsNoRelease (rec.Released c) = ⊥
-IsNoRelease _ = Unit {0}
+  quiet-released : (rs : List Rec) → Each IsQuiet rs → AreReleased inside Nothing rs
+  quiet-released rs e = none-due rs (Each-weaker IsQuiet (λ r. due_behind inside r ≡ Nothing) (λ r q. q.0 inside) rs e)
 
-unreleased-undue : (line : List ℕ) (r : Rec) → IsNoRelease r → admission_due line r ≡ None
-unreleased-undue line (rec.Released c) h = absurd h
-unreleased-undue line _ h = refl
-
-pub unreleased-passes : (line : List ℕ) (rs : List Rec) → Each IsNoRelease rs → AreFollowed (admission_due line) None rs
-unreleased-passes line rs e = none-due (admission_due line) rs (Each-weaker IsNoRelease (λ r. admission_due line r ≡ None) (unreleased-undue line) rs e)
-
-rising-unreleased : (r : Rec) → IsRising r → IsNoRelease r
-rising-unreleased (rec.Released c) h = absurd h
-rising-unreleased _ h = tt
-
-rising-passes : (line : List ℕ) (rs : List Rec) → Each IsRising rs → AreFollowed (admission_due line) None rs
-rising-passes line rs e = unreleased-passes line rs (Each-weaker IsRising IsNoRelease rising-unreleased rs e)
-
--- the first of the line is admitted, if somebody waits
-abbrev pub HeadEnters : List ℕ → List Rec → Type 0
-HeadEnters [] rs = Unit {0}
-HeadEnters (c ∷ cs) rs = Has (rec.Admitted c) rs
-
--- not among these
-has-either : (a : Rec) (xs ys : List Rec) → Has a (xs ++ ys) → Has a xs ⊎ Has a ys
-has-either a [] ys h = inr h
-has-either a (x ∷ xs) ys h = ⊎_elim (λ (e : x ≡ a). inl (inl e)) (λ (k : Has a (xs ++ ys)). ⊎_elim (λ (m : Has a xs). inl (inr m)) (λ (m : Has a ys). inr m) (has-either a xs ys k)) h
-
-between-enters : (line : List ℕ) (xs rs ys : List Rec) → Each IsQuiet xs → Each IsQuiet ys → HeadEnters line (xs ++ rs ++ ys) → HeadEnters line rs
-between-enters [] xs rs ys before after h = tt
-between-enters (c ∷ cs) xs rs ys before after h = ⊎_elim
-    (λ (k : Has (rec.Admitted c) (xs ++ rs)). ⊎_elim (λ (m : Has (rec.Admitted c) xs). absurd (has-each (rec.Admitted c) IsQuiet xs m before).3) (λ (m : Has (rec.Admitted c) rs). m) (has-either (rec.Admitted c) xs rs k))
-    (λ (k : Has (rec.Admitted c) ys). absurd (has-each (rec.Admitted c) IsQuiet ys k after).3)
-    (has-either (rec.Admitted c) (xs ++ rs) ys h)
-
-module _ (inside : ℕ → Bool) where
-  quiet-released : (rs : List Rec) → Each IsQuiet rs → AreFollowed (release_due inside) None rs
-  quiet-released rs e = none-due (release_due inside) rs (Each-weaker IsQuiet (λ r. release_due inside r ≡ None) (λ r q. q.0 inside) rs e)
-
-  quiet-passes : (line : List ℕ) (rs : List Rec) → Each IsQuiet rs → AreFollowed (admission_due line) None rs
-  quiet-passes line rs e = rising-passes line rs (Each-weaker IsQuiet IsRising (λ r q. q.2) rs e)
-
-  -- Each release that is due stands there; where the first of the line is admitted, it is directly behind each release; and the records
-  -- fall first, and then rise.
+  -- Each release that is due stands there; and the records fall first, and then rise.
   pub record IsInOrder (rs : List Rec) : Type 0 where
-    pub released : AreFollowed (release_due inside) None rs
-    pub passes : (line : List ℕ) → HeadEnters line rs → AreFollowed (admission_due line) None rs
+    pub released : AreReleased inside Nothing rs
     pub falls : List Rec
     pub rises : List Rec
     pub split : rs ≡ falls ++ rises
@@ -180,7 +137,6 @@ module _ (inside : ℕ → Bool) where
   pub quiet-order : (rs : List Rec) → Each IsQuiet rs → IsInOrder rs
   quiet-order rs e = record {
     released = quiet-released rs e;
-    passes = λ line h. quiet-passes line rs e;
     falls = rs;
     rises = [];
     split = sym (append-nil rs);
@@ -191,9 +147,7 @@ module _ (inside : ℕ → Bool) where
   -- between quiet ones
   between-order : (xs rs ys : List Rec) → Each IsQuiet xs → IsInOrder rs → Each IsQuiet ys → IsInOrder (xs ++ rs ++ ys)
   between-order xs rs ys before o after = record {
-    released = followed-append (release_due inside) None (xs ++ rs) ys (followed-append (release_due inside) None xs rs (quiet-released xs before) o.released) (quiet-released ys after);
-    passes = λ line h. followed-append (admission_due line) None (xs ++ rs) ys
-        (followed-append (admission_due line) None xs rs (quiet-passes line xs before) (o.passes line (between-enters line xs rs ys before after h))) (quiet-passes line ys after);
+    released = released-append Nothing (xs ++ rs) ys (released-append Nothing xs rs (quiet-released xs before) o.released) (quiet-released ys after);
     falls = xs ++ o.falls;
     rises = o.rises ++ ys;
     split = ap (λ (zs : List Rec). xs ++ zs ++ ys) o.split ∙ ap (λ (zs : List Rec). zs ++ ys) (sym (append_assoc xs o.falls o.rises)) ∙ append_assoc (xs ++ o.falls) o.rises ys;
@@ -203,9 +157,9 @@ module _ (inside : ℕ → Bool) where
 
   -- ---- the notes of a turn
 
-  later-released : (rs : List Rec) → Each IsLater rs → AreFollowed (release_due inside) None rs
-  later-released rs e = none-due (release_due inside) rs (Each-weaker IsLater (λ r. release_due inside r ≡ None) one rs e) where
-    one : (r : Rec) → IsLater r → release_due inside r ≡ None
+  later-released : (rs : List Rec) → Each IsLater rs → AreReleased inside Nothing rs
+  later-released rs e = none-due rs (Each-weaker IsLater (λ r. due_behind inside r ≡ Nothing) one rs e) where
+    one : (r : Rec) → IsLater r → due_behind inside r ≡ Nothing
     one (rec.AssignedLater c r path n add size queue) h = refl
     one _ h = absurd h
 
@@ -216,12 +170,11 @@ module _ (inside : ℕ → Bool) where
     one _ h = absurd h
 
   -- behind what was read
-  behind-read : (rs last : List Rec) → Each IsRead rs → AreFollowed (release_due inside) None last → Each IsRising last → IsInOrder (rs ++ last)
+  behind-read : (rs last : List Rec) → Each IsRead rs → AreReleased inside Nothing last → Each IsRising last → IsInOrder (rs ++ last)
   behind-read rs last e released rising =
       let quiet : Each IsQuiet rs = Each-weaker IsRead IsQuiet read-quiet rs e in
       record {
-        released = followed-append (release_due inside) None rs last (quiet-released rs quiet) released;
-        passes = λ line h. followed-append (admission_due line) None rs last (quiet-passes line rs quiet) (rising-passes line last rising);
+        released = released-append Nothing rs last (quiet-released rs quiet) released;
         falls = rs;
         rises = last;
         split = refl;
@@ -232,19 +185,17 @@ module _ (inside : ℕ → Bool) where
   over-order : (c : ℕ) (over : Bool) (rs : List Rec) → Each IsLater rs → IsInOrder (over_note c over ++ rs)
   over-order c true rs e = record {
     released = later-released rs e;
-    passes = λ line h. rising-passes line rs (later-rising rs e);
     falls = rec.BatchOver c ∷ [];
     rises = rs;
     split = refl;
     falling = (tt, tt);
     rising = later-rising rs e;
   }
-  over-order c false rs e = record { released = later-released rs e; passes = λ line h. rising-passes line rs (later-rising rs e); falls = []; rises = rs; split = refl; falling = tt; rising = later-rising rs e }
+  over-order c false rs e = record { released = later-released rs e; falls = []; rises = rs; split = refl; falling = tt; rising = later-rising rs e }
 
   begins-order : (c : ℕ) → inside c ≡ false → IsInOrder (rec.Took Front c (record { 0 = 1 }) ∷ [])
   begins-order c out = record {
-    released = subst (λ (b : Bool). AreFollowed (release_due inside) (cond b (Some (rec.Released c)) None) []) (sym (ap (λ (b : Bool). b || false) out)) tt;
-    passes = λ line h. tt;
+    released = subst (λ (b : Bool). AreReleased inside (cond b (Release c) Nothing) []) (sym (ap (λ (b : Bool). b || false) out)) tt;
     falls = rec.Took Front c (record { 0 = 1 }) ∷ [];
     rises = [];
     split = refl;
@@ -253,30 +204,24 @@ module _ (inside : ℕ → Bool) where
   }
 
   -- what is behind the release of one that was admitted
-  ends-released : (c : ℕ) (epoch : Epoch) (last : List Rec) → inside c ≡ true → AreFollowed (release_due inside) None last → AreFollowed (release_due inside) None (rec.Took Front c epoch ∷ rec.Released c ∷ last)
+  ends-released : (c : ℕ) (epoch : Epoch) (last : List Rec) → inside c ≡ true → AreReleased inside Nothing last → AreReleased inside Nothing (rec.Took Front c epoch ∷ rec.Released c ∷ last)
   ends-released c epoch last in_ h =
-      subst (λ (b : Bool). AreFollowed (release_due inside) (cond b (Some (rec.Released c)) None) (rec.Released c ∷ last)) (sym (ap (λ (b : Bool). b || nat_lt 1 epoch.0) in_)) (refl, h)
+      subst (λ (b : Bool). AreReleased inside (cond b (Release c) Nothing) (rec.Released c ∷ last)) (sym (ap (λ (b : Bool). b || nat_lt 1 epoch.0) in_)) (refl, h)
 
   ends-order : (c : ℕ) (epoch : Epoch) → inside c ≡ true → IsInOrder (rec.Took Front c epoch ∷ rec.Released c ∷ [])
   ends-order c epoch in_ = record {
     released = ends-released c epoch [] in_ tt;
-    passes = alone;
     falls = rec.Took Front c epoch ∷ rec.Released c ∷ [];
     rises = [];
     split = refl;
     falling = (tt, (tt, tt));
     rising = tt;
-  } where
-    alone : (line : List ℕ) → HeadEnters line (rec.Took Front c epoch ∷ rec.Released c ∷ []) → AreFollowed (admission_due line) None (rec.Took Front c epoch ∷ rec.Released c ∷ [])
-    alone [] h = tt
-    alone (d ∷ ds) h = absurd (never d h) where
-      never : (d : ℕ) → Has (rec.Admitted d) (rec.Took Front c epoch ∷ rec.Released c ∷ []) → ⊥
-      never d h = ⊎_elim (λ (e : rec.Took Front c epoch ≡ rec.Admitted d). absurd (cc)) (λ k. ⊎_elim (λ (e : rec.Released c ≡ rec.Admitted d). absurd (cc)) (λ m. m) k) h
+  }
 
-  pub noted-order : (c : ℕ) (s : Stand) → inside c ≡ s.inside → (rs : List Rec) → Noted c s rs → IsInOrder rs
+  pub noted-order : (c : ℕ) (s : Was) → inside c ≡ s.inside → (rs : List Rec) → Noted c s rs → IsInOrder rs
   noted-order c s is all (Reads rs e) = quiet-order rs (Each-weaker IsRead IsQuiet read-quiet rs e)
   noted-order c s is all (Begins out) = begins-order c (is ∙ out)
-  noted-order c s is all (Waits reads e) = behind-read reads (rec.Waits c ∷ []) e tt (tt, tt)
+  noted-order c s is all (Waits reads e held) = behind-read reads (rec.Waits c ∷ []) e tt (tt, tt)
   noted-order c s is all (Goes reads r path n add remove e out) = behind-read reads (rec.Admitted c ∷ rec.AssignedFirst c r path n add remove ∷ []) e tt (tt, (tt, tt))
   noted-order c s is all (Shares over later e) = over-order c over later e
   noted-order c s is all (Ends epoch in_) = ends-order c epoch (is ∙ in_)
@@ -287,40 +232,11 @@ module _ (inside : ℕ → Bool) where
     abbrev entry : List Rec
     entry = rec.Admitted d ∷ rec.AssignedFirst d r path n add remove ∷ []
 
-    -- where none is released before
-    more-passes : (line : List ℕ) (xs : List Rec) → Each IsNoRelease xs → AreFollowed (admission_due line) None (xs ++ entry)
-    more-passes line xs e = followed-append (admission_due line) None xs entry (unreleased-passes line xs e) tt
-
-    -- who enters is the first of the line
-    first-passes : (c : ℕ) (epoch : Epoch) (line : List ℕ) → HeadEnters line (rec.Took Front c epoch ∷ rec.Released c ∷ entry) → AreFollowed (admission_due line) None (rec.Took Front c epoch ∷ rec.Released c ∷ entry)
-    first-passes c epoch [] h = tt
-    first-passes c epoch (q ∷ qs) h = (same h, tt) where
-      same : Has (rec.Admitted q) (rec.Took Front c epoch ∷ rec.Released c ∷ entry) → rec.Admitted d ≡ rec.Admitted q
-      same h = ⊎_elim (λ (e : rec.Took Front c epoch ≡ rec.Admitted q). absurd (cc)) (λ k. ⊎_elim (λ (e : rec.Released c ≡ rec.Admitted q). absurd (cc)) (λ m. ⊎_elim (λ (e : rec.Admitted d ≡ rec.Admitted q). e)
-          (λ z. ⊎_elim (λ (e : rec.AssignedFirst d r path n add remove ≡ rec.Admitted q). absurd (cc)) (λ none. absurd none) z) m) k) h
-
-    read-unreleased : (rs : List Rec) → Each IsRead rs → Each IsNoRelease rs
-    read-unreleased rs e = Each-weaker IsRead IsNoRelease (λ r h. rising-unreleased r (read-quiet r h).2) rs e
-
-    over-unreleased : (c : ℕ) (over : Bool) (rs : List Rec) → Each IsLater rs → Each IsNoRelease (over_note c over ++ rs)
-    over-unreleased c true rs e = (tt, Each-weaker IsRising IsNoRelease rising-unreleased rs (later-rising rs e))
-    over-unreleased c false rs e = Each-weaker IsRising IsNoRelease rising-unreleased rs (later-rising rs e)
-
-    entry-passes : (c : ℕ) (s : Stand) (xs : List Rec) → Noted c s xs → (line : List ℕ) → HeadEnters line (xs ++ entry) → AreFollowed (admission_due line) None (xs ++ entry)
-    entry-passes c s all (Reads rs e) line h = more-passes line rs (read-unreleased rs e)
-    entry-passes c s all (Begins out) line h = tt
-    entry-passes c s all (Waits reads e) line h = more-passes line (reads ++ rec.Waits c ∷ []) (Each-append IsNoRelease reads (rec.Waits c ∷ []) (read-unreleased reads e) (tt, tt))
-    entry-passes c s all (Goes reads r path n add remove e out) line h =
-        more-passes line (reads ++ rec.Admitted c ∷ rec.AssignedFirst c r path n add remove ∷ []) (Each-append IsNoRelease reads (rec.Admitted c ∷ rec.AssignedFirst c r path n add remove ∷ []) (read-unreleased reads e) (tt, (tt, tt)))
-    entry-passes c s all (Shares over later e) line h = more-passes line (over_note c over ++ later) (over-unreleased c over later e)
-    entry-passes c s all (Ends epoch in_) line h = first-passes c epoch line h
-
-    entry-order : (c : ℕ) (s : Stand) → inside c ≡ s.inside → (xs : List Rec) → Noted c s xs → IsInOrder (xs ++ entry)
+    entry-order : (c : ℕ) (s : Was) → inside c ≡ s.inside → (xs : List Rec) → Noted c s xs → IsInOrder (xs ++ entry)
     entry-order c s is xs noted =
         let o : IsInOrder xs = noted-order c s is xs noted in
         record {
-          released = followed-append (release_due inside) None xs entry o.released tt;
-          passes = entry-passes c s xs noted;
+          released = released-append Nothing xs entry o.released tt;
           falls = o.falls;
           rises = o.rises ++ entry;
           split = ap (λ (zs : List Rec). zs ++ entry) o.split ∙ append_assoc o.falls o.rises entry;
@@ -328,7 +244,7 @@ module _ (inside : ℕ → Bool) where
           rising = Each-append IsRising o.rises entry o.rising (tt, (tt, tt));
         }
 
-  pub enters-order : (c : ℕ) (s : Stand) → inside c ≡ s.inside → (d : ℕ) (xs ys : List Rec) → Noted c s xs → Enters d ys → IsInOrder (xs ++ ys)
+  pub enters-order : (c : ℕ) (s : Was) → inside c ≡ s.inside → (d : ℕ) (xs ys : List Rec) → Noted c s xs → Enters d ys → IsInOrder (xs ++ ys)
   enters-order c s is d xs ys noted (Alone r path n add remove) = entry-order d r path n add remove c s is xs noted
 
   -- an admission by itself, and one behind another
@@ -368,19 +284,19 @@ module _ (m : Machine) (lined : (q : ℕ) → IsLined (conn m q)) (inside : ℕ 
   )
 
   -- a connection has its number
-  own-noted : (c : ℕ) (v : Move) → IsNoted (conn m c) v → v.place ≡ Front → Noted c (stand_at (conn m c)) v.said.notes ⊎ Enters c v.said.notes
+  own-noted : (c : ℕ) (v : Move) → IsNoted (conn m c) v → v.place ≡ Front → Noted c (was_at (conn m c)) v.said.notes ⊎ Enters c v.said.notes
   unfolding conn
-  own-noted c v h at = ⊎_elim (λ (k : Noted c (stand_at (conn m c)) v.said.notes). inl k) (λ (k : IsEntry (conn m c) v). inr k.enters) (h.noted at)
+  own-noted c v h at = ⊎_elim (λ (k : Noted c (was_at (conn m c)) v.said.notes). inl k) (λ (k : IsEntry (conn m c) v). inr k.enters) (h.noted at)
 
   own-enters : (c : ℕ) (v : Move) → IsNoted (conn m c) v → v.place ≡ Front → v.heads ≡ [] → Enters c v.said.notes
   unfolding conn
   own-enters c v h at none = (h.alone at none).enters
 
-  turn-order : (c : ℕ) (rs : List Rec) → Noted c (stand_at (conn m c)) rs ⊎ Enters c rs → IsInOrder inside rs
-  turn-order c rs h = ⊎_elim (λ (k : Noted c (stand_at (conn m c)) rs). noted-order inside c (stand_at (conn m c)) (told_is c) rs k) (λ (k : Enters c rs). alone-order inside c rs k) h
+  turn-order : (c : ℕ) (rs : List Rec) → Noted c (was_at (conn m c)) rs ⊎ Enters c rs → IsInOrder inside rs
+  turn-order c rs h = ⊎_elim (λ (k : Noted c (was_at (conn m c)) rs). noted-order inside c (was_at (conn m c)) (told_is c) rs k) (λ (k : Enters c rs). alone-order inside c rs k) h
 
-  turns-order : (c d : ℕ) (xs ys : List Rec) → Noted c (stand_at (conn m c)) xs ⊎ Enters c xs → Enters d ys → IsInOrder inside (xs ++ ys)
-  turns-order c d xs ys h e = ⊎_elim (λ (k : Noted c (stand_at (conn m c)) xs). enters-order inside c (stand_at (conn m c)) (told_is c) d xs ys k e) (λ (k : Enters c xs). both-enter inside c d xs ys k e) h
+  turns-order : (c d : ℕ) (xs ys : List Rec) → Noted c (was_at (conn m c)) xs ⊎ Enters c xs → Enters d ys → IsInOrder inside (xs ++ ys)
+  turns-order c d xs ys h e = ⊎_elim (λ (k : Noted c (was_at (conn m c)) xs). enters-order inside c (was_at (conn m c)) (told_is c) d xs ys k e) (λ (k : Enters c xs). both-enter inside c d xs ys k e) h
 
   -- what another place than the front end notes
   other-order : (place : Place) (c : ℕ) (rs : List Rec) → (place ≡ Front → ⊥) → Each (NotedAt place c) rs → IsInOrder inside rs

@@ -1,20 +1,20 @@
 -- What is so of the line, of releases and of loads in every run, with a configuration that may be used.
-use Rattle.std.specs.Prelude.{◌≡◌, ℕ, ◌+◌, ◌*◌, ◌<◌, ◌≤◌, ◌||◌, nat_lt, nat_le, count_by, Bool, if◌then◌else◌, List, [], ◌∷◌, length, map, Option, Some, None, Ok, nat_eq, false}
+use Rattle.std.specs.Prelude.{◌≡◌, ℕ, ◌+◌, ◌*◌, ◌<◌, ◌≤◌, ◌||◌, nat_lt, nat_le, max, count_by, Bool, if◌then◌else◌, List, [], ◌∷◌, length, map, Option, Some, None, Ok, nat_eq, false}
 use Rattle.std.specs.FinMap as table
-use Rattle.std.specs.List.{AllByRecursion, list_any}
+use Rattle.std.specs.List.{list_any}
 use Rattle.lard_base.specs.declared.config.Config.{Config}
 use Rattle.lard_base.specs.declared.place.Place.TheVariants.{Front}
 use Rattle.lard_base.specs.Config.{config_check, room_of}
 use Rattle.lard_cluster.specs.declared.machine.Machine.{Machine}
 use Rattle.lard_cluster.specs.Machine.{IsReached}
 use Rattle.lard_cluster_line.specs.Line.{line}
-use Rattle.lard_cluster_policy.specs.Laws.{AtEveryMoment}
+use Rattle.lard_cluster_policy.specs.Laws.{AtEveryMoment, last_of}
 use Rattle.lard_cluster_policy.specs.Ledger.{Ledger, admitted, is_in, ledger}
 use Rattle.lard_cluster_policy.specs.Loads.{load}
 use Rattle.lard_dispatch.specs.Loads.{is_at}
 use Rattle.lard_handoff_front.specs.declared.row.FrontRow.{FrontRow}
 use Rattle.lard_handoff_front.specs.Row.{is_waiting}
-use Rattle.lard_history.specs.Journal.{home}
+use Rattle.lard_history.specs.Journal.{home, owner}
 use Rattle.lard_history.specs.Laws.{EachMay}
 use Rattle.lard_history.specs.Steps.{AtEachEnd, EachStep, steps}
 use Rattle.lard_journal.specs.declared.rec.Rec.{Rec}
@@ -40,52 +40,63 @@ waits_there (Some row) = is_waiting row.stage
 abbrev pub LineIsOfThoseWhoWait : Type 0
 LineIsOfThoseWhoWait = Always (λ config m. (c : ℕ) → list_any (nat_eq c) (line m.journal) ≡ waits_there (table.get m.front.conns c))
 
--- somebody waits only where as many are admitted as there is room for
-abbrev pub WaitsForRoom : Config → List Rec → Type 0
-WaitsForRoom config J = 0 < length (line J) → admitted (ledger config J) ≡ room_of config
+-- somebody is in the line only where as many are admitted as there is room for
+abbrev pub LineNeedsAFullRoom : Config → List Rec → Type 0
+LineNeedsAFullRoom config J = 0 < length (line J) → admitted (ledger config J) ≡ room_of config
 
 -- So it is at the end of each step.
 abbrev pub WaitsAtAFullRoom : Type 0
-WaitsAtAFullRoom = Always (λ config m. AtEachEnd (WaitsForRoom config) m.journal)
+WaitsAtAFullRoom = Always (λ config m. AtEachEnd (LineNeedsAFullRoom config) m.journal)
 
--- each record that is due directly behind another one stands there
-abbrev pub AreFollowed : (Rec → Option Rec) → Option Rec → List Rec → Type 0
-AreFollowed due None [] = Unit {0}
-AreFollowed due (Some q) [] = ⊥
-AreFollowed due None (r ∷ rs) = AreFollowed due (due r) rs
-AreFollowed due (Some q) (r ∷ rs) = (r ≡ q) × AreFollowed due (due r) rs
+-- A connection is to wait only where it is not admitted, is not in the line, and the front end owns it.
+abbrev pub MayWait : Ledger → List Rec → Rec → Type 0
+MayWait l past (rec.Waits c) = (is_in l c ≡ false) × (list_any (nat_eq c) (line past) ≡ false) × (owner past c ≡ Some Front)
+MayWait l past _ = Unit {0}
 
--- who is admitted while somebody waits is the first of the line
+-- So it is of each record.
+abbrev pub WaitsAtTheFrontEnd : Type 0
+WaitsAtTheFrontEnd = Always (λ config m. EachMay (λ past r. MayWait (ledger config past) past r) [] m.journal)
+
+-- who is admitted while somebody is in the line is its first
 abbrev pub AdmitsHead : List ℕ → Rec → Type 0
 AdmitsHead (c ∷ cs) (rec.Admitted d) = d ≡ c
 AdmitsHead _ _ = Unit {0}
 
--- and its admission is due where another one is released
-abbrev pub admission_due : List ℕ → Rec → Option Rec
-admission_due line (rec.Released d) = elim line [ [] ↦ None | c ∷ cs ↦ Some (rec.Admitted c) ]
-admission_due line _ = None
+-- and directly behind a release its first is admitted
+abbrev pub AdmitsBehind : List ℕ → Option Rec → Rec → Type 0
+AdmitsBehind (c ∷ cs) (Some (rec.Released d)) r = r ≡ rec.Admitted c
+AdmitsBehind _ _ _ = Unit {0}
 
--- Wherever one is admitted while somebody waits, it is the first of the line.
-abbrev pub AdmitsTheFirst : Type 0
-AdmitsTheFirst = Always (λ config m. EachMay (λ past r. AdmitsHead (line past) r) [] m.journal)
+-- Both are by the line as it is just before the record. No journal ends directly behind a release while somebody is in the line, since
+-- the room is not full there.
+abbrev pub MayPass : List Rec → Rec → Type 0
+MayPass past r = AdmitsHead (line past) r × AdmitsBehind (line past) (last_of past) r
 
--- in a step, behind this past
-abbrev pub MustPass : List Rec → List Rec → Type 0
-MustPass past s = AllByRecursion (AdmitsHead (line past)) s × AreFollowed (admission_due (line past)) None s
-
--- In each step who is admitted while somebody waits is the first of the line, and is admitted directly behind each release.
+-- So it is of each record.
 abbrev pub LinePasses : Type 0
-LinePasses = Always (λ config m. EachStep MustPass [] (steps m.journal))
+LinePasses = Always (λ config m. EachMay MayPass [] m.journal)
 
 -- ---- releases
 
--- the release of a connection is due where the front end takes it, and it was admitted before the step, or taken before
-abbrev pub release_due : (ℕ → Bool) → Rec → Option Rec
-release_due inside (rec.Took Front c epoch) = if inside c || nat_lt 1 epoch.0 then Some (rec.Released c) else None
-release_due inside _ = None
+-- what is due directly behind a record: nothing, or the release of a connection
+pub data Due : Type 0 where
+  Nothing : Due
+  Release : ℕ → Due
+
+-- A release is due where the front end takes a connection that was admitted before the step, or takes it in an epoch behind the first.
+abbrev pub due_behind : (ℕ → Bool) → Rec → Due
+due_behind inside (rec.Took Front c epoch) = if inside c || nat_lt 1 epoch.0 then Release c else Nothing
+due_behind inside _ = Nothing
+
+-- each that is due stands there
+abbrev pub AreReleased : (ℕ → Bool) → Due → List Rec → Type 0
+AreReleased inside Nothing [] = Unit {0}
+AreReleased inside (Release c) [] = ⊥
+AreReleased inside Nothing (r ∷ rs) = AreReleased inside (due_behind inside r) rs
+AreReleased inside (Release c) (r ∷ rs) = (r ≡ rec.Released c) × AreReleased inside Nothing rs
 
 abbrev pub MustRelease : Config → List Rec → List Rec → Type 0
-MustRelease config past s = AreFollowed (release_due (is_in (ledger config past))) None s
+MustRelease config past s = AreReleased (is_in (ledger config past)) Nothing s
 
 -- Where the front end takes a connection that is admitted, or takes it in an epoch behind the first, the connection is released,
 -- directly behind that record.
@@ -101,9 +112,13 @@ IsWithinTheRoom config l past = (n : ℕ) → load past n ≤ 840 * room_of conf
 abbrev pub LoadsStayWithinTheRoom : Type 0
 LoadsStayWithinTheRoom = AtEveryMoment IsWithinTheRoom
 
--- nor above the greatest of twice `high`, `over` and `idle` by more than a whole
+-- the greatest of twice `high`, `over` and `idle`
+abbrev pub greatest_threshold : Config → ℕ
+greatest_threshold config = max (2 * config.high) (max config.over config.idle)
+
+-- nor above it by more than a whole
 abbrev pub IsNearTheThresholds : Config → Ledger → List Rec → Type 0
-IsNearTheThresholds config l past = (most : ℕ) → 2 * config.high ≤ most → config.over ≤ most → config.idle ≤ most → (n : ℕ) → load past n ≤ 840 * (most + 1)
+IsNearTheThresholds config l past = (n : ℕ) → load past n ≤ 840 * (greatest_threshold config + 1)
 
 abbrev pub LoadsStayNearTheThresholds : Type 0
 LoadsStayNearTheThresholds = AtEveryMoment IsNearTheThresholds

@@ -16,14 +16,14 @@ use Rattle.lard_segment.specs.Segment.{Said, decoded}
 
 -- A segment resets the connection of one that waits, by what its client was told last: it has RST, its number is the acknowledgement
 -- number of that segment, and it has no length, or that segment told a window above 0 (RFC 9293, 3.10.7.4, first and second).
-abbrev pub resets : Said → Said → Bool
-resets last s = s.flags.rst && (s.seq == last.ack && (seg_len s == 0 || nat_lt 0 last.wnd))
+abbrev pub is_reset_by : Said → Said → Bool
+is_reset_by last s = s.flags.rst && (s.seq == last.ack && (seg_len s == 0 || nat_lt 0 last.wnd))
 
 -- so it is of bytes that decode, where the client was told something
 abbrev pub leaves : Option Said → Result Said SegFault → Bool
 leaves None given = false
 leaves (Some last) (Err fault) = false
-leaves (Some last) (Ok s) = resets last s
+leaves (Some last) (Ok s) = is_reset_by last s
 
 -- ---- the line
 
@@ -38,14 +38,14 @@ abbrev pub said_of : Result Said SegFault → Option Said
 said_of (Ok s) = Some s
 said_of (Err fault) = None
 
--- client c is told this
-abbrev pub tells : ℕ → List ℕ → (ℕ → Option Said) → ℕ → Option Said
-tells c bytes told q = if nat_eq c q then said_of (decoded bytes c ToClient) else told q
+-- client c hears this
+abbrev pub hears : ℕ → List ℕ → (ℕ → Option Said) → ℕ → Option Said
+hears c bytes told q = if nat_eq c q then said_of (decoded bytes c ToClient) else told q
 
 -- to whom, and from whom: the cluster's segments to a client tell it something
 abbrev pub told_by : Place → Place → List ℕ → (ℕ → Option Said) → ℕ → Option Said
-told_by (Client c) Front bytes told = tells c bytes told
-told_by (Client c) (Node n) bytes told = tells c bytes told
+told_by (Client c) Front bytes told = hears c bytes told
+told_by (Client c) (Node n) bytes told = hears c bytes told
 told_by (Client c) (Client d) bytes told = told
 told_by Front from bytes told = told
 told_by (Node n) from bytes told = told

@@ -3,20 +3,21 @@
 //! It stands above the laws of places and of policy. It has no code.
 #![tactic(auto)]
 
-ghost use Rattle.lard_cluster_line.specs.Laws.{AdmitsTheFirst, ConnectionsStayFew, LineIsKept, LineIsOfThoseWhoWait, LinePasses, LoadsStayNearTheThresholds, LoadsStayWithinTheRoom, NeverAllBusy, TakesRelease, WaitsAtAFullRoom};
+ghost use Rattle.lard_cluster_line.specs.Laws.{ConnectionsStayFew, LineIsKept, LineIsOfThoseWhoWait, LinePasses, LoadsStayNearTheThresholds, LoadsStayWithinTheRoom, NeverAllBusy, TakesRelease, WaitsAtAFullRoom, WaitsAtTheFrontEnd};
 
 /// The line that the front end keeps is the one that the journal tells: those who were to wait and were not admitted since, in that
 /// order, but for each whose segment came to the front end that decodes, has RST and the acknowledgement number of the last segment
 /// that the cluster sent to its client, and no length unless that segment told a window above 0. So it is of connections that the
 /// schedule touched, too. Those who wait at the front end are in it, and nobody else.
+/// A connection is told to wait only where it is not admitted, is not in the line, and the front end owns it.
 /// Wherever a step ends, somebody is in the line only where as many are admitted as there is room for.
-/// Wherever one is admitted while somebody is in the line, it is its first. In each step the first of the line as it was before is
-/// admitted directly behind each release.
+/// Wherever one is admitted while somebody is in the line, it is its first; and wherever one is released while somebody is, its first is
+/// admitted directly behind that.
 pub fn the_line_is_told()
     ensures kept { LineIsKept }
     ensures those { LineIsOfThoseWhoWait }
+    ensures joins { WaitsAtTheFrontEnd }
     ensures full { WaitsAtAFullRoom }
-    ensures first { AdmitsTheFirst }
     ensures order { LinePasses }
 {}
 

@@ -1,5 +1,5 @@
 -- By what holds of every state.
-use Rattle.lard_cluster_line.proofs.Runs.{admits-the-first, line-is-kept, line-is-of-those-who-wait, line-passes, waits-at-a-full-room}
+use Rattle.lard_cluster_line.proofs.Runs.{line-is-kept, line-is-of-those-who-wait, line-passes, waits-at-a-full-room, waits-at-the-front-end}
 use Rattle.lard_cluster_line.proofs.the_line_is_told.Goals as goal
 
 pub returns-clause-kept : goal.returns-clause-kept
@@ -11,8 +11,8 @@ returns-clause-full c = waits-at-a-full-room
 pub returns-clause-order : goal.returns-clause-order
 returns-clause-order c = line-passes
 
-pub returns-clause-first : goal.returns-clause-first
-returns-clause-first c = admits-the-first
-
 pub returns-clause-those : goal.returns-clause-those
 returns-clause-those c = line-is-of-those-who-wait
+
+pub returns-clause-joins : goal.returns-clause-joins
+returns-clause-joins c = waits-at-the-front-end
