@@ -1,3 +1,4 @@
+mod Answered
 mod Assembling
 mod Costs
 mod Listing

@@ -1,6 +1,7 @@
 -- Each file may be added behind those before it.
-use Rattle.std.proofs.Common.{◌≡◌, ◌≢◌, ℕ, zero, suc, ◌+◌, ◌*◌, ◌<◌, ◌≤◌, ◌^◌, ◌%◌, Bool, true, false, cond, List, [], ◌∷◌, length, All, Option, Some, None, Result, Ok, Err, is_some, refl, ◌∙◌, arith}
+use Rattle.std.proofs.Common.{◌≡◌, ◌≢◌, ◌⊎◌, ℕ, zero, suc, ◌+◌, ◌*◌, ◌<◌, ◌≤◌, ◌^◌, ◌%◌, Bool, true, false, cond, List, [], ◌∷◌, length, All, Option, Some, None, Result, Ok, Err, is_some, refl, ◌∙◌, arith, ◌++◌, subst, inl, inr, sym}
 use Rattle.std.specs.Prelude.{decimal, slice_index, nat_lt}
+use Rattle.std.proofs.Math.Nat.{eq-or-lt_of_le}
 use Rattle.std.proofs.lemmas.Bool.Decides.{nat_tests}
 use Rattle.std.proofs.lemmas.Fmt.{decimal_injective, length-decimal-le}
 use Rattle.std.proofs.lemmas.List.Elements.{All-get_or}
@@ -8,7 +9,7 @@ use Rattle.std.proofs.lemmas.List.Sums.{sum_by-append}
 use Rattle.lard_files.specs.declared.fault.FileFault.{FileFault}
 use Rattle.lard_files.specs.declared.fault.FileFault.TheVariants.{Repeated, TooLong, TooMany, TooMuch}
 use Rattle.lard_files.specs.Files.{add_check, file_at, total}
-use Rattle.lard_files.proofs.Lookups.{others_stay}
+use Rattle.lard_files.proofs.Lookups.{finds_added, others_stay}
 use Rattle.lard_generate.specs.Files.{file_of, listed, path_of}
 use Rattle.lard_generate.proofs.Listing.{length-listed}
 
@@ -68,3 +69,16 @@ may_be_added sizes i count inside small =
     let size = small_at sizes 8192 i (omega arith) small in
     passes (listed (file_of sizes) i) (path_of i) (slice_index sizes i) (absent sizes i i (omega arith) (omega arith)) (omega (arith, size))
     (omega (arith, length-listed (file_of sizes) i)) (omega (arith, size, total_small sizes 8192 i (omega arith) small))
+
+-- A file is found at its path, among those before it and behind.
+pub found : (sizes : List ℕ) (n i : ℕ) → i < n → n ≤ 2 ^ 32 → file_at (listed (file_of sizes) n) (path_of i) ≡ Some (file_of sizes i).1
+unfolding listed
+found sizes zero i below small = absurd (omega arith)
+found sizes (suc n) i below small = go (λ earlier. found sizes n i earlier (omega arith)) (eq-or-lt_of_le (omega arith)) where
+  go : (i < n → file_at (listed (file_of sizes) n) (path_of i) ≡ Some (file_of sizes i).1) → (i ≡ n) ⊎ (i < n)
+      → file_at (listed (file_of sizes) n ++ file_of sizes n ∷ []) (path_of i) ≡ Some (file_of sizes i).1
+  go before (inl same) =
+      subst (λ k. file_at (listed (file_of sizes) n ++ file_of sizes n ∷ []) (path_of k) ≡ Some (file_of sizes k).1) (sym same)
+      (finds_added (listed (file_of sizes) n) (path_of n) (file_of sizes n).1 (absent sizes n n (omega arith) (omega arith)))
+  go before (inr earlier) =
+      others_stay (listed (file_of sizes) n) (path_of n) (file_of sizes n).1 (path_of i) (λ e. paths_differ i n earlier (omega arith) (sym e)) ∙ before earlier

@@ -1,10 +1,16 @@
--- What holds of every generated schedule: a schedule's lines can spell it.
-use Rattle.std.specs.Prelude.{◌≡◌, ℕ, ◌≤◌, true, List, length, All}
+-- What holds of every generated schedule: a schedule's lines can spell it, and its answers have the bytes that are counted.
+use Rattle.std.specs.Prelude.{◌≡◌, ℕ, ◌<◌, ◌≤◌, true, false, List, length, All, Some}
 use Rattle.hex.specs.Hex.{IsBytes}
 use Rattle.lard_base.specs.declared.event.Event.{Event}
+use Rattle.lard_files.specs.Files.{file_at}
+use Rattle.lard_request.specs.declared.verdict.Code.TheVariants.{Ok}
+use Rattle.lard_response.specs.Response.{response}
 use Rattle.lard_schedule.specs.Events.{IsInRange}
 use Rattle.lard_schedule.specs.Files.{is_file_path}
 use Rattle.lard_schedule.specs.Laws.{HasBytes}
+use Rattle.lard_generate.specs.declared.action.Action.TheVariants.{Ask}
+use Rattle.lard_generate.specs.Clients.{answered}
+use Rattle.lard_generate.specs.Files.{files_of, path_of}
 use Rattle.lard_generate.specs.Generated.{generated}
 
 -- a line can have this event
@@ -20,3 +26,9 @@ IsSpelledFile (path, bytes) = (is_file_path path ≡ true) × (1 ≤ length byte
 
 abbrev pub FilesAreSpelled : Type 0
 FilesAreSpelled = (seed clients : ℕ) → All IsSpelledFile (generated seed clients).files
+
+-- what is counted for a request is the length of the response that carries the file at its path
+abbrev pub AnswersAreCounted : Type 0
+AnswersAreCounted =
+    (sizes : List ℕ) (c file : ℕ) → file < 256
+    → (bytes : List ℕ) × (file_at (files_of sizes) (path_of file) ≡ Some bytes) × (answered sizes (Ask c file) ≡ length (response Ok bytes false false))

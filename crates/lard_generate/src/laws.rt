@@ -5,7 +5,7 @@ ghost use Rattle.lard_generate.specs.Clients.{head_of};
 ghost use Rattle.lard_generate.specs.Draws.{each, seeded};
 ghost use Rattle.lard_generate.specs.Files.{content_of, drawn_size};
 ghost use Rattle.lard_generate.specs.Generated.{generated};
-ghost use Rattle.lard_generate.specs.Laws.{EventsAreSpelled, FilesAreSpelled};
+ghost use Rattle.lard_generate.specs.Laws.{AnswersAreCounted, EventsAreSpelled, FilesAreSpelled};
 ghost use Rattle.lard_generate.specs.Worked.{losing, repeated, shutting};
 
 /// The lines of a schedule can spell a generated one: each event and each file has what the grammar asks, the rounds among
@@ -13,6 +13,11 @@ ghost use Rattle.lard_generate.specs.Worked.{losing, repeated, shutting};
 pub fn generated_schedules_are_spelled()
     ensures events { EventsAreSpelled }
     ensures files { FilesAreSpelled }
+{}
+
+/// The rounds are counted of the responses that the requests are answered by: each asks for a file that there is.
+pub fn answers_are_counted()
+    ensures { AnswersAreCounted }
 {}
 
 /// The definition gives what was worked out apart.

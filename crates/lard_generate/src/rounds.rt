@@ -1,12 +1,11 @@
 //! How many rounds it takes to settle, at most.
 
-ghost use Rattle.std.specs.Prelude.{◌≡◌, ◌≤◌, ◌<◌, ◌+◌, ◌^◌, length, All};
-ghost use Rattle.std.specs.Prelude.{decimal};
+ghost use Rattle.std.specs.Prelude.{◌≡◌, ◌≤◌, ◌<◌, ◌+◌, ◌^◌, length, All, decimal};
 ghost use Rattle.lard_generate.specs.Clients.{answer_len, head_of, rounds};
 ghost use Rattle.lard_generate.specs.Rounds.{AsksBelow, cost};
 
 use crate::action::{Action, fields};
-use crate::files::{FILES, MAX_SIZE};
+use crate::files::FILES;
 use itoa::Buffer;
 
 /// The most rounds in which all of it settles, for files of these sizes.
@@ -36,14 +35,14 @@ fn cost(sizes: &[u32], action: Action) -> u64
     }
 }
 
-/// The length of the head of a request for a file.
+/// The length of the head of a request for a file: `GET /f`, the file's number, and the fields.
 fn head_len(file: u32) -> u64
     ensures { result ≡ length (head_of file) }
 {
     6 + digits(file) + fields().len() as u64
 }
 
-/// The length of the answer that carries so many bytes.
+/// The length of the answer that carries so many bytes: its head has 37 bytes, and the digits of this number.
 fn answer_len(size: u32) -> u64
     ensures { result ≡ answer_len size }
 {

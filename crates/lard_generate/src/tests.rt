@@ -59,32 +59,39 @@ fn one_client_is_as_the_tool_has_it(rt: HostRuntime) -> Result<(), Fail> {
     Ok(())
 }
 
-/// How many events of these kinds there are: clients that open, that write, that shut, SYNs that are lost, and that come
-/// once more; and how many rounds the last event has.
-fn counts(events: &[Event]) -> [u64; 6] {
-    let mut counts = [0; 6];
-    for event in events {
-        match event {
-            Event::Open { .. } => counts[0] += 1,
-            Event::Write { .. } => counts[1] += 1,
-            Event::Shut(_) => counts[2] += 1,
-            Event::Lose(_) => counts[3] += 1,
-            Event::Deliver(_) => counts[4] += 1,
-            Event::Settle(rounds) => counts[5] = u64::from(*rounds),
-            _ => {}
-        }
+/// The first letters of the lines that `tools/generate-schedule 7 20` writes behind its line `go`.
+const LETTERS: &str =
+    "oooooooooooooooooooowwwwwwwwwwswwswwwwswwwwwswwwwwwwwwwwwwwwswwwswswwwwwswwwwwswwwwwwwwwswwwwwwwwswwwwwwwwwwwwwwwwwswwwwwwwwwswwwwwwswwswwwwwwswwwwwwwwwddldddddds";
+
+/// The first letter of an event's line.
+fn letter(event: &Event) -> &'static str {
+    match event {
+        Event::Open { .. } => "o",
+        Event::Write { .. } => "w",
+        Event::Shut(_) => "s",
+        Event::Lose(_) => "l",
+        Event::Deliver(_) => "d",
+        Event::Settle(_) => "s",
+        _ => "another event",
     }
-    counts
+}
+
+/// The first letters of the lines of these events.
+fn letters(alloc: Global, events: &[Event]) -> Result<String, AllocError> {
+    let mut letters = String::new(alloc);
+    for event in events {
+        letters.push_str(letter(event))?;
+    }
+    Ok(letters)
 }
 
 #[test]
 fn twenty_clients_are_as_many_as_the_tool_has(rt: HostRuntime) -> Result<(), Fail> {
     let schedule = generate(rt.alloc(), 7, 20).ok().ok_or("memory")?;
-    assert_eq!(rt; schedule.events.len(), 162);
-    assert_eq!(rt;
-        counts(schedule.events.as_slice()),
-        [20, 116, 16, 1, 8, 9_887_392]
-    );
+    let letters = letters(rt.alloc(), schedule.events.as_slice())?;
+    assert_eq!(rt; letters.as_str(), LETTERS);
+    let last = schedule.events.as_slice().last().ok_or("an event")?;
+    assert_eq!(rt; line(rt.alloc(), last)?.as_str(), "settle 9887392\n");
     Ok(())
 }
 
