@@ -10,7 +10,7 @@ use Rattle.lard_cluster_clients.proofs.Writers.{writers-are}
 use Rattle.lard_cluster_laws.specs.Lawful.{JournalsAreLawful}
 use Rattle.lard_cluster_limits.proofs.Runs.{resets-lawful}
 use Rattle.lard_cluster_line.proofs.Bounds.{connections-stay-few, never-all-busy, loads-near-the-thresholds, loads-within-the-room}
-use Rattle.lard_cluster_line.proofs.Runs.{line-passes, takes-release, waits-at-a-full-room}
+use Rattle.lard_cluster_line.proofs.Runs.{line-passes, takes-release, waits-at-a-full-room, waits-at-the-front-end}
 use Rattle.lard_cluster_motion.proofs.Runs.{connections-move}
 use Rattle.lard_cluster_offers.proofs.Runs.{offers-carry}
 use Rattle.lard_cluster_places.proofs.Runs.{owners-are, senders-are}
@@ -51,6 +51,7 @@ journals-lawful config files m checked r =
       nodes = admits-to-a-node config files m checked r;
       releases = releases-what-it-took config files m checked r;
       taken_back = takes-release config files m checked r;
+      joins = waits-at-the-front-end config files m checked r;
       line = waits-at-a-full-room config files m checked r;
       passes = line-passes config files m checked r;
       choices = assigns-as-stated config files m checked r;
@@ -62,7 +63,7 @@ journals-lawful config files m checked r =
       few = connections-stay-few config files m checked r;
       never_all_busy = never-all-busy config files m checked r;
       asks = asks-go-on config files m r;
-      answers = asks-answered config files m r;
+      tags = asks-answered config files m r;
       batch_ends = batches-end config files m checked r;
       requests = assign-in-order config files m small r;
       paths = assign-a-prefix config files m small r;

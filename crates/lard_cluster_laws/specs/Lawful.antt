@@ -8,7 +8,7 @@ use Rattle.lard_cluster.specs.Machine.{IsReached}
 use Rattle.lard_cluster_asks.specs.Answers.{MustAnswer, MustEnd}
 use Rattle.lard_cluster_asks.specs.Sent.{MustAsk}
 use Rattle.lard_cluster_bytes.specs.Records.{ServesTheAnswers}
-use Rattle.lard_cluster_line.specs.Laws.{HasFewConnections, IsNearTheThresholds, IsNotBusy, IsWithinTheRoom, MustPass, MustRelease, WaitsForRoom}
+use Rattle.lard_cluster_line.specs.Laws.{HasFewConnections, IsNearTheThresholds, IsNotBusy, IsWithinTheRoom, LineNeedsAFullRoom, MayPass, MayWait, MustRelease}
 use Rattle.lard_cluster_motion.specs.Motion.{MustMove}
 use Rattle.lard_cluster_offers.specs.Offers.{CarryTheEndpoint}
 use Rattle.lard_cluster_policy.specs.Laws.{AreLoadsCharged, ArePaired, AreServersTold, MayAdmit, MayAssign, MayRelease, MayShare, Nothing, last_of}
@@ -67,9 +67,10 @@ pub record IsLawful (config : Config) (files : FilesAt) (J : List Rec) : Type 0 
   pub nodes : ArePaired Nothing J
   pub releases : EachMay (λ past r. MayRelease (last_of past) r) [] J
   pub taken_back : EachStep (MustRelease config) [] (steps J)
-  -- the line: somebody is in it only at a full room, and who is admitted is its head
-  pub line : AtEachEnd (WaitsForRoom config) J
-  pub passes : EachStep MustPass [] (steps J)
+  -- the line: who is told to wait joins it, somebody is in it only at a full room, and who is admitted is its first
+  pub joins : EachMay (λ past r. MayWait (ledger config past) past r) [] J
+  pub line : AtEachEnd (LineNeedsAFullRoom config) J
+  pub passes : EachMay MayPass [] J
   -- each choice of a node is that of the stated policy, at loads and server sets that the journal counts
   pub choices : EachCounted MayAssign config J
   pub batches : EachMay (λ past r. MayShare (last_of past) (ledger config past) r) [] J
@@ -82,7 +83,7 @@ pub record IsLawful (config : Config) (files : FilesAt) (J : List Rec) : Type 0 
   pub never_all_busy : Throughout (IsNotBusy config) config J
   -- which Asks a node sends; in which steps later requests are assigned and Tags are sent, and a batch is over
   pub asks : EachStep MustAsk [] (steps J)
-  pub answers : EachStep MustAnswer [] (steps J)
+  pub tags : EachStep MustAnswer [] (steps J)
   pub batch_ends : EachStep (MustEnd config) [] (steps J)
   -- which request each assignment is for, and by which way its content comes
   pub requests : AreAssignedInOrder files J
