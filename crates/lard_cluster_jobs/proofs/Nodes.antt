@@ -1,7 +1,6 @@
 -- A node's step leaves what it reads to jobs of its disk.
-use Rattle.std.proofs.Common.{◌≡◌, ◌≢◌, ◌⊎◌, ◌≤◌, ◌<◌, ℕ, ◌+◌, ◌-◌, ◌==◌, ◌&&◌, nat_lt, Bool, true, false, List, [], ◌∷◌, ◌++◌, length, Option, Some, None, Result, Ok, Err, inl, inr, ⊎_elim, refl, sym, ap, ◌∙◌, subst, arith, eqb-true}
+use Rattle.std.proofs.Common.{◌≡◌, ◌≢◌, ◌⊎◌, ◌≤◌, ◌<◌, ℕ, ◌+◌, ◌-◌, ◌==◌, ◌&&◌, nat_lt, true, List, [], ◌∷◌, ◌++◌, Option, Some, None, Result, Ok, Err, inl, inr, ⊎_elim, refl, sym, ap, subst, arith, eqb-true}
 use Rattle.std.proofs.lemmas.Bool.{and_parts, both_ways, cond_both, ltb-false, ltb-true}
-use Rattle.std.specs.FinMap as table
 use Rattle.std.specs.List.{find, list_any}
 use Rattle.lard_base.specs.declared.parts.EndpointParts.{EndpointParts}
 use Rattle.lard_base.specs.declared.place.Place.{Place}
@@ -58,7 +57,6 @@ DeedReads n c disk stay row (Says messages) = RowReads (HasJob n c disk) stay ro
 DeedReads n c disk stay row (Does given) = PartReads n c (disk ++ given.1.jobs) given.0
 
 module _ (env : NodeEnv) (disk : List Job) (p : NodePart) where
-
   abbrev Jobs : ℕ → ℕ → Type 0
   Jobs = HasJob env.n env.serve.c disk
 

@@ -1,15 +1,14 @@
 -- In every state each node reads only what a job of its disk is for, and the journal tells that job.
-use Rattle.std.proofs.Common.{◌≡◌, ℕ, ◌+◌, ◌-◌, ◌&&◌, ◌==◌, true, List, [], ◌∷◌, map, Option, Some, None, Ok, inl, inr, ⊎_elim, refl, sym, ap, ◌∙◌, subst, eqb-true}
+use Rattle.std.proofs.Common.{◌≡◌, ℕ, ◌+◌, ◌-◌, ◌&&◌, ◌==◌, List, [], ◌∷◌, map, Option, Some, None, Ok, inl, inr, ⊎_elim, refl, sym, ap, ◌∙◌, subst, eqb-true}
 use Rattle.std.proofs.lemmas.Bool.{and_parts}
 use Rattle.std.specs.FinMap.{get-empty}
 use Rattle.std.specs.Ordering.{nat_cmp}
 use Rattle.std.specs.Prelude.{slice_set}
-use Rattle.lard_base.specs.declared.config.Config.{Config}
 use Rattle.lard_base.specs.declared.event.Event.{Event}
 use Rattle.lard_cluster.specs.declared.machine.Machine.{Machine}
-use Rattle.lard_cluster.specs.Machine.{IsReached, machine_step, node_at, node_gave, node_setting, start, told}
+use Rattle.lard_cluster.specs.Machine.{machine_step, node_at, node_setting, told}
 use Rattle.lard_cluster_jobs.specs.Jobs.{BatchReads, HasJob, NodeReads, PartReads, ReadsBy, RowReads, StageReads, StayReads}
-use Rattle.lard_cluster_jobs.specs.Laws.{HasQueued, ReadsAreJobs, ReadsAreQueued}
+use Rattle.lard_cluster_jobs.specs.Laws.{ReadsAreJobs, ReadsAreQueued}
 use Rattle.lard_cluster_jobs.proofs.Nodes.{step-reads}
 use Rattle.lard_cluster_stores.specs.Laws.{job_told}
 use Rattle.lard_cluster_stores.specs.Stores.{Waiting, jobs}
@@ -21,19 +20,16 @@ use Rattle.lard_cluster_view.proofs.Parts.{node-others, node-set}
 use Rattle.lard_cluster_view.proofs.Runs.{of-nodes}
 use Rattle.lard_disk.specs.declared.disk.Job.{Job}
 use Rattle.lard_endpoint.specs.Control.{ControlBlock}
-use Rattle.lard_handoff_back.specs.declared.row.BackConn.{BackConn}
 use Rattle.lard_handoff_back.specs.declared.row.BackConn.TheVariants as back
 use Rattle.lard_handoff_back.specs.declared.row.BackRow.{BackRow}
 use Rattle.lard_history.specs.Own.{Has}
 use Rattle.lard_history.proofs.Seeing.{by_number}
 use Rattle.lard_node_rules.specs.declared.node.NodeState.{NodeState}
 use Rattle.lard_node_rules.specs.declared.stay.Entry.{Entry}
-use Rattle.lard_node_rules.specs.declared.stay.Progress.{Progress}
 use Rattle.lard_node_rules.specs.declared.stay.Progress.TheVariants as progress
 use Rattle.lard_node_rules.specs.declared.stay.Stay.{Stay}
 use Rattle.lard_node_rules.specs.Node.{NodePart}
 use Rattle.lard_node_rules.specs.NodePlace.{no_stays, node_part, node_step}
-use Rattle.lard_rules.specs.declared.front.Out.{Out}
 
 abbrev AllRead : Machine → Type 0
 AllRead m = (n : ℕ) (s : NodeState) → node_at m.nodes n ≡ Some s → NodeReads n s

@@ -1,5 +1,5 @@
 -- While a stay goes on, what is read of its batch is a job of the disk or one that the turn gives it.
-use Rattle.std.proofs.Common.{◌≡◌, ℕ, ◌+◌, ◌-◌, ◌==◌, ◌&&◌, nat_lt, Bool, true, false, cond, List, [], ◌∷◌, ◌++◌, length, Option, Some, None, inl, refl, sym, ap, ◌∙◌, subst, arith, append_assoc, append-nil}
+use Rattle.std.proofs.Common.{◌≡◌, ℕ, ◌+◌, ◌==◌, nat_lt, Bool, true, false, cond, List, [], ◌∷◌, ◌++◌, length, Option, Some, None, inl, refl, sym, ap, subst, arith, append_assoc, append-nil}
 use Rattle.std.proofs.lemmas.Bool.{cond_both}
 use Rattle.std.proofs.lemmas.List.{length_push}
 use Rattle.std.specs.Prelude.{slice_get}
@@ -8,7 +8,6 @@ use Rattle.lard_base.specs.declared.place.Via.TheVariants as via
 use Rattle.lard_cluster_jobs.specs.Jobs.{BatchReads, HasJob, ReadsBy}
 use Rattle.lard_cluster_jobs.proofs.Batches.{by-more, job-before, reads-more, reads-push}
 use Rattle.lard_disk.specs.declared.disk.Job.{Job}
-use Rattle.lard_history.specs.Own.{Has}
 use Rattle.lard_history.proofs.Seeing.{has-behind, same_number}
 use Rattle.lard_journal.specs.declared.rec.Rec.TheVariants as rec
 use Rattle.lard_node_rules.specs.declared.stay.Entry.{Entry}
