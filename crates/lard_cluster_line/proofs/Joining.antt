@@ -33,15 +33,15 @@ use Rattle.lard_segment.specs.Segment.{decoded}
 
 -- ---- where it may be told to wait
 
--- it is not in the line, not admitted, and the front end's
-pub record IsFree (s : Stand) (owner : Option Place) : Type 0 where
+-- it is not in the line, not admitted, and the front end's, in its first epoch
+pub record IsFree (s : Stand) (w : Owning) : Type 0 where
   pub waits_is : s.waits ≡ false
   pub inside_is : s.inside ≡ false
-  pub owner_is : owner ≡ Some Front
+  pub owning_is : w ≡ record { owner = Some Front; epoch = 1 }
 
 -- so it was by what it saw
 abbrev pub WasFree : ℕ → List Seen → Type 0
-WasFree c past = IsFree (fold (stand_step c) unknown past) (tale_of c past).owner
+WasFree c past = IsFree (fold (stand_step c) unknown past) (owning (tale_of c past))
 
 -- only then it is told to wait
 abbrev pub MayJoin : ℕ → List Seen → Rec → Type 0
@@ -58,15 +58,15 @@ still-false : (b w : Bool) → w ≡ false → cond b false w ≡ false
 still-false true w h = refl
 still-false false w h = h
 
-came-free : (c : ℕ) (s : Stand) (o : Option Place) (to from : Place) (bytes : List ℕ) → IsFree s o → IsFree (came_stand c s to from bytes) o
-came-free c s o Front (Client d) bytes h = record { waits_is = still-false (leaves s.told (decoded bytes c ToCluster)) s.waits h.waits_is; inside_is = h.inside_is; owner_is = h.owner_is }
-came-free c s o Front Front bytes h = h
-came-free c s o Front (Node n) bytes h = h
-came-free c s o (Node m) from bytes h = h
-came-free c s o (Client d) from bytes h = h
+came-free : (c : ℕ) (s : Stand) (w : Owning) (to from : Place) (bytes : List ℕ) → IsFree s w → IsFree (came_stand c s to from bytes) w
+came-free c s w Front (Client d) bytes h = record { waits_is = still-false (leaves s.told (decoded bytes c ToCluster)) s.waits h.waits_is; inside_is = h.inside_is; owning_is = h.owning_is }
+came-free c s w Front Front bytes h = h
+came-free c s w Front (Node n) bytes h = h
+came-free c s w (Node m) from bytes h = h
+came-free c s w (Client d) from bytes h = h
 
-bare-step : (c : ℕ) (s : Stand) (t : Tale) (x : Seen) → IsBare x → IsFree s t.owner → IsFree (stand_step c s x) (seen_step (tale_step c) t x).owner
-bare-step c s t (Came l) b h = came-free c s t.owner l.to l.from l.bytes h
+bare-step : (c : ℕ) (s : Stand) (t : Tale) (x : Seen) → IsBare x → IsFree s (owning t) → IsFree (stand_step c s x) (owning (seen_step (tale_step c) t x))
+bare-step c s t (Came l) b h = came-free c s (owning t) l.to l.from l.bytes h
 bare-step c s t (Row (rec.Event i e)) b h = h
 bare-step c s t (Row (rec.Opened d isn iss wnd mss)) b h = h
 bare-step c s t (Row (rec.Injected d)) b h = h
@@ -74,13 +74,13 @@ bare-step c s t (Row (rec.Served place d r code size via)) b h = h
 bare-step c s t (Row (rec.Reset place d total)) b h = h
 bare-step c s t (Row _) b h = absurd b
 
-bare-on : (c : ℕ) (s : Stand) (t : Tale) (xs : List Seen) → Each IsBare xs → IsFree s t.owner → IsFree (fold (stand_step c) s xs) (fold (seen_step (tale_step c)) t xs).owner
+bare-on : (c : ℕ) (s : Stand) (t : Tale) (xs : List Seen) → Each IsBare xs → IsFree s (owning t) → IsFree (fold (stand_step c) s xs) (owning (fold (seen_step (tale_step c)) t xs))
 bare-on c s t [] e h = h
 bare-on c s t (x ∷ xs) e h = bare-on c (stand_step c s x) (seen_step (tale_step c) t x) xs e.1 (bare-step c s t x e.0 h)
 
 bare-free : (c : ℕ) (past xs : List Seen) → Each IsBare xs → WasFree c past → WasFree c (past ++ xs)
-bare-free c past xs e h = subst (λ (s : Stand). IsFree s (tale_of c (past ++ xs)).owner) (sym (fold-append (stand_step c) unknown past xs))
-    (subst (λ (t : Tale). IsFree (fold (stand_step c) (fold (stand_step c) unknown past) xs) t.owner) (sym (fold-append (seen_step (tale_step c)) untold past xs))
+bare-free c past xs e h = subst (λ (s : Stand). IsFree s (owning (tale_of c (past ++ xs)))) (sym (fold-append (stand_step c) unknown past xs))
+    (subst (λ (t : Tale). IsFree (fold (stand_step c) (fold (stand_step c) unknown past) xs) (owning t)) (sym (fold-append (seen_step (tale_step c)) untold past xs))
     (bare-on c (fold (stand_step c) unknown past) (tale_of c past) xs e h))
 
 -- ---- records that tell nobody to wait
@@ -147,11 +147,11 @@ later-other rs e = Each-weaker IsLater IsNoWait one rs e where
 -- ---- the notes of a turn
 
 -- One that is held is free.
-held-free : (s : Stand) (w : Owning) (x : Conn) (o : Option FrontRow) → RowStands s o → Sits w x.part.nodes o → held_there o ≡ true → IsFree s w.owner
+held-free : (s : Stand) (w : Owning) (x : Conn) (o : Option FrontRow) → RowStands s o → Sits w x.part.nodes o → held_there o ≡ true → IsFree s w
 held-free s w x None stands sits held = let no : false ≡ true = held in absurd cc
 held-free s w x (Some row) stands sits held = go row.stage stands sits.0 held where
-  go : (at : FrontConn) → StageStands s at → StageSits row.epoch.0 w x.part.nodes at → is_held at ≡ true → IsFree s w.owner
-  go (stage.Held b) k sits held = record { waits_is = k.0.waits_is; inside_is = k.0.inside_is; owner_is = ap (λ (w : Owning). w.owner) sits.1.0 }
+  go : (at : FrontConn) → StageStands s at → StageSits row.epoch.0 w x.part.nodes at → is_held at ≡ true → IsFree s w
+  go (stage.Held b) k sits held = record { waits_is = k.0.waits_is; inside_is = k.0.inside_is; owning_is = sits.1.0 ∙ ap (λ (e : ℕ). record { owner = Some Front; epoch = e }) sits.0 }
   go (stage.Waiting b) k sits held = let no : false ≡ true = held in absurd cc
   go stage.Lent k sits held = let no : false ≡ true = held in absurd cc
   go (stage.Offering node epoch) k sits held = let no : false ≡ true = held in absurd cc

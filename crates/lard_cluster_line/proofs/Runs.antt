@@ -21,6 +21,7 @@ use Rattle.lard_cluster_line.proofs.Steps.{IsInOrder, step-adds}
 use Rattle.lard_cluster_line.proofs.Turns.{Notes, noting}
 use Rattle.lard_cluster_line.specs.Laws.{AdmitsHead, LineIsKept, LineIsOfThoseWhoWait, LineNeedsAFullRoom, LinePasses, MayWait, MustRelease, TakesRelease, WaitsAtAFullRoom, WaitsAtTheFrontEnd, waits_there}
 use Rattle.lard_cluster_line.specs.Line.{Line, leaves, left_at, left_by, line, line_step, nobody, without}
+use Rattle.lard_cluster_places.specs.Places.{Owning}
 use Rattle.lard_cluster_places.proofs.Runs.{each-placed}
 use Rattle.lard_cluster_places.proofs.Turns.{IsPlaced}
 use Rattle.lard_cluster_policy.proofs.Counted.{IsCounted, books-are-told, reached-counted, step-ordered}
@@ -52,7 +53,7 @@ use Rattle.lard_history.specs.Own.{own, plain, whose}
 use Rattle.lard_history.proofs.Each.{Each, Each-weaker}
 use Rattle.lard_history.proofs.Lifting.{tale-own}
 use Rattle.lard_history.proofs.Seeing.{by_number, other_number, same_number, has-each}
-use Rattle.lard_history.proofs.Tales.{owner-tale}
+use Rattle.lard_history.proofs.Tales.{epoch-tale, owner-tale}
 use Rattle.lard_history.proofs.Stepping.{AreLawful, cancel, one-more}
 use Rattle.lard_journal.specs.declared.rec.Rec.{Rec}
 use Rattle.lard_journal.specs.declared.rec.Rec.TheVariants as rec
@@ -176,7 +177,8 @@ module _ (config : Config) (files : List (List ℕ × List ℕ)) (checked : conf
   joins-somebody J (rec.Waits d) c e h = subst (λ (n : ℕ). May J (rec.Waits n)) (sym same) (
     (stands-so config J c).0 ∙ (stands-told c J).inside ∙ h.inside_is,
     (stands-told c J).waits_is ∙ h.waits_is,
-    owner-tale J c ∙ ap (λ (t : Tale). t.owner) (tale-own J c) ∙ h.owner_is,
+    owner-tale J c ∙ ap (λ (t : Tale). t.owner) (tale-own J c) ∙ ap (λ (w : Owning). w.owner) h.owning_is,
+    epoch-tale J c ∙ ap (λ (t : Tale). t.epoch) (tale-own J c) ∙ ap (λ (w : Owning). w.epoch) h.owning_is,
   ) where
     same : d ≡ c
     same = cc

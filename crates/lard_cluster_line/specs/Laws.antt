@@ -14,7 +14,7 @@ use Rattle.lard_cluster_policy.specs.Loads.{load}
 use Rattle.lard_dispatch.specs.Loads.{is_at}
 use Rattle.lard_handoff_front.specs.declared.row.FrontRow.{FrontRow}
 use Rattle.lard_handoff_front.specs.Row.{is_waiting}
-use Rattle.lard_history.specs.Journal.{home, owner}
+use Rattle.lard_history.specs.Journal.{home, last_epoch, owner}
 use Rattle.lard_history.specs.Laws.{EachMay}
 use Rattle.lard_history.specs.Steps.{AtEachEnd, EachStep, steps}
 use Rattle.lard_journal.specs.declared.rec.Rec.{Rec}
@@ -48,9 +48,9 @@ LineNeedsAFullRoom config J = 0 < length (line J) → admitted (ledger config J)
 abbrev pub WaitsAtAFullRoom : Type 0
 WaitsAtAFullRoom = Always (λ config m. AtEachEnd (LineNeedsAFullRoom config) m.journal)
 
--- A connection is to wait only where it is not admitted, is not in the line, and the front end owns it.
+-- A connection is to wait only where it is not admitted, is not in the line, and the front end owns it, in its first epoch.
 abbrev pub MayWait : Ledger → List Rec → Rec → Type 0
-MayWait l past (rec.Waits c) = (is_in l c ≡ false) × (list_any (nat_eq c) (line past) ≡ false) × (owner past c ≡ Some Front)
+MayWait l past (rec.Waits c) = (is_in l c ≡ false) × (list_any (nat_eq c) (line past) ≡ false) × (owner past c ≡ Some Front) × (last_epoch past c ≡ 1)
 MayWait l past _ = Unit {0}
 
 -- So it is of each record.

@@ -9,7 +9,7 @@ ghost use Rattle.lard_cluster_line.specs.Laws.{ConnectionsStayFew, LineIsKept, L
 /// order, but for each whose segment came to the front end that decodes, has RST and the acknowledgement number of the last segment
 /// that the cluster sent to its client, and no length unless that segment told a window above 0. So it is of connections that the
 /// schedule touched, too. Those who wait at the front end are in it, and nobody else.
-/// A connection is told to wait only where it is not admitted, is not in the line, and the front end owns it.
+/// A connection is told to wait only where it is not admitted, is not in the line, and the front end owns it, in its first epoch.
 /// Wherever a step ends, somebody is in the line only where as many are admitted as there is room for.
 /// Wherever one is admitted while somebody is in the line, it is its first; and wherever one is released while somebody is, its first is
 /// admitted directly behind that.

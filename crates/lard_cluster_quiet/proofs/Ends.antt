@@ -1,5 +1,5 @@
 -- At the end of each step a connection that is quiet, by the journal, is complete or in the line.
-use Rattle.std.proofs.Common.{◌≡◌, ◌⊎◌, ◌<◌, ◌≤◌, ◌==◌, ◌||◌, ℕ, Bool, true, false, List, [], ◌∷◌, length, Option, Some, None, Ok, inl, inr, ⊎_elim, refl, sym, ap, ◌∙◌, subst, arith, eqb-true, nat_eq}
+use Rattle.std.proofs.Common.{◌≡◌, ◌⊎◌, ◌<◌, ◌≤◌, ◌==◌, ◌||◌, ℕ, Bool, true, false, List, [], ◌∷◌, length, Option, Some, None, Ok, inl, inr, ⊎_elim, refl, ap, ◌∙◌, subst, arith, eqb-true}
 use Rattle.std.proofs.lemmas.Bool.{both_ways}
 use Rattle.std.specs.FinMap as table
 use Rattle.std.specs.List.{list_any}
@@ -28,12 +28,10 @@ use Rattle.lard_dispatch.specs.Line.{waits}
 use Rattle.lard_files.specs.Files.{file_at}
 use Rattle.lard_front_rules.specs.FrontPlace.{front_part}
 use Rattle.lard_front_rules.specs.Sound.{IsRowSound, IsStageSound, Standing, standing}
-use Rattle.lard_handoff_front.specs.declared.row.FrontRow.{FrontRow}
 use Rattle.lard_history.specs.Journal.{numbers_of, tale}
 use Rattle.lard_history.specs.Own.{Has}
 use Rattle.lard_history.proofs.Seeing.{same_number}
 use Rattle.lard_history.proofs.Tales.{numbers-tale}
-use Rattle.lard_journal.specs.declared.rec.Rec.{Rec}
 use Rattle.lard_laws_places.specs.Places.{ClientStands, client_tale}
 use Rattle.lard_laws_quiet.specs.Quiet.{IsComplete}
 use Rattle.lard_rules.specs.declared.places.Station.{Station}
