@@ -24,3 +24,5 @@ pub mod Quiet
 pub mod Sending
 pub mod Bringing
 pub mod Steps
+pub mod Backing
+pub mod Backed
