@@ -1,23 +1,20 @@
 -- Each content that is served was there before.
-use Rattle.std.proofs.Common.{◌≡◌, ℕ, ◌+◌, ◌==◌, true, List, [], ◌∷◌, ◌++◌, map, length, Option, Some, None, Result, Ok, Err, refl, sym, ap, ◌∙◌, subst, inl, inr, ⊎_elim, cond, Bool, false}
+use Rattle.std.proofs.Common.{◌≡◌, ℕ, ◌+◌, ◌==◌, true, List, [], ◌∷◌, ◌++◌, Option, Some, None, Result, Ok, Err, refl, sym, subst, inl}
 use Rattle.std.proofs.lemmas.Bool.{cond_both, eqb-true}
 use Rattle.std.specs.List.{find}
-use Rattle.lard_base.specs.declared.ids.Epoch.{Epoch}
 use Rattle.lard_base.specs.declared.parts.EndpointParts.{EndpointParts}
 use Rattle.lard_base.specs.declared.place.Place.{Place}
-use Rattle.lard_base.specs.declared.place.Place.TheVariants.{Client, Front, Node}
+use Rattle.lard_base.specs.declared.place.Place.TheVariants.{Node}
 use Rattle.lard_base.specs.declared.place.TimerKind.TheVariants as timer
 use Rattle.lard_base.specs.declared.place.Via.{Via}
 use Rattle.lard_base.specs.declared.place.Via.TheVariants as via
 use Rattle.lard_cluster_awaits.proofs.Nodes.{HasServed, settled-served, spoken-served}
 use Rattle.lard_cluster_places.proofs.Loops.{settled-is}
-use Rattle.lard_cluster_ways.specs.Before.{HasCome, WasAt, WasRead, WasThere}
+use Rattle.lard_cluster_ways.specs.Before.{WasRead, WasThere}
 use Rattle.lard_cluster_ways.proofs.Backing.{AreBacked, GoesBacked, IsBacked, IsNoted, came-backed, goes-backed, read-backed, tagged-backed}
 use Rattle.lard_endpoint.specs.Arriving.{on_segment}
 use Rattle.lard_endpoint.specs.Control.{ControlBlock}
 use Rattle.lard_endpoint.specs.Leaving.{after_timer, timed}
-use Rattle.lard_endpoint.specs.Moving.{adopted}
-use Rattle.lard_handoff_back.specs.declared.row.BackConn.{BackConn}
 use Rattle.lard_handoff_back.specs.declared.row.BackRow.{BackRow}
 use Rattle.lard_handoff_back.specs.declared.table.Adopt.{Adopt}
 use Rattle.lard_handoff_back.specs.declared.table.Adopt.TheVariants.{New, Again, Stale}
@@ -25,7 +22,7 @@ use Rattle.lard_handoff_back.specs.Back.{awaits_ack, endpoint_of, offer_answer, 
 use Rattle.lard_handoff_back.specs.Row.{held_in}
 use Rattle.lard_history.specs.Own.{Came, Has, Row, Seen}
 use Rattle.lard_history.proofs.Each.{Each}
-use Rattle.lard_history.proofs.Seeing.{has-before, has-behind}
+use Rattle.lard_history.proofs.Seeing.{has-before}
 use Rattle.lard_journal.specs.declared.rec.Rec.{Rec}
 use Rattle.lard_journal.specs.declared.rec.Rec.TheVariants as rec
 use Rattle.lard_lateral.specs.Lateral.{is_from}
@@ -36,7 +33,7 @@ use Rattle.lard_node_rules.specs.declared.stay.Entry.{Entry}
 use Rattle.lard_node_rules.specs.declared.stay.Progress.{Progress}
 use Rattle.lard_node_rules.specs.declared.stay.Progress.TheVariants as progress
 use Rattle.lard_node_rules.specs.declared.stay.Stay.{Stay}
-use Rattle.lard_node_rules.specs.Node.{Deed, Drops, Says, Does, NodePart, again_sent, begins, both_of, come_by, fired_by, gone, heard_by, here, is_awaited, kept_after, node_acknowledged, node_content, node_forwarded, node_offered, node_read, node_tagged, node_timer, offered_by, read_by, saying, tagged_by, taken_sent, turn_by, with_work, work_of}
+use Rattle.lard_node_rules.specs.Node.{Deed, Drops, Says, Does, NodePart, again_sent, begins, both_of, come_by, fired_by, gone, heard_by, is_awaited, kept_after, node_acknowledged, node_content, node_forwarded, node_offered, node_read, node_tagged, node_timer, offered_by, read_by, saying, tagged_by, taken_sent, turn_by, with_work, work_of}
 use Rattle.lard_node_rules.specs.Stay.{NodeEnv, Work, came_for, come_progress, goes_on, read_progress, reads_batch, tagged}
 use Rattle.lard_resend.specs.Kept.{is_under, without}
 use Rattle.lard_rules.specs.declared.places.Ending.{Ending}
@@ -94,7 +91,7 @@ module _ (n c : ℕ) where
   row-more past later None h = tt
   row-more past later (Some row) h = has-before (Row (rec.Took (Node n) c (record { 0 = row.epoch.0 }))) past later h
 
-  stay-more : (past later : List Seen) (o : Option Stay) → StayThere past o → StayThere (past ++ later) o
+  pub stay-more : (past later : List Seen) (o : Option Stay) → StayThere past o → StayThere (past ++ later) o
   stay-more past later None h = tt
   stay-more past later (Some s) h = batch-more past later (s.served + 1) s.batch h
 

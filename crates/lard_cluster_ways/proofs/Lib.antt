@@ -26,3 +26,4 @@ pub mod Bringing
 pub mod Steps
 pub mod Backing
 pub mod Backed
+pub mod Earlier
