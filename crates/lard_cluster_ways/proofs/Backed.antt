@@ -1,5 +1,5 @@
 -- Each content that is served was there before.
-use Rattle.std.proofs.Common.{◌≡◌, ℕ, ◌+◌, ◌==◌, true, List, [], ◌∷◌, ◌++◌, Option, Some, None, Result, Ok, Err, refl, sym, subst, inl}
+use Rattle.std.proofs.Common.{ap, ◌∙◌, append_assoc, ◌≡◌, ℕ, ◌+◌, ◌==◌, true, List, [], ◌∷◌, ◌++◌, Option, Some, None, Result, Ok, Err, refl, sym, subst, inl}
 use Rattle.std.proofs.lemmas.Bool.{cond_both, eqb-true}
 use Rattle.std.specs.List.{find}
 use Rattle.lard_base.specs.declared.parts.EndpointParts.{EndpointParts}
@@ -10,7 +10,7 @@ use Rattle.lard_base.specs.declared.place.Via.{Via}
 use Rattle.lard_base.specs.declared.place.Via.TheVariants as via
 use Rattle.lard_cluster_awaits.proofs.Nodes.{HasServed, settled-served, spoken-served}
 use Rattle.lard_cluster_places.proofs.Loops.{settled-is}
-use Rattle.lard_cluster_ways.specs.Before.{WasRead, WasThere}
+use Rattle.lard_cluster_ways.specs.Before.{SawBehind, WasRead, WasThere}
 use Rattle.lard_cluster_ways.proofs.Backing.{AreBacked, GoesBacked, IsBacked, IsNoted, came-backed, goes-backed, read-backed, tagged-backed}
 use Rattle.lard_endpoint.specs.Arriving.{on_segment}
 use Rattle.lard_endpoint.specs.Control.{ControlBlock}
@@ -46,16 +46,24 @@ use Rattle.lard_segment.specs.Segment.{Said}
 
 -- ---- more is seen
 
+behind-more : (past more : List Seen) (n c epoch : ℕ) (it : Seen) → SawBehind past n c epoch it → SawBehind (past ++ more) n c epoch it
+behind-more past more n c epoch it h = record {
+  before = h.before;
+  later = h.later ++ more;
+  split = ap (λ (l : List Seen). l ++ more) h.split ∙ append_assoc h.before h.later more;
+  took = h.took;
+  saw = has-before it h.later more h.saw;
+}
+
 pub there-more : (past later : List Seen) (n c r : ℕ) (way : Via) → WasThere past n c r way → WasThere (past ++ later) n c r way
 there-more past later n c r via.Own h = tt
 there-more past later n c r via.Cache h = tt
-there-more past later n c r via.Disk h = record { path = h.path; read = has-before (Row (rec.Read n n c r h.path)) past later h.read }
+there-more past later n c r via.Disk h = record { epoch = h.epoch; path = h.path; read = behind-more past later n c h.epoch (Row (rec.Read n n c r h.path)) h.read }
 there-more past later n c r (via.Node m) h = record {
   epoch = h.epoch;
   file = h.file;
   bytes = h.bytes;
-  took = has-before (Row (rec.Took (Node n) c (record { 0 = h.epoch }))) past later h.took;
-  came = has-before (Came (record { from = Node m; to = Node n; bytes = h.bytes })) past later h.came;
+  came = behind-more past later n c h.epoch (Came (record { from = Node m; to = Node n; bytes = h.bytes })) h.came;
   reads = h.reads;
 }
 
@@ -190,7 +198,7 @@ module _ (env : NodeEnv) (past : List Seen) where
         p.row held.row
 
     -- a content came from there in this epoch
-    pub content-there : (from r : ℕ) (file bytes : List ℕ) → Has (Came (record { from = Node from; to = Node n; bytes = bytes })) past → decoded_message bytes ≡ Ok (record { c = c; epoch = record { 0 = env.epoch }; body = body.Content r file }) → IsThere (node_content env p from r)
+    pub content-there : (from r : ℕ) (file bytes : List ℕ) → (TookIn n c past env.epoch → SawBehind past n c env.epoch (Came (record { from = Node from; to = Node n; bytes = bytes }))) → decoded_message bytes ≡ Ok (record { c = c; epoch = record { 0 = env.epoch }; body = body.Content r file }) → IsThere (node_content env p from r)
     content-there from r file bytes came reads = at-epoch (λ y. IsThere (come_by env from r p y)) tt
         (λ y took h.
         let q : NodePart = record p { fetches = without timer.Fetch r p.fetches } in
@@ -203,20 +211,20 @@ module _ (env : NodeEnv) (past : List Seen) where
           comes took progress.Reading k = tt
           comes took (progress.Ready way) k = k
           comes took (progress.Awaited node) k = cond_both (node == from) (progress.Ready (via.Node from)) (progress.Awaited node) (IsBacked B r)
-              (λ t. record { epoch = env.epoch; file = file; bytes = bytes; took = took; came = came; reads = reads }) (λ t. tt)
+              (λ t. record { epoch = env.epoch; file = file; bytes = bytes; came = came took; reads = reads }) (λ t. tt)
 
     -- a job was read
-    pub read-there : (r : ℕ) → WasRead past n c r → IsThere (node_read env p r)
+    pub read-there : (r : ℕ) → (TookIn n c past env.epoch → WasRead past n c r) → IsThere (node_read env p r)
     read-there r was = at-epoch (λ y. IsThere (read_by env r p y)) tt
         (λ y took h.
         let w : Work = came_for read_progress r (work_of y.0 y.1) in
-        works-there p [] (goes_on env w) (goes w (came-backed B Quiet (λ ns r h. tt) read_progress r (work_of y.0 y.1) comes (fresh y.0 y.1 h))) took)
+        works-there p [] (goes_on env w) (goes w (came-backed B Quiet (λ ns r h. tt) read_progress r (work_of y.0 y.1) (comes (was took)) (fresh y.0 y.1 h))) took)
         p.row held.row where
-          comes : (x : Progress) → IsBacked B r x → IsBacked B r (read_progress x)
-          comes progress.Named k = tt
-          comes progress.Reading k = was
-          comes (progress.Ready way) k = k
-          comes (progress.Awaited node) k = tt
+          comes : WasRead past n c r → (x : Progress) → IsBacked B r x → IsBacked B r (read_progress x)
+          comes so progress.Named k = tt
+          comes so progress.Reading k = so
+          comes so (progress.Ready way) k = k
+          comes so (progress.Awaited node) k = tt
 
     pub offered-there : (parts : EndpointParts) → IsThere (node_offered env p parts)
     offered-there parts = go (offer_answer env.epoch p.row) where

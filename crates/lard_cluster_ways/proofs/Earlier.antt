@@ -16,12 +16,12 @@ use Rattle.lard_cluster_view.proofs.Guarded.{both, weaker}
 use Rattle.lard_cluster_view.proofs.InSteps.{carried-records}
 use Rattle.lard_cluster_view.proofs.Saying.{GaveAt, NamesAll, NotedAt}
 use Rattle.lard_cluster_view.proofs.Timers.{IsTimerAt, timer_rows-are}
-use Rattle.lard_cluster_ways.specs.Before.{ContentsWereThere, MayBeServed, MayFollow, WasAt, WasThere}
+use Rattle.lard_cluster_ways.specs.Before.{ContentsWereThere, MayBeServed, MayFollow, SawBehind, WasAt, WasThere}
 use Rattle.lard_cluster_ways.proofs.Backed.{DeedThere, PartThere, TookIn, acknowledged-there, content-there, fires-there, forwarded-there, offered-there, part-more, read-there, stay-more, tagged-there, there-more}
 use Rattle.lard_cluster_ways.proofs.Backing.{IsNoted}
 use Rattle.lard_front_rules.specs.Front as front
 use Rattle.lard_front_rules.specs.Front.{ask_of, front_asked, front_ended, front_gets, front_taken, front_timer}
-use Rattle.lard_history.specs.Own.{Came, EachRow, Has, Row, Seen, own, plain, whose}
+use Rattle.lard_history.specs.Own.{Came, EachRow, Has, Letter, Row, Seen, own, plain, whose}
 use Rattle.lard_history.proofs.Each.{Each, Each-append, Each-weaker}
 use Rattle.lard_history.proofs.Lifting.{each_row-append}
 use Rattle.lard_history.proofs.Seeing.{has-before, has-behind}
@@ -207,6 +207,21 @@ module _ (x : Conn) (n : ℕ) (heads : List Seen) where
         subst (EachRow (MayFollow x.c) x.seen) (sym seen) (plain_row x.seen, rows-now x.c past (rows_of x v) (all-rows x v plain_its past (node-notes d past q own))),
       )
 
+-- ---- what is seen last is seen behind all else
+
+in-front : (a it : Seen) (xs : List Seen) → (it ≡ a → ⊥) → Has a (xs ++ it ∷ []) → Has a xs
+in-front a it [] other h = ⊎_elim (λ (e : it ≡ a). other e) (λ (k : ⊥). k) h
+in-front a it (x ∷ xs) other h = ⊎_elim (λ (e : x ≡ a). inl e) (λ (k : Has a (xs ++ it ∷ [])). inr (in-front a it xs other k)) h
+
+last-behind : (n c epoch : ℕ) (seen : List Seen) (it : Seen) → (it ≡ Row (rec.Took (Node n) c (record { 0 = epoch })) → ⊥) → TookIn n c (seen ++ it ∷ []) epoch → SawBehind (seen ++ it ∷ []) n c epoch it
+last-behind n c epoch seen it other took = record { before = seen; later = it ∷ []; split = refl; took = in-front (Row (rec.Took (Node n) c (record { 0 = epoch }))) it seen other took; saw = inl refl }
+
+read-took : (n c r : ℕ) (path : List ℕ) (epoch : ℕ) → Row (rec.Read n n c r path) ≡ Row (rec.Took (Node n) c (record { 0 = epoch })) → ⊥
+read-took n c r path epoch e = cc
+
+came-took : (l : Letter) (r : Rec) → Came l ≡ Row r → ⊥
+came-took l r e = cc
+
 -- ---- the rules
 
 module _ (k : Setting) where
@@ -256,11 +271,20 @@ module _ (k : Setting) where
       → decoded_message bytes ≡ Ok (record { c = env.serve.c; epoch = record { 0 = env.epoch }; body = body.Content r file })
   came-reads x n from epoch r env file bytes is spells = spells ∙ (λ i. Ok (record { c = sym is.number i; epoch = record { 0 = sym is.epoch_is i }; body = body.Content r file }))
 
-  was-read : (x : Conn) (n epoch r : ℕ) (path : List ℕ) (env : NodeEnv) → IsNodeEnv k x.c n epoch env → Has (Row (rec.Read env.n env.n env.serve.c r path)) (x.seen ++ Row (rec.Read n n x.c r path) ∷ [])
+  was-read : (x : Conn) (n epoch r : ℕ) (path : List ℕ) (env : NodeEnv) → IsNodeEnv k x.c n epoch env → TookIn env.n env.serve.c (x.seen ++ Row (rec.Read n n x.c r path) ∷ []) env.epoch
+      → SawBehind (x.seen ++ Row (rec.Read n n x.c r path) ∷ []) env.n env.serve.c env.epoch (Row (rec.Read env.n env.n env.serve.c r path))
   was-read x n epoch r path env is =
-      let past : List Seen = x.seen ++ Row (rec.Read n n x.c r path) ∷ [] in
-      subst (λ (i : ℕ). Has (Row (rec.Read i i env.serve.c r path)) past) (sym is.node)
-      (subst (λ (j : ℕ). Has (Row (rec.Read n n j r path)) past) (sym is.number) (has-behind (Row (rec.Read n n x.c r path)) x.seen (Row (rec.Read n n x.c r path) ∷ []) (inl refl)))
+      let job : Seen = Row (rec.Read n n x.c r path) in
+      let past : List Seen = x.seen ++ job ∷ [] in
+      subst (λ (i : ℕ). TookIn i env.serve.c past env.epoch → SawBehind past i env.serve.c env.epoch (Row (rec.Read i i env.serve.c r path))) (sym is.node)
+      (subst (λ (j : ℕ). TookIn n j past env.epoch → SawBehind past n j env.epoch (Row (rec.Read n n j r path))) (sym is.number) (last-behind n x.c env.epoch x.seen job (λ e. read-took n x.c r path env.epoch e)))
+
+  has-come : (x : Conn) (n from epoch : ℕ) (bytes : List ℕ) (env : NodeEnv) → IsNodeEnv k x.c n epoch env → TookIn env.n env.serve.c (x.seen ++ packet_seen (Node from) (Node n) bytes) env.epoch
+      → SawBehind (x.seen ++ packet_seen (Node from) (Node n) bytes) env.n env.serve.c env.epoch (Came (record { from = Node from; to = Node env.n; bytes = bytes }))
+  has-come x n from epoch bytes env is =
+      let it : Seen = Came (record { from = Node from; to = Node n; bytes = bytes }) in
+      subst (λ (i : ℕ). TookIn i env.serve.c (x.seen ++ it ∷ []) env.epoch → SawBehind (x.seen ++ it ∷ []) i env.serve.c env.epoch (Came (record { from = Node from; to = Node i; bytes = bytes }))) (sym is.node)
+      (last-behind n env.serve.c env.epoch x.seen it (λ e. came-took (record { from = Node from; to = Node n; bytes = bytes }) (rec.Took (Node n) env.serve.c (record { 0 = env.epoch })) e))
 
   -- what a node does for another one, or not at all
   aside : (x : Conn) (n : ℕ) (heads : List Seen) (said : view.Said) → EachRow (MayFollow x.c) x.seen heads → ((past : List Seen) → Each (RowAt x.c past) said.notes) → Owes x (stands x (Node n) heads said)
@@ -273,7 +297,7 @@ module _ (k : Setting) where
     tagged = λ x n epoch number tags env bytes is spells was. owes x n epoch env is (packet_seen Front (Node n) bytes) (node_tagged env (x.part.nodes n) number tags) (λ g. tagged-there env (x.seen ++ packet_seen Front (Node n) bytes) (x.part.nodes n) g number tags) tt;
     content = λ x n from epoch r env file bytes is spells was. owes x n epoch env is (packet_seen (Node from) (Node n) bytes) (node_content env (x.part.nodes n) from r)
         (λ g. content-there env (x.seen ++ packet_seen (Node from) (Node n) bytes) (x.part.nodes n) g from r file bytes
-        (subst (λ (i : ℕ). Has (Came (record { from = Node from; to = Node i; bytes = bytes })) (x.seen ++ packet_seen (Node from) (Node n) bytes)) (sym is.node) (has-behind (Came (record { from = Node from; to = Node n; bytes = bytes })) x.seen (packet_seen (Node from) (Node n) bytes) (inl refl)))
+        (has-come x n from epoch bytes env is)
         (came-reads x n from epoch r env file bytes is spells)) tt;
     acknowledged = λ x n epoch env bytes is spells was. owes x n epoch env is (packet_seen Front (Node n) bytes) (node_acknowledged env (x.part.nodes n)) (λ g. acknowledged-there env (x.seen ++ packet_seen Front (Node n) bytes) (x.part.nodes n) g) tt;
     read = λ x n epoch r env path is its h.
@@ -281,7 +305,7 @@ module _ (k : Setting) where
         let past : List Seen = x.seen ++ Row job ∷ [] in
         read-owes x n [] job (λ p. tt) (node_read env (x.part.nodes n) r)
         (by-node x n epoch env is past (node_read env (x.part.nodes n) r)
-        (λ g. read-there env past (x.part.nodes n) g r (record { path = path; read = was-read x n epoch r path env is }))
+        (λ g. read-there env past (x.part.nodes n) g r (λ took. record { epoch = env.epoch; path = path; read = was-read x n epoch r path env is took }))
         (part-more n x.c x.seen (Row job ∷ []) (x.part.nodes n) (h n)))
         refl its h;
     fires = λ x s n env there is. owes x n (epoch_in (x.part.nodes n)) env is (event_seen (event.Timer (Node n) x.c)) (node_timer env (x.part.nodes n)) (λ g. fires-there env (x.seen ++ event_seen (event.Timer (Node n) x.c)) (x.part.nodes n) g is.epoch_is) (tt, tt);

@@ -1,5 +1,5 @@
 -- What a connection saw before a response whose content its node did not have at hand.
-use Rattle.std.specs.Prelude.{◌≡◌, ℕ, List, [], Ok}
+use Rattle.std.specs.Prelude.{◌≡◌, ℕ, List, [], ◌++◌, Ok}
 use Rattle.lard_base.specs.declared.config.Config.{Config}
 use Rattle.lard_base.specs.declared.place.Place.{Place}
 use Rattle.lard_base.specs.declared.place.Place.TheVariants.{Client, Front, Node}
@@ -14,18 +14,26 @@ use Rattle.lard_journal.specs.declared.rec.Rec.TheVariants as rec
 use Rattle.lard_message.specs.declared.message.Body.TheVariants as body
 use Rattle.lard_message.specs.Reading.{decoded_message}
 
--- The disk of node n read a job of its own for request r.
-pub record WasRead (past : List Seen) (n c r : ℕ) : Type 0 where
-  pub path : List ℕ
-  pub read : Has (Row (rec.Read n n c r path)) past
+-- Node n took connection c in this epoch, and this was seen behind that.
+pub record SawBehind (past : List Seen) (n c epoch : ℕ) (it : Seen) : Type 0 where
+  pub before : List Seen
+  pub later : List Seen
+  pub split : past ≡ before ++ later
+  pub took : Has (Row (rec.Took (Node n) c (record { 0 = epoch }))) before
+  pub saw : Has it later
 
--- Node n took the connection in an epoch, and a content for request r of it, in that epoch, came there from node m.
+-- its disk read a job of its own for request r
+pub record WasRead (past : List Seen) (n c r : ℕ) : Type 0 where
+  pub epoch : ℕ
+  pub path : List ℕ
+  pub read : SawBehind past n c epoch (Row (rec.Read n n c r path))
+
+-- a content for request r came there from node m, of the epoch in which it took the connection
 pub record HasCome (past : List Seen) (n m c r : ℕ) : Type 0 where
   pub epoch : ℕ
   pub file : List ℕ
   pub bytes : List ℕ
-  pub took : Has (Row (rec.Took (Node n) c (record { 0 = epoch }))) past
-  pub came : Has (Came (record { from = Node m; to = Node n; bytes = bytes })) past
+  pub came : SawBehind past n c epoch (Came (record { from = Node m; to = Node n; bytes = bytes }))
   pub reads : decoded_message bytes ≡ Ok (record { c = c; epoch = record { 0 = epoch }; body = body.Content r file })
 
 -- the content was there before, by its way

@@ -31,9 +31,10 @@ pub fn contents_are_files()
     ensures contents { ContentsAreFiles }
 {}
 
-/// In every run of the cluster's machine, and of each connection, also of one that the schedule touched: where a node serves a request
-/// from its disk, that read a job of its own for this request before; and where it serves one from another node, it took the
-/// connection in an epoch, and a content of this connection, epoch and request came to it from that node before.
+/// In every run of the cluster's machine, and of each connection, also of one that the schedule touched: a node that serves a request
+/// from its disk took the connection, and behind that its disk read a job of its own for this request. One that serves a request from
+/// another node took the connection in an epoch, and behind that a content of this connection, epoch and request came to it from
+/// there.
 pub fn contents_were_there()
     ensures came { ContentsWereThere }
 {}
