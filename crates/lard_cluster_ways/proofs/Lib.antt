@@ -24,3 +24,6 @@ pub mod Quiet
 pub mod Sending
 pub mod Bringing
 pub mod Steps
+pub mod Backing
+pub mod Backed
+pub mod Earlier

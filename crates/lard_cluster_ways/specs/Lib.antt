@@ -3,3 +3,4 @@ pub mod Under
 pub mod State
 pub mod Runs
 pub mod Contents
+pub mod Before

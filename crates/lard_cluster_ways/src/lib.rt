@@ -3,6 +3,7 @@
 //! It stands above the laws of places, of bytes and of disks and caches of the cluster. It has no code.
 #![tactic(auto)]
 
+ghost use Rattle.lard_cluster_ways.specs.Before.{ContentsWereThere};
 ghost use Rattle.lard_cluster_ways.specs.Contents.{ContentsAreFiles};
 ghost use Rattle.lard_cluster_ways.specs.Runs.{ContentsComeAsAssigned, JournalsAssignAPrefix, JournalsAssignInOrder};
 
@@ -28,4 +29,12 @@ pub fn contents_come_as_assigned()
 /// of the cache, or reads the job that was queued for it.
 pub fn contents_are_files()
     ensures contents { ContentsAreFiles }
+{}
+
+/// In every run of the cluster's machine, and of each connection, also of one that the schedule touched: a node that serves a request
+/// from its disk took the connection, and behind that its disk read a job of its own for this request. One that serves a request from
+/// another node took the connection in an epoch, and behind that a content of this connection, epoch and request came to it from
+/// there.
+pub fn contents_were_there()
+    ensures came { ContentsWereThere }
 {}
