@@ -1,13 +1,17 @@
 pub mod Named
 pub mod Letters
+pub mod Fit
+pub mod Sizes
 pub mod Serving
 pub mod Turns
 pub mod Fronts
 pub mod Choices
+pub mod Counted
 pub mod Works
 pub mod Nodes
 pub mod Outs
 pub mod FrontStep
 pub mod NodeStep
+pub mod Disks
 pub mod Holding
 pub mod Reached
