@@ -15,3 +15,4 @@ pub mod NodeStep
 pub mod Disks
 pub mod Holding
 pub mod Reached
+pub mod Talking

@@ -1,5 +1,5 @@
 -- Every record of every run is in range: by each event, and by the induction over events.
-use Rattle.std.proofs.Common.{◌≡◌, ℕ, zero, suc, ◌+◌, ◌-◌, ◌≤◌, ◌<◌, ◌^◌, ◌==◌, List, [], ◌∷◌, ◌++◌, length, replicate, false, nat_lt, Option, Some, None, IfSome, Ok, Err, Result, refl, sym, ap, ◌∙◌, subst, arith}
+use Rattle.std.proofs.Common.{◌≡◌, ℕ, zero, suc, ◌+◌, ◌-◌, ◌≤◌, ◌<◌, ◌^◌, ◌==◌, List, [], ◌∷◌, ◌++◌, length, replicate, false, nat_lt, Option, Some, None, All, IfSome, Ok, Err, Result, refl, sym, ap, ◌∙◌, subst, arith}
 use Rattle.std.proofs.lemmas.Bool.{cond_both, ltb-false}
 use Rattle.std.specs.FinMap as table
 use Rattle.std.specs.FinMap.{get-empty}
@@ -18,7 +18,7 @@ use Rattle.lard_cluster.specs.declared.fault.StepFault.{StepFault}
 use Rattle.lard_cluster.specs.declared.fault.StepFault.TheVariants.{Limit, NoJob, NoNode, WasLost}
 use Rattle.lard_cluster.specs.declared.machine.Machine.{Machine}
 use Rattle.lard_cluster.specs.Machine.{IsReached, Passes, client_does, client_goes_on, clocked, completes, delivered, disk_at, from_place, happens, is_no_job, is_no_node, limit_reached, lost, machine_step, node_acts, node_at, node_gave, node_setting, opened, passed, start, timer, timer_at, to_client, to_front, to_place, unless_limit, wrote}
-use Rattle.lard_cluster_records.specs.Records.{IsGiven, RecordsAreInRange}
+use Rattle.lard_cluster_records.specs.Records.{IsFile, IsGiven, RecordsAreInRange}
 use Rattle.lard_cluster_records.proofs.Disks.{DisksAreShort, disks-short}
 use Rattle.lard_cluster_records.proofs.Fronts.{FrontKeeps, no-rest}
 use Rattle.lard_cluster_records.proofs.Holding.{HasRoom, Holds, IsPacket, NodeHolds, StationKeeps, client-holds, front-holds, node-holds, passed-holds}
@@ -296,8 +296,12 @@ module _ (config : Config) (files : List (List ℕ × List ℕ)) (small : config
         }),
       )
 
-pub records-ranges : RecordsAreInRange
-records-ranges config files es m checked are given past =
+-- so all holds behind events of such files
+pub run-holds : (config : Config) (files : List (List ℕ × List ℕ)) (es : List Event) (m : Machine) → config_check config ≡ Ok tt → All IsFile files → All IsGiven es → Passes (start config files) es m → Holds m
+run-holds config files es m checked are given past =
     let u = usable config checked in
-    each-all IsInRange m.journal (passes-hold config files u.stream (files-named files are) es (start config files) m (record { reached = ([], refl); config_is = refl; files_are = refl })
-    (start-holds config files u.stream (files-named files are) u.nodes checked) (all-each IsGiven es given) past).past.records
+    passes-hold config files u.stream (files-named files are) es (start config files) m (record { reached = ([], refl); config_is = refl; files_are = refl })
+    (start-holds config files u.stream (files-named files are) u.nodes checked) (all-each IsGiven es given) past
+
+pub records-ranges : RecordsAreInRange
+records-ranges config files es m checked are given past = each-all IsInRange m.journal (run-holds config files es m checked are given past).past.records
