@@ -68,14 +68,12 @@ on-ack-wide b s a q n h =
     (λ t. cond_both {A = Arrival × ControlBlock} beyond (arrival.AckOwed, owing b) given Takes (λ u. h)
     (λ u. acked-wide (record b { send = after_ack b.send s.ack s.seq s.wnd }) s (ack-wide s.ack s.seq s.wnd a q n b.send h)))
 
-pub segment-wide : (b : ControlBlock) (s : Said) → IsSendable s → Widens b (on_segment b s).1
-segment-wide b s fits h =
+-- a segment whose numbers fit their fields, whatever its data is
+pub numbers-wide : (b : ControlBlock) (s : Said) → s.ack < 2 ^ 32 → s.seq < 2 ^ 32 → s.wnd < 2 ^ 16 → Widens b (on_segment b s).1
+numbers-wide b s a q n h =
     let owed : Arrival × ControlBlock = (arrival.AckOwed, owing b) in
     let next : Bool = s.seq == rcv_nxt b in
     let reset : Arrival × ControlBlock = (arrival.Reset, record b { reset = true }) in
-    let a = fits.ack_fits in
-    let q = fits.seq_fits in
-    let n = fits.wnd_fits in
     cond_both (is_acceptable (rcv_nxt b) (rcv_wnd b) s) (on_rst b s) (on_unacceptable b s) Takes
     (λ t. cond_both (not s.flags.rst) (on_syn b s) _ Takes
     (λ u. cond_both s.flags.syn owed (on_ack b s) Takes (λ v. h) (λ v. on-ack-wide b s a q n h))
@@ -83,6 +81,9 @@ segment-wide b s fits h =
     (λ t. cond_both {A = Arrival × ControlBlock} (is_allowed (rcv_nxt b) (rcv_wnd b) s) (arrival.AckOwed, (on_ack (owing b) (bare s)).1) _ Takes
     (λ u. on-ack-wide (owing b) (bare s) a q n h)
     (λ u. cond_both {A = Arrival × ControlBlock} s.flags.rst (arrival.Fine, b) owed Takes (λ v. h) (λ v. h)))
+
+pub segment-wide : (b : ControlBlock) (s : Said) → IsSendable s → Widens b (on_segment b s).1
+segment-wide b s fits h = numbers-wide b s fits.ack_fits fits.seq_fits fits.wnd_fits h
 
 -- ---- what is said
 

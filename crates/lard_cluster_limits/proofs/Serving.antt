@@ -171,7 +171,7 @@ consuming-sound b n h =
       same_irs = h.same_irs;
     }
 
-closed-sound : (v : Verdict) (b : ControlBlock) → IsControlBlock b → IsControlBlock (closed_behind v b)
+pub closed-sound : (v : Verdict) (b : ControlBlock) → IsControlBlock b → IsControlBlock (closed_behind v b)
 closed-sound v b h = cond_both (closes v) (finishing (discarding_on b)) b IsControlBlock (λ t. finishing-sound (discarding_on b) (discarding-sound b h)) (λ t. h)
 
 pub answered-sound : (env : ServeEnv) (via : Via) (v : Verdict) (s : Service) → env.stream ≤ 2 ^ 30 → s.block.send.finished ≡ false → IsControlBlock s.block → IsControlBlock (answered env via v s).block

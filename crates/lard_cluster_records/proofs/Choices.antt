@@ -1,5 +1,5 @@
 -- Each node that the dispatcher names is one that there can be.
-use Rattle.std.proofs.Common.{◌≡◌, ℕ, ◌≤◌, List, [], ◌∷◌, length, true, Option, Some, None, IfSome, arith}
+use Rattle.std.proofs.Common.{◌≡◌, ℕ, suc, ◌≤◌, List, [], ◌∷◌, length, true, Option, Some, None, IfSome, refl, ap, arith}
 use Rattle.std.proofs.lemmas.Bool.{cond_both}
 use Rattle.std.specs.List.{AllByRecursion}
 use Rattle.lard_base.specs.declared.config.Config.{Config}
@@ -57,9 +57,9 @@ all-later : (cfg : Config) (ask : Ask) (now : Millis) (paths : List (List ℕ)) 
 all-later cfg ask now [] b node = tt
 all-later cfg ask now (p ∷ ps) b node = (later-is b.loads ask.home (set_of b.sets p).members ask.queue cfg node, all-later cfg ask now ps (shared_with cfg b ask p now) node)
 
-as-many : (cfg : Config) (ask : Ask) (now : Millis) (paths : List (List ℕ)) (b : Books) → length (all_choices cfg ask now paths b) ≤ length paths
-as-many cfg ask now [] b = omega arith
-as-many cfg ask now (p ∷ ps) b = let rest = as-many cfg ask now ps (shared_with cfg b ask p now) in omega (arith, rest)
+as-many : (cfg : Config) (ask : Ask) (now : Millis) (paths : List (List ℕ)) (b : Books) → length (all_choices cfg ask now paths b) ≡ length paths
+as-many cfg ask now [] b = refl
+as-many cfg ask now (p ∷ ps) b = ap suc (as-many cfg ask now ps (shared_with cfg b ask p now))
 
 -- ---- a dispatcher
 
@@ -75,7 +75,7 @@ module _ (d : Dispatcher) (is : IsSound d) where
   pub later-fits : (ask : Ask) (now : Millis) → IsNode ask.home → Each IsLater (later_answer d ask now).choices
   later-fits ask now node = all-later d.config ask now ask.paths (batch_over d.books ask) node
 
-  pub later-length : (ask : Ask) (now : Millis) → length (later_answer d ask now).choices ≤ length ask.paths
+  pub later-length : (ask : Ask) (now : Millis) → length (later_answer d ask now).choices ≡ length ask.paths
   later-length ask now = as-many d.config ask now ask.paths (batch_over d.books ask)
 
   next-fits : (c : ℕ) (now : Millis) (line : List Waiting) → IfSome (next_answer d.config now (released_from d.books c) line) (λ next. IsChosen 64 next.1)

@@ -14,7 +14,9 @@ use Rattle.lard_cluster.specs.Machine.{client_acted, front_acts, front_setting, 
 use Rattle.lard_cluster_records.specs.Records.{IsGiven}
 use Rattle.lard_cluster_records.proofs.FrontStep as front
 use Rattle.lard_cluster_records.proofs.Fronts.{FrontKeeps}
-use Rattle.lard_cluster_records.proofs.Letters.{IsLetter, MayAsk}
+use Rattle.lard_cluster.specs.Bounds as cluster
+use Rattle.lard_cluster_records.proofs.Letters.{IsLetter, MayAsk, MaySay, conn-number}
+use Rattle.lard_cluster_records.proofs.Sizes.{IsShort, IsSized, SizeFits}
 use Rattle.lard_cluster_records.proofs.Named.{AreNamed}
 use Rattle.lard_cluster_records.proofs.NodeStep as node
 use Rattle.lard_cluster_records.proofs.NodeStep.{PlaceKeeps, place-wider}
@@ -47,10 +49,10 @@ use Rattle.lard_table.proofs.Map.{get_inserted, get_other}
 
 -- ---- what is kept
 
--- a client that opened keeps bytes
+-- a client that opened keeps bytes, and has learnt a size; the front end's first number is one
 abbrev pub StationKeeps : ℕ → Option Station → Type 0
 StationKeeps c None = Unit {0}
-StationKeeps c (Some s) = IsNumber c × ClientKeeps s.client
+StationKeeps c (Some s) = cluster.IsNumber c × ClientKeeps s.client × IsSized s.client × (s.iss < 2 ^ 32)
 
 -- node n, where at most so many packets were sent
 abbrev pub NodeHolds : ℕ → ℕ → NodeState → Type 0
@@ -180,10 +182,15 @@ module _ (w : Machine) (e : Event) (given : IsGiven e) (past : Past w.net w.jour
 
 -- ---- the places
 
--- what a client sends goes to the front end, and asks for nothing
-client-letters : (c : ℕ) (ss : List (Place × List ℕ)) → Each IsSent ss → Each (IsLetter (place.Client c)) ss
-client-letters c [] h = tt
-client-letters c (s ∷ ss) h = ((h.0.0, h.0.1, asks-none s.0), client-letters c ss h.1) where
+-- what a client sends goes to the front end, asks for nothing, and is short
+client-letters : (c : ℕ) (ss : List (Place × List ℕ)) → Each IsSent ss → Each IsShort ss → Each (IsLetter (place.Client c)) ss
+client-letters c [] h few = tt
+client-letters c (s ∷ ss) h few = ((h.0.0, h.0.1, asks-none s.0, says-short s.0), client-letters c ss h.1 few.1) where
+  says-short : (to : Place) → MaySay to (place.Client c) s.1
+  says-short place.Front = few.0
+  says-short (place.Node n) = few.0
+  says-short (place.Client d) = tt
+
   asks-none : (to : Place) → MayAsk to (place.Client c) s.1
   asks-none place.Front = tt
   asks-none (place.Node n) = tt
@@ -191,14 +198,15 @@ client-letters c (s ∷ ss) h = ((h.0.0, h.0.1, asks-none s.0), client-letters c
 
 module _ (m : Machine) (small : m.config.stream ≤ 2 ^ 30) (files : AreNamed (file_at m.files)) (holds : Holds m) (room : HasRoom m.net m.journal) (e : Event) (given : IsGiven e) (own : List Rec) (mine : Each IsInRange own) where
   -- a client did what its rule gave
-  pub client-holds : (c iss : ℕ) (was : Bool) (x : ClientBlock × Turn) → IsNumber c → ClientFits x → Holds (client_acted m e own c iss was x)
-  client-holds c iss was x n fits =
+  pub client-holds : (c iss : ℕ) (was : Bool) (x : ClientBlock × Turn) → cluster.IsNumber c → iss < 2 ^ 32 → ClientFits x → SizeFits x → Holds (client_acted m e own c iss was x)
+  client-holds c iss was x conn first fits sized =
+      let n : IsNumber c = conn-number c conn in
       let s : Station = record { client = x.0; iss = iss } in
       let few = fits.turn.few in
       told-holds (record m { clients = table.insert m.clients c s }) e given holds.past room own (place.Client c) (outs.out_of (place.Client c) c was (is_armed x.0) x.1) mine n
       (record {
         notes = fits.turn.notes;
-        segments = client-letters c x.1.segments fits.turn.sent;
+        segments = client-letters c x.1.segments fits.turn.sent sized.1;
         few = omega (arith, few);
         gave = tt;
         messages = tt;
@@ -208,7 +216,7 @@ module _ (m : Machine) (small : m.config.stream ≤ 2 ^ 30) (files : AreNamed (f
       (parts-wider (length m.net) (length m.net + 0) (table.insert m.clients c s) m.front m.nodes (omega arith)
       (record {
         clients = λ q. by_number (StationKeeps q (table.get (table.insert m.clients c s) q)) q c
-            (λ same. subst (λ (i : ℕ). StationKeeps i (table.get (table.insert m.clients c s) i)) (sym same) (subst (StationKeeps c) (sym (get_inserted m.clients c s)) (n, fits.keeps)))
+            (λ same. subst (λ (i : ℕ). StationKeeps i (table.get (table.insert m.clients c s) i)) (sym same) (subst (StationKeeps c) (sym (get_inserted m.clients c s)) (conn, fits.keeps, sized.0, first)))
             (λ other. subst (StationKeeps q) (sym (get_other m.clients c q s other)) (holds.parts.clients q));
         front = holds.parts.front;
         sound = holds.parts.sound;
@@ -225,14 +233,14 @@ module _ (m : Machine) (small : m.config.stream ≤ 2 ^ 30) (files : AreNamed (f
       (record { clients = holds.parts.clients; front = step.0; sound = (step-stays (front_setting m) m.front i holds.parts.sound).sound; nodes = holds.parts.nodes }))
 
   -- a node did what its step gave
-  pub node-holds : (n : ℕ) (s : NodeState) → node_at m.nodes n ≡ Some s → (i : BackIn) → node.InputFits i → Holds (node_gave m e own n (node_step (node_setting m n) s i))
-  node-holds n s here i fits =
+  pub node-holds : (n : ℕ) (s : NodeState) → node_at m.nodes n ≡ Some s → length s.disk ≤ 2 ^ 30 → (i : BackIn) → node.InputFits i → Holds (node_gave m e own n (node_step (node_setting m n) s i))
+  node-holds n s here short i fits =
       let its : NodeHolds (length m.net) n s = subst (λ (o : Option NodeState). IfSome o (NodeHolds (length m.net) n)) here (holds.parts.nodes n) in
       let few = room.packets in
       let x : NodeState × Out = node_step (node_setting m n) s i in
       let more : ℕ = length m.net + length x.1.messages in
       let nodes : List NodeState = slice_set m.nodes (n - 1) x.0 in
-      let step = node.step-fits (node_setting m n) its.0 small files (length m.net) (omega (arith, few)) s its.1 i fits in
+      let step = node.step-fits (node_setting m n) its.0 small files (length m.net) (omega (arith, few)) s its.1 short i fits in
       told-holds (record m { nodes = nodes }) e given holds.past room own (place.Node n) x.1 mine its.0 step.1
       (record {
         clients = holds.parts.clients;

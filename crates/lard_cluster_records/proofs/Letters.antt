@@ -1,5 +1,6 @@
--- What is so of each packet: it goes to a place in range, has bytes, and an Ask of a node names paths.
-use Rattle.std.proofs.Common.{◌≡◌, ℕ, ◌<◌, ◌^◌, List, [], ◌∷◌, ◌++◌, length, Bool, true, false, Some, Ok, nat_lt, sym, ap, ◌∙◌, subst, arith}
+-- What is so of each packet: it goes to a place in range, has bytes, an Ask of a node names paths, and between two machines of the
+-- cluster it is a message.
+use Rattle.std.proofs.Common.{◌≡◌, ℕ, ◌≤◌, ◌<◌, ◌^◌, List, [], ◌∷◌, ◌++◌, length, Bool, true, false, Some, Ok, nat_lt, refl, sym, ap, ◌∙◌, subst, arith}
 use Rattle.std.proofs.lemmas.Bool.{cond-false, le-ltb}
 use Rattle.std.proofs.lemmas.List.{append-nil}
 use Rattle.std.specs.Int.{from_be_bytes, to_be_bytes, w16, w32}
@@ -9,10 +10,12 @@ use Rattle.lard_base.specs.declared.place.Place.{Place}
 use Rattle.lard_base.specs.declared.place.Place.TheVariants.{Client, Front, Node}
 use Rattle.lard_base.specs.declared.place.Reason.{Reason}
 use Rattle.lard_base.specs.declared.place.Reason.TheVariants as reason
+use Rattle.lard_base.specs.declared.limits.TheConstants.{MAX_SEGMENT_BYTES}
+use Rattle.lard_cluster.specs.Bounds as cluster
 use Rattle.lard_cluster_places.proofs.Heads.{spelled-body}
 use Rattle.lard_cluster_records.proofs.Named.{IsNamed}
 use Rattle.lard_history.proofs.Each.{Each, Each-weaker}
-use Rattle.lard_journal.specs.Range.{IsPlaceInRange, IsUnspaced}
+use Rattle.lard_journal.specs.Range.{IsNumber, IsPlaceInRange, IsUnspaced}
 use Rattle.lard_laws_records.proofs.Bytes.{AreBytes, bytes-16, bytes-32, bytes-append, bytes-index, each-behind}
 use Rattle.lard_message.specs.declared.kind.Kind.{Kind}
 use Rattle.lard_message.specs.declared.kind.Kind.TheVariants as kind
@@ -20,7 +23,7 @@ use Rattle.lard_message.specs.declared.message.Body.{Body}
 use Rattle.lard_message.specs.declared.message.Body.TheVariants as body
 use Rattle.lard_message.specs.declared.message.Message.{Message}
 use Rattle.lard_message.specs.Kinds.{number_of, version_of}
-use Rattle.lard_message.specs.Message.{IsMessage, body_bytes, counted, flag_byte, header_bytes, kind_of, parts_numbers, reason_byte, spelled_message}
+use Rattle.lard_message.specs.Message.{Fits, IsMessage, IsOfTable, body_bytes, counted, flag_byte, header_bytes, kind_of, parts_numbers, reason_byte, spelled_message}
 use Rattle.lard_message.specs.Reading.{ask_at, byte_at, decoded_message, ended_at, number_at, paths_at, reason_at}
 use Rattle.lard_message.proofs.Fields.{bind_then, paths_again, some_same}
 use Rattle.lard_message.proofs.Whole.{spelled_so}
@@ -48,9 +51,43 @@ MayAsk Front from bytes = AsksBy from bytes
 MayAsk (Node n) from bytes = Unit {0}
 MayAsk (Client c) from bytes = Unit {0}
 
+-- ---- what is a message
+
+-- the bytes are the spelling of a message
+pub record IsSpelled (bytes : List ℕ) : Type 0 where
+  pub message : Message
+  pub is : IsMessage message
+  pub spelled : spelled_message message ≡ bytes
+
+-- a message of a connection that there can be, in an epoch that fits
+pub spells : (c epoch : ℕ) (b : Body) → cluster.IsNumber c → epoch < 2 ^ 16 → IsOfTable b → Fits b → IsSpelled (message c epoch b)
+spells c epoch b n early table fits = record {
+  message = record { c = c; epoch = record { 0 = epoch }; body = b };
+  is = record { some_connection = n.0; connection = n.1; epoch = early; table = table; fits = fits };
+  spelled = refl;
+}
+
+-- a machine of the cluster sends messages, and a client segments that fit one
+abbrev pub SaysBy : Place → List ℕ → Type 0
+SaysBy Front bytes = IsSpelled bytes
+SaysBy (Node n) bytes = IsSpelled bytes
+SaysBy (Client c) bytes = length bytes ≤ MAX_SEGMENT_BYTES
+
+-- a packet to this place, from that one: what goes to a client is no message
+abbrev pub MaySay : Place → Place → List ℕ → Type 0
+MaySay Front from bytes = SaysBy from bytes
+MaySay (Node n) from bytes = SaysBy from bytes
+MaySay (Client c) from bytes = Unit {0}
+
+-- ---- all that is so
+
 -- what goes out from a place
 abbrev pub IsLetter : Place → Place × List ℕ → Type 0
-IsLetter from s = IsPlaceInRange s.0 × AreBytes s.1 × MayAsk s.0 from s.1
+IsLetter from s = IsPlaceInRange s.0 × AreBytes s.1 × MayAsk s.0 from s.1 × MaySay s.0 from s.1
+
+-- the number of a connection is one of a record
+pub conn-number : (c : ℕ) → cluster.IsNumber c → IsNumber c
+conn-number c n = let most = n.1 in omega (arith, most)
 
 -- ---- what was spelled is bytes
 

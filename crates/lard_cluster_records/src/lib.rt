@@ -3,10 +3,17 @@
 //! It stands above `lard_cluster`, and holds for every run, also of connections that the schedule touched. It has no code.
 #![tactic(auto)]
 
+ghost use Rattle.lard_cluster_records.specs.Messages.{PacketsAreMessages};
 ghost use Rattle.lard_cluster_records.specs.Records.{RecordsAreInRange};
 
 /// In every run whose configuration may be used, and whose events and files are in range, every record is, so that a report
 /// tells its journal.
 pub fn records_are_in_range()
     ensures range { RecordsAreInRange }
+{}
+
+/// In every such run each packet between two machines of the cluster is a message: its bytes decode, and are the one spelling of
+/// what they decode to.
+pub fn machines_talk_in_messages()
+    ensures messages { PacketsAreMessages }
 {}

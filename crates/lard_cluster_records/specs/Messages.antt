@@ -1,0 +1,34 @@
+-- What machines of the cluster say to each other, and which nodes act, record by record.
+use Rattle.std.specs.Prelude.{◌≡◌, ℕ, List, [], All, Ok}
+use Rattle.lard_base.specs.Config.{config_check}
+use Rattle.lard_base.specs.declared.config.Config.{Config}
+use Rattle.lard_base.specs.declared.event.Event.{Event}
+use Rattle.lard_cluster.specs.declared.machine.Machine.{Machine}
+use Rattle.lard_cluster.specs.Machine.{Passes, start}
+use Rattle.lard_cluster_records.specs.Records.{IsFile, IsGiven}
+use Rattle.lard_cluster_view.specs.View.{IsMachine}
+use Rattle.lard_history.specs.Laws.{EachMay}
+use Rattle.lard_journal.specs.declared.rec.Rec.{Rec}
+use Rattle.lard_journal.specs.declared.rec.Rec.TheVariants as rec
+use Rattle.lard_message.specs.declared.message.Message.{Message}
+use Rattle.lard_message.specs.Message.{IsMessage, spelled_message}
+use Rattle.lard_message.specs.Reading.{decoded_message}
+
+-- ---- messages
+
+-- The bytes decode to a message whose numbers are in their ranges, and they are its one spelling.
+pub record Decodes (bytes : List ℕ) : Type 0 where
+  pub message : Message
+  pub is : IsMessage message
+  pub decoded : decoded_message bytes ≡ Ok message
+  pub spelled : spelled_message message ≡ bytes
+
+-- a packet that goes between two machines of the cluster is a message
+abbrev pub MayTalk : List Rec → Rec → Type 0
+MayTalk past (rec.Sent k from to bytes) = IsMachine from → IsMachine to → Decodes bytes
+MayTalk past _ = Unit {0}
+
+-- In every run of such files and events as give records in range, also of connections that the schedule touched.
+abbrev pub PacketsAreMessages : Type 0
+PacketsAreMessages = (config : Config) (files : List (List ℕ × List ℕ)) (es : List Event) (m : Machine) → config_check config ≡ Ok tt → All IsFile files → All IsGiven es
+    → Passes (start config files) es m → EachMay MayTalk [] m.journal
