@@ -22,6 +22,7 @@ use Rattle.lard_cluster_steps.proofs.Places.{reached-in-place}
 use Rattle.lard_cluster_steps.proofs.Timers.{timers-change}
 use Rattle.lard_cluster_stores.proofs.Disks.{disks-read}
 use Rattle.lard_cluster_stores.proofs.Stored.{lawful}
+use Rattle.lard_cluster_ways.proofs.Earlier.{contents-were-there}
 use Rattle.lard_cluster_ways.proofs.Runs.{assign-a-prefix, assign-in-order, contents-come}
 use Rattle.lard_cluster_ways.proofs.Steps.{contents-are-files}
 
@@ -68,6 +69,7 @@ journals-lawful config files m checked r =
       requests = assign-in-order config files m small r;
       paths = assign-a-prefix config files m small r;
       ways = contents-come config files m small r;
+      came = contents-were-there config files m r;
       contents = contents-are-files config files m r;
       offers = offers-carry config files m small r;
       quiet = journals-complete config files m checked r;

@@ -15,6 +15,7 @@ use Rattle.lard_cluster_policy.specs.Laws.{AreLoadsCharged, ArePaired, AreServer
 use Rattle.lard_cluster_policy.specs.Ledger.{Ledger, admitted, ledger}
 use Rattle.lard_cluster_quiet.specs.Quiet.{CompletesWhenQuiet}
 use Rattle.lard_cluster_stores.specs.Laws.{MayStore, MustRead}
+use Rattle.lard_cluster_ways.specs.Before.{MayBeServed}
 use Rattle.lard_cluster_ways.specs.Contents.{MustBring}
 use Rattle.lard_cluster_ways.specs.Ways.{AreAssignedInOrder, AssignsAPrefix, ComeAsAssigned}
 use Rattle.lard_files.specs.Files.{file_at}
@@ -89,7 +90,8 @@ pub record IsLawful (config : Config) (files : FilesAt) (J : List Rec) : Type 0 
   pub requests : AreAssignedInOrder files J
   pub paths : AssignsAPrefix files J
   pub ways : ComeAsAssigned files J
-  -- and what a node sends as a content
+  -- what a node saw before a response whose content it did not have at hand, and what it sends as a content
+  pub came : EachMay MayBeServed [] J
   pub contents : EachStep (MustBring files) [] (steps J)
   -- what an Offer carries where it is sent first
   pub offers : CarryTheEndpoint files J
