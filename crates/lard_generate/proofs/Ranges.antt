@@ -10,7 +10,7 @@ use Rattle.lard_generate.specs.declared.action.Action.TheVariants.{Ask, Shut}
 use Rattle.lard_generate.specs.Clients.{drawn_actions, drawn_ask, fields, head_of, rounds, shut_at}
 use Rattle.lard_generate.specs.Draws.{behind, draw, each}
 use Rattle.lard_generate.specs.Files.{drawn_size}
-use Rattle.lard_generate.specs.Rounds.{AsksBelow, cost}
+use Rattle.lard_generate.specs.Rounds.{AsksForFile, cost}
 use Rattle.lard_generate.proofs.Costs.{rounds_by_cost}
 use Rattle.lard_generate.proofs.Making.{All-each, sum_by-each, length-each}
 
@@ -34,24 +34,24 @@ small_is g h sizes e = subst (λ made. All IsSmall made.0) e (sizes_small g)
 
 -- ---- actions
 
-shuts_anyhow : (c n : ℕ) → All AsksBelow (shut_at c n)
+shuts_anyhow : (c n : ℕ) → All AsksForFile (shut_at c n)
 shuts_anyhow c n = go (nat_eq n 0) where
-  go : (b : Bool) → All AsksBelow (if b then [] else Shut c ∷ [])
-  go true = All-nil AsksBelow
-  go false = All-cons AsksBelow (Shut c) [] tt (All-nil AsksBelow)
+  go : (b : Bool) → All AsksForFile (if b then [] else Shut c ∷ [])
+  go true = All-nil AsksForFile
+  go false = All-cons AsksForFile (Shut c) [] tt (All-nil AsksForFile)
 
-asks_below : (c n : ℕ) (g : Lcg) → All AsksBelow (each (drawn_ask c) n g).0
-asks_below c n g = All-each AsksBelow (drawn_ask c) n g (λ k h low high. All-cons AsksBelow (Ask c (draw 256 h)) [] (omega arith) (All-nil AsksBelow))
+asks_below : (c n : ℕ) (g : Lcg) → All AsksForFile (each (drawn_ask c) n g).0
+asks_below c n g = All-each AsksForFile (drawn_ask c) n g (λ k h low high. All-cons AsksForFile (Ask c (draw 256 h)) [] (omega arith) (All-nil AsksForFile))
 
-actions_below : (clients : ℕ) (g : Lcg) → All AsksBelow (each drawn_actions clients g).0
+actions_below : (clients : ℕ) (g : Lcg) → All AsksForFile (each drawn_actions clients g).0
 actions_below clients g =
-    All-each AsksBelow drawn_actions clients g (λ c h low high.
+    All-each AsksForFile drawn_actions clients g (λ c h low high.
     let asks = each (drawn_ask c) (1 + draw 10 h) (behind h) in
-    All-append AsksBelow asks.0 (shut_at c (draw 4 asks.1)) (asks_below c (1 + draw 10 h) (behind h)) (shuts_anyhow c (draw 4 asks.1)))
+    All-append AsksForFile asks.0 (shut_at c (draw 4 asks.1)) (asks_below c (1 + draw 10 h) (behind h)) (shuts_anyhow c (draw 4 asks.1)))
 
 -- the actions that a call drew
-pub actions_are_below : (clients : ℕ) (g h : Lcg) (actions : List Action) → each drawn_actions clients g ≡ (actions, h) → All AsksBelow actions
-actions_are_below clients g h actions e = subst (λ made. All AsksBelow made.0) e (actions_below clients g)
+pub actions_are_below : (clients : ℕ) (g h : Lcg) (actions : List Action) → each drawn_actions clients g ≡ (actions, h) → All AsksForFile actions
+actions_are_below clients g h actions e = subst (λ made. All AsksForFile made.0) e (actions_below clients g)
 
 -- ---- rounds
 

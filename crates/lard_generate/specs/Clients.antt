@@ -49,7 +49,7 @@ drawn_ask c _ g = (Ask c (draw 256 g) ∷ [], behind g)
 abbrev pub shut_at : ℕ → ℕ → List Action
 shut_at c draw = if nat_eq draw 0 then [] else Shut c ∷ []
 
--- client c asks 1 to 10 times, and behind that shuts or does not
+-- client c asks 1 to 10 times, and then shuts or does not
 abbrev pub drawn_actions : ℕ → Lcg → List Action × Lcg
 drawn_actions c g =
     let asks = each (drawn_ask c) (1 + draw 10 g) (behind g) in
@@ -74,7 +74,7 @@ drawn_fate c g = (fate_at c (draw 8 g), behind g)
 
 -- ---- rounds
 
--- how many requests an action writes, how many bytes, and how many bytes the answer has where files have these sizes
+-- how many requests an action writes, how many bytes these have, and how many bytes their answers have where files have these sizes
 abbrev pub requests : Action → ℕ
 requests (Ask c file) = 1
 requests (Shut c) = 0
@@ -83,6 +83,7 @@ abbrev pub written : Action → ℕ
 written (Ask c file) = length (head_of file)
 written (Shut c) = 0
 
+-- the length of a response that carries so many bytes: its head has 37 bytes and the digits of this number
 abbrev pub answer_len : ℕ → ℕ
 answer_len size = size + 37 + length (decimal size)
 
@@ -90,7 +91,7 @@ abbrev pub answered : List ℕ → Action → ℕ
 answered sizes (Ask c file) = answer_len (slice_index sizes file)
 answered sizes (Shut c) = 0
 
--- the most rounds in which all of it settles
+-- the most rounds in which all of it settles: 128 for each client and 128 more, 64 for each request, and 16 for each byte that is written or answered
 abbrev pub rounds : ℕ → List ℕ → List Action → ℕ
 rounds clients sizes actions =
     128 * (clients + 1) + 64 * sum_by requests actions + 16 * (sum_by written actions + sum_by (answered sizes) actions)

@@ -20,6 +20,7 @@ content_of i size = listed (λ j. (i + j) % 256) size
 abbrev pub drawn_size : ℕ → Lcg → List ℕ × Lcg
 drawn_size _ g = ((1 + draw 8192 g) ∷ [], behind g)
 
+-- file i, where files have these sizes
 abbrev pub file_of : List ℕ → ℕ → List ℕ × List ℕ
 file_of sizes i = (path_of i, content_of i (slice_index sizes i))
 

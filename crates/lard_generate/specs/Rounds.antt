@@ -9,6 +9,6 @@ abbrev pub cost : List ℕ → Action → ℕ
 cost sizes action = 64 * requests action + 16 * (written action + answered sizes action)
 
 -- an action asks for one of the files
-abbrev pub AsksBelow : Action → Type 0
-AsksBelow (Ask c file) = file < 256
-AsksBelow (Shut c) = Unit {0}
+abbrev pub AsksForFile : Action → Type 0
+AsksForFile (Ask c file) = file < 256
+AsksForFile (Shut c) = Unit {0}

@@ -42,7 +42,7 @@ pub fn files(alloc: Global, sizes: &[u32]) -> Result<Files, NoMemory>
     Ok(files)
 }
 
-/// Adds a file that may be added, which fails for want of memory alone.
+/// Adds a file that may be added. Only memory may be wanting.
 fn add(alloc: Global, files: &mut Files, i: u32, size: u32) -> Result<(), NoMemory>
     requires number { i < FILES }
     requires allowed { add_check files.old (path_of i) size ≡ Ok tt }
@@ -69,7 +69,6 @@ pub fn path(alloc: Global, i: u32) -> Result<Vec<u8>, NoMemory>
 
 /// The bytes of a file.
 fn content(alloc: Global, i: u32, size: u32) -> Result<Vec<u8>, NoMemory>
-    requires { i < FILES }
     ensures content { IfOk result (λ content. content.items ≡ content_of i size) }
     ensures size { IfOk result (λ content. length content.items ≡ size) }
 {
@@ -80,7 +79,7 @@ fn content(alloc: Global, i: u32, size: u32) -> Result<Vec<u8>, NoMemory>
     Ok(content)
 }
 
-/// A byte of a file.
+/// Byte `j` of file `i`.
 fn byte(i: u32, j: u32) -> u8
     ensures { result ≡ (i + j) % 256 }
 {

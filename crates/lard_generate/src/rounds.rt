@@ -2,7 +2,7 @@
 
 ghost use Rattle.std.specs.Prelude.{◌≡◌, ◌≤◌, ◌<◌, ◌+◌, ◌^◌, length, All, decimal};
 ghost use Rattle.lard_generate.specs.Clients.{answer_len, head_of, rounds};
-ghost use Rattle.lard_generate.specs.Rounds.{AsksBelow, cost};
+ghost use Rattle.lard_generate.specs.Rounds.{AsksForFile, cost};
 
 use crate::action::{Action, fields};
 use crate::files::FILES;
@@ -11,7 +11,7 @@ use itoa::Buffer;
 /// The most rounds in which all of it settles, for files of these sizes.
 pub fn rounds(clients: u32, sizes: &[u32], actions: &[Action]) -> u32
     requires count { length sizes.now ≡ FILES }
-    requires files { All AsksBelow actions.now }
+    requires files { All AsksForFile actions.now }
     requires fits { rounds clients sizes.now actions.now < 2 ^ 32 }
     ensures { result ≡ rounds clients sizes.now actions.now }
 {
@@ -25,7 +25,7 @@ pub fn rounds(clients: u32, sizes: &[u32], actions: &[Action]) -> u32
 /// The rounds that an action takes at most.
 fn cost(sizes: &[u32], action: Action) -> u64
     requires count { length sizes.now ≡ FILES }
-    requires file { AsksBelow action }
+    requires file { AsksForFile action }
     requires fits { cost sizes.now action < 2 ^ 32 }
     ensures { result ≡ cost sizes.now action }
 {

@@ -24,6 +24,7 @@ pub struct Schedule {
 }
 
 /// The generated schedule of a seed and of so many clients, 1 to 2,000. It is for 64 nodes, with the standard numbers.
+/// `NoMemory` comes where memory runs out.
 pub fn generate(alloc: Global, seed: u64, clients: u32) -> Result<Schedule, NoMemory>
     requires { (1 ≤ clients) × (clients ≤ MAX_CLIENTS) }
     ensures { IfOk result (λ schedule. schedule ≡ generated seed clients) }

@@ -3,7 +3,7 @@ use Rattle.std.proofs.Common.{◌≡◌, [], ◌∷◌, ◌++◌, length, map, A
 use Rattle.lard_base.specs.declared.event.Event.TheVariants.{Settle}
 use Rattle.lard_generate.specs.Clients.{event_of, rounds}
 use Rattle.lard_generate.specs.Files.{files_of}
-use Rattle.lard_generate.specs.Rounds.{AsksBelow}
+use Rattle.lard_generate.specs.Rounds.{AsksForFile}
 use Rattle.lard_generate.proofs.Assembling.{assembled, events_of, parts_are}
 use Rattle.lard_generate.proofs.Ranges.{IsSmall, count_is, small_is, actions_are_below, rounds_are_fit}
 use Rattle.lard_generate.proofs.schedule.generate.Goals as goal
@@ -19,7 +19,7 @@ rounds-rounds-requires-clause-count c = ap length c.as_slice-3.ensures ∙ count
 
 pub rounds-rounds-requires-clause-files : goal.rounds-rounds-requires-clause-files
 rounds-rounds-requires-clause-files c =
-    subst (All AsksBelow) (sym c.as_slice-4.ensures) (actions_are_below c.args.clients c.opens.new.draws c.actions.new.draws c.in_ok-actions.actions c.in_ok-actions.ensures)
+    subst (All AsksForFile) (sym c.as_slice-4.ensures) (actions_are_below c.args.clients c.opens.new.draws c.actions.new.draws c.in_ok-actions.actions c.in_ok-actions.ensures)
 
 pub rounds-rounds-requires-clause-fits : goal.rounds-rounds-requires-clause-fits
 rounds-rounds-requires-clause-fits c =
