@@ -34,9 +34,9 @@ use Rattle.lard_endpoint.specs.Moving.{may_freeze}
 use Rattle.lard_front_rules.specs.declared.front.FrontRest.{FrontRest}
 use Rattle.lard_front_rules.specs.declared.front.FrontTurn.{FrontTurn}
 use Rattle.lard_front_rules.specs.Front.{Deed, Drops, Says, Does, FrontEnv, FrontPart, ack_sent, admitted_at, admitted_by, admitted_with, ask_of, asked_by, assigned_notes, assigns, begun, ended_by, fired, fired_by, fires_at, forwarded, front_admitted, front_asked, front_ended, front_gets, front_hears, front_taken, front_timer, handed_off, heard, hears_at, holds, is_at, is_with, met, offer_kept, over_note, placed, rest_of, rests, saying, settled_by, tag_sent, taken_by, turn_here, waits_on}
+use Rattle.lard_front_rules.specs.Reading.{MayMove, Reading, block_at, left, reads, reads_block, reads_found, targeted, turn}
 use Rattle.lard_front_rules.proofs.Blocks.{EndsIdle, EndsServing, ServesAs, idle-of, segment-idle, segment-serves, settled-serves, spoken-idle, spoken-serves, timer-idle, timer-serves}
 use Rattle.lard_front_rules.proofs.Turns.{HasStopped, reads-stop}
-use Rattle.lard_front_rules.specs.Reading.{MayMove, Reading, block_at, left, reads, reads_block, reads_found, targeted, turn}
 use Rattle.lard_handoff_front.specs.declared.row.FrontConn.{FrontConn}
 use Rattle.lard_handoff_front.specs.declared.row.FrontConn.TheVariants as stage
 use Rattle.lard_handoff_front.specs.declared.row.FrontRow.{FrontRow}

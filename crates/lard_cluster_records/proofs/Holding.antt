@@ -11,10 +11,10 @@ use Rattle.lard_base.specs.declared.place.TimerKind.TheVariants.{Tcp}
 use Rattle.lard_client.specs.Control.{ClientBlock, is_armed}
 use Rattle.lard_cluster.specs.declared.machine.Machine.{Machine}
 use Rattle.lard_cluster.specs.Machine.{client_acted, front_acts, front_setting, node_at, node_gave, node_setting, passed, segments_sent, told, told_rows}
+use Rattle.lard_cluster.specs.Bounds as cluster
 use Rattle.lard_cluster_records.specs.Records.{IsGiven}
 use Rattle.lard_cluster_records.proofs.FrontStep as front
 use Rattle.lard_cluster_records.proofs.Fronts.{FrontKeeps}
-use Rattle.lard_cluster.specs.Bounds as cluster
 use Rattle.lard_cluster_records.proofs.Letters.{IsLetter, MayAsk, MaySay, conn-number}
 use Rattle.lard_cluster_records.proofs.Sizes.{IsShort, IsSized, SizeFits}
 use Rattle.lard_cluster_records.proofs.Named.{AreNamed}

@@ -5,12 +5,12 @@ use Rattle.std.proofs.lemmas.Bool.{cond-false, le-ltb}
 use Rattle.std.proofs.lemmas.List.{append-nil}
 use Rattle.std.specs.Int.{from_be_bytes, to_be_bytes, w16, w32}
 use Rattle.std.specs.List.{AllByRecursion, flat_map}
+use Rattle.lard_base.specs.declared.limits.TheConstants.{MAX_SEGMENT_BYTES}
 use Rattle.lard_base.specs.declared.parts.EndpointParts.{EndpointParts}
 use Rattle.lard_base.specs.declared.place.Place.{Place}
 use Rattle.lard_base.specs.declared.place.Place.TheVariants.{Client, Front, Node}
 use Rattle.lard_base.specs.declared.place.Reason.{Reason}
 use Rattle.lard_base.specs.declared.place.Reason.TheVariants as reason
-use Rattle.lard_base.specs.declared.limits.TheConstants.{MAX_SEGMENT_BYTES}
 use Rattle.lard_cluster.specs.Bounds as cluster
 use Rattle.lard_cluster_places.proofs.Heads.{spelled-body}
 use Rattle.lard_cluster_records.proofs.Named.{IsNamed}

@@ -16,3 +16,4 @@ pub mod Disks
 pub mod Holding
 pub mod Reached
 pub mod Talking
+pub mod There

@@ -27,8 +27,8 @@ use Rattle.lard_handoff_back.specs.Back.{awaits_ack, endpoint_of, offer_answer, 
 use Rattle.lard_handoff_back.specs.Row.{held_in}
 use Rattle.lard_history.proofs.Each.{Each, Each-append, Each-weaker}
 use Rattle.lard_journal.specs.Range.{IsInRange, IsNumber}
-use Rattle.lard_laws_records.proofs.Bytes.{AreBytes, each-all}
 use Rattle.lard_lateral.specs.Lateral.{is_from}
+use Rattle.lard_laws_records.proofs.Bytes.{AreBytes, each-all}
 use Rattle.lard_message.specs.declared.message.Body.TheVariants as body
 use Rattle.lard_message.specs.Message as message
 use Rattle.lard_message.specs.Message.{IsPath}

@@ -15,12 +15,12 @@ use Rattle.lard_client.specs.Leaving as leaving
 use Rattle.lard_client.proofs.Accepted.{no_reply}
 use Rattle.lard_client.proofs.Windows.{emitted-allowed}
 use Rattle.lard_history.proofs.Each.{Each, Each-append}
+use Rattle.lard_journal.specs.declared.rec.Rec.{Rec}
+use Rattle.lard_journal.specs.declared.rec.Rec.TheVariants as rec
 use Rattle.lard_rules.proofs.Loops.{KeptByTelling, client_keeps}
 use Rattle.lard_rules.specs.Client.{accepted_note, client_aborts, client_gets, client_holds, client_injects, client_opens, client_shuts, client_takes, client_timer, client_writes, eof_note, ready_of, silent, speaking}
 use Rattle.lard_rules.specs.declared.places.Turn.{Turn}
 use Rattle.lard_rules.specs.Speaking.{client_speaks, to_front}
-use Rattle.lard_journal.specs.declared.rec.Rec.{Rec}
-use Rattle.lard_journal.specs.declared.rec.Rec.TheVariants as rec
 use Rattle.lard_segment.specs.declared.fault.SegFault.{SegFault}
 use Rattle.lard_segment.specs.declared.segment.Dir.TheVariants.{ToCluster}
 use Rattle.lard_segment.specs.declared.segment.Ready.{Ready}

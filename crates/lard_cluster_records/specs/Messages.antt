@@ -1,13 +1,14 @@
 -- What machines of the cluster say to each other, and which nodes act, record by record.
-use Rattle.std.specs.Prelude.{◌≡◌, ℕ, List, [], All, Ok}
+use Rattle.std.specs.Prelude.{◌≡◌, ℕ, ◌≤◌, List, [], All, Some, Ok}
 use Rattle.lard_base.specs.Config.{config_check}
 use Rattle.lard_base.specs.declared.config.Config.{Config}
 use Rattle.lard_base.specs.declared.event.Event.{Event}
+use Rattle.lard_base.specs.declared.place.Place.TheVariants.{Node}
 use Rattle.lard_cluster.specs.declared.machine.Machine.{Machine}
-use Rattle.lard_cluster.specs.Machine.{Passes, start}
+use Rattle.lard_cluster.specs.Machine.{IsReached, Passes, start}
 use Rattle.lard_cluster_records.specs.Records.{IsFile, IsGiven}
 use Rattle.lard_cluster_view.specs.View.{IsMachine}
-use Rattle.lard_history.specs.Laws.{EachMay}
+use Rattle.lard_history.specs.Laws.{EachMay, first_place}
 use Rattle.lard_journal.specs.declared.rec.Rec.{Rec}
 use Rattle.lard_journal.specs.declared.rec.Rec.TheVariants as rec
 use Rattle.lard_message.specs.declared.message.Message.{Message}
@@ -32,3 +33,13 @@ MayTalk past _ = Unit {0}
 abbrev pub PacketsAreMessages : Type 0
 PacketsAreMessages = (config : Config) (files : List (List ℕ × List ℕ)) (es : List Event) (m : Machine) → config_check config ≡ Ok tt → All IsFile files → All IsGiven es
     → Passes (start config files) es m → EachMay MayTalk [] m.journal
+
+-- ---- nodes
+
+-- a node that a record names first, since it writes it of itself, is one of so many
+abbrev pub MayBeThere : ℕ → List Rec → Rec → Type 0
+MayBeThere nodes past r = (n : ℕ) → first_place r ≡ Some (Node n) → (1 ≤ n) × (n ≤ nodes)
+
+-- In every run only nodes that are there act, whatever the schedule names.
+abbrev pub OnlyNodesThatAreThereAct : Type 0
+OnlyNodesThatAreThereAct = (config : Config) (files : List (List ℕ × List ℕ)) (m : Machine) → IsReached config files m → EachMay (MayBeThere config.nodes) [] m.journal

@@ -1,9 +1,10 @@
-//! Every record of a run of the cluster is in range: the law of its machine that lets a report tell its journal.
+//! Every record of a run of the cluster is in range: the law of its machine that lets a report tell its journal. What goes between
+//! its machines are messages that decode, and only nodes that are there act.
 //!
 //! It stands above `lard_cluster`, and holds for every run, also of connections that the schedule touched. It has no code.
 #![tactic(auto)]
 
-ghost use Rattle.lard_cluster_records.specs.Messages.{PacketsAreMessages};
+ghost use Rattle.lard_cluster_records.specs.Messages.{OnlyNodesThatAreThereAct, PacketsAreMessages};
 ghost use Rattle.lard_cluster_records.specs.Records.{RecordsAreInRange};
 
 /// In every run whose configuration may be used, and whose events and files are in range, every record is, so that a report
@@ -16,4 +17,9 @@ pub fn records_are_in_range()
 /// what they decode to.
 pub fn machines_talk_in_messages()
     ensures messages { PacketsAreMessages }
+{}
+
+/// In every run, whatever its events name, each node of which a record tells that it acts is one of those that there are.
+pub fn only_nodes_that_are_there_act()
+    ensures nodes { OnlyNodesThatAreThereAct }
 {}

@@ -36,7 +36,7 @@ use Rattle.lard_view.proofs.Shapes.{behind}
 
 -- ---- records that tell no time
 
-abbrev IsTimeless : Rec → Type 0
+abbrev pub IsTimeless : Rec → Type 0
 IsTimeless (rec.Clock time) = ⊥
 IsTimeless _ = Unit {0}
 
@@ -59,7 +59,7 @@ timeless-fold n (r ∷ rs) e = ap (λ k. fold time_step k rs) (timeless-step n r
 -- ---- records of a place
 
 -- it names no other place, sends no packet, begins no step and tells no time
-abbrev IsHere : Place → Rec → Type 0
+abbrev pub IsHere : Place → Rec → Type 0
 IsHere p r = IsAt p r × ((k : ℕ) → IsInside k r) × IsTimeless r
 
 note-here : (p : Place) (c : ℕ) (r : Rec) → NotedAt p c r → IsHere p r
@@ -95,7 +95,7 @@ timer-here p c (rec.Cleared q d kind) h = (inr (ap Some h.0), (λ k. (refl, tt))
 timer-here p c _ h = absurd h
 
 -- what stands behind an event at which a place acts names none
-behind-here : (p : Place) (e : Event) → Each (IsHere p) (behind e)
+pub behind-here : (p : Place) (e : Event) → Each (IsHere p) (behind e)
 behind-here p (event.Open c isn iss wnd mss) = ((inl refl, (λ k. (refl, tt)), tt), tt)
 behind-here p (event.Deliver k) = ((inl refl, (λ k. (refl, tt)), tt), tt)
 behind-here p (event.Lose k) = ((inl refl, (λ k. (refl, tt)), tt), tt)
@@ -109,19 +109,19 @@ sents-timeless k p (s ∷ ss) = (tt, sents-timeless (k + 1) p ss)
 -- ---- what an act says, of one connection or of two
 
 -- all that it says is of its place
-record AreHere (p : Place) (o : Out) : Type 0 where
-  notes : Each (IsHere p) o.notes
-  gave : Each (IsHere p) o.gave
-  timers : Each (IsHere p) o.timers
+pub record AreHere (p : Place) (o : Out) : Type 0 where
+  pub notes : Each (IsHere p) o.notes
+  pub gave : Each (IsHere p) o.gave
+  pub timers : Each (IsHere p) o.timers
 
-said-here : (p : Place) (c : ℕ) (o : Out) (answered : ℕ) (was is : Part) → IsSaid p c o.notes o.segments o.gave o.messages answered → o.timers ≡ timer_rows p c was is → AreHere p o
+pub said-here : (p : Place) (c : ℕ) (o : Out) (answered : ℕ) (was is : Part) → IsSaid p c o.notes o.segments o.gave o.messages answered → o.timers ≡ timer_rows p c was is → AreHere p o
 said-here p c o answered was is said timers = record {
   notes = Each-weaker (NotedAt p c) (IsHere p) (note-here p c) o.notes said.notes;
   gave = Each-weaker (GaveAt p c) (IsHere p) (gave-here p c) o.gave said.gave;
   timers = subst (Each (IsHere p)) (sym timers) (Each-weaker (IsTimerAt p c) (IsHere p) (timer-here p c) (timer_rows p c was is) (timer_rows-are p c was is));
 }
 
-both-here : (p : Place) (a b : Out) (rows : List Rec) → AreHere p a → AreHere p b → (rows ≡ a.timers ++ b.timers) ⊎ (rows ≡ b.timers ++ a.timers) → AreHere p (both_out a b rows)
+pub both-here : (p : Place) (a b : Out) (rows : List Rec) → AreHere p a → AreHere p b → (rows ≡ a.timers ++ b.timers) ⊎ (rows ≡ b.timers ++ a.timers) → AreHere p (both_out a b rows)
 both-here p a b rows h k order = record {
   notes = Each-append (IsHere p) a.notes b.notes h.notes k.notes;
   gave = Each-append (IsHere p) a.gave b.gave h.gave k.gave;
@@ -132,7 +132,7 @@ both-here p a b rows h k order = record {
 }
 
 module _ (p : Place) where
-  here-at : (rs : List Rec) → Each (IsHere p) rs → Each (IsAt p) rs
+  pub here-at : (rs : List Rec) → Each (IsHere p) rs → Each (IsAt p) rs
   here-at rs e = Each-weaker (IsHere p) (IsAt p) (λ r h. h.0) rs e
 
   here-inside : (k : ℕ) (rs : List Rec) → Each (IsHere p) rs → Each (IsInside k) rs
@@ -142,7 +142,7 @@ module _ (p : Place) where
   here-timeless rs e = Each-weaker (IsHere p) IsTimeless (λ r h. h.2) rs e
 
 -- the records of a step, list by list
-all-six : (P : Rec → Type 0) (A B C D E F : List Rec) → Each P A → Each P B → Each P C → Each P D → Each P E → Each P F → Each P (A ++ B ++ C ++ D ++ E ++ F)
+pub all-six : (P : Rec → Type 0) (A B C D E F : List Rec) → Each P A → Each P B → Each P C → Each P D → Each P E → Each P F → Each P (A ++ B ++ C ++ D ++ E ++ F)
 all-six P A B C D E F a b c d e f =
     Each-append P (A ++ B ++ C ++ D ++ E) F (Each-append P (A ++ B ++ C ++ D) E (Each-append P (A ++ B ++ C) D (Each-append P (A ++ B) C (Each-append P A B a b) c) d) e) f
 
