@@ -17,6 +17,7 @@ use Rattle.lard_cluster_places.proofs.Runs.{owners-are, senders-are}
 use Rattle.lard_cluster_policy.proofs.Counted.{admits-by-room, admits-to-a-node, assigns-as-stated, loads-are-charges, releases-what-it-took, servers-are-told, shares-one-batch, stays-within}
 use Rattle.lard_cluster_quiet.proofs.Ends.{journals-complete}
 use Rattle.lard_cluster_records.proofs.Named.{usable}
+use Rattle.lard_cluster_records.proofs.There.{only-nodes}
 use Rattle.lard_cluster_steps.proofs.Linking.{reached-linked}
 use Rattle.lard_cluster_steps.proofs.Places.{reached-in-place}
 use Rattle.lard_cluster_steps.proofs.Timers.{timers-change}
@@ -33,6 +34,7 @@ journals-lawful config files m checked r =
     record {
       network = (reached-linked config files m r).each;
       places = here.acts;
+      acts = only-nodes config files m r;
       clock = here.times;
       ownership = owners-are config files m r;
       sole_sender = senders-are config files m r;

@@ -14,6 +14,7 @@ use Rattle.lard_cluster_offers.specs.Offers.{CarryTheEndpoint}
 use Rattle.lard_cluster_policy.specs.Laws.{AreLoadsCharged, ArePaired, AreServersTold, MayAdmit, MayAssign, MayRelease, MayShare, Nothing, last_of}
 use Rattle.lard_cluster_policy.specs.Ledger.{Ledger, admitted, ledger}
 use Rattle.lard_cluster_quiet.specs.Quiet.{CompletesWhenQuiet}
+use Rattle.lard_cluster_records.specs.Messages.{MayBeThere}
 use Rattle.lard_cluster_stores.specs.Laws.{MayStore, MustRead}
 use Rattle.lard_cluster_ways.specs.Before.{MayBeServed}
 use Rattle.lard_cluster_ways.specs.Contents.{MustBring}
@@ -38,8 +39,10 @@ EachCounted may config J = EachMay (λ past r. may config (ledger config past) r
 pub record IsLawful (config : Config) (files : FilesAt) (J : List Rec) : Type 0 where
   -- what comes was sent, to the place where it comes, and not lost
   pub network : IsNetwork J
-  -- each record is of the place that acts in its step, and the time is the sum of what the clock was moved by
+  -- each record is of the place that acts in its step, no node acts but those that there are, and the time is the sum of what the
+  -- clock was moved by
   pub places : ActsInPlace J
+  pub acts : EachMay (MayBeThere config.nodes) [] J
   pub clock : KeepsTime J
   -- one owner at a time, in rising epochs, who alone sends to the client
   pub ownership : IsOwnership J
