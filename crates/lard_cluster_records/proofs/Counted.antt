@@ -48,6 +48,12 @@ then-entered n w y z h k =
 one-entered : (e : Entry) (w : Work) → HasEntered 1 w (entered e w)
 one-entered e w = let more = length-append w.batch (e ∷ []) in record { batch = omega (arith, more); count = refl; asks = refl; jobs = omega arith }
 
+-- what came is of one of them
+pub come-length : (f : Progress → Progress) (i : ℕ) (es : List Entry) → length (come_on f i es) ≡ length es
+come-length f i [] = refl
+come-length f zero (e ∷ es) = refl
+come-length f (suc i) (e ∷ es) = ap suc (come-length f i es)
+
 module _ (env : NodeEnv) where
   -- ---- requests are entered
 
@@ -117,15 +123,10 @@ module _ (env : NodeEnv) where
 
   -- ---- what came
 
-  come-as-many : (f : Progress → Progress) (i : ℕ) (es : List Entry) → length (come_on f i es) ≡ length es
-  come-as-many f i [] = refl
-  come-as-many f zero (e ∷ es) = refl
-  come-as-many f (suc i) (e ∷ es) = ap suc (come-as-many f i es)
-
   pub came-counts : (f : Progress → Progress) (r : ℕ) (w : Work) → IsCounted w → IsCounted (came_for f r w)
   came-counts f r w h =
       let i : ℕ = r - (w.service.count + 1) in
-      let same = come-as-many f i w.batch in
+      let same = come-length f i w.batch in
       let asks = h.asks in
       let jobs = h.jobs in
       cond_both (nat_lt w.service.count r) (record w { batch = come_on f i w.batch }) w IsCounted (λ t. record { asks = omega (arith, same, asks); jobs = omega (arith, same, jobs) }) (λ t. h)

@@ -3,18 +3,22 @@ use Rattle.std.proofs.Common.{ℕ, zero, suc, ◌-◌, List, [], ◌∷◌, ◌+
 use Rattle.std.specs.List.{fold}
 use Rattle.lard_base.specs.declared.place.Place.{Place}
 use Rattle.lard_base.specs.declared.place.Place.TheVariants.{Client, Front, Node}
+use Rattle.lard_cluster_places.specs.Places.{head_of}
+use Rattle.lard_cluster_places.proofs.Heads.{spelled-head}
 use Rattle.lard_cluster_records.specs.Messages.{Decodes, MayTalk, PacketsAreMessages}
 use Rattle.lard_cluster_records.proofs.Holding.{Holds, IsPacket}
 use Rattle.lard_cluster_records.proofs.Letters.{IsLetter, IsSpelled, MaySay}
 use Rattle.lard_cluster_records.proofs.Reached.{run-holds}
 use Rattle.lard_cluster_view.specs.View.{IsMachine}
 use Rattle.lard_cluster_view.proofs.Carried.{reached-viewed}
+use Rattle.lard_cluster_view.proofs.Naming.{spelled-named}
 use Rattle.lard_history.specs.Laws.{EachMay}
-use Rattle.lard_history.specs.Own.{net_step}
+use Rattle.lard_history.specs.Own.{named_in, net_step}
 use Rattle.lard_history.proofs.Each.{Each}
 use Rattle.lard_journal.specs.declared.rec.Rec.{Rec}
 use Rattle.lard_journal.specs.declared.rec.Rec.TheVariants as rec
 use Rattle.lard_laws_records.proofs.Bytes.{each-before, each-behind}
+use Rattle.lard_message.specs.declared.message.Message.{Message}
 use Rattle.lard_message.specs.Reading.{decoded_message}
 use Rattle.lard_message.proofs.Whole.{again}
 use Rattle.lard_net.specs.Net.{Packet, lose_at}
@@ -22,7 +26,16 @@ use Rattle.lard_net.specs.Net.{Packet, lose_at}
 -- ---- one packet
 
 decodes : (bytes : List ℕ) → IsSpelled bytes → Decodes bytes
-decodes bytes h = record { message = h.message; is = h.is; decoded = ap decoded_message (sym h.spelled) ∙ again h.message h.is; spelled = h.spelled }
+decodes bytes h =
+    let m : Message = h.message in
+    record {
+      message = m;
+      is = h.is;
+      decoded = ap decoded_message (sym h.spelled) ∙ again m h.is;
+      spelled = h.spelled;
+      head = ap head_of (sym h.spelled) ∙ spelled-head m h.is.epoch;
+      connection = ap named_in (sym h.spelled) ∙ spelled-named m (h.is.some_connection, h.is.connection);
+    }
 
 says-decodes : (from to : Place) (bytes : List ℕ) → MaySay to from bytes → IsMachine from → IsMachine to → Decodes bytes
 says-decodes Front Front bytes h a b = decodes bytes h

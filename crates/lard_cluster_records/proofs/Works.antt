@@ -8,7 +8,7 @@ use Rattle.lard_answers.specs.Answers.{good_path, verdicts}
 use Rattle.lard_base.specs.declared.place.Place.TheVariants.{Node}
 use Rattle.lard_base.specs.declared.place.Via.TheVariants as via
 use Rattle.lard_cluster.specs.Bounds as cluster
-use Rattle.lard_cluster_records.proofs.Counted.{HasEntered, IsCounted, IsCountedIn, all-entered, turn-counts}
+use Rattle.lard_cluster_records.proofs.Counted.{HasEntered, IsCounted, IsCountedIn, all-entered, come-length, turn-counts}
 use Rattle.lard_cluster_records.proofs.Fronts.{may-open}
 use Rattle.lard_cluster_records.proofs.Letters.{conn-number}
 use Rattle.lard_cluster_records.proofs.Named.{AreNamed, IsNamed, contents, verdict-named}
@@ -74,11 +74,6 @@ come-fits : (f : Progress → Progress) → ((x : Progress) → ProgressFits x �
 come-fits f on i [] h = tt
 come-fits f on zero (e ∷ es) h = (on e.progress h.0, h.1)
 come-fits f on (suc i) (e ∷ es) h = (h.0, come-fits f on i es h.1)
-
-come-length : (f : Progress → Progress) (i : ℕ) (es : List Entry) → length (come_on f i es) ≡ length es
-come-length f i [] = refl
-come-length f zero (e ∷ es) = refl
-come-length f (suc i) (e ∷ es) = ap suc (come-length f i es)
 
 -- a job was completed, or a content came from a node
 pub read-fits : (x : Progress) → ProgressFits x → ProgressFits (read_progress x)

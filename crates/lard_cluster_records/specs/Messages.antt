@@ -6,23 +6,28 @@ use Rattle.lard_base.specs.declared.event.Event.{Event}
 use Rattle.lard_base.specs.declared.place.Place.TheVariants.{Node}
 use Rattle.lard_cluster.specs.declared.machine.Machine.{Machine}
 use Rattle.lard_cluster.specs.Machine.{IsReached, Passes, start}
+use Rattle.lard_cluster_places.specs.Places.{head_of}
 use Rattle.lard_cluster_records.specs.Records.{IsFile, IsGiven}
 use Rattle.lard_cluster_view.specs.View.{IsMachine}
 use Rattle.lard_history.specs.Laws.{EachMay, first_place}
+use Rattle.lard_history.specs.Own.{named_in}
 use Rattle.lard_journal.specs.declared.rec.Rec.{Rec}
 use Rattle.lard_journal.specs.declared.rec.Rec.TheVariants as rec
 use Rattle.lard_message.specs.declared.message.Message.{Message}
-use Rattle.lard_message.specs.Message.{IsMessage, spelled_message}
+use Rattle.lard_message.specs.Message.{IsMessage, kind_of, spelled_message}
 use Rattle.lard_message.specs.Reading.{decoded_message}
 
 -- ---- messages
 
--- The bytes decode to a message whose numbers are in their ranges, and they are its one spelling.
+-- The bytes decode to a message whose numbers are in their ranges, and they are its one spelling. So their head is its kind and its
+-- epoch, and the connection that they name is its own.
 pub record Decodes (bytes : List ℕ) : Type 0 where
   pub message : Message
   pub is : IsMessage message
   pub decoded : decoded_message bytes ≡ Ok message
   pub spelled : spelled_message message ≡ bytes
+  pub head : head_of bytes ≡ Some (record { kind = kind_of message.body; epoch = message.epoch.0 })
+  pub connection : named_in bytes ≡ Some message.c
 
 -- a packet that goes between two machines of the cluster is a message
 abbrev pub MayTalk : List Rec → Rec → Type 0

@@ -14,7 +14,7 @@ pub fn records_are_in_range()
 {}
 
 /// In every such run each packet between two machines of the cluster is a message: its bytes decode, and are the one spelling of
-/// what they decode to.
+/// what they decode to. So its head is that message's kind and epoch.
 pub fn machines_talk_in_messages()
     ensures messages { PacketsAreMessages }
 {}
