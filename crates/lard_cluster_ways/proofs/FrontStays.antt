@@ -74,12 +74,6 @@ spoken-either env s before Q over here =
     let b : ControlBlock = (speaks env.c s.block).1 in
     cond_both (may_end b) (ending.Over (final_of b (end_reason b))) (ending.Here b s.count) Q (λ t. over (final_of b (end_reason b))) (λ t. here)
 
-settled-either : (env : ServeEnv) (s : Service) (Q : Ending → Type 0) → ((last : Final) → Q (ending.Over last)) → Q (ending.Here (speaks env.c s.block).1 s.count) → Q (settled env s).0
-settled-either env s Q over here = go s.over where
-  go : (o : Option ℕ) → Q (elim o as (λ p. Ending × Turn) [ None ↦ spoken env s [] | Some total ↦ cut_off env s ]).0
-  go None = spoken-either env s [] Q over here
-  go (Some total) = over _
-
 module _ (k : Setting) (small : k.stream ≤ 2 ^ 30) (x : Conn) (s : Station) (there : x.part.station ≡ Some s) (env : FrontEnv) (is : IsFrontEnv k x.c env) (l : Talk) (pend : List Verdict) (o : IsOpen k.files x l pend s) where
   abbrev files : FilesAt
   files = env.serve.files

@@ -62,11 +62,6 @@ front-quiet files m p n c e b other tagless = λ msg d.
     let same = kinds-same (record { c = c; epoch = record { 0 = e }; body = b }) msg d in
     quiet-body files m p n msg.epoch.0 msg.body (λ f. other (same ∙ f)) (λ f. tagless (same ∙ f))
 
--- ---- where nothing was assigned
-
-none-assigned : (files : FilesAt) (m n : Marks) → n.assigned ≡ m.assigned → m.assigned ≡ [] → IsPrefix (paths_assigned n) (paths_wanted files n)
-none-assigned files m n same none = (paths_wanted files n, ap (λ (l : List Assigned). map (λ a. a.0) l ++ paths_wanted files n) (sym (same ∙ none)))
-
 module _ (env : FrontEnv) (x : Conn) where
   abbrev files : FilesAt
   files = env.serve.files

@@ -58,10 +58,6 @@ module _ (k : Setting) (small : k.stream ≤ 2 ^ 30) where
   by-files : (x : Conn) (env : FrontEnv) → IsFrontEnv k x.c env → (v : Move) → Keeps env.serve.files x v → Keeps k.files x v
   by-files x env is v h = subst (λ (f : FilesAt). Keeps f x v) is.files h
 
-  -- whatever the cluster's first number is said to be
-  own-env : (env : FrontEnv) (iss : ℕ) → FrontEnv
-  own-env env iss = record env { iss = iss }
-
   front-hears : (x : Conn) (s : Station) (env : FrontEnv) (bytes : List ℕ) → x.part.station ≡ Some s → IsFrontEnv k x.c env → env.iss ≡ s.iss → Was x (Client x.c) Front bytes
       → Owes k small x (front_does x (packet_seen (Client x.c) Front bytes) (front_gets env x.part.front bytes (decoded bytes x.c ToCluster)))
   front-hears x s env bytes there is iss was h =

@@ -130,7 +130,7 @@ TellsTheTruth files J = EachMay (MayTell files) [] J
 -- ---- the law of service
 
 -- A response answers the client's next request: it has the number of that, and the code and the length of the answer to
--- it. Its content is the place's own, since the front end answers all. A reset stands where the next response would be,
+-- it. Its content is the place's own, since one front end answers all; a cluster's responses come by several ways. A reset stands where the next response would be,
 -- which is there, and counts the bytes of that with those of all before it. So it is of each client whose connection the
 -- schedule did not touch.
 abbrev pub MayServe : FilesAt → List Rec → Rec → Type 0
@@ -146,8 +146,7 @@ ServesTheAnswers files J = EachMay (MayServe files) [] J
 -- ---- the reset law
 
 -- The responses on a connection have at most `stream` bytes, and none follows a reset, which counts more. With the law
--- of service, which says what it counts, a reset stands only where the next response would pass the limit. By the law of
--- prompt answers (lard_laws_quiet) it does stand there, no later than in the step in which the request is acknowledged.
+-- of service, which says what it counts, a reset stands only where the next response would pass the limit.
 abbrev pub MayReset : ℕ → List Rec → Rec → Type 0
 MayReset stream past (rec.Served place c r code size via) = (served_bytes past c + size ≤ stream) × (was_reset past c ≡ false)
 MayReset stream past (rec.Reset place c total) = (stream < total) × (was_reset past c ≡ false)

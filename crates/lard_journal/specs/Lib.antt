@@ -1,3 +1,4 @@
+pub mod Inner
 pub mod Range
 pub mod Report
 pub mod Text

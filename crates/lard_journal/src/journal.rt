@@ -1,12 +1,14 @@
 //! The list of all records of a run.
 
-ghost use Rattle.std.specs.Prelude.{◌≡◌, [], ◌++◌, length, OnOk, OnErr, slice_get};
+ghost use Rattle.std.specs.Prelude.{◌≡◌, ◌<◌, [], ◌++◌, length, OnOk, OnErr, slice_get};
 ghost use Rattle.std.specs.Option.{option_copied};
+ghost use Rattle.lard_journal.specs.Inner.{inner_of, turned_at};
 
 use crate::rec::{Rec, Recs};
 use lard_base::NoMemory;
 use std::alloc::Global;
 use std::marker::Model;
+use std::mem;
 
 /// Every record of a run, the oldest first.
 #[derive(Debug, Drop)]
@@ -43,6 +45,15 @@ impl Journal {
         Ok(())
     }
 
+    /// The record of an event, at this place, counted from 0, becomes that of an inner step of the same event; any other
+    /// record stays as it is. It takes no memory.
+    pub fn turn_inner(&mut self, i: u64)
+        requires there { i < length self.old }
+        ensures { self.new ≡ turned_at i self.old }
+    {
+        turn_inner(&mut self.records[i as usize]);
+    }
+
     /// How many records there are.
     pub fn len(&self) -> u64
         ensures { result ≡ length self.now }
@@ -63,4 +74,16 @@ impl Journal {
     {
         self.records.as_slice()
     }
+}
+
+/// The record of an event becomes that of an inner step of it.
+fn turn_inner(rec: &mut Rec)
+    ensures { rec.new ≡ inner_of rec.old }
+{
+    // any record without memory may stand in for it
+    let turned = match mem::replace(rec, Rec::Settled(0)) {
+        Rec::Event { i: _, event } => Rec::Inner(event),
+        other => other,
+    };
+    *rec = turned;
 }

@@ -426,3 +426,24 @@ fn report_of_a_journal(rt: HostRuntime) -> Result<(), Fail> {
     report_tells_all();
     Ok(())
 }
+
+#[test]
+fn an_event_becomes_an_inner_step(rt: HostRuntime) -> Result<(), Fail> {
+    let alloc = rt.alloc();
+    let mut journal = Journal::new(alloc);
+    let mut recs = Items::new(alloc);
+    recs.push(Rec::Got(1))?;
+    let event = Event::Deliver(2);
+    recs.push(Rec::Event { i: 3, event })?;
+    recs.push(Rec::Got(2))?;
+    journal.append(recs)?;
+    journal.turn_inner(1);
+    journal.turn_inner(2);
+    let mut text = Vec::new(alloc);
+    for rec in journal.as_slice() {
+        push_line(&mut text, rec)?;
+    }
+    let want = "got 1\ninner deliver 2\ngot 2\n";
+    assert_eq!(rt; text.as_slice(), want.as_bytes());
+    Ok(())
+}
