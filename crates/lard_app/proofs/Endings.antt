@@ -10,9 +10,9 @@ use Rattle.lard_schedule.specs.declared.reader.Stage.TheVariants as stage
 use Rattle.lard_schedule.proofs.Cuts.{first_part}
 use Rattle.lard_app.specs.declared.status.Status.{Status}
 use Rattle.lard_app.specs.declared.status.Status.TheVariants.{Done, Usage, Refused, ReadFault, WriteFault, NoMemory, Limit}
-use Rattle.lard_app.specs.declared.status.Why.TheVariants.{Syntax, Config, File, NotSent, WasLost, NoClient, Used, NoNode, NoJob, FormNotBuilt}
+use Rattle.lard_app.specs.declared.status.Why.TheVariants.{Syntax, Config, File, NotSent, WasLost, NoClient, Used, NoNode, NoJob}
 use Rattle.lard_app.specs.Causes.{Ends, EndsRest, EndsText, Leads, bytes_in}
-use Rattle.lard_app.specs.Replay.{Progress, begin, ended_at, ending, passed, replayed, whole}
+use Rattle.lard_app.specs.Replay.{Progress, begin, ended_at, ending, halted, passed, replayed, whole}
 use Rattle.lard_app.proofs.Causes.{ends-line, line-ends, next_number}
 use Rattle.lard_app.proofs.Knows.{Knows, begin-knows, passed-knows}
 
@@ -79,7 +79,6 @@ module _ (n bytes : ℕ) (s : Progress) (k : Knows n bytes s) where
   ends-text last (Refused line (Used c)) u = absurd u
   ends-text last (Refused line (NoNode i nodes)) u = absurd u
   ends-text last (Refused line (NoJob i j len)) u = absurd u
-  ends-text last (Refused line (FormNotBuilt f)) u = absurd u
   ends-text last Usage u = absurd u
   ends-text last ReadFault u = absurd u
   ends-text last WriteFault u = absurd u
@@ -125,7 +124,7 @@ and_later s u n bytes line lines status p e =
 ends-from : (line : List ℕ) (more : List (List ℕ)) (n bytes : ℕ) (s : Progress) (status : Status) → Knows n bytes s → (replayed s (line ∷ more)).1 ≡ status → EndsFrom s n bytes (line ∷ more) status
 ends-from line [] n bytes s status k e = at_once s n bytes (line ∷ []) status (text-ends n bytes s k line status e)
 ends-from line (next ∷ more) n bytes s status k e = go (passed s line) refl e (λ u j f. ends-from next more (n + 1) (bytes + (length line + 1)) u status j f) where
-  go : (r : Result Progress Status) → passed s line ≡ r → (elim r as (λ _. Progress × Status) [ Err other ↦ (s, other) | Ok t ↦ replayed t (next ∷ more) ]).1 ≡ status
+  go : (r : Result Progress Status) → passed s line ≡ r → (elim r as (λ _. Progress × Status) [ Err other ↦ (halted s line, other) | Ok t ↦ replayed t (next ∷ more) ]).1 ≡ status
       → ((u : Progress) → Knows (n + 1) (bytes + (length line + 1)) u → (replayed u (next ∷ more)).1 ≡ status → EndsFrom u (n + 1) (bytes + (length line + 1)) (next ∷ more) status) → EndsFrom s n bytes (line ∷ next ∷ more) status
   go (Err other) p f later = at_once s n bytes (line ∷ next ∷ more) status (line-ends n bytes s k line status (p ∙ ap Err f))
   go (Ok u) p f later = and_later s u n bytes line (next ∷ more) status p (later u (passed-knows n bytes s u line k p) f)

@@ -329,6 +329,13 @@ module _ (m : Machine) (t : Told m) where
       ∙ ap (λ n. limit_of (length m.net) n (length m.journal) (answered_bytes m.journal)) t.bytes
       ∙ ap (λ n. limit_of (length m.net) (bytes_in m.net) (length m.journal) n) t.answered
 
+  -- the limit that the machine finds is the journal's, and the other way round
+  pub limit_found : (w : What) → limit_reached m ≡ Some w → HasReached m.journal w
+  limit_found w l = limit-reached m.journal w (limit_same ∙ l)
+
+  pub limit_there : (w : What) → HasReached m.journal w → limit_reached m ≡ Some w
+  limit_there w l = sym limit_same ∙ reached-limit m.journal w l
+
   -- a limit ends the step, or the event does
   pub step-fault : (e : Event) (f : StepFault) → machine_step m e ≡ Err f → ((w : What) × HasReached m.journal w × (fault.Limit w ≡ f)) ⊎ (IsWithinLimits m.journal × IsFault m e f)
   unfolding machine_step

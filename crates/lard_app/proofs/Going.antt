@@ -20,9 +20,10 @@ use Rattle.lard_app.specs.Causes.{Leads}
 use Rattle.lard_app.specs.declared.status.Status.{Status}
 use Rattle.lard_app.specs.declared.status.Status.TheVariants.{Done, Usage, Refused, ReadFault, WriteFault, NoMemory, Limit}
 use Rattle.lard_app.specs.declared.status.Why.TheVariants.{Syntax}
-use Rattle.lard_app.specs.Replay.{begin, ended_at, ending, gain, event_listed, is_past, judged, passed, replayed, report_of, whole, IsSound, Passes, Progress}
+use Rattle.lard_app.specs.Replay.{begin, ended_at, ending, gain, event_listed, halted, is_past, judged, passed, replayed, report_of, whole, IsSound, Passes, Progress}
 use Rattle.lard_app.specs.Run.{Completes, Ended, IsDecided}
-use Rattle.lard_app.proofs.Growth.{begins, passed-grown, passed-none, BeginsWith}
+use Rattle.lard_app.proofs.Growth.{begins, halted-grown, passed-grown, BeginsWith}
+use Rattle.lard_app.proofs.Halting.{halted_by}
 use Rattle.lard_app.proofs.Keeping.{Keeps, begin-keeps, passed-keeps}
 use Rattle.lard_app.proofs.Passing.{passed-read, passed_by}
 
@@ -82,7 +83,7 @@ going_more text rest taken s old now g = record {
 }
 
 -- a front of what was to be written is one of all that is
-front_on : (a b c : Option (List ℕ)) (xs ys zs all : List ℕ) → Appends a b xs → WrotePrefix b c ys → all ≡ (xs ++ ys) ++ zs → WrotePrefix a c all
+pub front_on : (a b c : Option (List ℕ)) (xs ys zs all : List ℕ) → Appends a b xs → WrotePrefix b c ys → all ≡ (xs ++ ys) ++ zs → WrotePrefix a c all
 front_on a b c xs ys zs all h f e = record {
   front = xs ++ f.front;
   rest = f.rest ++ zs;
@@ -109,6 +110,10 @@ past_as_line : (s : Progress) (line : List ℕ) → MAX_INPUT_BYTES < s.read + l
 past_as_line s line l =
     let past : is_past s line ≡ true = grind (arith, nat_tests, l) in passed_by s line true past
 
+past_leaves : (s : Progress) (line : List ℕ) → MAX_INPUT_BYTES < s.read + length line → halted s line ≡ s
+past_leaves s line l =
+    let past : is_past s line ≡ true = grind (arith, nat_tests, l) in halted_by s line true (judged s.reader line) past refl
+
 past_limit : (s : Progress) (rest more : List ℕ) → position is_feed rest ≡ None → MAX_INPUT_BYTES < s.read + length rest → s.read ≤ MAX_INPUT_BYTES → replayed s (lines_of (rest ++ more)) ≡ (s, Limit (s.lines + 1) Input)
 past_limit s rest more none l small = alone (position is_feed (rest ++ more)) refl where
   some : rest ++ more ≢ []
@@ -122,9 +127,11 @@ past_limit s rest more none l small = alone (position is_feed (rest ++ more)) re
         let least = none_until is_feed rest more at none e in
         let within = position-Some is_feed (rest ++ more) at 0 e in
         let line : length (take at (rest ++ more)) ≡ at = length-take-le at (rest ++ more) (omega (arith, within.0)) in
-        let past = past_as_line s (take at (rest ++ more)) (omega (arith, l, least, line)) in
-        let step : replayed s (take at (rest ++ more) ∷ f.0 ∷ f.1) ≡ (s, Limit (s.lines + 1) Input) = rw (past, replayed) refl in
-        ap (replayed s) (split_at is_feed (rest ++ more) at e ∙ ap (λ ls. take at (rest ++ more) ∷ ls) f.2) ∙ step
+        let long : MAX_INPUT_BYTES < s.read + length (take at (rest ++ more)) = omega (arith, l, least, line) in
+        let past = past_as_line s (take at (rest ++ more)) long in
+        let step : replayed s (take at (rest ++ more) ∷ f.0 ∷ f.1) ≡ (halted s (take at (rest ++ more)), Limit (s.lines + 1) Input) = rw (past, replayed) refl in
+        let same : halted s (take at (rest ++ more)) ≡ s = past_leaves s (take at (rest ++ more)) long in
+        ap (replayed s) (split_at is_feed (rest ++ more) at e ∙ ap (λ ls. take at (rest ++ more) ∷ ls) f.2) ∙ step ∙ ap (λ (t : Progress). (t, Limit (s.lines + 1) Input)) same
 
 module _ (text rest : List ℕ) (s : Progress) (old now : Option (List ℕ)) (g : Going text rest s old now) where
   -- what the rest gives, with whatever comes behind it
@@ -159,11 +166,11 @@ module _ (text rest : List ℕ) (s : Progress) (old now : Option (List ℕ)) (g 
           let step : replayed s (take at rest ∷ f.0 ∷ f.1) ≡ replayed t (f.0 ∷ f.1) = rw (e, replayed) refl in
           goes_on more ∙ ap (replayed s) (one_line more ∙ ap (λ ls. take at rest ∷ ls) f.2) ∙ step ∙ ap (replayed t) (sym f.2)
 
-    when_refused : (status : Status) → passed s (take at rest) ≡ Err status → (more : List ℕ) → whole (text ++ more) ≡ (s, status)
+    when_refused : (status : Status) → passed s (take at rest) ≡ Err status → (more : List ℕ) → whole (text ++ more) ≡ (halted s (take at rest), status)
     when_refused status e more = go (first_part is_feed (drop (at + 1) rest ++ more)) where
-      go : (part : List ℕ) × (parts : List (List ℕ)) × (lines_of (drop (at + 1) rest ++ more) ≡ part ∷ parts) → whole (text ++ more) ≡ (s, status)
+      go : (part : List ℕ) × (parts : List (List ℕ)) × (lines_of (drop (at + 1) rest ++ more) ≡ part ∷ parts) → whole (text ++ more) ≡ (halted s (take at rest), status)
       go f =
-          let step : replayed s (take at rest ∷ f.0 ∷ f.1) ≡ (s, status) = rw (e, replayed) refl in
+          let step : replayed s (take at rest ∷ f.0 ∷ f.1) ≡ (halted s (take at rest), status) = rw (e, replayed) refl in
           goes_on more ∙ ap (replayed s) (one_line more ∙ ap (λ ls. take at rest ∷ ls) f.2) ∙ step
 
     pub going_on : (t : Progress) (next : Option (List ℕ)) → (passed s (take at rest) ≡ Ok t) × Appends now next (gain s (take at rest)) → Going text (drop (at + 1) rest) t old next
@@ -186,7 +193,7 @@ module _ (text rest : List ℕ) (s : Progress) (old now : Option (List ℕ)) (g 
       go : (r : Result Progress Status) → passed s (take at rest) ≡ r → (zs : List ℕ) × (report_of (whole text).0 ≡ (report_of s ++ gain s (take at rest)) ++ zs)
       go (Err status) e = (
         [],
-        ap (λ (p : Progress × Status). report_of p.0) (as_read (s, status) (when_refused status e)) ∙ sym (append-nil (report_of s)) ∙ ap (λ xs. report_of s ++ xs) (sym (passed-none s (take at rest) status e)) ∙ sym (append-nil _),
+        ap (λ (p : Progress × Status). report_of p.0) (as_read (halted s (take at rest), status) (when_refused status e)) ∙ halted-grown s (take at rest) status e ∙ sym (append-nil _),
       )
       go (Ok t) e =
           let keeps = passed-keeps s t (take at rest) g.events g.keeps e in
@@ -199,11 +206,11 @@ module _ (text rest : List ℕ) (s : Progress) (old now : Option (List ℕ)) (g 
     stops_within : (next : Option (List ℕ)) → WrotePrefix now next (gain s (take at rest)) → WrotePrefix old next (report_of (whole text).0)
     stops_within next f = let w = whole_begins in front_on old now next (report_of s) (gain s (take at rest)) w.0 (report_of (whole text).0) g.written f w.1
 
-    refused_here : (status : Status) (left next : Option (List ℕ)) → passed s (take at rest) ≡ Err status → Appends now next [] → IsDecided text left × Completes status text old next
+    refused_here : (status : Status) (left next : Option (List ℕ)) → passed s (take at rest) ≡ Err status → Appends now next (gain s (take at rest)) → IsDecided text left × Completes status text old next
     refused_here status left next e h = (
-      inr (decided (s, status) (when_refused status e)),
-      completes_as text s old next status (as_read (s, status) (when_refused status e))
-          (subst (Appends old next) (append-nil (report_of s)) (Appends-trans old now next (report_of s) [] g.written h)),
+      inr (decided (halted s (take at rest), status) (when_refused status e)),
+      completes_as text (halted s (take at rest)) old next status (as_read (halted s (take at rest), status) (when_refused status e))
+          (subst (Appends old next) (sym (halted-grown s (take at rest) status e)) (Appends-trans old now next (report_of s) (gain s (take at rest)) g.written h)),
     )
 
     pub going_stop : (e : Status) (t : Progress) (left next : Option (List ℕ)) → Passes (passed s (take at rest)) (gain s (take at rest)) now next t (Err e) → Ended e text left old next

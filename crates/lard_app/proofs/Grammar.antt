@@ -1,15 +1,14 @@
 -- The lines that a replay passes are a schedule, which stands for its configuration, its files and its events.
-use Rattle.std.proofs.Common.{◌≡◌, ◌≢◌, ℕ, ◌+◌, List, [], ◌∷◌, ◌++◌, length, Bool, true, false, cond, Option, Some, None, Result, Ok, Err, refl, sym, ap, ◌∙◌, subst, append_assoc, append-nil}
+use Rattle.std.proofs.Common.{◌≡◌, ◌≢◌, inl, inr, ℕ, ◌+◌, List, [], ◌∷◌, ◌++◌, length, Bool, true, false, cond, Some, Result, Ok, Err, refl, sym, ap, ◌∙◌, subst, append_assoc, append-nil}
 use Rattle.std.specs.Prelude.{nat_lt}
 use Rattle.lard_base.specs.Config.{config_check, range_check, set_key}
 use Rattle.lard_base.specs.declared.config.ConfigFault.{ConfigFault}
 use Rattle.lard_base.specs.declared.config.Key.{Key}
 use Rattle.lard_base.specs.declared.event.Event.{Event}
+use Rattle.lard_base.specs.declared.event.Event.TheVariants as event
 use Rattle.lard_base.specs.declared.limits.TheConstants.{MAX_INPUT_BYTES}
-use Rattle.lard_cluster.specs.Machine.{machine_step}
-use Rattle.lard_cluster.specs.declared.fault.StepFault.{StepFault}
 use Rattle.lard_cluster.specs.declared.machine.Machine.{Machine}
-use Rattle.lard_cluster_world.proofs.Runs.{step-goes-on}
+use Rattle.lard_cluster_world.proofs.Runs.{GoesOn}
 use Rattle.lard_files.specs.Files.{add_check}
 use Rattle.lard_files.specs.declared.fault.FileFault.{FileFault}
 use Rattle.lard_grammar.proofs.Parts.{reads_on}
@@ -25,14 +24,16 @@ use Rattle.lard_schedule.specs.declared.reader.Stage.{Stage}
 use Rattle.lard_schedule.specs.declared.reader.Stage.TheVariants.{Start, Settings, Files, Running}
 use Rattle.lard_schedule.specs.Laws.{IsBefore, MayStand}
 use Rattle.lard_schedule.specs.Reader.{HasRange, after}
+use Rattle.lard_settle.specs.Events.{event_step}
+use Rattle.lard_settle.specs.Settling.{Stop}
 use Rattle.lard_app.specs.Causes.{Leads}
-use Rattle.lard_app.specs.Forms.{missing}
-use Rattle.lard_app.specs.declared.status.Form.{Form}
 use Rattle.lard_app.specs.declared.status.Status.{Status}
 use Rattle.lard_app.specs.declared.status.Status.TheVariants.{Done, Refused, Limit}
 use Rattle.lard_app.specs.declared.status.Why.TheVariants.{Syntax}
-use Rattle.lard_app.specs.Replay.{Progress, begin, begun, config_of, config_set, counted, ending, event_listed, events_from, events_of, filed, files_of, followed, judged, moved, passed, replayed, stepped, taken, whole}
-use Rattle.lard_app.specs.Run.{Passed}
+use Rattle.lard_app.specs.Replay.{Progress, begin, begun, begun_by, config_of, config_set, counted, ending, event_listed, events_from, events_of, filed, files_of, followed, halted, judged, moved, passed, replayed, taken, whole}
+use Rattle.lard_app.specs.Run.{EndsBehind, Passed}
+use Rattle.lard_app.proofs.Events.{event-goes, event-left}
+use Rattle.lard_app.proofs.Halting.{Leaves, line-leaves}
 use Rattle.lard_app.proofs.Causes.{line-ends}
 use Rattle.lard_app.proofs.Keeping.{Keeps, begin-keeps, passed-keeps}
 use Rattle.lard_app.proofs.Passing.{ok_is, passed-took, took-fits, took-judged}
@@ -84,24 +85,20 @@ module _ (s t : Progress) (f : Found) where
   begun-follows (Err fault) b a e = cc
   begun-follows (Ok u) b a e = follows_as item.Go _ e (refl, before_agrees s.reader.stage s f b a)
 
-  moved-follows : (e : Event) (r : Result Machine StepFault) → machine_step s.machine e ≡ r → s.reader.stage ≡ Running → Agrees s.reader.stage s f → moved (followed s (item.Event e)) r ≡ Ok t → Follows s (item.Event e) f t
-  moved-follows e (Err fault) is at a h = cc
+  moved-follows : (e : Event) (r : Result Machine Stop) → event_step s.machine e ≡ r → s.reader.stage ≡ Running → Agrees s.reader.stage s f → moved (followed s (item.Event e)) r ≡ Ok t → Follows s (item.Event e) f t
+  moved-follows e (Err stop) is at a h = cc
   moved-follows e (Ok m) is at a h =
       let here : Agrees Running s f = subst (λ st. Agrees st s f) at a in
-      let kept = step-goes-on s.machine m e is in
+      let kept : GoesOn s.machine m = event-goes s.machine m e is in
       let next : Agrees Running (record (followed s (item.Event e)) { machine = m }) (with_item f (item.Event e)) = (here.0 ∙ sym kept.config, here.1 ∙ sym kept.files) in
       follows_as (item.Event e) _ h (refl, subst (λ st. Agrees st (record (followed s (item.Event e)) { machine = m }) (with_item f (item.Event e))) (sym at) next)
-
-  event-follows : (e : Event) (o : Option Form) → s.reader.stage ≡ Running → Agrees s.reader.stage s f → stepped (followed s (item.Event e)) e o ≡ Ok t → Follows s (item.Event e) f t
-  event-follows e (Some form) at a h = cc
-  event-follows e None at a h = moved-follows e (machine_step s.machine e) refl at a h
 
   item-follows : (x : Item) → MayStand s.reader x → HasRange x → Agrees s.reader.stage s f → taken (followed s x) x ≡ Ok t → Follows s x f t
   item-follows item.Header may range a e = follows_as item.Header _ e (refl, subst (λ st. Agrees st s f) may a)
   item-follows (item.Set key value) may range a e = set-follows key value (range_check key value) may.0 a e
   item-follows (item.File path bytes) may range a e = filed-follows path bytes (add_check s.files path (length bytes)) may a e
   item-follows item.Go may range a e = begun-follows (config_check s.config) may a e
-  item-follows (item.Event d) may range a e = event-follows d (missing d) may a e
+  item-follows (item.Event d) may range a e = moved-follows d (event_step s.machine d) refl may a e
 
 -- the events with those of one more item
 events_more : (f : Found) (x : Item) → (with_item f x).events ≡ f.events ++ event_listed (Ok x)
@@ -113,16 +110,28 @@ events_more f (item.Event e) = refl
 
 -- ---- lines that pass
 
+-- a line that ends the run changes neither the numbers nor the files
+left-same : (s : Progress) (line : List ℕ) → Leaves s line → (s.machine.config ≡ (halted s line).machine.config) × (s.machine.files ≡ (halted s line).machine.files)
+left-same s line (inl h) = (ap (λ (t : Progress). t.machine.config) (sym h.0), ap (λ (t : Progress). t.machine.files) (sym h.0))
+left-same s line (inr b) =
+    let on : GoesOn s.machine b.stop.0 = event-left s.machine (event.Settle b.rounds) b.stop b.stops in
+    (sym on.config ∙ ap (λ (t : Progress). t.machine.config) (sym b.left), sym on.files ∙ ap (λ (t : Progress). t.machine.files) (sym b.left))
+
 -- The first of the lines pass, and are read, and something is behind them: nothing but the end, where the replay is done.
 record Stood (s : Progress) (f : Found) (lines : List (List ℕ)) : Type 0 where
   before : List (List ℕ)
   rest : List (List ℕ)
   are : lines ≡ before ++ rest
   some : rest ≢ []
-  leads : Leads s before (replayed s lines).0
-  ended : (replayed s lines).1 ≡ Done → rest ≡ [] ∷ []
-  found : (replayed s lines).0.reader.stage ≡ Running
-      → read_from s.reader f (before ++ [] ∷ []) ≡ Some (record { config = (replayed s lines).0.machine.config; files = (replayed s lines).0.machine.files; events = f.events ++ events_from s lines })
+  state : Progress
+  leads : Leads s before state
+  done : List Event
+  last : List Event
+  events : events_from s lines ≡ done ++ last
+  ends : EndsBehind state rest (replayed s lines).0 last
+  ended : (replayed s lines).1 ≡ Done → (rest ≡ [] ∷ []) × (last ≡ [])
+  found : state.reader.stage ≡ Running
+      → read_from s.reader f (before ++ [] ∷ []) ≡ Some (record { config = (replayed s lines).0.machine.config; files = (replayed s lines).0.machine.files; events = f.events ++ done })
 
 -- nothing more is read
 read_here : (s : Progress) (f : Found) → Agrees s.reader.stage s f → s.reader.stage ≡ Running → at_end s.reader.stage [] f ≡ Some (record { config = s.machine.config; files = s.machine.files; events = f.events ++ [] })
@@ -153,21 +162,34 @@ stood s f (last ∷ []) es some k a = record {
   rest = last ∷ [];
   are = refl;
   some = some;
+  state = s;
   leads = refl;
-  ended = λ e. ap (λ (l : List ℕ). l ∷ []) (ended_last s last e);
+  done = [];
+  last = [];
+  events = refl;
+  ends = inl (refl, refl);
+  ended = λ e. (ap (λ (l : List ℕ). l ∷ []) (ended_last s last e), refl);
   found = λ at. read_here s f a at;
 }
 stood s f (line ∷ next ∷ more) es some k a = go (passed s line) refl (λ t d ds j b. stood t d (next ∷ more) ds (λ e. cc) j b) where
   go : (r : Result Progress Status) → passed s line ≡ r → ((t : Progress) (d : Found) (ds : List Event) → Keeps t ds → Agrees t.reader.stage t d → Stood t d (next ∷ more)) → Stood s f (line ∷ next ∷ more)
-  go (Err status) e later = record {
-    before = [];
-    rest = line ∷ next ∷ more;
-    are = refl;
-    some = some;
-    leads = rw (e, replayed) refl;
-    ended = rw (e, replayed) (λ done. absurd (not_done s line status es k e done));
-    found = rw (e, replayed, events_from) (λ at. read_here s f a at);
-  }
+  go (Err status) e later =
+      let same = left-same s line (line-leaves s line status e) in
+      record {
+        before = [];
+        rest = line ∷ next ∷ more;
+        are = refl;
+        some = some;
+        state = s;
+        leads = refl;
+        done = [];
+        last = begun_by s line;
+        events = rw (e, events_from) refl;
+        ends = rw (e, replayed) (inr (line, next ∷ more, status, refl, e, refl, refl));
+        ended = rw (e, replayed) (λ done. absurd (not_done s line status es k e done));
+        found = rw (e, replayed) (λ at. read_here s f a at ∙ ap (λ c. Some (record { config = c; files = s.machine.files; events = f.events ++ [] })) same.0
+            ∙ ap (λ fs. Some (record { config = (halted s line).machine.config; files = fs; events = f.events ++ [] })) same.1);
+      }
   go (Ok t) e later =
       let took = passed-took s t line e in
       let fits = took-fits s t line took in
@@ -178,15 +200,20 @@ stood s f (line ∷ next ∷ more) es some k a = go (passed s line) refl (λ t d
         rest = rest.rest;
         are = ap (λ ls. line ∷ ls) rest.are;
         some = rest.some;
-        leads = rw (e, replayed) (t, refl, rest.leads);
+        state = rest.state;
+        leads = (t, e, rest.leads);
+        done = event_listed (judged s.reader line) ++ rest.done;
+        last = rest.last;
+        events = rw (e, events_from) (ap (λ ds. event_listed (judged s.reader line) ++ ds) rest.events ∙ sym (append_assoc (event_listed (judged s.reader line)) rest.done rest.last));
+        ends = rw (e, replayed) rest.ends;
         ended = rw (e, replayed) rest.ended;
-        found = rw (e, replayed, events_from) (λ at.
+        found = rw (e, replayed) (λ at.
             reads_on s.reader f line (rest.before ++ [] ∷ []) took.item took.stands (some_end rest.before)
             ∙ ap (λ r. read_from r (with_item f took.item) (rest.before ++ [] ∷ [])) (sym step.0)
             ∙ rest.found at
             ∙ ap (λ ds. Some (record { config = (replayed t (next ∷ more)).0.machine.config; files = (replayed t (next ∷ more)).0.machine.files; events = ds }))
-            (ap (λ ds. ds ++ events_from t (next ∷ more)) (events_more f took.item ∙ ap (λ j. f.events ++ event_listed j) (sym (took-judged s t line took)))
-            ∙ append_assoc f.events (event_listed (judged s.reader line)) (events_from t (next ∷ more))));
+            (ap (λ ds. ds ++ rest.done) (events_more f took.item ∙ ap (λ j. f.events ++ event_listed j) (sym (took-judged s t line took)))
+            ∙ append_assoc f.events (event_listed (judged s.reader line)) rest.done));
       }
 
 -- ---- a text
@@ -218,8 +245,15 @@ passed-stands text = go (stood begin nothing (lines_of text) [] some begin-keeps
         lines = st.before;
         behind = front.0;
         cut = front.1;
+        rest = st.rest;
+        parts = st.are;
+        state = st.state;
         leads = st.leads;
-        schedule = λ at. found_is (text_of st.before) (record { config = config_of text; files = files_of text; events = events_of text })
-            (scheduled (text_of st.before) st.before (record { config = config_of text; files = files_of text; events = events_of text }) (cut_again st.before front.2) (st.found at));
-        all = λ done. none_behind st.before text front.0 (st.are ∙ ap (λ ls. st.before ++ ls) (st.ended done)) front.2 front.1;
+        done = st.done;
+        last = st.last;
+        are = st.events;
+        ends = st.ends;
+        schedule = λ at. found_is (text_of st.before) (record { config = config_of text; files = files_of text; events = st.done })
+            (scheduled (text_of st.before) st.before (record { config = config_of text; files = files_of text; events = st.done }) (cut_again st.before front.2) (st.found at));
+        all = λ done. (none_behind st.before text front.0 (st.are ∙ ap (λ ls. st.before ++ ls) (st.ended done).0) front.2 front.1, (st.ended done).1);
       }

@@ -1,5 +1,5 @@
 -- What a replay keeps: its machine is one that the events of its lines have led to, and its numbers are bounded.
-use Rattle.std.proofs.Common.{◌≡◌, ℕ, ◌+◌, ◌≤◌, ◌^◌, List, [], ◌∷◌, ◌++◌, length, Bool, true, false, cond, Option, Some, None, Result, Ok, Err, refl, sym, ap, ◌∙◌, subst, append_assoc, append-nil, arith}
+use Rattle.std.proofs.Common.{◌≡◌, inl, inr, ℕ, ◌+◌, ◌≤◌, List, [], ◌∷◌, ◌++◌, length, Bool, true, false, cond, Result, Ok, Err, refl, sym, ap, ◌∙◌, subst, append_assoc, append-nil, arith}
 use Rattle.std.proofs.lemmas.Bool.Decides.{nat_tests}
 use Rattle.std.specs.List.{flat_map}
 use Rattle.std.specs.Prelude.{nat_lt}
@@ -11,34 +11,37 @@ use Rattle.lard_base.specs.declared.config.ConfigFault.TheVariants.{Range}
 use Rattle.lard_base.specs.declared.config.Key.{Key}
 use Rattle.lard_base.specs.declared.config.Key.TheVariants.{Nodes, Low, High, Age, Idle, Over, Miss, Cache, Stream}
 use Rattle.lard_base.specs.declared.event.Event.{Event}
-use Rattle.lard_cluster.specs.Bounds.{HasRule}
-use Rattle.lard_cluster.specs.Machine.{Passes, machine_step, start}
-use Rattle.lard_cluster.specs.declared.fault.StepFault.{StepFault}
+use Rattle.lard_base.specs.declared.event.Event.TheVariants as event
+use Rattle.lard_cluster.specs.Machine.{start}
 use Rattle.lard_cluster.specs.declared.machine.Machine.{Machine}
 use Rattle.lard_cluster_records.specs.Records.{IsFile, IsGiven}
-use Rattle.lard_cluster_view.proofs.Runs.{passes-more}
-use Rattle.lard_cluster_world.proofs.Runs.{step-goes-on}
+use Rattle.lard_cluster_world.proofs.Runs.{GoesOn}
 use Rattle.lard_files.specs.Files.{add_check}
 use Rattle.lard_files.specs.declared.fault.FileFault.{FileFault}
 use Rattle.lard_history.proofs.Each.{Each, Each-append}
 use Rattle.lard_journal.specs.Range.{IsConfigInRange}
 use Rattle.lard_journal.specs.Report.{file_text}
 use Rattle.lard_lines.specs.Lines.{lines_of}
+use Rattle.lard_schedule.proofs.Lines.{line_spelled}
 use Rattle.lard_schedule.specs.declared.item.Item.{Item}
 use Rattle.lard_schedule.specs.declared.item.Item.TheVariants as item
 use Rattle.lard_schedule.specs.declared.reader.Stage.{Stage}
 use Rattle.lard_schedule.specs.declared.reader.Stage.TheVariants.{Start, Settings, Files, Running}
-use Rattle.lard_schedule.specs.Events.{IsInRange}
 use Rattle.lard_schedule.specs.Files.{is_file_path}
 use Rattle.lard_schedule.specs.Laws.{IsBefore, MayStand, SpellsFile, SpellsItem}
 use Rattle.lard_schedule.specs.Reader.{HasRange}
-use Rattle.lard_app.specs.declared.status.Form.{Form}
+use Rattle.lard_settle.specs.Events.{Goes, LeadsTo, MayCome, event_step}
+use Rattle.lard_settle.specs.Settling.{Stop}
+use Rattle.lard_settling.specs.Written.{IsWrittenOut}
+use Rattle.lard_settling.proofs.Written.{written}
 use Rattle.lard_app.specs.declared.status.Status.{Status}
-use Rattle.lard_app.specs.Forms.{missing}
-use Rattle.lard_app.specs.Replay.{Progress, begin, begun, config_set, counted, event_listed, events_from, events_of, filed, followed, is_past, judged, moved, passed, replayed, sizes, stepped, taken, whole}
+use Rattle.lard_app.specs.Replay.{Progress, begin, begun, begun_by, came, config_set, counted, event_listed, events_from, events_of, filed, followed, halted, is_past, judged, moved, passed, replayed, sizes, taken, whole}
 use Rattle.lard_app.proofs.Ranges.{HasRanges, config_checked, event-given, file-given}
-use Rattle.lard_app.proofs.Passing.{ok_is, passed-took, took-fits, took-judged}
-use Rattle.lard_app.proofs.Steps.{ruled}
+use Rattle.lard_app.proofs.Halting.{HadBegun, Leaves, line-leaves}
+use Rattle.lard_app.proofs.Passing.{never, ok_is, passed-took, took-fits, took-judged}
+use Rattle.lard_app.proofs.Steps.{may-come}
+use Rattle.lard_app.proofs.Written.{event-written, goes-more}
+use Rattle.lard_app.proofs.Events.{event-goes, event-left}
 
 -- ---- what is kept
 
@@ -71,7 +74,8 @@ unseen_before Running m u b = absurd b
 -- what holds of a replay that has passed these events
 pub record Keeps (s : Progress) (es : List Event) : Type 0 where
   pub idle : IsIdle s.reader.stage es
-  pub runs : Passes (start s.machine.config s.machine.files) es s.machine
+  pub runs : Goes (start s.machine.config s.machine.files) es s.machine
+  pub written : IsWrittenOut s.machine.config s.machine.files s.machine
   pub listed : s.listed ≡ flat_map file_text (sizes s.files)
   pub fits : IsConfigRanged s.config
   pub checked : config_check s.machine.config ≡ Ok tt
@@ -124,6 +128,7 @@ pub begin-keeps : Keeps begin []
 begin-keeps = record {
   idle = refl;
   runs = refl;
+  written = (written standard []).begins;
   listed = refl;
   fits = standard_fits;
   checked = refl;
@@ -140,6 +145,7 @@ counted-keeps : (s : Progress) (line : List ℕ) (es : List Event) → is_past s
 counted-keeps s line es p k = record {
   idle = k.idle;
   runs = k.runs;
+  written = k.written;
   listed = k.listed;
   fits = k.fits;
   checked = k.checked;
@@ -155,17 +161,18 @@ listed_more [] path bytes = sym (append-nil (file_text (path, length bytes)))
 listed_more (f ∷ fs) path bytes = append_assoc (file_text (f.0, length f.1)) (flat_map file_text (sizes fs)) (file_text (path, length bytes)) ∙ ap (λ l. file_text (f.0, length f.1) ++ l) (listed_more fs path bytes)
 
 module _ (s t : Progress) (es : List Event) (k : Keeps s es) where
-  same_events : Passes (start s.machine.config s.machine.files) (es ++ []) s.machine
-  same_events = subst (λ ds. Passes (start s.machine.config s.machine.files) ds s.machine) (sym (append-nil es)) k.runs
+  same_events : Goes (start s.machine.config s.machine.files) (es ++ []) s.machine
+  same_events = subst (λ ds. Goes (start s.machine.config s.machine.files) ds s.machine) (sym (append-nil es)) k.runs
 
   same_ranges : HasRanges s.files s.machine (es ++ [])
   same_ranges = subst (HasRanges s.files s.machine) (sym (append-nil es)) k.ranges
 
   set-keeps : (key : Key) (value : ℕ) (r : Result (Unit {0}) ConfigFault) → range_check key value ≡ r → config_set (followed s (item.Set key value)) key value r ≡ Ok t → Keeps t (es ++ [])
-  set-keeps key value (Err fault) c e = cc
+  set-keeps key value (Err fault) c e = absurd (never _ t e)
   set-keeps key value (Ok u) c e = subst (λ (v : Progress). Keeps v (es ++ [])) (ok_is _ t e) (record {
     idle = subst (IsIdle s.reader.stage) (sym (append-nil es)) k.idle;
     runs = same_events;
+    written = k.written;
     listed = k.listed;
     fits = set_fits s.config key value k.fits (range_passed key value c);
     checked = k.checked;
@@ -176,11 +183,12 @@ module _ (s t : Progress) (es : List Event) (k : Keeps s es) where
   })
 
   begun-keeps : (r : Result (Unit {0}) ConfigFault) → config_check s.config ≡ r → IsBefore s.reader.stage → begun (followed s item.Go) r ≡ Ok t → Keeps t (es ++ [])
-  begun-keeps (Err fault) c b e = cc
+  begun-keeps (Err fault) c b e = absurd (never _ t e)
   begun-keeps (Ok u) c b e = subst (λ (v : Progress). Keeps v (es ++ [])) (ok_is _ t e) (record {
     idle = tt;
     listed = refl;
-    runs = subst (λ ds. Passes (start s.config s.files) ds (start s.config s.files)) (sym (append-nil es ∙ idle_before s.reader.stage es k.idle b)) refl;
+    runs = subst (λ ds. Goes (start s.config s.files) ds (start s.config s.files)) (sym (append-nil es ∙ idle_before s.reader.stage es k.idle b)) refl;
+    written = (written s.config s.files).begins;
     fits = k.fits;
     checked = c;
     ranges = record { files = tt; config = (config_checked s.config c).0; taken = k.ranges.files; events = same_ranges.events };
@@ -191,10 +199,11 @@ module _ (s t : Progress) (es : List Event) (k : Keeps s es) where
 
   filed-keeps : (words : List (List ℕ)) (path bytes : List ℕ) (r : Result (Unit {0}) FileFault) → SpellsFile words path bytes → is_file_path path ≡ true → add_check s.files path (length bytes) ≡ r
       → IsBefore s.reader.stage → filed (followed s (item.File path bytes)) path bytes r ≡ Ok t → Keeps t (es ++ [])
-  filed-keeps words path bytes (Err fault) spelled fits c b e = cc
+  filed-keeps words path bytes (Err fault) spelled fits c b e = absurd (never _ t e)
   filed-keeps words path bytes (Ok u) spelled fits c b e = subst (λ (v : Progress). Keeps v (es ++ [])) (ok_is _ t e) (record {
     idle = append-nil es ∙ idle_before s.reader.stage es k.idle b;
     runs = same_events;
+    written = k.written;
     listed = ap (λ l. l ++ file_text (path, length bytes)) k.listed ∙ listed_more s.files path bytes;
     fits = k.fits;
     checked = k.checked;
@@ -209,14 +218,16 @@ module _ (s t : Progress) (es : List Event) (k : Keeps s es) where
     read = k.read;
   })
 
-  moved-keeps : (e : Event) (r : Result Machine StepFault) → s.reader.stage ≡ Running → IsGiven e → HasRule e → machine_step s.machine e ≡ r → moved (followed s (item.Event e)) r ≡ Ok t → Keeps t (es ++ e ∷ [])
-  moved-keeps e (Err fault) running given rule is h = cc
-  moved-keeps e (Ok m) running given rule is h =
-      let kept = step-goes-on s.machine m e is in
+  moved-keeps : (e : Event) (r : Result Machine Stop) → s.reader.stage ≡ Running → IsGiven e → MayCome e → event_step s.machine e ≡ r → moved (followed s (item.Event e)) r ≡ Ok t → Keeps t (es ++ e ∷ [])
+  moved-keeps e (Err stop) running given may is h = absurd (never _ t h)
+  moved-keeps e (Ok m) running given may is h =
+      let kept : GoesOn s.machine m = event-goes s.machine m e is in
+      let written_ : IsWrittenOut s.machine.config s.machine.files m = subst (λ (x : Result Machine Stop). IsWrittenOut s.machine.config s.machine.files (came x)) is (event-written s.machine.config s.machine.files s.machine e k.written may) in
       subst (λ (v : Progress). Keeps v (es ++ e ∷ [])) (ok_is _ t h) (record {
         idle = subst (λ st. IsIdle st (es ++ e ∷ [])) (sym running) tt;
-        runs = subst (λ (c : Config). Passes (start c m.files) (es ++ e ∷ []) m) (sym kept.config)
-            (subst (λ (fs : List (List ℕ × List ℕ)). Passes (start s.machine.config fs) (es ++ e ∷ []) m) (sym kept.files) (passes-more es (start s.machine.config s.machine.files) s.machine m e k.runs rule is));
+        runs = subst (λ (c : Config). Goes (start c m.files) (es ++ e ∷ []) m) (sym kept.config)
+            (subst (λ (fs : List (List ℕ × List ℕ)). Goes (start s.machine.config fs) (es ++ e ∷ []) m) (sym kept.files) (goes-more es (start s.machine.config s.machine.files) s.machine m e k.runs may is));
+        written = subst (λ (c : Config). IsWrittenOut c m.files m) (sym kept.config) (subst (λ (fs : List (List ℕ × List ℕ)). IsWrittenOut s.machine.config fs m) (sym kept.files) written_);
         listed = k.listed;
         fits = k.fits;
         checked = subst (λ (c : Config). config_check c ≡ Ok tt) (sym kept.config) k.checked;
@@ -231,14 +242,11 @@ module _ (s t : Progress) (es : List Event) (k : Keeps s es) where
         read = k.read;
       })
 
-  event-keeps : (e : Event) (o : Option Form) → missing e ≡ o → s.reader.stage ≡ Running → IsGiven e → IsInRange e → stepped (followed s (item.Event e)) e o ≡ Ok t → Keeps t (es ++ e ∷ [])
-  event-keeps e (Some form) m running given range h = cc
-  event-keeps e None m running given range h = moved-keeps e (machine_step s.machine e) running given (ruled e m range) refl h
-
   item-keeps : (words : List (List ℕ)) (x : Item) → SpellsItem words x → MayStand s.reader x → HasRange x → taken (followed s x) x ≡ Ok t → Keeps t (es ++ event_listed (Ok x))
   item-keeps words item.Header spelled stands range e = subst (λ (v : Progress). Keeps v (es ++ [])) (ok_is _ t e) (record {
     idle = append-nil es ∙ subst (λ st. IsIdle st es) stands k.idle;
     runs = same_events;
+    written = k.written;
     listed = k.listed;
     fits = k.fits;
     checked = k.checked;
@@ -250,7 +258,7 @@ module _ (s t : Progress) (es : List Event) (k : Keeps s es) where
   item-keeps words (item.Set key value) spelled stands range e = set-keeps key value (range_check key value) refl e
   item-keeps words (item.File path bytes) spelled stands range e = filed-keeps words path bytes (add_check s.files path (length bytes)) spelled range refl stands e
   item-keeps words item.Go spelled stands range e = begun-keeps (config_check s.config) refl stands e
-  item-keeps words (item.Event d) spelled stands range e = event-keeps d (missing d) refl stands (event-given words d spelled range) range e
+  item-keeps words (item.Event d) spelled stands range e = moved-keeps d (event_step s.machine d) stands (event-given words d spelled range) (may-come d range) refl e
 
 pub passed-keeps : (s t : Progress) (line : List ℕ) (es : List Event) → Keeps s es → passed s line ≡ Ok t → Keeps t (es ++ event_listed (judged s.reader line))
 passed-keeps s t line es k e =
@@ -259,18 +267,60 @@ passed-keeps s t line es k e =
     subst (λ j. Keeps t (es ++ event_listed j)) (sym (took-judged s t line took))
     (item-keeps (counted s line) t es (counted-keeps s line es took.within k) fits.0.0 took.item fits.0.2 fits.1 fits.2 took.is)
 
-pub replayed-keeps : (s : Progress) (lines : List (List ℕ)) (es : List Event) → Keeps s es → Keeps (replayed s lines).0 (es ++ events_from s lines)
-replayed-keeps s [] es k = subst (Keeps s) (sym (append-nil es)) k
-replayed-keeps s (last ∷ []) es k = subst (Keeps s) (sym (append-nil es)) k
-replayed-keeps s (line ∷ next ∷ more) es k = go (passed s line) refl (λ t ds j. replayed-keeps t (next ∷ more) ds j) where
-  go : (r : Result Progress Status) → passed s line ≡ r → ((t : Progress) (ds : List Event) → Keeps t ds → Keeps (replayed t (next ∷ more)).0 (ds ++ events_from t (next ∷ more)))
-      → Keeps (replayed s (line ∷ next ∷ more)).0 (es ++ events_from s (line ∷ next ∷ more))
-  go (Err status) e later = rw (e, replayed, events_from) (subst (Keeps s) (sym (append-nil es)) k)
+-- ---- where the run ended
+
+-- what holds of a state to which a replay comes in the end
+pub record Comes (s : Progress) (es : List Event) : Type 0 where
+  pub runs : LeadsTo (start s.machine.config s.machine.files) es s.machine
+  pub written : IsWrittenOut s.machine.config s.machine.files s.machine
+  pub checked : config_check s.machine.config ≡ Ok tt
+  pub ranges : HasRanges s.files s.machine es
+  pub unseen : IsUnseen s.reader.stage s.machine
+
+keeps-comes : (s : Progress) (es : List Event) → Keeps s es → Comes s es
+keeps-comes s es k = record { runs = inl k.runs; written = k.written; checked = k.checked; ranges = k.ranges; unseen = k.unseen }
+
+begun-comes : (s : Progress) (es : List Event) (line : List ℕ) → Keeps s es → HadBegun s line → Comes (halted s line) (es ++ begun_by s line)
+begun-comes s es line k b =
+    let e : Event = event.Settle b.rounds in
+    let n : Machine = b.stop.0 in
+    let kept : GoesOn s.machine n = event-left s.machine e b.stop b.stops in
+    let fits = line_spelled s.reader line (item.Event e) b.stands in
+    let given : IsGiven e = event-given fits.0.0 e fits.0.2 fits.2 in
+    subst (λ (ds : List Event). Comes (halted s line) (es ++ ds)) (sym b.last) (subst (λ (t : Progress). Comes t (es ++ e ∷ [])) (sym b.left) (record {
+      runs = subst (λ (c : Config). LeadsTo (start c n.files) (es ++ e ∷ []) n) (sym kept.config)
+          (subst (λ (fs : List (List ℕ × List ℕ)). LeadsTo (start s.machine.config fs) (es ++ e ∷ []) n) (sym kept.files)
+          (inr (record { before = es; rounds = b.rounds; are = refl; behind = s.machine; goes = k.runs; fault = b.stop.1; stops = b.stops; begun = b.longer })));
+      written = subst (λ (c : Config). IsWrittenOut c n.files n) (sym kept.config) (subst (λ (fs : List (List ℕ × List ℕ)). IsWrittenOut s.machine.config fs n) (sym kept.files)
+          (subst (λ (x : Result Machine Stop). IsWrittenOut s.machine.config s.machine.files (came x)) b.stops (event-written s.machine.config s.machine.files s.machine e k.written tt)));
+      checked = subst (λ (c : Config). config_check c ≡ Ok tt) (sym kept.config) k.checked;
+      ranges = record {
+        files = k.ranges.files;
+        config = subst IsConfigInRange (sym kept.config) k.ranges.config;
+        taken = subst (Each IsFile) (sym kept.files) k.ranges.taken;
+        events = Each-append IsGiven es (e ∷ []) k.ranges.events (given, tt);
+      };
+      unseen = subst (λ st. IsUnseen st n) (sym fits.1) tt;
+    }))
+
+halted-comes : (s : Progress) (es : List Event) (line : List ℕ) (status : Status) → Keeps s es → passed s line ≡ Err status → Comes (halted s line) (es ++ begun_by s line)
+halted-comes s es line status k is = go (line-leaves s line status is) where
+  go : Leaves s line → Comes (halted s line) (es ++ begun_by s line)
+  go (inl h) = subst (λ (ds : List Event). Comes (halted s line) (es ++ ds)) (sym h.1) (subst (λ (t : Progress). Comes t (es ++ [])) (sym h.0) (subst (Comes s) (sym (append-nil es)) (keeps-comes s es k)))
+  go (inr b) = begun-comes s es line k b
+
+replayed-comes : (s : Progress) (lines : List (List ℕ)) (es : List Event) → Keeps s es → Comes (replayed s lines).0 (es ++ events_from s lines)
+replayed-comes s [] es k = subst (Comes s) (sym (append-nil es)) (keeps-comes s es k)
+replayed-comes s (last ∷ []) es k = subst (Comes s) (sym (append-nil es)) (keeps-comes s es k)
+replayed-comes s (line ∷ next ∷ more) es k = go (passed s line) refl (λ t ds j. replayed-comes t (next ∷ more) ds j) where
+  go : (r : Result Progress Status) → passed s line ≡ r → ((t : Progress) (ds : List Event) → Keeps t ds → Comes (replayed t (next ∷ more)).0 (ds ++ events_from t (next ∷ more)))
+      → Comes (replayed s (line ∷ next ∷ more)).0 (es ++ events_from s (line ∷ next ∷ more))
+  go (Err status) e later = rw (e, replayed, events_from) (halted-comes s es line status k e)
   go (Ok t) e later = rw (e, replayed, events_from)
-      (subst (Keeps (replayed t (next ∷ more)).0) (append_assoc es (event_listed (judged s.reader line)) (events_from t (next ∷ more)))
+      (subst (Comes (replayed t (next ∷ more)).0) (append_assoc es (event_listed (judged s.reader line)) (events_from t (next ∷ more)))
       (later t (es ++ event_listed (judged s.reader line)) (passed-keeps s t line es k e)))
 
--- the machine of a text is that of the events of the lines that it passed
-pub whole-keeps : (text : List ℕ) → Keeps (whole text).0 (events_of text)
+-- the machine of a text is that of the events that happened
+pub whole-comes : (text : List ℕ) → Comes (whole text).0 (events_of text)
 unfolding whole events_of
-whole-keeps text = replayed-keeps begin (lines_of text) [] begin-keeps
+whole-comes text = replayed-comes begin (lines_of text) [] begin-keeps

@@ -3,11 +3,8 @@ use Rattle.std.proofs.Common.{◌≡◌, ℕ, ◌+◌, List, [], length, Bool, t
 use Rattle.lard_base.specs.Config.{config_check, range_check}
 use Rattle.lard_base.specs.declared.config.ConfigFault.{ConfigFault}
 use Rattle.lard_base.specs.declared.config.Key.{Key}
-use Rattle.lard_base.specs.declared.event.Event.{Event}
 use Rattle.lard_files.specs.Files.{add_check}
 use Rattle.lard_files.specs.declared.fault.FileFault.{FileFault}
-use Rattle.lard_cluster.specs.Machine.{machine_step}
-use Rattle.lard_cluster.specs.declared.fault.StepFault.{StepFault}
 use Rattle.lard_cluster.specs.declared.machine.Machine.{Machine}
 use Rattle.lard_machine.specs.declared.fault.What.TheVariants.{Input}
 use Rattle.lard_schedule.specs.declared.item.Item.{Item}
@@ -16,17 +13,16 @@ use Rattle.lard_schedule.specs.declared.reader.Reader.{Reader}
 use Rattle.lard_schedule.specs.Laws.{IsLineOf, MayStand}
 use Rattle.lard_schedule.specs.Reader.{HasRange, item_of}
 use Rattle.lard_schedule.proofs.Lines.{line_spelled}
-use Rattle.lard_app.specs.declared.status.Form.{Form}
+use Rattle.lard_settle.specs.Events.{event_step}
+use Rattle.lard_settle.specs.Settling.{Stop}
 use Rattle.lard_app.specs.declared.status.Status.{Status}
 use Rattle.lard_app.specs.declared.status.Status.TheVariants.{Limit}
 use Rattle.lard_app.specs.declared.status.Why.TheVariants as why
-use Rattle.lard_app.specs.Forms.{missing, unbuilt}
-use Rattle.lard_app.specs.Replay.{Progress, begun, config_set, counted, filed, followed, found, gain, is_past, item_gain, item_taken, judged, judged_gain, moved, passed, stepped, taken, unless_unbuilt}
+use Rattle.lard_app.specs.Replay.{Progress, begun, config_set, counted, filed, followed, found, gain, is_past, item_gain, item_taken, judged, judged_gain, moved, passed, taken}
 
--- what a line stands for, once its first word and its place were looked up
-pub judged_by : (r : Reader) (line : List ℕ) (f : Option Form) (x : Option Item) → unbuilt line ≡ f → item_of r line ≡ x → judged r line ≡ unless_unbuilt f (found x)
-unfolding judged
-judged_by r line f x e i = ap (λ o. unless_unbuilt o (found (item_of r line))) e ∙ ap (λ o. unless_unbuilt f (found o)) i
+-- what a line stands for, once its place was looked up
+pub judged_by : (r : Reader) (line : List ℕ) (x : Option Item) → item_of r line ≡ x → judged r line ≡ found x
+judged_by r line x i = ap found i
 
 -- what a line leads to, once it is known whether it goes past the limit
 pub passed_by : (s : Progress) (line : List ℕ) (b : Bool) → is_past s line ≡ b → passed s line ≡ cond b (Err (Limit (s.lines + 1) Input)) (item_taken (counted s line) (judged s.reader line))
@@ -37,29 +33,25 @@ passed_by s line b e = ap (λ t. cond {A = Result Progress Status} t (Err (Limit
 pub record Took (s t : Progress) (line : List ℕ) : Type 0 where
   pub item : Item
   pub within : is_past s line ≡ false
-  pub built : unbuilt line ≡ None
   pub stands : item_of s.reader line ≡ Some item
   pub is : taken (followed (counted s line) item) item ≡ Ok t
 
 pub passed-took : (s t : Progress) (line : List ℕ) → passed s line ≡ Ok t → Took s t line
-passed-took s t line e = go (is_past s line) (unbuilt line) (item_of s.reader line) refl refl refl where
-  go : (b : Bool) (f : Option Form) (x : Option Item) → is_past s line ≡ b → unbuilt line ≡ f → item_of s.reader line ≡ x → Took s t line
-  go true f x p u i = let both : Err (Limit (s.lines + 1) Input) ≡ Ok t = sym (passed_by s line true p) ∙ e in cc
-  go false (Some f) x p u i =
-      let both : item_taken (counted s line) (Err (why.FormNotBuilt f)) ≡ Ok t = ap (item_taken (counted s line)) (sym (judged_by s.reader line (Some f) x u i)) ∙ sym (passed_by s line false p) ∙ e in cc
-  go false None None p u i =
-      let both : item_taken (counted s line) (Err why.Syntax) ≡ Ok t = ap (item_taken (counted s line)) (sym (judged_by s.reader line None None u i)) ∙ sym (passed_by s line false p) ∙ e in cc
-  go false None (Some x) p u i = record {
+passed-took s t line e = go (is_past s line) (item_of s.reader line) refl refl where
+  go : (b : Bool) (x : Option Item) → is_past s line ≡ b → item_of s.reader line ≡ x → Took s t line
+  go true x p i = let both : Err (Limit (s.lines + 1) Input) ≡ Ok t = sym (passed_by s line true p) ∙ e in cc
+  go false None p i =
+      let both : item_taken (counted s line) (Err why.Syntax) ≡ Ok t = ap (item_taken (counted s line)) (sym (judged_by s.reader line None i)) ∙ sym (passed_by s line false p) ∙ e in cc
+  go false (Some x) p i = record {
     item = x;
     within = p;
-    built = u;
     stands = i;
-    is = ap (item_taken (counted s line)) (sym (judged_by s.reader line None (Some x) u i)) ∙ sym (passed_by s line false p) ∙ e;
+    is = ap (item_taken (counted s line)) (sym (judged_by s.reader line (Some x) i)) ∙ sym (passed_by s line false p) ∙ e;
   }
 
 module _ (s t : Progress) (line : List ℕ) (k : Took s t line) where
   pub took-judged : judged s.reader line ≡ Ok k.item
-  took-judged = judged_by s.reader line None (Some k.item) k.built k.stands
+  took-judged = judged_by s.reader line (Some k.item) k.stands
 
   pub took-gain : gain s line ≡ item_gain (followed (counted s line) k.item) k.item
   unfolding gain
@@ -69,6 +61,10 @@ module _ (s t : Progress) (line : List ℕ) (k : Took s t line) where
   took-fits = line_spelled s.reader line k.item k.stands
 
 -- ---- lines and bytes that are counted
+
+-- no answer is both
+pub never : {A E : Type 0} (f : E) (x : A) → ◌≡◌ {A = Result A E} (Err f) (Ok x) → ⊥
+never f x e = cc
 
 -- an answer that is known
 pub ok_is : {A E : Type 0} (x y : A) → ◌≡◌ {A = Result A E} (Ok x) (Ok y) → x ≡ y
@@ -95,20 +91,16 @@ module _ (s t : Progress) where
   begun-read (Ok u) e = read_as _ (refl, refl) e
   begun-read (Err fault) e = cc
 
-  moved-read : (r : Result Machine StepFault) → moved s r ≡ Ok t → HaveRead s t
+  moved-read : (r : Result Machine Stop) → moved s r ≡ Ok t → HaveRead s t
   moved-read (Ok m) e = read_as _ (refl, refl) e
-  moved-read (Err fault) e = cc
-
-  stepped-read : (e : Event) (o : Option Form) → stepped s e o ≡ Ok t → HaveRead s t
-  stepped-read e (Some form) h = cc
-  stepped-read e None h = moved-read (machine_step s.machine e) h
+  moved-read (Err stop) e = cc
 
   taken-read : (x : Item) → taken s x ≡ Ok t → HaveRead s t
   taken-read item.Header e = read_as s (refl, refl) e
   taken-read (item.Set key value) e = set-read key value (range_check key value) e
   taken-read (item.File path bytes) e = filed-read path bytes (add_check s.files path (length bytes)) e
   taken-read item.Go e = begun-read (config_check s.config) e
-  taken-read (item.Event d) e = stepped-read d (missing d) e
+  taken-read (item.Event d) e = moved-read (event_step s.machine d) e
 
 -- a line that passes is counted
 pub passed-read : (s t : Progress) (line : List ℕ) → passed s line ≡ Ok t → HaveRead (counted s line) t

@@ -1,31 +1,195 @@
--- A step that is not done ends the run by what it found, and writes nothing.
-use Rattle.std.proofs.Common.{◌≡◌, ℕ, List, [], Option, None, Err, refl, sym, ap, ◌∙◌, subst}
+-- A step or a settle that is done, or is not, and what was written of it.
+use Rattle.std.proofs.Common.{◌≡◌, ◌≢◌, ℕ, ◌≤◌, List, [], length, drop, Option, Some, None, Result, Ok, Err, OnOk, refl, sym, ap, subst}
 use Rattle.std.proofs.KnownBytes.{Appends-nil}
+use Rattle.std.proofs.Math.Seq.{drop-length}
+use Rattle.std.specs.Io.KnownBytes.{Appends}
+use Rattle.std.specs.List.{flat_map}
+use Rattle.lard_base.specs.Outside.{WrotePrefix}
 use Rattle.lard_base.specs.declared.event.Event.{Event}
+use Rattle.lard_base.specs.declared.event.Event.TheVariants as event
 use Rattle.lard_cluster.specs.declared.fault.StepFault.{StepFault}
-use Rattle.lard_cluster.specs.declared.fault.StepFault.TheVariants.{Limit, NoClient, NoJob, NoMemory, NoNode, NotSent, Used, WasLost}
+use Rattle.lard_cluster.specs.declared.fault.StepFault.TheVariants as fault
 use Rattle.lard_cluster.specs.declared.machine.Machine.{Machine}
 use Rattle.lard_cluster.specs.Machine.{Steps, machine_step}
+use Rattle.lard_journal.specs.Report.{rec_line}
+use Rattle.lard_journal.specs.declared.rec.Rec.{Rec}
+use Rattle.lard_settle.specs.Events.{event_step, settled_to, stepped_from}
+use Rattle.lard_settle.specs.Settling.{Settles, Stop, settled}
+use Rattle.lard_settle.specs.declared.settles.Settled.{Settled}
 use Rattle.lard_app.specs.declared.status.Status.{Status}
-use Rattle.lard_app.specs.Forms.{missing}
-use Rattle.lard_app.specs.Replay.{Passes, Progress, ended_by, moved, stepped}
+use Rattle.lard_app.specs.declared.status.Status.TheVariants.{Done, Usage, Refused, ReadFault, WriteFault, NoMemory, Limit}
+use Rattle.lard_app.specs.Replay.{Passes, Progress, Writes, came, ended_by, event_gain}
+use Rattle.lard_app.specs.Seen.{Does, Stops, rounds_of}
+use Rattle.lard_app.proofs.Events.{plain-step}
+use Rattle.lard_app.proofs.Steps.{Grows, event-grows, grows-longer}
 
-ends-by : (s : Progress) (e : Event) (fault : StepFault) → missing e ≡ None → machine_step s.machine e ≡ Err fault → stepped s e (missing e) ≡ Err (ended_by s.lines fault)
-ends-by s e fault built is = ap (stepped s e) built ∙ ap (moved s) is
+-- ---- kinds of events
 
-stopped-passes : (s t : Progress) (n : Machine) (e : Event) (text : List ℕ) (old : Option (List ℕ)) (fault : StepFault) → missing e ≡ None
-    → Steps (machine_step s.machine e) s.machine n (Err fault) → Passes (stepped s e (missing e)) text old old t (Err (ended_by s.lines fault))
-stopped-passes s t n e text old NoMemory built steps = record { front = []; rest = text; is = refl; written = Appends-nil old }
-stopped-passes s t n e text old (NotSent k sent) built steps = (ends-by s e (NotSent k sent) built steps.1, Appends-nil old)
-stopped-passes s t n e text old (WasLost k) built steps = (ends-by s e (WasLost k) built steps.1, Appends-nil old)
-stopped-passes s t n e text old (NoClient c) built steps = (ends-by s e (NoClient c) built steps.1, Appends-nil old)
-stopped-passes s t n e text old (Used c) built steps = (ends-by s e (Used c) built steps.1, Appends-nil old)
-stopped-passes s t n e text old (NoNode k nodes) built steps = (ends-by s e (NoNode k nodes) built steps.1, Appends-nil old)
-stopped-passes s t n e text old (NoJob k j len) built steps = (ends-by s e (NoJob k j len) built steps.1, Appends-nil old)
-stopped-passes s t n e text old (Limit what) built steps = (ends-by s e (Limit what) built steps.1, Appends-nil old)
+pub settles-as : (m : Machine) (e : Event) (rounds : ℕ) → rounds_of e ≡ Some rounds → event_step m e ≡ settled_to (settled m rounds)
+unfolding event_step
+settles-as m (event.Settle r) rounds is = let same : r ≡ rounds = cc in ap (λ n. settled_to (settled m n)) same
+settles-as m (event.Open c isn iss wnd mss) rounds is = cc
+settles-as m (event.Get c path) rounds is = cc
+settles-as m (event.Write c bytes) rounds is = cc
+settles-as m (event.Shut c) rounds is = cc
+settles-as m (event.Abort c) rounds is = cc
+settles-as m (event.Hold c) rounds is = cc
+settles-as m (event.Take c) rounds is = cc
+settles-as m (event.Deliver k) rounds is = cc
+settles-as m (event.Lose k) rounds is = cc
+settles-as m (event.Timer p c) rounds is = cc
+settles-as m (event.Disk n j) rounds is = cc
+settles-as m (event.Clock ms) rounds is = cc
+settles-as m (event.Inject c bytes) rounds is = cc
 
-pub step-stopped : (s t : Progress) (n : Machine) (e : Event) (text : List ℕ) (old : Option (List ℕ)) (fault : StepFault) (status : Status)
-    → status ≡ ended_by s.lines fault → missing e ≡ None → Steps (machine_step s.machine e) s.machine n (Err fault)
-    → Passes (stepped s e (missing e)) text old old t (Err status)
-step-stopped s t n e text old fault status is built steps =
-    subst (λ (x : Status). Passes (stepped s e (missing e)) text old old t (Err x)) (sym is) (stopped-passes s t n e text old fault built steps)
+pub steps-as : (m : Machine) (e : Event) → rounds_of e ≡ None → event_step m e ≡ stepped_from m (machine_step m e)
+steps-as m (event.Settle r) is = cc
+steps-as m (event.Open c isn iss wnd mss) is = plain-step m (event.Open c isn iss wnd mss) refl
+steps-as m (event.Get c path) is = plain-step m (event.Get c path) refl
+steps-as m (event.Write c bytes) is = plain-step m (event.Write c bytes) refl
+steps-as m (event.Shut c) is = plain-step m (event.Shut c) refl
+steps-as m (event.Abort c) is = plain-step m (event.Abort c) refl
+steps-as m (event.Hold c) is = plain-step m (event.Hold c) refl
+steps-as m (event.Take c) is = plain-step m (event.Take c) refl
+steps-as m (event.Deliver k) is = plain-step m (event.Deliver k) refl
+steps-as m (event.Lose k) is = plain-step m (event.Lose k) refl
+steps-as m (event.Timer p c) is = plain-step m (event.Timer p c) refl
+steps-as m (event.Disk n j) is = plain-step m (event.Disk n j) refl
+steps-as m (event.Clock ms) is = plain-step m (event.Clock ms) refl
+steps-as m (event.Inject c bytes) is = plain-step m (event.Inject c bytes) refl
+
+-- ---- what came of an event was written
+
+-- it was done
+writes-does : (s t : Progress) (n : Machine) (given : Result Machine Stop) (old new : Option (List ℕ)) (r : Result (Unit {0}) Status) → given ≡ Ok n → t ≡ record s { machine = n }
+    → Writes (event_gain s.machine n) old new r → Does given s old new t r
+writes-does s t n given old new r is left w = subst (λ (x : Result Machine Stop). Does x s old new t r) (sym is) (go r w) where
+  go : (q : Result (Unit {0}) Status) → Writes (event_gain s.machine n) old new q → Does (Ok n) s old new t q
+  go (Ok done) h = (ap (λ (u : Progress). Ok u) (sym left), h)
+  go (Err WriteFault) h = h
+  go (Err NoMemory) h = h
+  go (Err Done) h = absurd h
+  go (Err Usage) h = absurd h
+  go (Err ReadFault) h = absurd h
+  go (Err (Refused line why)) h = absurd h
+  go (Err (Limit line what)) h = absurd h
+
+-- nothing came of it
+pub done-does : (s t : Progress) (n : Machine) (given : Result Machine Stop) (old new : Option (List ℕ)) (r : Result (Unit {0}) Status) (J : List Rec) (from : ℕ) → given ≡ Ok n → t ≡ record s { machine = n }
+    → J ≡ n.journal → from ≡ length s.machine.journal → Writes (flat_map rec_line (drop from J)) old new r → Does given s old new t r
+done-does s t n given old new r J from is left journal at w =
+    writes-does s t n given old new r is left (subst (λ (K : List Rec). Writes (flat_map rec_line (drop (length s.machine.journal) K)) old new r) journal (subst (λ i. Writes (flat_map rec_line (drop i J)) old new r) at w))
+
+none_left : (J : List Rec) → flat_map rec_line (drop (length J) J) ≡ []
+none_left J = ap (flat_map rec_line) (drop-length J)
+
+-- a fault before anything was done
+fault-does : (s t : Progress) (f : StepFault) (text : List ℕ) (old : Option (List ℕ)) → text ≡ [] → Passes (Err (ended_by s.lines f)) text old old t (Err (ended_by s.lines f))
+fault-does s t fault.NoMemory text old e = record { front = []; rest = text; is = refl; written = Appends-nil old }
+fault-does s t (fault.NotSent k sent) text old e = (refl, subst (Appends old old) (sym e) (Appends-nil old))
+fault-does s t (fault.WasLost k) text old e = (refl, subst (Appends old old) (sym e) (Appends-nil old))
+fault-does s t (fault.NoClient c) text old e = (refl, subst (Appends old old) (sym e) (Appends-nil old))
+fault-does s t (fault.Used c) text old e = (refl, subst (Appends old old) (sym e) (Appends-nil old))
+fault-does s t (fault.NoNode k nodes) text old e = (refl, subst (Appends old old) (sym e) (Appends-nil old))
+fault-does s t (fault.NoJob k j len) text old e = (refl, subst (Appends old old) (sym e) (Appends-nil old))
+fault-does s t (fault.Limit what) text old e = (refl, subst (Appends old old) (sym e) (Appends-nil old))
+
+-- a step that was not done, or not for want of memory
+pub step-stopped : (s t : Progress) (n : Machine) (given : Result Machine StepFault) (old : Option (List ℕ)) (f : StepFault) (status : Status) → status ≡ ended_by s.lines f → Steps given s.machine n (Err f)
+    → Does (stepped_from s.machine given) s old old t (Err status)
+step-stopped s t n given old f status is steps = subst (λ (x : Status). Does (stepped_from s.machine given) s old old t (Err x)) (sym is) (go f steps) where
+  same : (g : StepFault) → given ≡ Err g → Does (stepped_from s.machine given) s old old t (Err (ended_by s.lines g))
+  same g e = subst (λ (x : Result Machine StepFault). Does (stepped_from s.machine x) s old old t (Err (ended_by s.lines g))) (sym e) (fault-does s t g (event_gain s.machine s.machine) old (none_left s.machine.journal))
+
+  go : (g : StepFault) → Steps given s.machine n (Err g) → Does (stepped_from s.machine given) s old old t (Err (ended_by s.lines g))
+  go fault.NoMemory h = record { front = []; rest = _; is = refl; written = Appends-nil old }
+  go (fault.NotSent k sent) h = same (fault.NotSent k sent) h.1
+  go (fault.WasLost k) h = same (fault.WasLost k) h.1
+  go (fault.NoClient c) h = same (fault.NoClient c) h.1
+  go (fault.Used c) h = same (fault.Used c) h.1
+  go (fault.NoNode k nodes) h = same (fault.NoNode k nodes) h.1
+  go (fault.NoJob k j len) h = same (fault.NoJob k j len) h.1
+  go (fault.Limit what) h = same (fault.Limit what) h.1
+
+-- ---- a settle
+
+-- where it was not done, and not for want of memory, so far it came
+pub settle-stopped : (given : Result (Machine × Settled) Stop) (n : Machine) (f : StepFault) → f ≢ fault.NoMemory → Settles given n (Err f) → given ≡ Err (n, f)
+settle-stopped given n fault.NoMemory some h = absurd (some refl)
+settle-stopped given n (fault.NotSent k sent) some h = h
+settle-stopped given n (fault.WasLost k) some h = h
+settle-stopped given n (fault.NoClient c) some h = h
+settle-stopped given n (fault.Used c) some h = h
+settle-stopped given n (fault.NoNode k nodes) some h = h
+settle-stopped given n (fault.NoJob k j len) some h = h
+settle-stopped given n (fault.Limit what) some h = h
+
+-- what was written then
+pub stops-does : (s t : Progress) (n : Machine) (given : Result (Machine × Settled) Stop) (old new : Option (List ℕ)) (f : StepFault) (status : Status) (from : ℕ) → from ≡ length s.machine.journal
+    → Settles given n (Err f) → Stops f s.lines (flat_map rec_line (drop from n.journal)) old new status → Does (settled_to given) s old new t (Err status)
+stops-does s t n given old new f status from at done stops = go f done stops where
+  same : (g : StepFault) → given ≡ Err (n, g) → ((u : Progress) → Passes (Err (ended_by s.lines g)) (flat_map rec_line (drop from n.journal)) old new u (Err status)) → Does (settled_to given) s old new t (Err status)
+  same g e h = subst (λ (x : Result (Machine × Settled) Stop). Does (settled_to x) s old new t (Err status)) (sym e)
+      (subst (λ i. Passes (Err (ended_by s.lines g)) (flat_map rec_line (drop i n.journal)) old new t (Err status)) at (h t))
+
+  go : (g : StepFault) → Settles given n (Err g) → Stops g s.lines (flat_map rec_line (drop from n.journal)) old new status → Does (settled_to given) s old new t (Err status)
+  go fault.NoMemory d h = subst (λ (x : Status). Does (settled_to given) s old new t (Err x)) (sym h.0) (subst (λ (b : Option (List ℕ)). WrotePrefix old b (event_gain s.machine (came (settled_to given)))) (sym h.1) (record { front = []; rest = _; is = refl; written = Appends-nil old }))
+  go (fault.NotSent k sent) d h = same (fault.NotSent k sent) d h
+  go (fault.WasLost k) d h = same (fault.WasLost k) d h
+  go (fault.NoClient c) d h = same (fault.NoClient c) d h
+  go (fault.Used c) d h = same (fault.Used c) d h
+  go (fault.NoNode k nodes) d h = same (fault.NoNode k nodes) d h
+  go (fault.NoJob k j len) d h = same (fault.NoJob k j len) d h
+  go (fault.Limit what) d h = same (fault.Limit what) d h
+
+-- what `stop` does: with memory, all is written and the fault ends the run
+pub stop-writes : (f : StepFault) (line : ℕ) (text : List ℕ) (old new : Option (List ℕ)) (status : Status) → f ≢ fault.NoMemory → Writes text old new (Ok tt) → status ≡ ended_by line f → Stops f line text old new status
+stop-writes fault.NoMemory line text old new status some w is = absurd (some refl)
+stop-writes (fault.NotSent k sent) line text old new status some w is = λ t. subst (λ (x : Status). Passes (Err (ended_by line (fault.NotSent k sent))) text old new t (Err x)) (sym is) (refl, w)
+stop-writes (fault.WasLost k) line text old new status some w is = λ t. subst (λ (x : Status). Passes (Err (ended_by line (fault.WasLost k))) text old new t (Err x)) (sym is) (refl, w)
+stop-writes (fault.NoClient c) line text old new status some w is = λ t. subst (λ (x : Status). Passes (Err (ended_by line (fault.NoClient c))) text old new t (Err x)) (sym is) (refl, w)
+stop-writes (fault.Used c) line text old new status some w is = λ t. subst (λ (x : Status). Passes (Err (ended_by line (fault.Used c))) text old new t (Err x)) (sym is) (refl, w)
+stop-writes (fault.NoNode k nodes) line text old new status some w is = λ t. subst (λ (x : Status). Passes (Err (ended_by line (fault.NoNode k nodes))) text old new t (Err x)) (sym is) (refl, w)
+stop-writes (fault.NoJob k j len) line text old new status some w is = λ t. subst (λ (x : Status). Passes (Err (ended_by line (fault.NoJob k j len))) text old new t (Err x)) (sym is) (refl, w)
+stop-writes (fault.Limit what) line text old new status some w is = λ t. subst (λ (x : Status). Passes (Err (ended_by line (fault.Limit what))) text old new t (Err x)) (sym is) (refl, w)
+
+-- the writing ended the run
+pub stop-failed : (f : StepFault) (line : ℕ) (text : List ℕ) (old new : Option (List ℕ)) (status : Status) → f ≢ fault.NoMemory → Writes text old new (Err status) → Stops f line text old new status
+stop-failed f line text old new status some w = go f some where
+  all : (g : StepFault) (t : Progress) → Passes (Err (ended_by line g)) text old new t (Err status)
+  all g t = of status w where
+    of : (x : Status) → Writes text old new (Err x) → Passes (Err (ended_by line g)) text old new t (Err x)
+    of WriteFault h = h
+    of NoMemory h = h
+    of Done h = absurd h
+    of Usage h = absurd h
+    of ReadFault h = absurd h
+    of (Refused n why) h = absurd h
+    of (Limit n what) h = absurd h
+
+  go : (g : StepFault) → g ≢ fault.NoMemory → Stops g line text old new status
+  go fault.NoMemory other = absurd (other refl)
+  go (fault.NotSent k sent) other = all (fault.NotSent k sent)
+  go (fault.WasLost k) other = all (fault.WasLost k)
+  go (fault.NoClient c) other = all (fault.NoClient c)
+  go (fault.Used c) other = all (fault.Used c)
+  go (fault.NoNode k nodes) other = all (fault.NoNode k nodes)
+  go (fault.NoJob k j len) other = all (fault.NoJob k j len)
+  go (fault.Limit what) other = all (fault.Limit what)
+
+-- ---- a journal that is no shorter
+
+settled-grows : (m : Machine) (rounds : ℕ) → Grows m (came (settled_to (settled m rounds)))
+unfolding event_step
+settled-grows m rounds = event-grows m (event.Settle rounds)
+
+pub settled-longer : (m : Machine) (rounds : ℕ) (n : Machine) (s : Settled) → settled m rounds ≡ Ok (n, s) → length m.journal ≤ length n.journal
+settled-longer m rounds n s is = grows-longer m n (subst (λ (x : Result (Machine × Settled) Stop). Grows m (came (settled_to x))) is (settled-grows m rounds))
+
+pub stopped-longer : (m : Machine) (rounds : ℕ) (n : Machine) (f : StepFault) → f ≢ fault.NoMemory → Settles (settled m rounds) n (Err f) → length m.journal ≤ length n.journal
+stopped-longer m rounds n f some h = grows-longer m n (subst (λ (x : Result (Machine × Settled) Stop). Grows m (came (settled_to x))) (settle-stopped (settled m rounds) n f some h) (settled-grows m rounds))
+
+-- what holds anyway holds where a call is done
+pub on-ok : (r : Result (Unit {0}) Status) (P : Type 0) → P → OnOk r P
+on-ok (Ok done) P p = p
+on-ok (Err status) P p = tt

@@ -1,6 +1,6 @@
 -- Why a replay ends as it does, in words of the text's lines, and of the journal before the line that ends it.
 -- The numbers of all limits and ranges are written out here, apart from the rules that use them.
-use Rattle.std.specs.Prelude.{◌≡◌, ◌≢◌, ◌⊎◌, ℕ, ◌+◌, ◌-◌, ◌*◌, ◌^◌, ◌<◌, ◌≤◌, true, List, [], ◌∷◌, ◌++◌, length, Option, Some, None, IsSome, Ok}
+use Rattle.std.specs.Prelude.{◌≡◌, ◌≢◌, ◌⊎◌, ℕ, ◌+◌, ◌-◌, ◌*◌, ◌^◌, ◌<◌, ◌≤◌, true, List, [], ◌∷◌, ◌++◌, length, Option, Some, None, IsSome, Ok, Err}
 use Rattle.std.specs.FinMap as table
 use Rattle.lard_base.specs.declared.config.Config.{Config}
 use Rattle.lard_base.specs.declared.config.ConfigFault.{ConfigFault}
@@ -12,6 +12,7 @@ use Rattle.lard_base.specs.declared.event.Event.TheVariants as event
 use Rattle.lard_base.specs.declared.place.Place.{Place}
 use Rattle.lard_base.specs.declared.place.Place.TheVariants.{Front, Node, Client}
 use Rattle.lard_client.specs.Control.{written_len}
+use Rattle.lard_cluster.specs.declared.fault.StepFault.{StepFault}
 use Rattle.lard_cluster.specs.declared.machine.Machine.{Machine}
 use Rattle.lard_cluster_stores.specs.Stores.{jobs}
 use Rattle.lard_files.specs.Files.{file_at, total}
@@ -27,12 +28,11 @@ use Rattle.lard_schedule.specs.declared.item.Item.TheVariants as item
 use Rattle.lard_schedule.specs.declared.reader.Stage.TheVariants.{Running}
 use Rattle.lard_schedule.specs.Laws.{IsLineOf, MayStand}
 use Rattle.lard_schedule.specs.Reader.{HasRange}
-use Rattle.lard_app.specs.declared.status.Form.{Form}
+use Rattle.lard_settle.specs.Events.{event_step}
 use Rattle.lard_app.specs.declared.status.Status.{Status}
 use Rattle.lard_app.specs.declared.status.Status.TheVariants.{Done, Refused, Limit}
 use Rattle.lard_app.specs.declared.status.Why.{Why}
 use Rattle.lard_app.specs.declared.status.Why.TheVariants as why
-use Rattle.lard_app.specs.Forms.{missing, unbuilt}
 use Rattle.lard_app.specs.Replay.{Progress, begin, passed}
 
 -- ---- lines
@@ -46,13 +46,9 @@ bytes_in (line ∷ lines) = (length line + 1) + bytes_in lines
 abbrev pub Stands : Progress → List ℕ → Item → Type 0
 Stands s line x = IsLineOf line x × MayStand s.reader x × HasRange x
 
--- its first word is not that of a form that is not built
-abbrev pub StandsFor : Progress → List ℕ → Item → Type 0
-StandsFor s line x = (unbuilt line ≡ None) × Stands s line x
-
--- it is an event whose form is built, so that its step is tried
+-- it is an event, which is tried
 abbrev pub Tries : Progress → List ℕ → Event → Type 0
-Tries s line e = StandsFor s line (item.Event e) × (missing e ≡ None)
+Tries s line e = Stands s line (item.Event e)
 
 -- ---- why an item is refused
 
@@ -81,14 +77,6 @@ IsUnfit config (item.Set key value) fault = (fault ≡ Range key value) × ¬ (I
 IsUnfit config (item.File path bytes) fault = ⊥
 IsUnfit config item.Go fault = DisagreesBy config fault
 IsUnfit config (item.Event e) fault = ⊥
-
--- it is not built
-abbrev pub IsUnbuilt : Item → Form → Type 0
-IsUnbuilt item.Header f = ⊥
-IsUnbuilt (item.Set key value) f = ⊥
-IsUnbuilt (item.File path bytes) f = ⊥
-IsUnbuilt item.Go f = ⊥
-IsUnbuilt (item.Event e) f = missing e ≡ Some f
 
 -- ---- why a step is not done, after the records of J
 
@@ -163,11 +151,21 @@ IsUntimely m e (why.NoJob n j len) = IsOfDisk m.config.nodes m.journal e n j len
 IsUntimely m e why.Syntax = ⊥
 IsUntimely m e (why.Config fault) = ⊥
 IsUntimely m e (why.File fault) = ⊥
-IsUntimely m e (why.FormNotBuilt f) = ⊥
 
--- a limit was reached before the step, or the event would pass that on what a client writes
+-- A settle ended the run in this state, by this fault: no step was done there.
+abbrev pub StopsIn : Machine → ℕ → Machine → StepFault → Type 0
+StopsIn m rounds n f = event_step m (event.Settle rounds) ≡ Err (n, f)
+
+-- A limit was reached before the step, or the event would pass that on what a client writes. Of a settle it is the step that was not
+-- done: its event, or one inside.
 abbrev pub Reaches : Machine → Event → What → Type 0
+Reaches m (event.Settle rounds) w = (n : Machine) × (f : StepFault) × StopsIn m rounds n f × HasReached n.journal w
 Reaches m e w = HasReached m.journal w ⊎ (IsWithinLimits m.journal × (w ≡ what.Stream) × WritesTooMuch m e)
+
+-- The event may not come now. A settle always may, and its inner steps are refused for no other cause than a limit.
+abbrev pub MayNotCome : Machine → Event → Why → Type 0
+MayNotCome m (event.Settle rounds) cause = ⊥
+MayNotCome m e cause = IsWithinLimits m.journal × IsUntimely m e cause
 
 -- ---- files
 
@@ -182,17 +180,16 @@ MayNotAdd there count sum len file_fault.NoMemory = ⊥
 
 -- it is a file that may not be added to those before, for this reason
 abbrev pub AddsNone : Progress → List ℕ → FileFault → Type 0
-AddsNone s line fault = (path : List ℕ) × (bytes : List ℕ) × StandsFor s line (item.File path bytes) × MayNotAdd (file_at s.files path) (length s.files) (total s.files) (length bytes) fault
+AddsNone s line fault = (path : List ℕ) × (bytes : List ℕ) × Stands s line (item.File path bytes) × MayNotAdd (file_at s.files path) (length s.files) (total s.files) (length bytes) fault
 
 -- ---- causes
 
 -- why a line is refused in its place
 abbrev pub Refuses : Progress → List ℕ → Why → Type 0
-Refuses s line (why.FormNotBuilt f) = (unbuilt line ≡ Some f) ⊎ ((x : Item) × StandsFor s line x × IsUnbuilt x f)
-Refuses s line why.Syntax = (unbuilt line ≡ None) × ((x : Item) → ¬ (Stands s line x))
-Refuses s line (why.Config fault) = (x : Item) × StandsFor s line x × IsUnfit s.config x fault
+Refuses s line why.Syntax = (x : Item) → ¬ (Stands s line x)
+Refuses s line (why.Config fault) = (x : Item) × Stands s line x × IsUnfit s.config x fault
 Refuses s line (why.File fault) = AddsNone s line fault
-Refuses s line cause = (e : Event) × Tries s line e × IsWithinLimits s.machine.journal × IsUntimely s.machine e cause
+Refuses s line cause = (e : Event) × Tries s line e × MayNotCome s.machine e cause
 
 -- how a line ends the run, after n lines of so many bytes: it holds the byte after the limit, or it is refused, or a
 -- limit is reached

@@ -1,5 +1,4 @@
 pub mod Causes
-pub mod Forms
 pub mod Replay
 pub mod Run
 pub mod Seen

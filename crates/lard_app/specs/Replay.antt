@@ -10,7 +10,6 @@ use Rattle.lard_base.specs.declared.config.Key.{Key}
 use Rattle.lard_base.specs.Outside.{WrotePrefix}
 use Rattle.lard_base.specs.declared.event.Event.{Event}
 use Rattle.lard_base.specs.declared.limits.TheConstants.{MAX_INPUT_BYTES}
-use Rattle.lard_cluster.specs.Machine.{machine_step}
 use Rattle.lard_cluster.specs.Machine as machine
 use Rattle.lard_cluster.specs.declared.fault.StepFault.{StepFault}
 use Rattle.lard_cluster.specs.declared.fault.StepFault.TheVariants as fault
@@ -29,12 +28,12 @@ use Rattle.lard_schedule.specs.declared.reader.Stage.{Stage}
 use Rattle.lard_schedule.specs.declared.reader.Stage.TheVariants.{Start, Settings, Files, Running}
 use Rattle.lard_schedule.specs.Reader.{after, item_of}
 use Rattle.lard_schedule.specs.Reader as reader
-use Rattle.lard_app.specs.declared.status.Form.{Form}
+use Rattle.lard_settle.specs.Events.{event_step}
+use Rattle.lard_settle.specs.Settling.{Stop}
 use Rattle.lard_app.specs.declared.status.Status.{Status}
 use Rattle.lard_app.specs.declared.status.Status.TheVariants.{Done, Usage, Refused, ReadFault, WriteFault, NoMemory, Limit}
 use Rattle.lard_app.specs.declared.status.Why.{Why}
 use Rattle.lard_app.specs.declared.status.Why.TheVariants as why
-use Rattle.lard_app.specs.Forms.{missing, unbuilt}
 
 -- What was read of a schedule so far, and what it led to.
 pub record Progress : Type 0 where
@@ -86,21 +85,17 @@ ended_by line (fault.NoJob n j len) = Refused line (why.NoJob n j len)
 ended_by line (fault.Limit what) = Limit line what
 ended_by line fault.NoMemory = NoMemory
 
-abbrev pub moved : Progress → Result Machine StepFault → Result Progress Status
+-- a step or a settle is done, or it ends the run
+abbrev pub moved : Progress → Result Machine Stop → Result Progress Status
 moved s (Ok m) = Ok (record s { machine = m })
-moved s (Err fault) = Err (ended_by s.lines fault)
-
--- an event is refused before its step where it or this use of it is not built
-abbrev pub stepped : Progress → Event → Option Form → Result Progress Status
-stepped s e (Some form) = Err (Refused s.lines (why.FormNotBuilt form))
-stepped s e None = moved s (machine_step s.machine e)
+moved s (Err stop) = Err (ended_by s.lines stop.1)
 
 abbrev pub taken : Progress → Item → Result Progress Status
 taken s item.Header = Ok s
 taken s (item.Set key value) = config_set s key value (range_check key value)
 taken s (item.File path bytes) = filed s path bytes (add_check s.files path (length bytes))
 taken s item.Go = begun s (config_check s.config)
-taken s (item.Event e) = stepped s e (missing e)
+taken s (item.Event e) = moved s (event_step s.machine e)
 
 -- ---- what a line does
 
@@ -108,13 +103,9 @@ abbrev pub found : Option Item → Result Item Why
 found None = Err why.Syntax
 found (Some x) = Ok x
 
-abbrev pub unless_unbuilt : Option Form → Result Item Why → Result Item Why
-unless_unbuilt None given = given
-unless_unbuilt (Some form) given = Err (why.FormNotBuilt form)
-
--- what a line stands for in its place; its first word alone decides where its form is not built
-unfoldable pub judged : Reader → List ℕ → Result Item Why
-judged r line = unless_unbuilt (unbuilt line) (found (item_of r line))
+-- what a line stands for in its place
+abbrev pub judged : Reader → List ℕ → Result Item Why
+judged r line = found (item_of r line)
 
 -- the line and its line feed are read
 abbrev pub counted : Progress → List ℕ → Progress
@@ -137,6 +128,26 @@ passed s line =
     if is_past s line then Err (Limit (s.lines + 1) Input)
     else item_taken (counted s line) (judged s.reader line)
 
+-- ---- how far a line comes that ends the run
+
+-- how far an event came: to its end, or to the step that was not done
+abbrev pub came : Result Machine Stop → Machine
+came (Ok m) = m
+came (Err stop) = stop.0
+
+-- the machine behind what a line stands for, where that is an event
+abbrev pub machine_behind : Machine → Result Item Why → Machine
+machine_behind m (Err why) = m
+machine_behind m (Ok item.Header) = m
+machine_behind m (Ok (item.Set key value)) = m
+machine_behind m (Ok (item.File path bytes)) = m
+machine_behind m (Ok item.Go) = m
+machine_behind m (Ok (item.Event e)) = came (event_step m e)
+
+-- A line that ends the run leaves the state before it, but for the machine: in a settle that had begun it has come further.
+unfoldable pub halted : Progress → List ℕ → Progress
+halted s line = if is_past s line then s else record s { machine = machine_behind s.machine (judged s.reader line) }
+
 -- ---- how a text ends
 
 -- nothing comes after the last line feed: the schedule is whole where `go` has passed
@@ -157,7 +168,7 @@ ending s (b ∷ bs) = if nat_lt MAX_INPUT_BYTES (s.read + length (b ∷ bs)) the
 abbrev pub replayed : Progress → List (List ℕ) → Progress × Status
 replayed s [] = (s, Done)
 replayed s (last ∷ []) = (s, ending s last)
-replayed s (line ∷ next ∷ more) = elim (passed s line) [ Err status ↦ (s, status) | Ok t ↦ replayed t (next ∷ more) ]
+replayed s (line ∷ next ∷ more) = elim (passed s line) [ Err status ↦ (halted s line, status) | Ok t ↦ replayed t (next ∷ more) ]
 
 -- the event of a line, where it stands for one
 abbrev pub event_listed : Result Item Why → List Event
@@ -168,13 +179,17 @@ event_listed (Ok (item.File path bytes)) = []
 event_listed (Ok item.Go) = []
 event_listed (Ok (item.Event e)) = e ∷ []
 
--- the events of the lines that are passed from a state on
+-- the event of a line that ends the run, where it is a settle that had begun: some of its records were written
+abbrev pub begun_by : Progress → List ℕ → List Event
+begun_by s line = if nat_lt (length s.machine.journal) (length (halted s line).machine.journal) then event_listed (judged s.reader line) else []
+
+-- the events of the lines that are passed from a state on, and of a settle in which the run ends
 abbrev pub events_from : Progress → List (List ℕ) → List Event
 events_from s [] = []
 events_from s (last ∷ []) = []
-events_from s (line ∷ next ∷ more) = elim (passed s line) [ Err status ↦ [] | Ok t ↦ event_listed (judged s.reader line) ++ events_from t (next ∷ more) ]
+events_from s (line ∷ next ∷ more) = elim (passed s line) [ Err status ↦ begun_by s line | Ok t ↦ event_listed (judged s.reader line) ++ events_from t (next ∷ more) ]
 
--- the events that a text's lines passed
+-- the events that happened by a text
 unfoldable pub events_of : List ℕ → List Event
 events_of text = events_from begin (lines_of text)
 
@@ -212,10 +227,9 @@ report_at Running m = report m.config (sizes m.files) m.journal
 abbrev pub report_of : Progress → List ℕ
 report_of s = report_at s.reader.stage s.machine
 
--- the records that a step added
-abbrev pub step_gain : Progress → Result Progress Status → List ℕ
-step_gain s (Err status) = []
-step_gain s (Ok t) = flat_map rec_line (drop (length s.machine.journal) t.machine.journal)
+-- the lines of the records that an event added, done or not
+abbrev pub event_gain : Machine → Machine → List ℕ
+event_gain m n = flat_map rec_line (drop (length m.journal) n.journal)
 
 abbrev pub go_gain : Progress → Result (Unit {0}) ConfigFault → List ℕ
 go_gain s (Ok _) = heading_line s.config ++ s.listed
@@ -226,7 +240,7 @@ item_gain s item.Header = []
 item_gain s (item.Set key value) = []
 item_gain s (item.File path bytes) = []
 item_gain s item.Go = go_gain s (config_check s.config)
-item_gain s (item.Event e) = step_gain s (stepped s e (missing e))
+item_gain s (item.Event e) = event_gain s.machine (came (event_step s.machine e))
 
 abbrev pub judged_gain : Progress → Result Item Why → List ℕ
 judged_gain s (Err why) = []
@@ -261,13 +275,13 @@ CountsFault before now (Ok _) = now ≡ before
 CountsFault before now (Err status) = EndsCount before now status
 
 -- What a call did that passed a line: the state and the text are those that the rules give, or the line ended the
--- run; a write that failed and running out of memory leave a prefix of the text.
+-- run, and all that it gave was written; a write that failed and running out of memory leave a prefix of the text.
 abbrev pub Passes : Result Progress Status → List ℕ → Option (List ℕ) → Option (List ℕ) → Progress → Result (Unit {0}) Status → Type 0
 Passes given text old new t (Ok _) = (given ≡ Ok t) × Appends old new text
 Passes given text old new t (Err WriteFault) = WrotePrefix old new text
 Passes given text old new t (Err NoMemory) = WrotePrefix old new text
-Passes given text old new t (Err (Refused line why)) = (given ≡ Err (Refused line why)) × Appends old new []
-Passes given text old new t (Err (Limit line what)) = (given ≡ Err (Limit line what)) × Appends old new []
+Passes given text old new t (Err (Refused line why)) = (given ≡ Err (Refused line why)) × Appends old new text
+Passes given text old new t (Err (Limit line what)) = (given ≡ Err (Limit line what)) × Appends old new text
 Passes given text old new t (Err Done) = ⊥
 Passes given text old new t (Err Usage) = ⊥
 Passes given text old new t (Err ReadFault) = ⊥

@@ -1,9 +1,15 @@
 -- What the code of a replay has in hand, as the rules see it.
-use Rattle.std.specs.Prelude.{◌≡◌, Result, Ok, Err}
+use Rattle.std.specs.Prelude.{◌≡◌, ℕ, List, Option, Some, None, Result, Ok, Err}
+use Rattle.lard_base.specs.declared.event.Event.{Event}
+use Rattle.lard_base.specs.declared.event.Event.TheVariants as event
+use Rattle.lard_cluster.specs.declared.fault.StepFault.{StepFault}
+use Rattle.lard_cluster.specs.declared.fault.StepFault.TheVariants as fault
+use Rattle.lard_cluster.specs.declared.machine.Machine.{Machine}
+use Rattle.lard_settle.specs.Settling.{Stop}
 use Rattle.lard_app.specs.declared.replay.Replay.{Replay}
 use Rattle.lard_app.specs.declared.status.Status.{Status}
 use Rattle.lard_app.specs.declared.status.Status.TheVariants.{NoMemory, Refused}
-use Rattle.lard_app.specs.Replay.{Progress}
+use Rattle.lard_app.specs.Replay.{Passes, Progress, came, ended_by, event_gain, moved}
 
 abbrev pub seen : Replay → Progress
 seen r = record { reader = r.reader; config = r.config; files = r.files; listed = r.listed.items; lines = r.lines; read = r.read; machine = r.world.machine }
@@ -19,3 +25,17 @@ Adds given t (Ok _) = given ≡ Ok t
 Adds given t (Err NoMemory) = Unit {0}
 Adds given t (Err (Refused line why)) = given ≡ Err (Refused line why)
 Adds given t (Err _) = ⊥
+
+-- for how many rounds an event settles
+abbrev pub rounds_of : Event → Option ℕ
+rounds_of (event.Settle rounds) = Some rounds
+rounds_of _ = None
+
+-- a call did what comes of an event, and wrote what it gave
+abbrev pub Does : Result Machine Stop → Progress → Option (List ℕ) → Option (List ℕ) → Progress → Result (Unit {0}) Status → Type 0
+Does given s old new t result = Passes (moved s given) (event_gain s.machine (came given)) old new t result
+
+-- A fault ends a settle at a line: what came was written, but where memory ran out.
+abbrev pub Stops : StepFault → ℕ → List ℕ → Option (List ℕ) → Option (List ℕ) → Status → Type 0
+Stops fault.NoMemory line text old new status = (status ≡ NoMemory) × (new ≡ old)
+Stops f line text old new status = (t : Progress) → Passes (Err (ended_by line f)) text old new t (Err status)

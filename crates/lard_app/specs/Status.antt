@@ -7,10 +7,8 @@ use Rattle.lard_files.specs.declared.fault.FileFault.{FileFault}
 use Rattle.lard_files.specs.declared.fault.FileFault.TheVariants as file_fault
 use Rattle.lard_machine.specs.declared.fault.What.{What}
 use Rattle.lard_machine.specs.declared.fault.What.TheVariants.{Input, Packets, PacketBytes, Records, Answers, Stream}
-use Rattle.lard_app.specs.declared.status.Form.{Form}
-use Rattle.lard_app.specs.declared.status.Form.TheVariants as form
 use Rattle.lard_app.specs.declared.status.Why.{Why}
-use Rattle.lard_app.specs.declared.status.Why.TheVariants.{Syntax, Config, File, NotSent, WasLost, NoClient, Used, NoNode, NoJob, FormNotBuilt}
+use Rattle.lard_app.specs.declared.status.Why.TheVariants.{Syntax, Config, File, NotSent, WasLost, NoClient, Used, NoNode, NoJob}
 use Rattle.lard_app.specs.declared.status.Status.{Status}
 use Rattle.lard_app.specs.declared.status.Status.TheVariants.{Done, Usage, Refused, ReadFault, WriteFault, NoMemory, Limit}
 
@@ -22,26 +20,6 @@ code_of ReadFault = 3
 code_of WriteFault = 4
 code_of NoMemory = 5
 code_of (Limit line what) = 6
-
--- the first word of a form's lines
-abbrev pub form_word : Form → List ℕ
-form_word form.File = codes "file"
-form_word form.Fill = codes "fill"
-form_word form.Open = codes "open"
-form_word form.Get = codes "get"
-form_word form.Write = codes "write"
-form_word form.Shut = codes "shut"
-form_word form.Abort = codes "abort"
-form_word form.Hold = codes "hold"
-form_word form.Take = codes "take"
-form_word form.Deliver = codes "deliver"
-form_word form.Lose = codes "lose"
-form_word form.Timer = codes "timer"
-form_word form.Disk = codes "disk"
-form_word form.Clock = codes "clock"
-form_word form.Settle = codes "settle"
-form_word form.Inject = codes "inject"
-form_word (form.Key key) = key_word key
 
 -- the line's number, before what is wrong with it
 abbrev pub line_prefix : ℕ → List ℕ
@@ -71,7 +49,6 @@ why_text line (NoClient c) = line_prefix line ++ codes "client " ++ decimal c ++
 why_text line (Used c) = line_prefix line ++ codes "client " ++ decimal c ++ codes " opened before"
 why_text line (NoNode n nodes) = line_prefix line ++ codes "node " ++ decimal n ++ codes " above " ++ decimal nodes
 why_text line (NoJob n j len) = line_prefix line ++ codes "job " ++ decimal j ++ codes " of " ++ decimal len ++ codes " at node " ++ decimal n
-why_text line (FormNotBuilt form) = line_prefix line ++ codes "not built yet: " ++ form_word form
 
 abbrev pub what_word : What → List ℕ
 what_word Input = codes "input"

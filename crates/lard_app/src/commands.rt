@@ -2,6 +2,7 @@
 
 ghost use Rattle.std.specs.Prelude.{◌≡◌, ◌↔◌, false, [], codes, IsTrue};
 ghost use Rattle.std.specs.Io.KnownBytes.{Keeps};
+ghost use Rattle.lard_agenda.specs.Agenda.{IsAgendaOf};
 ghost use Rattle.lard_base.specs.Causes.{Rose};
 ghost use Rattle.lard_app.specs.declared.status.Status.{Status};
 ghost use Rattle.lard_app.specs.Replay.{EndsCount, begin};
@@ -92,6 +93,7 @@ fn replay_lines<S: Source, K: Sink>(
 ) -> Status
     requires begins { seen replay.old ≡ begin }
     requires usable { replay.old.world.spoiled ≡ false }
+    requires agenda { IsAgendaOf replay.old.agenda replay.old.world.machine.journal }
     requires unread { lines.old ≡ record { rest = []; read = 0 } }
     ensures reads { Reads result (S.left source.old) (S.left source.new) (K.written sink.old) (K.written sink.new) }
     ensures read_fault { result ≡ Status.ReadFault → Rose (S.faults source.old) (S.faults source.new) }

@@ -2,12 +2,12 @@
 //! what a sink of standard output still holds back behind it.
 //!
 //! It stands at the top of the path. `run` reads its words and the input, the reader of `lard_schedule` makes an item
-//! of each line, the world of `lard_cluster_world` does the step of an event, and the step's records go to the sink as lines.
+//! of each line, the world of `lard_cluster_world` does the step of an event, or `lard_settle` the steps of a settle, and their
+//! records go to the sink as lines.
 #![tactic(auto)]
 
 mod commands;
 mod flush;
-mod forms;
 mod replay;
 mod status;
 #[cfg(test)]
@@ -17,4 +17,4 @@ pub use commands::run;
 pub use flush::flush_report;
 pub use lard_files::FileFault;
 pub use lard_machine::What;
-pub use status::{Form, Status, Why};
+pub use status::{Status, Why};

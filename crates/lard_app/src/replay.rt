@@ -1,6 +1,6 @@
 //! A replay: what was read of a schedule so far, and the world that its events have led to.
 
-ghost use Rattle.std.specs.Prelude.{◌≡◌, ◌+◌, ◌++◌, ◌≤◌, ◌<◌, ◌^◌, true, false, length, drop, Ok, IfOk, OnOk};
+ghost use Rattle.std.specs.Prelude.{◌≡◌, ◌≢◌, ◌+◌, ◌++◌, ◌≤◌, ◌<◌, ◌^◌, true, false, length, drop, Ok, IfOk, OnOk};
 ghost use Rattle.std.specs.List.{flat_map};
 ghost use Rattle.lard_base.specs.Config.{config_check, range_check};
 ghost use Rattle.lard_files.specs.Files.{add_check};
@@ -8,12 +8,17 @@ ghost use Rattle.lard_journal.specs.Report.{file_text, heading_line, rec_line};
 ghost use Rattle.lard_schedule.specs.Events.{IsInRange};
 ghost use Rattle.lard_schedule.specs.Files.{is_file_path};
 ghost use Rattle.lard_schedule.specs.Reader.{HasRange};
-ghost use Rattle.lard_app.specs.Forms.{missing};
-ghost use Rattle.lard_app.specs.Replay.{CountsFault, IsSound, Passes, Writes, begin, begun, config_set, ended_by, ending, file_ends, filed, gain, item_gain, passed, stepped, taken};
-ghost use Rattle.lard_app.specs.Seen.{Adds, Sets, seen};
+ghost use Rattle.lard_agenda.specs.Agenda.{IsAgendaOf};
+ghost use Rattle.lard_cluster.specs.Bounds.{HasRule};
+ghost use Rattle.lard_cluster.specs.Machine.{machine_step};
+ghost use Rattle.lard_settle.specs.Events.{settled_to, stepped_from};
+ghost use Rattle.lard_settle.specs.Settling.{settled};
+ghost use Rattle.lard_app.specs.Replay.{CountsFault, EndsCount, IsSound, Passes, Writes, begin, begun, config_set, ended_by, ending, file_ends, filed, gain, item_gain, passed, taken};
+ghost use Rattle.lard_app.specs.Seen.{Adds, Does, Sets, Stops, rounds_of, seen};
 
-use crate::forms::{missing, unbuilt};
 use crate::status::{Status, Why};
+use lard_agenda::Agenda;
+use lard_agenda::laws::agendas_go_on;
 use lard_base::limits::MAX_INPUT_BYTES;
 use lard_base::{Bytes, Config, Event, Failed, Key, NoMemory, Path, Sink, write_all};
 use lard_cluster::StepFault;
@@ -22,8 +27,12 @@ use lard_files::{FileFault, Files};
 use lard_journal::{Journal, Rec, file_line, heading, push_line};
 use lard_machine::What;
 use lard_schedule::{Item, LineFault, Reader, Stage};
+use lard_settle::settle;
 use std::alloc::Global;
 use std::mem;
+
+/// How many records are written in one piece.
+const PIECE: usize = 1_000;
 
 /// What was read so far, and what it led to. It holds a world, and so has to be spent, by `finish`.
 pub struct Replay {
@@ -41,6 +50,8 @@ pub struct Replay {
     pub read: u64,
     /// The world, which begins when `go` has passed.
     pub world: World,
+    /// What its journal leaves to be done, as far as a settle has looked.
+    pub agenda: Agenda,
 }
 
 impl Replay {
@@ -48,7 +59,9 @@ impl Replay {
     pub fn new(alloc: Global) -> Result<Replay, NoMemory>
         ensures begin { IfOk result (λ replay. seen replay ≡ begin) }
         ensures usable { IfOk result (λ replay. replay.world.spoiled ≡ false) }
+        ensures agenda { IfOk result (λ replay. IsAgendaOf replay.agenda replay.world.machine.journal) }
     {
+        agendas_go_on();
         let config = Config::standard();
         let world = World::new(alloc, config, Files::new(alloc))?;
         Ok(Replay {
@@ -59,17 +72,20 @@ impl Replay {
             lines: 0,
             read: 0,
             world,
+            agenda: Agenda::new(alloc),
         })
     }
 
     /// Takes a line, which is given without its line feed, and writes what the report gains.
-    #[tactic(auto, unfolding(crate::specs::Replay::passed, crate::specs::Replay::gain, crate::specs::Replay::judged))]
+    #[tactic(auto, unfolding(crate::specs::Replay::passed, crate::specs::Replay::gain))]
     pub fn pass<K: Sink>(&mut self, alloc: Global, sink: &mut K, line: &[u8]) -> Result<(), Status>
         requires usable { self.old.world.spoiled ≡ false }
+        requires agenda { IsAgendaOf self.old.agenda self.old.world.machine.journal }
         requires sound { IsSound (seen self.old) }
         requires small { length line.now < 2 ^ 32 }
         ensures passed { Passes (passed (seen self.old) line.now) (gain (seen self.old) line.now) (K.written sink.old) (K.written sink.new) (seen self.new) result }
         ensures usable { OnOk result (self.new.world.spoiled ≡ false) }
+        ensures agenda { OnOk result (IsAgendaOf self.new.agenda self.new.world.machine.journal) }
         ensures faults { CountsFault (K.faults sink.old) (K.faults sink.new) result }
     {
         let number = self.lines + 1;
@@ -79,9 +95,6 @@ impl Replay {
                 line: number,
                 what: What::Input,
             });
-        }
-        if let Some(form) = unbuilt(line) {
-            return Err(refused(number, Why::FormNotBuilt(form)));
         }
         match self.reader.feed_line(alloc, line) {
             Ok(item) => {
@@ -97,9 +110,11 @@ impl Replay {
     /// Takes what a line stands for, once the line is counted and the reader has passed it.
     fn take<K: Sink>(&mut self, alloc: Global, sink: &mut K, item: Item) -> Result<(), Status>
         requires usable { self.old.world.spoiled ≡ false }
+        requires agenda { IsAgendaOf self.old.agenda self.old.world.machine.journal }
         requires range { HasRange item }
         ensures taken { Passes (taken (seen self.old) item) (item_gain (seen self.old) item) (K.written sink.old) (K.written sink.new) (seen self.new) result }
         ensures usable { OnOk result (self.new.world.spoiled ≡ false) }
+        ensures agenda { OnOk result (IsAgendaOf self.new.agenda self.new.world.machine.journal) }
         ensures faults { CountsFault (K.faults sink.old) (K.faults sink.new) result }
     {
         match item {
@@ -115,6 +130,7 @@ impl Replay {
     fn set(&mut self, key: Key, value: u64) -> Result<(), Status>
         ensures set { Sets (config_set (seen self.old) key value (range_check key value)) (seen self.new) result }
         ensures world { self.new.world ≡ self.old.world }
+        ensures agenda { self.new.agenda ≡ self.old.agenda }
     {
         if let Err(fault) = self.config.set(key, value) {
             return Err(refused(self.lines, Why::Config(fault)));
@@ -127,6 +143,7 @@ impl Replay {
         requires range { is_file_path path ≡ true }
         ensures filed { Adds (filed (seen self.old) path bytes (add_check self.old.files path (length bytes))) (seen self.new) result }
         ensures world { self.new.world ≡ self.old.world }
+        ensures agenda { self.new.agenda ≡ self.old.agenda }
     {
         if let Err(fault) = self.files.add(path.as_slice(), bytes.as_slice()) {
             return Err(file_ends(self.lines, fault));
@@ -141,6 +158,7 @@ impl Replay {
     fn go<K: Sink>(&mut self, alloc: Global, sink: &mut K) -> Result<(), Status>
         ensures taken { Passes (taken (seen self.old) Item.Go) (item_gain (seen self.old) Item.Go) (K.written sink.old) (K.written sink.new) (seen self.new) result }
         ensures usable { OnOk result (self.new.world.spoiled ≡ false) }
+        ensures agenda { OnOk result (IsAgendaOf self.new.agenda self.new.world.machine.journal) }
         ensures faults { CountsFault (K.faults sink.old) (K.faults sink.new) result }
     {
         if let Err(fault) = self.config.check() {
@@ -158,31 +176,82 @@ impl Replay {
         ensures begun { IfOk result (λ text. begun (seen self.old) (Ok tt) ≡ Ok (seen self.new)) }
         ensures text { IfOk result (λ text. text.items ≡ heading_line self.old.config ++ self.old.listed.items) }
         ensures usable { IfOk result (λ text. self.new.world.spoiled ≡ false) }
+        ensures agenda { IfOk result (λ text. IsAgendaOf self.new.agenda self.new.world.machine.journal) }
     {
+        agendas_go_on();
         let files = mem::replace(&mut self.files, Files::new(alloc));
         let listed = mem::replace(&mut self.listed, Vec::new(alloc));
         let world = World::new(alloc, self.config, files)?;
         let before = mem::replace(&mut self.world, world);
         let _empty = before.finish();
+        self.agenda = Agenda::new(alloc);
         let text = preface(alloc, &self.config, listed.as_slice())?;
         Ok(text)
     }
 
-    /// Does the step of an event, and writes its records.
+    /// Does what an event does, a step or a settle, and writes the records that came of it.
+    #[tactic(auto, unfolding(lard_settle::specs::Events::event_step))]
     fn step<K: Sink>(&mut self, alloc: Global, sink: &mut K, event: Event) -> Result<(), Status>
         requires usable { self.old.world.spoiled ≡ false }
+        requires agenda { IsAgendaOf self.old.agenda self.old.world.machine.journal }
         requires range { IsInRange event }
-        ensures taken { Passes (stepped (seen self.old) event (missing event)) (item_gain (seen self.old) (Item.Event event)) (K.written sink.old) (K.written sink.new) (seen self.new) result }
+        ensures taken { Passes (taken (seen self.old) (Item.Event event)) (item_gain (seen self.old) (Item.Event event)) (K.written sink.old) (K.written sink.new) (seen self.new) result }
         ensures usable { OnOk result (self.new.world.spoiled ≡ false) }
+        ensures agenda { OnOk result (IsAgendaOf self.new.agenda self.new.world.machine.journal) }
         ensures faults { CountsFault (K.faults sink.old) (K.faults sink.new) result }
     {
-        if let Some(form) = missing(&event) {
-            return Err(refused(self.lines, Why::FormNotBuilt(form)));
+        match rounds_of(&event) {
+            Some(rounds) => return self.settle(alloc, sink, rounds),
+            None => return self.act(alloc, sink, event),
         }
+    }
+
+    /// Does the step of an event that is no settle, and writes its records.
+    fn act<K: Sink>(&mut self, alloc: Global, sink: &mut K, event: Event) -> Result<(), Status>
+        requires usable { self.old.world.spoiled ≡ false }
+        requires agenda { IsAgendaOf self.old.agenda self.old.world.machine.journal }
+        requires ruled { HasRule event }
+        ensures taken { Does (stepped_from self.old.world.machine (machine_step self.old.world.machine event)) (seen self.old) (K.written sink.old) (K.written sink.new) (seen self.new) result }
+        ensures usable { OnOk result (self.new.world.spoiled ≡ false) }
+        ensures agenda { OnOk result (IsAgendaOf self.new.agenda self.new.world.machine.journal) }
+        ensures faults { CountsFault (K.faults sink.old) (K.faults sink.new) result }
+    {
+        agendas_go_on();
         let before = self.world.journal().len() as usize;
         match self.world.step(alloc, event) {
             Ok(()) => return write_records(alloc, sink, self.world.journal(), before),
             Err(fault) => return Err(ended_by(self.lines, fault)),
+        }
+    }
+
+    /// Settles, and writes the records that came, also where a limit ended it inside.
+    fn settle<K: Sink>(&mut self, alloc: Global, sink: &mut K, rounds: u32) -> Result<(), Status>
+        requires usable { self.old.world.spoiled ≡ false }
+        requires agenda { IsAgendaOf self.old.agenda self.old.world.machine.journal }
+        ensures taken { Does (settled_to (settled self.old.world.machine rounds)) (seen self.old) (K.written sink.old) (K.written sink.new) (seen self.new) result }
+        ensures usable { OnOk result (self.new.world.spoiled ≡ false) }
+        ensures agenda { OnOk result (IsAgendaOf self.new.agenda self.new.world.machine.journal) }
+        ensures faults { CountsFault (K.faults sink.old) (K.faults sink.new) result }
+    {
+        let before = self.world.journal().len() as usize;
+        match settle(&mut self.world, &mut self.agenda, alloc, rounds) {
+            Ok(_) => return write_records(alloc, sink, self.world.journal(), before),
+            Err(fault) => return Err(self.stop(alloc, sink, before, fault)),
+        }
+    }
+
+    /// Writes the records that came before a settle was ended inside by this fault, but where memory ran out.
+    fn stop<K: Sink>(&self, alloc: Global, sink: &mut K, from: usize, fault: StepFault) -> Status
+        requires { fault ≢ StepFault.NoMemory → from ≤ length self.now.world.machine.journal }
+        ensures stops { Stops fault self.now.lines (flat_map rec_line (drop from self.now.world.machine.journal)) (K.written sink.old) (K.written sink.new) result }
+        ensures faults { EndsCount (K.faults sink.old) (K.faults sink.new) result }
+    {
+        if fault == StepFault::NoMemory {
+            return Status::NoMemory;
+        }
+        match write_records(alloc, sink, self.world.journal(), from) {
+            Ok(()) => return ended_by(self.lines, fault),
+            Err(status) => return status,
         }
     }
 
@@ -215,8 +284,19 @@ impl Replay {
             lines: _,
             read: _,
             world,
+            agenda: _,
         } = self;
         let _journal = world.finish();
+    }
+}
+
+/// For how many rounds an event settles, if it does.
+fn rounds_of(event: &Event) -> Option<u32>
+    ensures { result ≡ rounds_of event.now }
+{
+    match event {
+        Event::Settle(rounds) => Some(*rounds),
+        _ => None,
     }
 }
 
@@ -274,7 +354,7 @@ fn preface(alloc: Global, config: &Config, listed: &[u8]) -> Result<Vec<u8>, NoM
     Ok(text)
 }
 
-/// Writes the records of a journal from a place on, in one piece.
+/// Writes the records of a journal from a place on.
 fn write_records<K: Sink>(
     alloc: Global,
     sink: &mut K,
@@ -285,7 +365,43 @@ fn write_records<K: Sink>(
     ensures written { Writes (flat_map rec_line (drop from journal.now)) (K.written sink.old) (K.written sink.new) result }
     ensures faults { CountsFault (K.faults sink.old) (K.faults sink.new) result }
 {
-    match lines_of(alloc, &journal.as_slice()[from..]) {
+    write_pieces(alloc, sink, &journal.as_slice()[from..])
+}
+
+/// Writes records in pieces, so that the text of many is not held at once.
+fn write_pieces<K: Sink>(alloc: Global, sink: &mut K, recs: &[Rec]) -> Result<(), Status>
+    ensures written { Writes (flat_map rec_line recs.now) (K.written sink.old) (K.written sink.new) result }
+    ensures faults { CountsFault (K.faults sink.old) (K.faults sink.new) result }
+{
+    let mut at = 0;
+    while at < recs.len() {
+        let next = end_of_piece(at, recs.len());
+        match write_piece(alloc, sink, &recs[at..next]) {
+            Ok(()) => at = next,
+            Err(status) => return Err(status),
+        }
+    }
+    Ok(())
+}
+
+/// Where the piece ends that begins there, among so many records.
+fn end_of_piece(at: usize, len: usize) -> usize
+    requires { at < len }
+    ensures more { at < result }
+    ensures within { result ≤ len }
+{
+    if len - at <= PIECE {
+        return len;
+    }
+    at + PIECE
+}
+
+/// Writes records in one piece.
+fn write_piece<K: Sink>(alloc: Global, sink: &mut K, recs: &[Rec]) -> Result<(), Status>
+    ensures written { Writes (flat_map rec_line recs.now) (K.written sink.old) (K.written sink.new) result }
+    ensures faults { CountsFault (K.faults sink.old) (K.faults sink.new) result }
+{
+    match lines_of(alloc, recs) {
         Ok(text) => return write(sink, text.as_slice()),
         Err(NoMemory) => return Err(Status::NoMemory),
     }

@@ -2,7 +2,7 @@
 
 ghost use Rattle.std.specs.Prelude.{◌≡◌, ◌++◌, IfOk, OnOk, codes, decimal};
 ghost use Rattle.std.specs.String.{string_bytes};
-ghost use Rattle.lard_app.specs.Status.{code_of, form_word, line_prefix, line_text, what_word, why_text, with_fault, with_file_fault};
+ghost use Rattle.lard_app.specs.Status.{code_of, line_prefix, line_text, what_word, why_text, with_fault, with_file_fault};
 
 use itoa::Buffer;
 use lard_base::{ConfigFault, Key, NoMemory};
@@ -10,28 +10,6 @@ use lard_files::FileFault;
 use lard_machine::What;
 use lard_schedule::key_word;
 use std::alloc::Global;
-
-/// The forms of line, by their first words. `Key` stands for a configuration line; `lard` and `go` are none.
-#[derive(Clone, Copy, Debug, PartialEq, Eq)]
-pub enum Form {
-    File,
-    Fill,
-    Open,
-    Get,
-    Write,
-    Shut,
-    Abort,
-    Hold,
-    Take,
-    Deliver,
-    Lose,
-    Timer,
-    Disk,
-    Clock,
-    Settle,
-    Inject,
-    Key(Key),
-}
 
 /// Why a line was refused.
 #[derive(Clone, Copy, Debug, PartialEq, Eq)]
@@ -54,8 +32,6 @@ pub enum Why {
     NoNode { n: u32, nodes: u8 },
     /// It completes the `j`-th job of the disk of node `n`, where only `len` are queued.
     NoJob { n: u8, j: u32, len: u32 },
-    /// It is a line of the schedule whose form, or this use of it, is not built yet.
-    FormNotBuilt(Form),
 }
 
 /// How a run ended. Lines are counted from 1.
@@ -75,33 +51,6 @@ pub enum Status {
     NoMemory,
     /// The line goes past a limit; the report of the steps before it was written.
     Limit { line: u64, what: What },
-}
-
-impl Form {
-    /// The first word of its lines.
-    pub fn word(self) -> &'static str
-        ensures { result.now ≡ form_word self }
-    {
-        match self {
-            Form::File => "file",
-            Form::Fill => "fill",
-            Form::Open => "open",
-            Form::Get => "get",
-            Form::Write => "write",
-            Form::Shut => "shut",
-            Form::Abort => "abort",
-            Form::Hold => "hold",
-            Form::Take => "take",
-            Form::Deliver => "deliver",
-            Form::Lose => "lose",
-            Form::Timer => "timer",
-            Form::Disk => "disk",
-            Form::Clock => "clock",
-            Form::Settle => "settle",
-            Form::Inject => "inject",
-            Form::Key(key) => key_word(key),
-        }
-    }
 }
 
 impl Status {
@@ -159,7 +108,6 @@ fn refusal(alloc: Global, line: u64, why: Why) -> Result<String, NoMemory>
         Why::Used(c) => return of_client(text, c, " opened before"),
         Why::NoNode { n, nodes } => return no_node(text, n, nodes),
         Why::NoJob { n, j, len } => return no_job(text, n, j, len),
-        Why::FormNotBuilt(form) => return not_built(text, form),
     }
 }
 
@@ -254,15 +202,6 @@ fn no_job(text: String, n: u8, j: u32, len: u32) -> Result<String, NoMemory>
     let job = counted(text, "job ", u64::from(j))?;
     let longer = counted(job, " of ", u64::from(len))?;
     counted(longer, " at node ", u64::from(n))
-}
-
-/// A text, and then a form that is not built.
-fn not_built(mut text: String, form: Form) -> Result<String, NoMemory>
-    ensures { IfOk result (λ longer. string_bytes longer ≡ string_bytes text ++ codes "not built yet: " ++ form_word form) }
-{
-    text.push_str("not built yet: ")?;
-    text.push_str(form.word())?;
-    Ok(text)
 }
 
 fn limit(alloc: Global, line: u64, what: What) -> Result<String, NoMemory>

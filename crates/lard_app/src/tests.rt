@@ -1,6 +1,6 @@
 //! Each public call once: what `run` writes for the shortest schedule, and the code and the line of each status.
 
-use crate::{FileFault, Form, Status, What, Why, flush_report, run};
+use crate::{FileFault, Status, What, Why, flush_report, run};
 use lard_base::{Bytes, Calls, ConfigFault, Key, MemSink, MemSource, Sink, StdSink};
 use std::io::{self, Error, ErrorKind, Write};
 use std::test::Fail;
@@ -116,11 +116,6 @@ fn each_status_has_its_code_and_line(rt: HostRuntime) -> Result<(), Fail> {
             refused(Why::NoJob { n: 3, j: 7, len: 2 }),
             2,
             "line 4: job 7 of 2 at node 3",
-        ),
-        (
-            refused(Why::FormNotBuilt(Form::Settle)),
-            2,
-            "line 4: not built yet: settle",
         ),
         (Status::ReadFault, 3, "read fault"),
         (Status::WriteFault, 4, "write fault"),

@@ -3,6 +3,8 @@ use Rattle.std.specs.Prelude.{◌≤◌}
 use Rattle.lard_base.specs.declared.limits.TheConstants.{MAX_STREAM_BYTES}
 use Rattle.lard_cluster_asks.proofs.Asking.{asks-go-on}
 use Rattle.lard_cluster_asks.proofs.Runs.{asks-answered, batches-end}
+use Rattle.lard_cluster_backing.proofs.Queuing.{jobs-are-asked}
+use Rattle.lard_cluster_backing.proofs.Runs.{home-answers, requests-named, responses-backed}
 use Rattle.lard_cluster_bytes.proofs.Runs.{clients-accept, journals-serve, journals-tell, states-truthful}
 use Rattle.lard_cluster_clients.proofs.Tables.{clients-keep}
 use Rattle.lard_cluster_clients.proofs.Taking.{clients-take}
@@ -71,8 +73,12 @@ journals-lawful config files m checked r =
       requests = assign-in-order config files m small r;
       paths = assign-a-prefix config files m small r;
       ways = contents-come config files m small r;
+      answerers = home-answers config files m small r;
+      named = requests-named config files m small r;
       came = contents-were-there config files m r;
+      backed = responses-backed config files m small r;
       contents = contents-are-files config files m r;
+      queues = jobs-are-asked config files m small r;
       offers = offers-carry config files m small r;
       quiet = journals-complete config files m checked r;
     }

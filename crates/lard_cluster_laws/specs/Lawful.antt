@@ -7,6 +7,8 @@ use Rattle.lard_cluster.specs.declared.machine.Machine.{Machine}
 use Rattle.lard_cluster.specs.Machine.{IsReached}
 use Rattle.lard_cluster_asks.specs.Answers.{MustAnswer, MustEnd}
 use Rattle.lard_cluster_asks.specs.Sent.{MustAsk}
+use Rattle.lard_cluster_backing.specs.Jobs.{MustQueue}
+use Rattle.lard_cluster_backing.specs.Requests.{MayAnswer, MayBeBacked, MayName}
 use Rattle.lard_cluster_bytes.specs.Records.{ServesTheAnswers}
 use Rattle.lard_cluster_line.specs.Laws.{HasFewConnections, IsNearTheThresholds, IsNotBusy, IsWithinTheRoom, LineNeedsAFullRoom, MayPass, MayWait, MustRelease}
 use Rattle.lard_cluster_motion.specs.Motion.{MustMove}
@@ -93,9 +95,16 @@ pub record IsLawful (config : Config) (files : FilesAt) (J : List Rec) : Type 0 
   pub requests : AreAssignedInOrder files J
   pub paths : AssignsAPrefix files J
   pub ways : ComeAsAssigned files J
+  -- which place answers each request; for which request the first assignment is, and each job of a disk
+  pub answerers : EachMay (MayAnswer files) [] J
+  pub named : EachMay (MayName files) [] J
   -- what a node saw before a response whose content it did not have at hand, and what it sends as a content
   pub came : EachMay MayBeServed [] J
+  -- that it is of the path of the request which the response answers, and that one from the cache stands behind a hit of that path
+  pub backed : EachMay (MayBeBacked files) [] J
   pub contents : EachStep (MustBring files) [] (steps J)
+  -- for which node it queues a job
+  pub queues : EachStep MustQueue [] (steps J)
   -- what an Offer carries where it is sent first
   pub offers : CarryTheEndpoint files J
   -- a connection on which nothing more is to come is complete, or in the line

@@ -354,7 +354,7 @@ nobody J (rec.Served place d r code size way) e = let no : Some d ≡ None = e i
 nobody J _ e = tt
 
 module _ (config : Config) (files : List (List ℕ × List ℕ)) where
-  each-served : OfEach config files (IsServedSo (setting config files))
+  pub each-served : OfEach config files (IsServedSo (setting config files))
   each-served = carried config files (Anything (setting config files)) (IsServedSo (setting config files)) (served-law (setting config files)) (λ m r q. tt)
 
   each : (m : Machine) → IsReached config files m → (q : ℕ) → EachRow (MayFollow q) [] (conn m q).seen

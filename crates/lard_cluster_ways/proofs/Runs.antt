@@ -194,7 +194,7 @@ module _ (config : Config) (files : List (List ℕ × List ℕ)) (small : config
   abbrev k : Setting
   k = setting config files
 
-  each-guarded : OfEach config files (Guarded (GoesItsWay (file_at files)) (λ c. Mine (file_at files) c))
+  pub each-guarded : OfEach config files (Guarded (GoesItsWay (file_at files)) (λ c. Mine (file_at files) c))
   each-guarded = carried config files (Given k small) (Guarded (GoesItsWay (file_at files)) (λ c. Mine (file_at files) c))
       (guarded-law k (Given k small) (GoesItsWay (file_at files)) (λ c. Mine (file_at files) c) (ways-law k small))
       (λ m r q. (each-placed config files m r q, states-truthful config files small m r q))

@@ -20,6 +20,7 @@ use Rattle.lard_dispatch.specs.Sound.{AreBefore}
 use Rattle.lard_front_rules.specs.FrontPlace.{no_connections}
 use Rattle.lard_front_rules.specs.Sound.{IsFrontSound}
 use Rattle.lard_node_rules.specs.NodePlace.{no_stays}
+use Rattle.lard_settling.proofs.Written.{written}
 
 fresh : (limit : ℕ) → IsNodeSound (no_stays limit)
 fresh limit = record {
@@ -60,7 +61,7 @@ set-small c usable =
 pub begins : (config : Config) (files : List (List ℕ × List ℕ)) (m : Machine) → m ≡ start config files → config_check config ≡ Ok tt
     → IsFrontSound (no_connections config) → AreBefore 0 (no_connections config).dispatch.books.sets → IsRun m
 begins config files m is usable front clock = subst IsRun (sym is) (record {
-  reached = ([], refl);
+  reached = (written config files).begins;
   set = set-small config usable;
   sound = record {
     front = front;

@@ -1,8 +1,8 @@
 -- A step leads from run to run.
-use Rattle.std.proofs.Common.{◌≡◌, ◌+◌, ◌-◌, ◌≤◌, ◌^◌, ℕ, Bool, List, [], ◌∷◌, ◌++◌, true, false, cond, nat_lt, Option, Some, None, Result, Ok, Err, OnOk, refl, sym, ap, subst, append-nil}
+use Rattle.std.proofs.Common.{◌≡◌, ◌+◌, ◌-◌, ℕ, Bool, List, [], ◌∷◌, ◌++◌, true, false, cond, length, nat_lt, Option, Some, None, Result, Ok, Err, OnOk, refl, sym, ap, ◌∙◌, subst, append-nil}
 use Rattle.std.proofs.lemmas.Bool.{both_ways}
 use Rattle.std.specs.FinMap as table
-use Rattle.std.specs.Prelude.{slice_set}
+use Rattle.std.specs.Prelude.{is_err, slice_set}
 use Rattle.lard_base.specs.declared.config.Config.{Config}
 use Rattle.lard_base.specs.declared.event.Event.{Event}
 use Rattle.lard_base.specs.declared.event.Event.TheVariants as event
@@ -10,17 +10,18 @@ use Rattle.lard_base.specs.declared.place.Place.{Place}
 use Rattle.lard_base.specs.declared.place.Place.TheVariants as place
 use Rattle.lard_client.specs.Control.{ClientBlock, is_armed, written_len}
 use Rattle.lard_cluster.specs.Bounds.{HasRule}
-use Rattle.lard_cluster.specs.Machine.{IsReached, Passes, Steps, client_acted, client_does, client_goes_on, client_put, clocked, completes, delivered, disk_at, from_place, front_acts, front_gave, front_setting, happens, is_no_job, is_no_node, limit_reached, lost, machine_step, node_acts, node_at, node_gave, node_setting, opened, start, timer, passed, to_client, to_front, to_place, told, told_rows, unless_limit, wrote}
+use Rattle.lard_cluster.specs.Machine.{Steps, client_acted, client_does, client_goes_on, client_put, clocked, completes, delivered, disk_at, from_place, front_acts, front_gave, front_setting, happens, is_no_job, is_no_node, limit_reached, lost, machine_step, node_acts, node_at, node_gave, node_setting, opened, timer, passed, to_client, to_front, to_place, told, told_rows, unless_limit, wrote}
 use Rattle.lard_cluster.specs.declared.fault.StepFault.{StepFault}
 use Rattle.lard_cluster.specs.declared.fault.StepFault.TheVariants.{NoClient, Used, NoNode, NotSent, WasLost, NoJob, Limit, NoMemory}
 use Rattle.lard_cluster.specs.declared.machine.Machine.{Machine}
 use Rattle.lard_cluster_laws.specs.Lawful.{IsLawful}
 use Rattle.lard_cluster_laws.proofs.Lawful.{journals-lawful}
-use Rattle.lard_cluster_view.proofs.Runs.{passes-more}
 use Rattle.lard_cluster_world.specs.Runs.{IsRun}
 use Rattle.lard_cluster_world.specs.Sound.{IsSet, IsSound}
 use Rattle.lard_cluster_world.specs.World.{is_short}
+use Rattle.lard_cluster_world.proofs.Sound.{closed_sound}
 use Rattle.lard_files.specs.Files.{file_at}
+use Rattle.lard_journal.specs.Inner.{turned_at}
 use Rattle.lard_journal.specs.declared.rec.Rec.{Rec}
 use Rattle.lard_journal.specs.declared.rec.Rec.TheVariants as rec
 use Rattle.lard_front_rules.specs.declared.FrontState.{FrontState}
@@ -41,6 +42,9 @@ use Rattle.lard_rules.specs.Outs.{out_of}
 use Rattle.lard_rules.specs.Client.{client_opens, client_writes, client_shuts, client_holds, client_takes, client_aborts, client_timer, client_gets, client_injects}
 use Rattle.lard_segment.specs.declared.segment.Dir.TheVariants.{ToClient}
 use Rattle.lard_segment.specs.Segment.{decoded}
+use Rattle.lard_settling.specs.Steps.{as_inner, inner_given, inner_step, settle_begun, settle_closed}
+use Rattle.lard_settling.specs.Written.{IsWrittenOut, written_out}
+use Rattle.lard_settling.proofs.Written.{given-done, written}
 
 -- ---- a step changes neither the numbers of the run nor its files, and takes no record back
 
@@ -188,55 +192,96 @@ module _ (m : Machine) where
   pub step-goes-on : (n : Machine) (e : Event) → machine_step m e ≡ Ok n → GoesOn m n
   step-goes-on n e is = subst (Goes m) is (step-goes e)
 
--- ---- one more event passes
+-- ---- what leads on
 
--- a state that events lead to leads to the next one
-reached-more : (m n : Machine) (e : Event) → IsReached m.config m.files m → HasRule e → machine_step m e ≡ Ok n → IsReached n.config n.files n
-reached-more m n e r rule is =
-    let same : GoesOn m n = step-goes-on m n e is in
-    subst (λ (config : Config). IsReached config n.files n) (sym same.config)
-    (subst (λ (files : List (List ℕ × List ℕ)). IsReached m.config files n) (sym same.files)
-    (r.0 ++ e ∷ [], passes-more r.0 (start m.config m.files) m n e r.1 rule is))
+-- n goes on from m, whose run it continues
+module _ (m n : Machine) (same : GoesOn m n) where
+  -- it is written out with its own numbers and files
+  own-written : IsWrittenOut m.config m.files n → IsWrittenOut n.config n.files n
+  own-written w = subst (λ (config : Config). IsWrittenOut config n.files n) (sym same.config) (subst (λ (files : List (List ℕ × List ℕ)). IsWrittenOut m.config files n) (sym same.files) w)
 
-step-run : (m n : Machine) (e : Event) → IsRun m → HasRule e → machine_step m e ≡ Ok n → IsSound n → IsRun n
-step-run m n e r rule is sound = record {
-  reached = reached-more m n e r.reached rule is;
-  set = subst IsSet (sym (step-goes-on m n e is).config) r.set;
-  sound = sound;
-}
+  pub on-run : IsRun m → IsWrittenOut m.config m.files n → IsSound n → IsRun n
+  on-run r w sound = record { reached = own-written w; set = subst IsSet (sym same.config) r.set; sound = sound }
 
--- the journal of a world that has run obeys the laws
-run-lawful : (m : Machine) → IsRun m → IsLawful m.config (file_at m.files) m.journal
-run-lawful m r = journals-lawful m.config m.files m r.set.usable r.reached
+step-written : (m n : Machine) (e : Event) → IsRun m → HasRule e → machine_step m e ≡ Ok n → IsWrittenOut m.config m.files n
+step-written m n e r rule is = (written m.config m.files).steps m n e r.reached rule is
 
-module _ (old new : Machine) (e : Event) (run : IsRun old) (rule : HasRule e) where
+turned-on : (J more : List Rec) → (rows : List Rec) × (turned_at (length J) (J ++ more) ≡ J ++ rows)
+turned-on [] more = (turned_at 0 more, refl)
+turned-on (r ∷ J) more = let h = turned-on J more in (h.0, ap (λ (l : List Rec). r ∷ l) h.1)
+
+pub inner-goes-on : (m n : Machine) (e : Event) → inner_step m e ≡ Ok n → GoesOn m n
+unfolding inner_step
+inner-goes-on m n e is =
+    let x = given-done (as_inner m) (inner_given m) (λ k. refl) (λ fault. refl) (machine_step m e) n is in
+    let on : GoesOn m x.0 = step-goes-on m x.0 e x.1 in
+    let rows = turned-on m.journal on.more in
+    subst (GoesOn m) (sym x.2) (record { config = on.config; files = on.files; more = rows.0; journal = ap (turned_at (length m.journal)) on.journal ∙ rows.1 })
+
+begun-is : (m n : Machine) (rounds : ℕ) → settle_begun m rounds ≡ Ok n → passed m (event.Settle rounds) [] ≡ n
+unfolding settle_begun
+begun-is m n rounds = go (limit_reached m) where
+  go : (o : Option What) → unless_limit o (Ok (passed m (event.Settle rounds) [])) ≡ Ok n → passed m (event.Settle rounds) [] ≡ n
+  go None is = cc
+  go (Some what) is = cc
+
+pub begun-goes-on : (m n : Machine) (rounds : ℕ) → settle_begun m rounds ≡ Ok n → GoesOn m n
+begun-goes-on m n rounds is = subst (GoesOn m) (begun-is m n rounds is) (record { config = refl; files = refl; more = rec.Event (m.events + 1) (event.Settle rounds) ∷ []; journal = refl })
+
+-- ---- what a call says
+
+-- the journal of a world that has run, with its settles written out, obeys the laws
+pub run-lawful : (m : Machine) → IsRun m → IsLawful m.config (file_at m.files) (written_out m.journal)
+run-lawful m r = subst (IsLawful m.config (file_at m.files)) r.reached.journal (journals-lawful m.config m.files r.reached.plain r.set.usable r.reached.reached)
+
+module _ (old new : Machine) (run : IsRun old) where
   abbrev Lawful : Machine → Type 0
-  Lawful m = IsLawful old.config (file_at old.files) m.journal
+  Lawful m = IsLawful old.config (file_at old.files) (written_out m.journal)
 
-  -- and obeys them after a call, done or not
-  pub still-lawful : (result : Result (Unit {0}) StepFault) → Steps (machine_step old e) old new result → Lawful new
-  still-lawful (Ok done) steps =
-      let on = step-goes-on old new e steps in
-      subst (λ (files : List (List ℕ × List ℕ)). IsLawful old.config (file_at files) new.journal) on.files
-      (subst (λ (config : Config). IsLawful config (file_at new.files) new.journal) on.config
-      (journals-lawful new.config new.files new (subst IsSet (sym on.config) run.set).usable (reached-more old new e run.reached rule steps)))
-  still-lawful (Err NoMemory) steps = subst (λ (J : List Rec). IsLawful old.config (file_at old.files) J) (sym steps) (run-lawful old run)
-  still-lawful (Err (NotSent k sent)) steps = subst Lawful (sym steps.0) (run-lawful old run)
-  still-lawful (Err (WasLost k)) steps = subst Lawful (sym steps.0) (run-lawful old run)
-  still-lawful (Err (NoClient c)) steps = subst Lawful (sym steps.0) (run-lawful old run)
-  still-lawful (Err (Used c)) steps = subst Lawful (sym steps.0) (run-lawful old run)
-  still-lawful (Err (NoNode n nodes)) steps = subst Lawful (sym steps.0) (run-lawful old run)
-  still-lawful (Err (NoJob n j len)) steps = subst Lawful (sym steps.0) (run-lawful old run)
-  still-lawful (Err (Limit what)) steps = subst Lawful (sym steps.0) (run-lawful old run)
+  -- so do those of all that its run leads to
+  on-lawful : GoesOn old new → IsWrittenOut old.config old.files new → Lawful new
+  on-lawful on w = subst (IsLawful old.config (file_at old.files)) w.journal (journals-lawful old.config old.files w.plain run.set.usable w.reached)
 
-  -- a world whose memory sufficed has run
-  pub runs-on : (result : Result (Unit {0}) StepFault) → Steps (machine_step old e) old new result → OnOk result (IsSound new) → is_short result ≡ false → IsRun new
-  runs-on (Ok done) steps sound some = step-run old new e run rule steps sound
-  runs-on (Err NoMemory) steps sound some = absurd (both_ways true some refl)
-  runs-on (Err (NotSent k sent)) steps sound some = subst IsRun (sym steps.0) run
-  runs-on (Err (WasLost k)) steps sound some = subst IsRun (sym steps.0) run
-  runs-on (Err (NoClient c)) steps sound some = subst IsRun (sym steps.0) run
-  runs-on (Err (Used c)) steps sound some = subst IsRun (sym steps.0) run
-  runs-on (Err (NoNode n nodes)) steps sound some = subst IsRun (sym steps.0) run
-  runs-on (Err (NoJob n j len)) steps sound some = subst IsRun (sym steps.0) run
-  runs-on (Err (Limit what)) steps sound some = subst IsRun (sym steps.0) run
+  module _ (given : Result Machine StepFault) (leads : given ≡ Ok new → GoesOn old new × IsWrittenOut old.config old.files new) where
+    -- and obeys them after a call that does what is given, done or not
+    pub still-lawful : (result : Result (Unit {0}) StepFault) → Steps given old new result → Lawful new
+    still-lawful (Ok done) steps = on-lawful (leads steps).0 (leads steps).1
+    still-lawful (Err NoMemory) steps = subst (λ (J : List Rec). IsLawful old.config (file_at old.files) (written_out J)) (sym steps) (run-lawful old run)
+    still-lawful (Err (NotSent k sent)) steps = subst Lawful (sym steps.0) (run-lawful old run)
+    still-lawful (Err (WasLost k)) steps = subst Lawful (sym steps.0) (run-lawful old run)
+    still-lawful (Err (NoClient c)) steps = subst Lawful (sym steps.0) (run-lawful old run)
+    still-lawful (Err (Used c)) steps = subst Lawful (sym steps.0) (run-lawful old run)
+    still-lawful (Err (NoNode n nodes)) steps = subst Lawful (sym steps.0) (run-lawful old run)
+    still-lawful (Err (NoJob n j len)) steps = subst Lawful (sym steps.0) (run-lawful old run)
+    still-lawful (Err (Limit what)) steps = subst Lawful (sym steps.0) (run-lawful old run)
+
+    -- a world whose memory sufficed has run
+    pub runs-on : (result : Result (Unit {0}) StepFault) → Steps given old new result → OnOk result (IsSound new) → is_short result ≡ false → IsRun new
+    runs-on (Ok done) steps sound some = on-run old new (leads steps).0 run (leads steps).1 sound
+    runs-on (Err NoMemory) steps sound some = absurd (both_ways true some refl)
+    runs-on (Err (NotSent k sent)) steps sound some = subst IsRun (sym steps.0) run
+    runs-on (Err (WasLost k)) steps sound some = subst IsRun (sym steps.0) run
+    runs-on (Err (NoClient c)) steps sound some = subst IsRun (sym steps.0) run
+    runs-on (Err (Used c)) steps sound some = subst IsRun (sym steps.0) run
+    runs-on (Err (NoNode n nodes)) steps sound some = subst IsRun (sym steps.0) run
+    runs-on (Err (NoJob n j len)) steps sound some = subst IsRun (sym steps.0) run
+    runs-on (Err (Limit what)) steps sound some = subst IsRun (sym steps.0) run
+
+  -- what the calls of a world do leads on
+  pub step-leads : (e : Event) → HasRule e → machine_step old e ≡ Ok new → GoesOn old new × IsWrittenOut old.config old.files new
+  step-leads e rule is = (step-goes-on old new e is, step-written old new e run rule is)
+
+  pub inner-leads : (e : Event) → HasRule e → inner_step old e ≡ Ok new → GoesOn old new × IsWrittenOut old.config old.files new
+  inner-leads e rule is = (inner-goes-on old new e is, (written old.config old.files).inner_steps old new e run.reached rule is)
+
+  pub begun-leads : (rounds : ℕ) → settle_begun old rounds ≡ Ok new → GoesOn old new × IsWrittenOut old.config old.files new
+  begun-leads rounds is = (begun-goes-on old new rounds is, (written old.config old.files).settle old new rounds run.reached is)
+
+-- what holds of a call that is done, where it is
+pub where-done : {A B : Type 0} (result : Result A B) (P : Type 0) → OnOk result P → is_err result ≡ false → P
+where-done (Ok done) P h fine = h
+where-done (Err fault) P h fine = absurd (both_ways true fine refl)
+
+-- a settle that closes
+pub closed-run : (m : Machine) (rounds left : ℕ) → IsRun m → IsRun (settle_closed m rounds left)
+closed-run m rounds left r = record { reached = (written m.config m.files).closes m rounds left r.reached; set = r.set; sound = closed_sound m rounds left r.sound }

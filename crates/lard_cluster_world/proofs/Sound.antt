@@ -1,5 +1,5 @@
 -- What each kind of step keeps of the places.
-use Rattle.std.proofs.Common.{◌≡◌, ℕ, suc, zero, ◌+◌, ◌*◌, ◌^◌, ◌≤◌, List, [], ◌∷◌, ◌++◌, length, Some, slice_get, slice_set, ◌∙◌, subst, arith, length-append}
+use Rattle.std.proofs.Common.{◌≡◌, ℕ, suc, zero, ◌+◌, ◌*◌, ◌^◌, ◌≤◌, List, [], ◌∷◌, ◌++◌, length, Some, slice_get, slice_set, refl, ap, ◌∙◌, subst, arith, length-append}
 use Rattle.std.specs.FinMap.{FinMap}
 use Rattle.std.specs.List.{AllByRecursion}
 use Rattle.std.specs.Ordering.{nat_cmp}
@@ -13,12 +13,14 @@ use Rattle.lard_cluster_world.specs.Sound.{IsNodeFit, IsSound, IsSoundTo}
 use Rattle.lard_dispatch.specs.Sound.{AreBefore}
 use Rattle.lard_front_rules.specs.declared.front.FrontState.{FrontState}
 use Rattle.lard_front_rules.specs.Sound.{IsFrontSound}
+use Rattle.lard_journal.specs.Inner.{turned_at}
 use Rattle.lard_journal.specs.declared.rec.Rec.{Rec}
 use Rattle.lard_journal.specs.declared.rec.Rec.TheVariants as rec
 use Rattle.lard_net.specs.Net.{Packet}
 use Rattle.lard_node_rules.specs.declared.node.NodeState.{NodeState}
 use Rattle.lard_rules.specs.declared.front.Out.{Out}
 use Rattle.lard_rules.specs.declared.places.Station.{Station}
+use Rattle.lard_settling.specs.Steps.{as_inner, closing, settle_closed}
 
 -- ---- lists of nodes
 
@@ -56,11 +58,11 @@ told_sound m e own p out s =
       count = s.count;
       nodes = fit-more (length m.journal + length out.notes) (length (m.journal ++ told_rows m e own p out)) m.nodes (omega (arith, many, grown)) s.nodes;
       events = omega (arith, many, grown, s.events);
-      time = omega (arith, s.time);
+      time = omega (arith, grown, s.time);
     }
 
 -- where no place acts, and the time is this
-pub passed_at : (m : Machine) (e : Event) (own : List Rec) (now : ℕ) → IsSound m → AreBefore now m.front.dispatch.books.sets → now ≤ (m.events + 1) * 2 ^ 32
+pub passed_at : (m : Machine) (e : Event) (own : List Rec) (now : ℕ) → IsSound m → AreBefore now m.front.dispatch.books.sets → now ≤ (length m.journal + 1) * 2 ^ 32
     → IsSound (passed (record m { now = now }) e own)
 passed_at m e own now s before time =
     let grown : length (m.journal ++ rec.Event (m.events + 1) e ∷ own) ≡ length m.journal + length (rec.Event (m.events + 1) e ∷ own) = length-append m.journal (rec.Event (m.events + 1) e ∷ own) in
@@ -70,11 +72,44 @@ passed_at m e own now s before time =
       count = s.count;
       nodes = fit-more (length m.journal) (length (m.journal ++ rec.Event (m.events + 1) e ∷ own)) m.nodes (omega (arith, grown)) s.nodes;
       events = omega (arith, grown, s.events);
-      time = time;
+      time = omega (arith, grown, time);
     }
 
 pub passed_sound : (m : Machine) (e : Event) (own : List Rec) → IsSound m → IsSound (passed m e own)
 passed_sound m e own s = passed_at m e own m.now s s.clock (omega (arith, s.time))
+
+-- ---- a settle
+
+turned-length : (i : ℕ) (J : List Rec) → length (turned_at i J) ≡ length J
+turned-length i [] = refl
+turned-length zero (r ∷ J) = refl
+turned-length (suc i) (r ∷ J) = ap suc (turned-length i J)
+
+-- an inner step
+pub inner_sound : (m n : Machine) → IsSound n → m.events ≤ length m.journal → length m.journal ≤ length n.journal → IsSound (as_inner m n)
+inner_sound m n s events more =
+    let same : length (turned_at (length m.journal) n.journal) ≡ length n.journal = turned-length (length m.journal) n.journal in
+    record {
+      front = s.front;
+      clock = s.clock;
+      count = s.count;
+      nodes = fit-more (length n.journal) (length (turned_at (length m.journal) n.journal)) n.nodes (omega (arith, same)) s.nodes;
+      events = omega (arith, same, events, more);
+      time = omega (arith, same, s.time);
+    }
+
+-- the closing record
+pub closed_sound : (m : Machine) (rounds left : ℕ) → IsSound m → IsSound (settle_closed m rounds left)
+closed_sound m rounds left s =
+    let grown : length (m.journal ++ closing rounds left ∷ []) ≡ length m.journal + 1 = length-append m.journal (closing rounds left ∷ []) in
+    record {
+      front = s.front;
+      clock = s.clock;
+      count = s.count;
+      nodes = fit-more (length m.journal) (length (m.journal ++ closing rounds left ∷ [])) m.nodes (omega (arith, grown)) s.nodes;
+      events = omega (arith, grown, s.events);
+      time = omega (arith, grown, s.time);
+    }
 
 -- ---- what of the machine a step changes beside
 

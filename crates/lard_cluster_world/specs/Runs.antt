@@ -1,10 +1,10 @@
 -- What holds of every world that can take a step.
 use Rattle.lard_cluster.specs.declared.machine.Machine.{Machine}
-use Rattle.lard_cluster.specs.Machine.{IsReached}
 use Rattle.lard_cluster_world.specs.Sound.{IsSet, IsSound}
+use Rattle.lard_settling.specs.Written.{IsWrittenOut}
 
--- Some events led to its machine, on which the code can rely.
+-- With its settles written out, the journal is that of some events; and the code can rely on the machine.
 pub record IsRun (m : Machine) : Type 0 where
-  pub reached : IsReached m.config m.files m
+  pub reached : IsWrittenOut m.config m.files m
   pub set : IsSet m.config
   pub sound : IsSound m

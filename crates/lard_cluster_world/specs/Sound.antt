@@ -28,14 +28,14 @@ pub record IsNodeFit (most : ℕ) (s : NodeState) : Type 0 where
   pub sound : IsNodeSound s
   pub jobs : length s.disk ≤ most
 
--- each place is one that its code can rely on; each event has a record, and moved the time by less than 2^32 milliseconds
+-- each place is one that its code can rely on; each event has a record, and no record moved the time by 2^32 milliseconds
 pub record IsSoundTo (most : ℕ) (m : Machine) : Type 0 where
   pub front : IsFrontSound m.front
   pub clock : AreBefore m.now m.front.dispatch.books.sets
   pub count : length m.nodes ≡ m.config.nodes
   pub nodes : AllByRecursion (IsNodeFit most) m.nodes
   pub events : m.events ≤ length m.journal
-  pub time : m.now ≤ m.events * 2 ^ 32
+  pub time : m.now ≤ length m.journal * 2 ^ 32
 
 -- each job of a disk has a record, too
 abbrev pub IsSound : Machine → Type 0

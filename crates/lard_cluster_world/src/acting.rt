@@ -14,7 +14,7 @@ ghost use Rattle.lard_serving.specs.Bounds.{IsTurn};
 use lard_base::limits::{MAX_MESSAGE_BYTES, MAX_SEGMENT_BYTES};
 use lard_base::{Bytes, ConnId, Event, NoMemory, Place, Sends};
 use lard_cluster::Machine;
-use lard_journal::{Rec, Recs};
+use lard_journal::{Journal, Rec, Recs};
 use lard_net::Net;
 use lard_rules::{Out, Turn};
 use lard_serving::out_of;
@@ -118,6 +118,29 @@ pub fn note(machine: &mut Machine, alloc: Global, event: Event, own: Rec) -> Res
     recs.push(own)?;
     machine.journal.append(recs)?;
     machine.events = i;
+    Ok(())
+}
+
+/// The record of an event that does no step of its own. Without memory the journal is as it was.
+pub fn mark(machine: &mut Machine, alloc: Global, event: Event) -> Result<(), NoMemory>
+    requires { HasRoom machine.old }
+    ensures ok { OnOk result (machine.new ≡ passed machine.old event []) }
+    ensures err { OnErr result (machine.new.journal ≡ machine.old.journal) }
+{
+    let i = machine.events + 1;
+    append(&mut machine.journal, alloc, Rec::Event { i, event })?;
+    machine.events = i;
+    Ok(())
+}
+
+/// Appends one record. Without memory the journal is as it was.
+pub fn append(journal: &mut Journal, alloc: Global, rec: Rec) -> Result<(), NoMemory>
+    ensures ok { OnOk result (journal.new ≡ journal.old ++ rec ∷ []) }
+    ensures err { OnErr result (journal.new ≡ journal.old) }
+{
+    let mut recs = Recs::new(alloc);
+    recs.push(rec)?;
+    journal.append(recs)?;
     Ok(())
 }
 

@@ -8,6 +8,7 @@ mod acting;
 mod disks;
 mod packets;
 mod places;
+mod settling;
 mod stations;
 mod steps;
 #[cfg(test)]

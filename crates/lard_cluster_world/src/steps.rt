@@ -27,7 +27,7 @@ pub fn step(machine: &mut Machine, alloc: Global, event: Event) -> Result<(), St
 }
 
 /// The first limit that was reached.
-fn limit_reached(machine: &Machine) -> Option<What>
+pub fn limit_reached(machine: &Machine) -> Option<What>
     ensures { result ≡ limit_reached machine.entry.now }
 {
     first_limit(

@@ -1,6 +1,6 @@
 //! The whole: a machine that takes its steps as long as memory suffices, and whose journal obeys the laws.
 
-ghost use Rattle.std.specs.Prelude.{◌≡◌, ◌∷◌, ◌++◌, [], false, replicate, Ok, IfOk, OnOk};
+ghost use Rattle.std.specs.Prelude.{◌≡◌, ◌∷◌, ◌++◌, ◌≤◌, [], true, false, replicate, Ok, IfOk, OnOk, OnErr};
 ghost use Rattle.lard_base.specs.Config.{config_check};
 ghost use Rattle.lard_cluster.specs.Bounds.{HasRule};
 ghost use Rattle.lard_cluster.specs.Machine.{Steps, machine_step, start};
@@ -8,10 +8,14 @@ ghost use Rattle.lard_cluster_laws.specs.Lawful.{IsLawful};
 ghost use Rattle.lard_cluster_world.specs.World.{is_short};
 ghost use Rattle.lard_files.specs.Files.{file_at};
 ghost use Rattle.lard_node_rules.specs.NodePlace.{no_stays};
+ghost use Rattle.lard_settling.specs.Left.{is_holder, jobs_at};
+ghost use Rattle.lard_settling.specs.Steps.{inner_step, settle_begun, settle_closed};
+ghost use Rattle.lard_settling.specs.Written.{written_out};
 
-use crate::steps;
-use lard_base::{Config, Event, NoMemory};
+use crate::{settling, steps};
+use lard_base::{Config, ConnId, Event, NoMemory, NodeId};
 use lard_cluster::{Machine, NodeList, StepFault};
+use lard_dispatch::Dispatch;
 use lard_files::Files;
 use lard_journal::Journal;
 use lard_net::Net;
@@ -81,12 +85,79 @@ impl World {
         requires ruled { HasRule event }
         ensures step { Steps (machine_step self.old.machine event) self.old.machine self.new.machine result }
         ensures spoiled { self.new.spoiled ≡ is_short result }
-        // Done or not, what happened obeys the laws.
-        ensures lawful { IsLawful self.old.machine.config (file_at self.old.machine.files) self.new.machine.journal }
+        // Done or not, what happened obeys the laws, with each settle written out as the steps that it did.
+        ensures lawful { IsLawful self.old.machine.config (file_at self.old.machine.files) (written_out self.new.machine.journal) }
     {
         let done = steps::step(&mut self.machine, alloc, event);
         self.spoiled = is_short(done);
         done
+    }
+
+    // ---- settling
+
+    /// Begins a settle of at most so many rounds, by the record of its event. Faults are as those of `step`.
+    pub fn begin_settle(&mut self, alloc: Global, rounds: u32) -> Result<(), StepFault>
+        requires usable { self.old.spoiled ≡ false }
+        ensures step { Steps (settle_begun self.old.machine rounds) self.old.machine self.new.machine result }
+        ensures spoiled { self.new.spoiled ≡ is_short result }
+        ensures lawful { IsLawful self.old.machine.config (file_at self.old.machine.files) (written_out self.new.machine.journal) }
+    {
+        let done = settling::begin(&mut self.machine, alloc, rounds);
+        self.spoiled = is_short(done);
+        done
+    }
+
+    /// Does the step of an event as an inner one of a settle. Faults are as those of `step`.
+    pub fn inner(&mut self, alloc: Global, event: Event) -> Result<(), StepFault>
+        requires usable { self.old.spoiled ≡ false }
+        requires ruled { HasRule event }
+        ensures step { Steps (inner_step self.old.machine event) self.old.machine self.new.machine result }
+        ensures spoiled { self.new.spoiled ≡ is_short result }
+        ensures lawful { IsLawful self.old.machine.config (file_at self.old.machine.files) (written_out self.new.machine.journal) }
+    {
+        let done = settling::step_inside(&mut self.machine, alloc, event);
+        self.spoiled = is_short(done);
+        done
+    }
+
+    /// Ends a settle by its closing record: so many rounds were done, and so many timers and jobs are left. Without memory the world
+    /// is spoiled, and its journal is as it was.
+    pub fn end_settle(&mut self, alloc: Global, rounds: u32, left: u64) -> Result<(), NoMemory>
+        requires usable { self.old.spoiled ≡ false }
+        ensures ok { OnOk result (self.new.machine ≡ settle_closed self.old.machine rounds left) }
+        ensures usable { OnOk result (self.new.spoiled ≡ false) }
+        ensures err { OnErr result (self.new.machine.journal ≡ self.old.machine.journal) }
+        ensures spoiled { OnErr result (self.new.spoiled ≡ true) }
+    {
+        let done = settling::close(&mut self.machine, alloc, rounds, left);
+        self.spoiled = done.is_err();
+        done
+    }
+
+    /// How many jobs wait at the disk of a node, one of those that there are.
+    pub fn jobs(&self, n: NodeId) -> u32
+        requires usable { self.now.spoiled ≡ false }
+        requires there { n ≤ self.now.machine.config.nodes }
+        ensures { result ≡ jobs_at self.now.machine n }
+    {
+        self.machine.nodes.node(n.number() as usize - 1).disk.len()
+    }
+
+    /// Whether a client holds: it opened, was neither aborted nor reset, and was told to hold last.
+    pub fn holds(&self, c: ConnId) -> bool
+        ensures { result ≡ is_holder self.now.machine c }
+    {
+        match self.machine.clients.get(c.number()) {
+            Some(station) => station.client.holding(),
+            None => false,
+        }
+    }
+
+    /// The dispatcher, with the line of those that wait.
+    pub fn dispatch(&self) -> &Dispatch
+        ensures { result.now ≡ self.now.machine.front.dispatch }
+    {
+        &self.machine.front.dispatch
     }
 
     /// What happened.
@@ -115,6 +186,15 @@ impl World {
         ensures { result.now ≡ self.now.machine.files }
     {
         &self.machine.files
+    }
+
+    /// What holds of the numbers of every usable world: there are at most 64 nodes. It is called where a proof wants it, and does
+    /// nothing.
+    pub fn law(&self)
+        requires { self.now.spoiled ≡ false }
+        ensures { self.now.machine.config.nodes ≤ 64 }
+    {
+        let _spoiled = self.spoiled;
     }
 
     /// Spends the world, and keeps what happened.

@@ -7,6 +7,7 @@
 pub mod moves;
 pub mod report;
 pub mod rows;
+pub mod settles;
 pub mod slow;
 #[cfg(test)]
 mod tests;

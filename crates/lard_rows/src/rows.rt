@@ -1,6 +1,7 @@
 //! The worked rows: inputs with the status and the whole report that the rules give, worked out apart from the program.
 
 use crate::moves::ONE_CONNECTION_MOVES;
+use crate::settles::{SETTLED, SETTLED_LATER};
 use lard_app::{FileFault, Status, What, Why};
 
 /// An input, how its run ends, and what it writes.
@@ -633,7 +634,7 @@ got 7
 };
 
 /// All rows.
-pub const ROWS: [Row; 20] = [
+pub const ROWS: [Row; 22] = [
     HEADING_ALONE,
     NO_INPUT,
     ONE_REQUEST,
@@ -654,4 +655,6 @@ pub const ROWS: [Row; 20] = [
     REQUEST_ON_ITS_WAY,
     NO_SEGMENTS_INJECTED,
     ONE_CONNECTION_MOVES,
+    SETTLED,
+    SETTLED_LATER,
 ];

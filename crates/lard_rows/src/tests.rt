@@ -4,7 +4,7 @@ use crate::moves::TOLD;
 use crate::report::{HEADING, PARTS};
 use crate::rows::{ONE_REQUEST, REQUEST_IN_PARTS, ROWS};
 use crate::slow::{Counting, Drip, Trickle, Waiting};
-use lard_app::{FileFault, Form, Status, What, Why, run};
+use lard_app::{FileFault, Status, What, Why, run};
 use lard_base::{Bytes, Calls, ConfigFault, Key, MemSink, MemSource, NoMemory};
 use std::alloc::Global;
 use std::cell::Cell;
@@ -244,13 +244,13 @@ fn configurations_that_cannot_be_used(rt: HostRuntime) -> Result<(), Fail> {
 }
 
 #[test]
-fn forms_that_are_not_built(rt: HostRuntime) -> Result<(), Fail> {
-    let form = |line, form| refused(line, Why::FormNotBuilt(form));
+fn settles_in_no_place(rt: HostRuntime) -> Result<(), Fail> {
     check(
         &rt,
         &[
-            ("settle /a -\n", form(1, Form::Settle), 0),
-            ("lard 1\ngo\nsettle 10\n", form(3, Form::Settle), 1),
+            ("settle /a -\n", refused(1, Why::Syntax), 0),
+            ("lard 1\nsettle 10\ngo\n", refused(2, Why::Syntax), 0),
+            ("lard 1\ngo\nsettle /a -\n", refused(3, Why::Syntax), 1),
             ("lard 1\ngo\nsettle", refused(3, Why::Syntax), 1),
             ("lard 1\ngo\ndrain 1\n", refused(3, Why::Syntax), 1),
         ],

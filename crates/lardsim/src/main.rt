@@ -37,7 +37,7 @@ exit statuses, each with a line on standard error:
   6  a limit was reached; the report of the steps before it stands
 
 The lines of a schedule are described in docs/SCHEDULE.md, and those of a
-report in docs/REPORT.md.
+report in docs/REPORT.md. The manual page: man -l docs/lardsim.1
 ";
 
 fn main(rt: HostRuntime) -> ExitCode {

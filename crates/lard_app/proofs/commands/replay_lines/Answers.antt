@@ -11,6 +11,7 @@ pub loop-len-init : goal.loop-len-init
 loop-len-init g c = record {
   reading = reading_first _ _ _ _ c.requires.unread c.requires.begins;
   usable = c.requires.usable;
+  agenda = c.requires.agenda;
   read_faults = refl;
   faults = refl;
 }
@@ -26,6 +27,7 @@ loop-len-preserved g c = record {
       (subst (λ (rest : List ℕ). (passed (seen c.loop-len.replay) (take c.in-Ok-Some.len rest) ≡ Ok (seen c.pass.new.self)) × Appends (g.K.Sink.written c.loop-len.sink) (g.K.Sink.written c.pass.new.sink) (gain (seen c.loop-len.replay) (take c.in-Ok-Some.len rest)))
       c.rest.ensures.value c.in-Ok.ensures.passed);
   usable = c.in-Ok.ensures.usable;
+  agenda = c.in-Ok.ensures.agenda;
   read_faults = c.find_line.ensures.same (λ e. cc) ∙ c.loop-len.invariant.read_faults;
   faults = c.in-Ok.ensures.faults ∙ c.loop-len.invariant.faults;
 } where

@@ -1,9 +1,11 @@
 -- The world stands as long as memory suffices, and its journal obeys the laws.
 use Rattle.std.proofs.Common.{◌∙◌, ap, sym, subst}
+use Rattle.lard_cluster.specs.Machine.{machine_step}
 use Rattle.lard_cluster_laws.specs.Lawful.{IsLawful}
 use Rattle.lard_cluster_world.specs.World.{Standing}
-use Rattle.lard_cluster_world.proofs.Runs.{runs-on, still-lawful}
+use Rattle.lard_cluster_world.proofs.Runs.{runs-on, step-leads, still-lawful}
 use Rattle.lard_files.specs.Files.{file_at}
+use Rattle.lard_settling.specs.Written.{written_out}
 use Rattle.lard_cluster_world.proofs.world.World.step.Goals as goal
 
 pub step-done-requires-clause-sound : goal.step-done-requires-clause-sound
@@ -14,11 +16,16 @@ step-done-requires-clause-set c = (c.self.invariant (ap (λ w. w.spoiled) c.self
 
 pub invariant_of-self : goal.invariant_of-self
 invariant_of-self c = λ usable.
+    let old = c.self.inside.machine in
+    let new = c.step-done.new.machine in
     let run = c.self.invariant (ap (λ w. w.spoiled) c.self.view_is ∙ c.requires.usable) in
-    runs-on c.self.inside.machine c.step-done.new.machine c.args.event run c.requires.ruled c.step-done.result c.step-done.ensures.step c.step-done.ensures.sound (sym c.is_short-self-inside.ensures ∙ usable)
+    runs-on old new run (machine_step old c.args.event) (step-leads old new run c.args.event c.requires.ruled)
+    c.step-done.result c.step-done.ensures.step c.step-done.ensures.sound (sym c.is_short-self-inside.ensures ∙ usable)
 
 pub returns-clause-lawful : goal.returns-clause-lawful
 returns-clause-lawful c =
+    let old = c.self.inside.machine in
+    let new = c.step-done.new.machine in
     let run = c.self.invariant (ap (λ w. w.spoiled) c.self.view_is ∙ c.requires.usable) in
-    subst (λ (w : Standing). IsLawful w.machine.config (file_at w.machine.files) c.step-done.new.machine.journal) c.self.view_is
-    (still-lawful c.self.inside.machine c.step-done.new.machine c.args.event run c.requires.ruled c.step-done.result c.step-done.ensures.step)
+    subst (λ (w : Standing). IsLawful w.machine.config (file_at w.machine.files) (written_out new.journal)) c.self.view_is
+    (still-lawful old new run (machine_step old c.args.event) (step-leads old new run c.args.event c.requires.ruled) c.step-done.result c.step-done.ensures.step)

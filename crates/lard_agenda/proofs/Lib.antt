@@ -1,0 +1,10 @@
+pub mod Due
+mod Entries
+mod Folds
+pub mod Follows
+pub mod Holders
+pub mod Kept
+mod Listed
+mod Numbers
+pub mod Packets
+pub mod Timers

@@ -1,0 +1,90 @@
+-- Which request of a connection something is for, which place answers it, and what backs the way of its response: in words of the
+-- journal.
+use Rattle.std.specs.Prelude.{◌≡◌, ℕ, ◌+◌, false, List, [], ◌∷◌, ◌++◌, take, Some, Ok}
+use Rattle.std.specs.List.{slice_get}
+use Rattle.lard_answers.specs.Answers.{FilesAt, good_path, verdicts}
+use Rattle.lard_base.specs.declared.place.Place.{Place}
+use Rattle.lard_base.specs.declared.place.Place.TheVariants.{Client, Front, Node}
+use Rattle.lard_base.specs.declared.place.Via.{Via}
+use Rattle.lard_base.specs.declared.place.Via.TheVariants as via
+use Rattle.lard_cluster_ways.specs.Before.{SawBehind}
+use Rattle.lard_cluster_ways.specs.Ways.{good_paths}
+use Rattle.lard_history.specs.Journal.{assigned, is_touched, served, wrote}
+use Rattle.lard_history.specs.Own.{Came, Has, Row, own}
+use Rattle.lard_journal.specs.declared.rec.Rec.{Rec}
+use Rattle.lard_journal.specs.declared.rec.Rec.TheVariants as rec
+use Rattle.lard_message.specs.declared.message.Body.TheVariants as body
+use Rattle.lard_message.specs.Reading.{decoded_message}
+use Rattle.lard_node_rules.specs.NodePlace.{bytes_of}
+use Rattle.lard_request.specs.declared.verdict.Verdict.{Verdict}
+
+-- Request r of all that a client wrote is for this path.
+pub record IsFor (files : FilesAt) (wrote : List ℕ) (r : ℕ) (path : List ℕ) : Type 0 where
+  pub before : ℕ
+  pub number : r ≡ before + 1
+  pub verdict : Verdict
+  pub is : slice_get (verdicts wrote) before ≡ Some verdict
+  pub good : good_path files verdict ≡ Some path
+
+-- ---- numbers
+
+-- The first assignment is for the next request, whose number it has, and a job is for the path of its request: as long as the
+-- schedule did not touch the connection.
+abbrev pub MayName : FilesAt → List Rec → Rec → Type 0
+MayName files past (rec.AssignedFirst c r path n add remove) = is_touched past c ≡ false → (assigned past c ≡ []) × (r ≡ served past c + 1) × IsFor files (wrote past c) r path
+MayName files past (rec.Queued n m c r path) = is_touched past c ≡ false → IsFor files (wrote past c) r path
+MayName files past _ = Unit {0}
+
+-- ---- places
+
+-- Where no request for a file is among these, the front end answers. The first of them and all later ones are answered by the home,
+-- the node of the first assignment.
+abbrev pub AnswersFrom : List (List ℕ) → List (List ℕ × ℕ) → Place → Type 0
+AnswersFrom [] chosen place = place ≡ Front
+AnswersFrom (path ∷ paths) chosen place = (first : List ℕ × ℕ) × (slice_get chosen 0 ≡ Some first) × (place ≡ Node first.1)
+
+-- the paths of the good requests up to the next one, which is answered
+abbrev pub paths_so_far : FilesAt → List Rec → ℕ → List (List ℕ)
+paths_so_far files past c = good_paths files (take (served past c + 1) (verdicts (wrote past c)))
+
+abbrev pub MayAnswer : FilesAt → List Rec → Rec → Type 0
+MayAnswer files past (rec.Served place c r code size way) = is_touched past c ≡ false → AnswersFrom (paths_so_far files past c) (assigned past c) place
+MayAnswer files past _ = Unit {0}
+
+-- ---- ways
+
+-- its disk read the file of this path, behind the record that it took the connection
+abbrev pub WasReadFor : List Rec → ℕ → ℕ → ℕ → List ℕ → Type 0
+WasReadFor past n c r path = (epoch : ℕ) × SawBehind (own c past) n c epoch (Row (rec.Read n n c r path))
+
+-- A content came there from node m, behind the record that it took the connection in that epoch, and it is the file of this path.
+pub record HasComeFor (files : FilesAt) (past : List Rec) (n m c r : ℕ) (path : List ℕ) : Type 0 where
+  pub epoch : ℕ
+  pub bytes : List ℕ
+  pub came : SawBehind (own c past) n c epoch (Came (record { from = Node m; to = Node n; bytes = bytes }))
+  pub reads : decoded_message bytes ≡ Ok (record { c = c; epoch = record { 0 = epoch }; body = body.Content r (bytes_of (files path)) })
+
+-- the record stands behind the one that node n took the connection
+pub record IsBehindTook (past : List Rec) (n c : ℕ) (r : Rec) : Type 0 where
+  pub epoch : ℕ
+  pub before : List Rec
+  pub later : List Rec
+  pub split : past ≡ before ++ later
+  pub took : Has (rec.Took (Node n) c (record { 0 = epoch })) before
+  pub stands : Has r later
+
+abbrev pub WasFor : FilesAt → List Rec → ℕ → ℕ → ℕ → List ℕ → Via → Type 0
+WasFor files past n c r path via.Own = Unit {0}
+WasFor files past n c r path via.Cache = IsBehindTook past n c (rec.Hit n path)
+WasFor files past n c r path via.Disk = IsBehindTook past n c (rec.Queued n n c r path) × WasReadFor past n c r path
+WasFor files past n c r path (via.Node m) = HasComeFor files past n m c r path
+
+abbrev pub WasForAt : FilesAt → List Rec → Place → ℕ → ℕ → List ℕ → Via → Type 0
+WasForAt files past (Node n) c r path way = WasFor files past n c r path way
+WasForAt files past Front c r path way = Unit {0}
+WasForAt files past (Client d) c r path way = Unit {0}
+
+-- The content of a response was there before by its way, and it is that of the path which its request is for.
+abbrev pub MayBeBacked : FilesAt → List Rec → Rec → Type 0
+MayBeBacked files past (rec.Served place c r code size way) = is_touched past c ≡ false → (path : List ℕ) → IsFor files (wrote past c) r path → WasForAt files past place c r path way
+MayBeBacked files past _ = Unit {0}

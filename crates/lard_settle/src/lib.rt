@@ -1,0 +1,15 @@
+//! Settling: rounds of inner steps, until nothing is left to do.
+//!
+//! It stands above the world, whose steps it takes, and the agenda, which tells it what a journal leaves to be done. The replay of
+//! a schedule calls it for each `settle`.
+#![tactic(auto)]
+
+mod left;
+mod lists;
+mod rounds;
+mod settles;
+mod steps;
+#[cfg(test)]
+mod tests;
+
+pub use settles::{Settled, settle};

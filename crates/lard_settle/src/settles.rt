@@ -1,0 +1,116 @@
+//! A settle.
+
+ghost use Rattle.std.specs.Prelude.{◌≡◌, false, Ok, OnOk};
+ghost use Rattle.lard_agenda.specs.Agenda.{IsAgendaOf};
+ghost use Rattle.lard_settle.specs.Settling.{Does, Settles, all_inner, answer, closed_by, rounds_from, settled, settled_from, takes};
+
+use crate::left::left;
+use crate::lists::takes;
+use crate::rounds::do_rounds;
+use crate::steps::do_all;
+use lard_agenda::Agenda;
+use lard_cluster::StepFault;
+use lard_cluster_world::World;
+use std::alloc::Global;
+
+/// How a settle ended.
+#[derive(Debug, Clone, Copy, PartialEq, Eq, Drop)]
+pub enum Settled {
+    /// After so many rounds nothing was left.
+    Quiet(u32),
+    /// So many rounds were done, as many as were allowed, and so many timers and jobs are left.
+    Open { rounds: u32, left: u64 },
+}
+
+/// Settles: first each client that holds takes; then rounds of inner steps, at most so many, until no timer runs but those that are
+/// stalled and no job waits. Where a limit is reached inside, the world is as the steps before have left it. If memory ran out, its
+/// journal is a front of what it would have been.
+pub fn settle(
+    world: &mut World,
+    agenda: &mut Agenda,
+    alloc: Global,
+    rounds: u32,
+) -> Result<Settled, StepFault>
+    requires usable { world.old.spoiled ≡ false }
+    requires agenda { IsAgendaOf agenda.old world.old.machine.journal }
+    ensures settled { Settles (settled world.old.machine rounds) world.new.machine result }
+    ensures usable { OnOk result (world.new.spoiled ≡ false) }
+    ensures agenda { IsAgendaOf agenda.new world.new.machine.journal }
+{
+    world.begin_settle(alloc, rounds)?;
+    settle_from(world, agenda, alloc, rounds)
+}
+
+/// A settle that has begun.
+fn settle_from(
+    world: &mut World,
+    agenda: &mut Agenda,
+    alloc: Global,
+    rounds: u32,
+) -> Result<Settled, StepFault>
+    requires usable { world.old.spoiled ≡ false }
+    requires agenda { IsAgendaOf agenda.old world.old.machine.journal }
+    ensures settled { Settles (settled_from world.old.machine rounds) world.new.machine result }
+    ensures usable { OnOk result (world.new.spoiled ≡ false) }
+    ensures agenda { IsAgendaOf agenda.new world.new.machine.journal }
+{
+    take_all(world, agenda, alloc)?;
+    do_and_close(world, agenda, alloc, rounds)
+}
+
+/// Each client that holds takes.
+fn take_all(world: &mut World, agenda: &mut Agenda, alloc: Global) -> Result<(), StepFault>
+    requires usable { world.old.spoiled ≡ false }
+    requires agenda { IsAgendaOf agenda.old world.old.machine.journal }
+    ensures does { Does (all_inner world.old.machine (takes world.old.machine)) world.new.machine result }
+    ensures usable { OnOk result (world.new.spoiled ≡ false) }
+    ensures agenda { IsAgendaOf agenda.new world.new.machine.journal }
+{
+    let events = takes(world, agenda, alloc)?;
+    do_all(world, alloc, events)
+}
+
+/// The rounds, and the closing record.
+fn do_and_close(
+    world: &mut World,
+    agenda: &mut Agenda,
+    alloc: Global,
+    rounds: u32,
+) -> Result<Settled, StepFault>
+    requires usable { world.old.spoiled ≡ false }
+    requires agenda { IsAgendaOf agenda.old world.old.machine.journal }
+    ensures settled { Settles (closed_by (rounds_from rounds 0 world.old.machine)) world.new.machine result }
+    ensures usable { OnOk result (world.new.spoiled ≡ false) }
+    ensures agenda { IsAgendaOf agenda.new world.new.machine.journal }
+{
+    let done = do_rounds(world, agenda, alloc, rounds)?;
+    close(world, agenda, alloc, done)
+}
+
+/// The closing record, behind so many rounds.
+fn close(
+    world: &mut World,
+    agenda: &mut Agenda,
+    alloc: Global,
+    done: u32,
+) -> Result<Settled, StepFault>
+    requires usable { world.old.spoiled ≡ false }
+    requires agenda { IsAgendaOf agenda.old world.old.machine.journal }
+    ensures settled { Settles (closed_by (Ok (world.old.machine, done))) world.new.machine result }
+    ensures usable { OnOk result (world.new.spoiled ≡ false) }
+    ensures agenda { IsAgendaOf agenda.new world.new.machine.journal }
+{
+    let count = left(world, agenda)?;
+    world.end_settle(alloc, done, count)?;
+    Ok(answer(done, count))
+}
+
+/// So many rounds were done, and this was left.
+fn answer(rounds: u32, left: u64) -> Settled
+    ensures { result ≡ answer rounds left }
+{
+    if left == 0 {
+        return Settled::Quiet(rounds);
+    }
+    Settled::Open { rounds, left }
+}

@@ -1,0 +1,4 @@
+pub mod Alike
+pub mod Folds
+pub mod Plain
+pub mod Written

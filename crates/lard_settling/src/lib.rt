@@ -1,0 +1,14 @@
+//! What a settle does of the whole: inner steps between its event and its closing record. And the journal of a run with its
+//! settles written out, which is that of a run without any.
+//!
+//! It stands above the cluster's machine and the view of one connection. It has no code: `lard_cluster_world` does what it
+//! defines, and `lard_settle` says which inner steps a settle takes.
+#![tactic(auto)]
+
+ghost use Rattle.lard_settling.specs.Written.{SettlesAreWrittenOut};
+
+/// A step, an inner step, and both ends of a settle lead on from a machine whose journal, with its settles written out, is that
+/// of a run without settles. So each law of the journals of such runs is one of every journal with its settles written out.
+pub fn settles_are_written_out()
+    ensures { SettlesAreWrittenOut }
+{}
