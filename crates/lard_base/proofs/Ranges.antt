@@ -10,7 +10,7 @@ use Rattle.lard_base.specs.declared.config.ConfigFault.TheVariants.{Range}
 use Rattle.lard_base.specs.Config.{IsInRange, is_in_range, range_check, value_of, checked_from, all_keys}
 
 -- a range's test, as two bounds
-within : (least most value : ℕ) → IsTrue (nat_le least value && nat_le value most) → (least ≤ value) × (value ≤ most)
+pub within : (least most value : ℕ) → IsTrue (nat_le least value && nat_le value most) → (least ≤ value) × (value ≤ most)
 within least most value h = (grind (arith, nat_tests, h), grind (arith, nat_tests, h))
 
 -- the terms of the room

@@ -2,6 +2,7 @@
 use Rattle.std.proofs.Common.{◌≡◌, ℕ, ◌<◌, ◌≤◌, ◌||◌, nat_eq, Bool, true, false, cond, List, [], ◌∷◌, length, map, Option, Some, None, Ok, arith, refl, sym, ap, ◌∙◌, subst, ◌++◌}
 use Rattle.std.proofs.lemmas.List.{length-map}
 use Rattle.std.specs.List.{fold, list_any}
+use Rattle.lard_base.proofs.Usable.{usable}
 use Rattle.lard_base.specs.Config.{config_check}
 use Rattle.lard_base.specs.declared.config.Config.{Config}
 use Rattle.lard_base.specs.declared.event.Event.{Event}
@@ -31,7 +32,6 @@ use Rattle.lard_cluster_policy.proofs.Waiting.{who, within-more}
 use Rattle.lard_cluster_policy.specs.Laws.{AdmitsFirst, PassesOn}
 use Rattle.lard_cluster_policy.specs.Ledger.{is_in, ledger}
 use Rattle.lard_cluster_policy.specs.Line.{IsWithin, waiting, waiting_step}
-use Rattle.lard_cluster_records.proofs.Named.{usable}
 use Rattle.lard_cluster_view.specs.Carry.{setting}
 use Rattle.lard_cluster_view.specs.View.{Rules, Setting, conn, part_of}
 use Rattle.lard_cluster_view.proofs.After.{IsAfter, step-after}

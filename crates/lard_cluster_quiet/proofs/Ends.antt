@@ -4,6 +4,7 @@ use Rattle.std.proofs.lemmas.Bool.{both_ways}
 use Rattle.std.specs.FinMap as table
 use Rattle.std.specs.List.{list_any}
 use Rattle.std.specs.Prelude.{IsSome}
+use Rattle.lard_base.proofs.Usable.{usable}
 use Rattle.lard_base.specs.Config.{config_check}
 use Rattle.lard_base.specs.declared.config.Config.{Config}
 use Rattle.lard_base.specs.declared.limits.TheConstants.{MAX_STREAM_BYTES}
@@ -18,7 +19,6 @@ use Rattle.lard_cluster_policy.proofs.Waiting.{who}
 use Rattle.lard_cluster_quiet.specs.Quiet.{HasNoJob, JournalsComplete, QuietIsCompleteOrInLine, IsInLine, reads_for}
 use Rattle.lard_cluster_quiet.specs.Still.{AwaitsADisk, IsWaiting}
 use Rattle.lard_cluster_quiet.proofs.Still.{quiet-or-else}
-use Rattle.lard_cluster_records.proofs.Named.{usable}
 use Rattle.lard_cluster_stores.specs.Stores.{jobs}
 use Rattle.lard_cluster_stores.specs.Stores as stores
 use Rattle.lard_cluster_view.specs.View.{conn, part_of}
