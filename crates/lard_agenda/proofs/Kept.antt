@@ -1,5 +1,5 @@
 -- What is kept at a seat: a timer that runs, of the seat's own place and connection.
-use Rattle.std.proofs.Common.{◌≡◌, ℕ, Bool, true, false, List, Some, None, refl, sym, ap, subst, ◌∙◌, cond, nat_eq}
+use Rattle.std.proofs.Common.{◌≡◌, ◌<◌, ℕ, ◌^◌, Bool, true, false, List, Some, None, refl, sym, ap, subst, ◌∙◌, cond, nat_eq}
 use Rattle.std.specs.FinMap.{FinMap, get, get-empty}
 use Rattle.std.specs.List.{AllByRecursion}
 use Rattle.std.specs.Ordering.{nat_cmp}
@@ -12,7 +12,7 @@ use Rattle.lard_agenda.specs.declared.kinds.Kinds.{Kinds}
 use Rattle.lard_agenda.specs.declared.kinds.Running.{Running}
 use Rattle.lard_agenda.specs.Agenda.{agenda_of, entry, noted_by, nothing, running_step, seat, timer_set}
 use Rattle.lard_agenda.specs.Kinds.{is_none, kinds_of, with_kind}
-use Rattle.lard_agenda.specs.Laws.{AgendasKeepNothingIdle, IsSeated, NamesSeat}
+use Rattle.lard_agenda.specs.Laws.{AgendasKeepNothingIdle, IsSeated, NamesLowSeat, NamesSeat}
 use Rattle.lard_agenda.proofs.Folds.{always, side_by_side}
 use Rattle.lard_agenda.proofs.Numbers.{found}
 use Rattle.lard_agenda.proofs.Timers.{number-is}
@@ -75,3 +75,17 @@ seat-step a u _ g h = h
 pub kept_is_seated : (J : List Rec) → AllByRecursion NamesSeat J → (at : ℕ) (r : Running) → get (agenda_of J).running at ≡ Some r → IsSeated r.place r.c
 unfolding agenda_of
 kept_is_seated J all = side_by_side (λ (a : Agenda) (u : Unit {0}). EachKept HasSeat a.running) NamesSeat noted_by (λ u r. u) seat-step nothing tt J all (none-kept HasSeat)
+
+-- ---- and where all seats that are named are low, those are
+
+abbrev IsLow : ℕ → Running → Type 0
+IsLow at r = at < 2 ^ 32
+
+low-step : (a : Agenda) (u : Unit {0}) (r : Rec) → NamesLowSeat r → EachKept IsLow a.running → EachKept IsLow (running_step a.running r)
+low-step a u (rec.Armed q d k) g h = set-each IsLow q d k true a.running (λ kinds r is. g) h
+low-step a u (rec.Cleared q d k) g h = set-each IsLow q d k false a.running (λ kinds r is. g) h
+low-step a u _ g h = h
+
+pub kept_is_low : (J : List Rec) → AllByRecursion NamesLowSeat J → (at : ℕ) (r : Running) → get (agenda_of J).running at ≡ Some r → at < 2 ^ 32
+unfolding agenda_of
+kept_is_low J all = side_by_side (λ (a : Agenda) (u : Unit {0}). EachKept IsLow a.running) NamesLowSeat noted_by (λ u r. u) low-step nothing tt J all (none-kept IsLow)

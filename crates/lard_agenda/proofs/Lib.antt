@@ -1,5 +1,6 @@
 pub mod Due
 mod Entries
+pub mod Few
 mod Folds
 pub mod Follows
 pub mod Holders

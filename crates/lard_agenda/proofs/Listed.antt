@@ -11,7 +11,7 @@ use lib.Dec.{T}
 use Rattle.lard_history.proofs.Seeing.{by_number, other_number}
 use Rattle.lard_agenda.proofs.Numbers.{same_test}
 
-both : (a b : Bool) → T (a && b) → T a × T b
+pub both : (a b : Bool) → T (a && b) → T a × T b
 both true b h = (tt, h)
 both false b h = absurd h
 

@@ -1,5 +1,5 @@
 -- An agenda is what the journal says.
-use Rattle.std.specs.Prelude.{◌≡◌, ℕ, ◌<◌, ◌≤◌, ◌^◌, Bool, true, false, nat_eq, if◌then◌else◌, List, ◌++◌, Some, None, ◌↔◌}
+use Rattle.std.specs.Prelude.{◌≡◌, ℕ, ◌<◌, ◌≤◌, ◌*◌, ◌^◌, Bool, true, false, nat_eq, if◌then◌else◌, List, ◌++◌, Some, None, ◌↔◌}
 use Rattle.std.specs.List.{AllByRecursion, fold}
 use Rattle.std.specs.FinMap.{contains_key, get}
 use Rattle.lard_base.specs.declared.event.Event.{Event}
@@ -14,7 +14,7 @@ use Rattle.lard_journal.specs.declared.rec.Rec.{Rec}
 use Rattle.lard_journal.specs.declared.rec.Rec.TheVariants as rec
 use Rattle.lard_agenda.specs.declared.agenda.Agenda.{Agenda}
 use Rattle.lard_agenda.specs.declared.kinds.Running.{Running}
-use Rattle.lard_agenda.specs.Agenda.{IsAgendaOf, agenda_of, due, holders, nothing, on_way, rests, seat, stalled_at}
+use Rattle.lard_agenda.specs.Agenda.{IsAgendaOf, agenda_of, due, holders, nothing, on_way, rests, seat, stalled_at, timers_left}
 use Rattle.lard_agenda.specs.Kinds.{is_none, kinds_of, runs}
 
 -- ---- packets
@@ -59,6 +59,16 @@ AgendasTellTimers = (J : List Rec) (p : Place) (c : ℕ) (kind : TimerKind) → 
 -- What is kept at a seat is of that seat, and has a timer that runs.
 abbrev pub AgendasKeepNothingIdle : Type 0
 AgendasKeepNothingIdle = (J : List Rec) (at : ℕ) (r : Running) → get (agenda_of J).running at ≡ Some r → (at ≡ seat r.place r.c) × (is_none r.kinds ≡ false)
+
+-- the seat that a record of a timer names is below 2^32
+abbrev pub NamesLowSeat : Rec → Type 0
+NamesLowSeat (rec.Armed p c kind) = seat p c < 2 ^ 32
+NamesLowSeat (rec.Cleared p c kind) = seat p c < 2 ^ 32
+NamesLowSeat _ = Unit {0}
+
+-- At each seat five timers run at most, one of each kind, and there are no more seats than that.
+abbrev pub AgendasTellFewTimers : Type 0
+AgendasTellFewTimers = (d : Dispatcher) (J : List Rec) → AllByRecursion NamesLowSeat J → timers_left d (agenda_of J) ≤ 5 * 2 ^ 32
 
 -- ---- clients that hold
 

@@ -1,6 +1,6 @@
 //! An agenda is what the journal says.
 
-ghost use Rattle.lard_agenda.specs.Laws.{AgendasAreOfTheirJournals, AgendasBegin, AgendasGoOn, AgendasKeepNothingIdle, AgendasListHolders, AgendasListPackets, AgendasListTimers, AgendasRest, AgendasTellHolders, AgendasTellPackets, AgendasTellTimers};
+ghost use Rattle.lard_agenda.specs.Laws.{AgendasAreOfTheirJournals, AgendasBegin, AgendasGoOn, AgendasKeepNothingIdle, AgendasListHolders, AgendasListPackets, AgendasListTimers, AgendasRest, AgendasTellFewTimers, AgendasTellHolders, AgendasTellPackets, AgendasTellTimers};
 
 /// The packets of a journal's agenda are those that were sent, and neither got nor lost since.
 pub fn agendas_tell_packets()
@@ -8,10 +8,12 @@ pub fn agendas_tell_packets()
 {}
 
 /// What is kept at a seat is which timers of its connection run at its place, where the records of timers name nodes up to 64 and
-/// connections below 2^16; and nothing is kept where none runs.
+/// connections below 2^16; and nothing is kept where none runs. Where these seats are below 2^32, no more than five times as many timers
+/// run.
 pub fn agendas_tell_timers()
     ensures timers { AgendasTellTimers }
     ensures idle { AgendasKeepNothingIdle }
+    ensures few { AgendasTellFewTimers }
 {}
 
 /// The clients of a journal's agenda are those whose last `hold` or `take` is `hold`.

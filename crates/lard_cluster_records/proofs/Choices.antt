@@ -2,11 +2,11 @@
 use Rattle.std.proofs.Common.{◌≡◌, ℕ, suc, ◌≤◌, List, [], ◌∷◌, length, true, Option, Some, None, IfSome, refl, ap, arith}
 use Rattle.std.proofs.lemmas.Bool.{cond_both}
 use Rattle.std.specs.List.{AllByRecursion}
+use Rattle.lard_base.proofs.Usable.{usable}
 use Rattle.lard_base.specs.declared.config.Config.{Config}
 use Rattle.lard_base.specs.declared.ids.Millis.{Millis}
 use Rattle.lard_base.specs.Members.{has, node_numbers}
 use Rattle.lard_cluster_records.proofs.Fronts.{FirstFits, IsLater, IsNode}
-use Rattle.lard_cluster_records.proofs.Named.{usable}
 use Rattle.lard_costs.specs.Costs.{cost_at, is_less}
 use Rattle.lard_costs.specs.declared.cost.Cost.{Cost}
 use Rattle.lard_costs.specs.Later.{cheapest, later_choice, members_of, stays}

@@ -13,7 +13,9 @@ pub mod Outs
 pub mod FrontStep
 pub mod NodeStep
 pub mod Disks
+pub mod Queues
 pub mod Holding
 pub mod Reached
+pub mod Short
 pub mod Talking
 pub mod There

@@ -1,17 +1,10 @@
--- What the numbers of a configuration and the files of a schedule are: the stream limit and the nodes are few, and each path that
--- names a file has a range.
-use Rattle.std.proofs.Common.{◌≡◌, ℕ, ◌≤◌, ◌^◌, ◌&&◌, List, [], ◌∷◌, Bool, true, false, cond, Option, Some, None, All, IfSome, Ok, Err, nat_le, is_some, refl, sym, subst, arith}
+-- What the files of a schedule are: each path that names a file has a range.
+use Rattle.std.proofs.Common.{◌≡◌, ℕ, List, [], ◌∷◌, cond, Option, Some, None, All, IfSome, is_some, sym, subst}
 use Rattle.std.proofs.lemmas.Bool.{cond_both}
-use Rattle.std.proofs.lemmas.Bool.Decides.{nat_tests}
 use Rattle.std.proofs.lemmas.Slice.Eq.{bytes_eq-Decides}
 use Rattle.std.specs.Map.{lookup}
 use Rattle.std.specs.Str.{bytes_eq}
 use Rattle.lard_answers.specs.Answers.{FilesAt, good_path}
-use Rattle.lard_base.specs.Config.{checked_from, config_check, is_in_range, value_of}
-use Rattle.lard_base.specs.declared.config.Config.{Config}
-use Rattle.lard_base.specs.declared.config.ConfigFault.TheVariants.{Range}
-use Rattle.lard_base.specs.declared.config.Key.{Key}
-use Rattle.lard_base.specs.declared.config.Key.TheVariants.{Nodes, Low, High, Age, Idle, Over, Miss, Cache, Stream}
 use Rattle.lard_cluster_records.specs.Records.{IsFile}
 use Rattle.lard_files.specs.Files.{IsPath, file_at}
 use Rattle.lard_history.proofs.Each.{Each}
@@ -20,36 +13,6 @@ use Rattle.lard_laws_records.proofs.Bytes.{AreBytes, all-each, index-bytes}
 use Rattle.lard_laws_records.proofs.Content.{AreFiles, IsContent}
 use Rattle.lard_request.specs.declared.verdict.Verdict.{Verdict}
 use Rattle.lard_request.specs.declared.verdict.Verdict.TheVariants.{Fault, Serve}
-
--- ---- a configuration that may be used
-
--- the number of one key, and the keys behind it
-key-checked : (c : Config) (key : Key) (keys : List Key) → checked_from c (key ∷ keys) ≡ Ok tt → (is_in_range key (value_of c key) ≡ true) × (checked_from c keys ≡ Ok tt)
-key-checked c key keys e = go (is_in_range key (value_of c key)) refl e where
-  go : (b : Bool) → is_in_range key (value_of c key) ≡ b → cond b (checked_from c keys) (Err (Range key (value_of c key))) ≡ Ok tt → (is_in_range key (value_of c key) ≡ true) × (checked_from c keys ≡ Ok tt)
-  go true t h = (t, h)
-  go false t h = cc
-
--- the upper bound of a range
-at-most : (least most value : ℕ) → (nat_le least value && nat_le value most) ≡ true → value ≤ most
-at-most least most value h = grind (arith, nat_tests, h)
-
-pub record IsUsable (c : Config) : Type 0 where
-  pub nodes : c.nodes ≤ 64
-  pub stream : c.stream ≤ 2 ^ 30
-
-pub usable : (c : Config) → config_check c ≡ Ok tt → IsUsable c
-usable c e =
-    let first = key-checked c Nodes (Low ∷ High ∷ Age ∷ Idle ∷ Over ∷ Miss ∷ Cache ∷ Stream ∷ []) e in
-    let second = key-checked c Low (High ∷ Age ∷ Idle ∷ Over ∷ Miss ∷ Cache ∷ Stream ∷ []) first.1 in
-    let third = key-checked c High (Age ∷ Idle ∷ Over ∷ Miss ∷ Cache ∷ Stream ∷ []) second.1 in
-    let fourth = key-checked c Age (Idle ∷ Over ∷ Miss ∷ Cache ∷ Stream ∷ []) third.1 in
-    let fifth = key-checked c Idle (Over ∷ Miss ∷ Cache ∷ Stream ∷ []) fourth.1 in
-    let sixth = key-checked c Over (Miss ∷ Cache ∷ Stream ∷ []) fifth.1 in
-    let seventh = key-checked c Miss (Cache ∷ Stream ∷ []) sixth.1 in
-    let eighth = key-checked c Cache (Stream ∷ []) seventh.1 in
-    let ninth = key-checked c Stream [] eighth.1 in
-    record { nodes = at-most 1 64 c.nodes first.0; stream = at-most 1 (2 ^ 30) c.stream ninth.0 }
 
 -- ---- files
 

@@ -5,6 +5,7 @@ use Rattle.std.specs.FinMap as table
 use Rattle.std.specs.FinMap.{get-empty}
 use Rattle.std.specs.Ordering.{nat_cmp}
 use Rattle.std.specs.Prelude.{slice_get}
+use Rattle.lard_base.proofs.Usable.{usable}
 use Rattle.lard_base.specs.Config.{config_check}
 use Rattle.lard_base.specs.declared.config.Config.{Config}
 use Rattle.lard_base.specs.declared.event.Event.{Event}
@@ -23,7 +24,7 @@ use Rattle.lard_cluster_records.proofs.Disks.{DisksAreShort, disks-short}
 use Rattle.lard_cluster_records.proofs.Fronts.{FrontKeeps, no-rest}
 use Rattle.lard_cluster_records.proofs.Holding.{HasRoom, Holds, IsPacket, NodeHolds, StationKeeps, client-holds, front-holds, node-holds, passed-holds}
 use Rattle.lard_cluster_records.proofs.Letters.{AsksBy, MayAsk, MaySay, SaysBy, conn-number}
-use Rattle.lard_cluster_records.proofs.Named.{AreNamed, files-named, usable}
+use Rattle.lard_cluster_records.proofs.Named.{AreNamed, files-named}
 use Rattle.lard_cluster_records.proofs.Nodes.{NodeKeeps}
 use Rattle.lard_cluster_records.proofs.NodeStep as node
 use Rattle.lard_cluster_records.proofs.NodeStep.{PlaceKeeps}
@@ -67,7 +68,7 @@ Good (Ok n) = Holds n
 Good (Err fault) = Unit {0}
 
 -- no limit was reached before a step that is done
-below : (m n : Machine) (e : Event) → machine_step m e ≡ Ok n → (limit_reached m ≡ None) × (happens m e ≡ Ok n)
+pub below : (m n : Machine) (e : Event) → machine_step m e ≡ Ok n → (limit_reached m ≡ None) × (happens m e ≡ Ok n)
 unfolding machine_step
 below m n e is = go (limit_reached m) refl is where
   go : (o : Option What) → limit_reached m ≡ o → unless_limit o (happens m e) ≡ Ok n → (limit_reached m ≡ None) × (happens m e ≡ Ok n)

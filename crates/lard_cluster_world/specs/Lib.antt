@@ -3,3 +3,4 @@ pub mod Lent
 pub mod Sound
 pub mod World
 pub mod Runs
+pub use Rattle.lard_cluster_laws.specs.Lawful

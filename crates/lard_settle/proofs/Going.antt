@@ -10,8 +10,8 @@ use Rattle.lard_cluster.specs.declared.machine.Machine.{Machine}
 use Rattle.lard_cluster.specs.Machine.{Steps}
 use Rattle.lard_cluster_world.proofs.Runs.{inner-goes-on}
 use Rattle.lard_journal.specs.declared.rec.Rec.{Rec}
-use Rattle.lard_settle.specs.declared.settles.Settled.{Settled}
-use Rattle.lard_settle.specs.Settling.{Does, DoesRounds, IsFrontOf, Settles, Stop, all_inner, closed_by, come, completed_since, completions, counted, deliveries, is_quiet, nodes_complete, outcome, round, rounds_from, settled, settled_from}
+use Rattle.lard_settling.specs.declared.settled.Settled.{Settled}
+use Rattle.lard_settling.specs.Settling.{Does, DoesRounds, IsFrontOf, Settles, Stop, all_inner, closed_by, come, completed_since, completions, counted, deliveries, is_quiet, nodes_complete, outcome, round, rounds_from, settled, settled_from}
 use Rattle.lard_settle.proofs.Growth.{Grows, all-grow, begun-grows, closed-grows, completed-grows, front-over, front-same, nodes-grow, rounds-grow, settle-grows}
 use Rattle.lard_settling.specs.Steps.{inner_step, settle_begun}
 

@@ -10,8 +10,8 @@ use Rattle.lard_journal.specs.Inner.{turned_at}
 use Rattle.lard_journal.specs.declared.rec.Rec.{Rec}
 use Rattle.lard_journal.specs.declared.rec.Rec.TheVariants as rec
 use Rattle.lard_machine.specs.declared.fault.What.{What}
-use Rattle.lard_settle.specs.declared.settles.Settled.{Settled}
-use Rattle.lard_settle.specs.Settling.{IsFrontOf, Stop, all_inner, closed_by, come, completed_since, completions, counted, deliveries, fired_since, firings, is_quiet, left, nodes_complete, outcome, round, rounds_from, settled, settled_from, takes}
+use Rattle.lard_settling.specs.declared.settled.Settled.{Settled}
+use Rattle.lard_settling.specs.Settling.{IsFrontOf, Stop, all_inner, closed_by, come, completed_since, completions, counted, deliveries, fired_since, firings, is_quiet, left, nodes_complete, outcome, round, rounds_from, settled, settled_from, takes}
 use Rattle.lard_settling.specs.Steps.{as_inner, closing, inner_given, inner_step, settle_begun}
 
 -- ---- fronts

@@ -1,2 +1,2 @@
-pub mod Events
-pub mod Settling
+pub use Rattle.lard_settling.specs.Events
+pub use Rattle.lard_settling.specs.Settling

@@ -2,7 +2,7 @@
 
 ghost use Rattle.std.specs.Prelude.{◌≡◌, ◌≤◌, ◌<◌, ◌^◌, false, IfOk};
 ghost use Rattle.lard_agenda.specs.Agenda.{IsAgendaOf};
-ghost use Rattle.lard_settle.specs.Settling.{is_quiet, jobs_left, left};
+ghost use Rattle.lard_settling.specs.Settling.{is_quiet, jobs_left, left};
 ghost use Rattle.lard_settling.specs.Left.{jobs_at};
 
 use lard_agenda::Agenda;

@@ -12,4 +12,5 @@ mod steps;
 #[cfg(test)]
 mod tests;
 
-pub use settles::{Settled, settle};
+pub use lard_settling::Settled;
+pub use settles::settle;

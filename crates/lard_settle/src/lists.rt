@@ -5,7 +5,7 @@ ghost use Rattle.std.specs.List.{AllByRecursion};
 ghost use Rattle.lard_agenda.specs.Agenda.{IsAgendaOf, due, holders, on_way};
 ghost use Rattle.lard_base.specs.declared.event.Event.TheVariants as event;
 ghost use Rattle.lard_cluster.specs.Bounds.{HasRule};
-ghost use Rattle.lard_settle.specs.Settling.{completions, deliveries, firings, is_own, is_own_at, takes};
+ghost use Rattle.lard_settling.specs.Settling.{completions, deliveries, firings, is_own, is_own_at, takes};
 ghost use Rattle.lard_settling.specs.Left.{is_holder};
 
 use crate::left::jobs;

@@ -2,7 +2,7 @@
 
 ghost use Rattle.std.specs.Prelude.{◌≡◌, ◌≤◌, false, OnOk};
 ghost use Rattle.lard_agenda.specs.Agenda.{IsAgendaOf};
-ghost use Rattle.lard_settle.specs.Settling.{Does, DoesRounds, IsFrontOf, all_inner, completed_since, completions, deliveries, fired_since, firings, nodes_complete, round, rounds_from};
+ghost use Rattle.lard_settling.specs.Settling.{Does, DoesRounds, IsFrontOf, all_inner, completed_since, completions, deliveries, fired_since, firings, nodes_complete, round, rounds_from};
 
 use crate::left::is_quiet;
 use crate::lists::{completions, deliveries, firings};

@@ -2,7 +2,7 @@
 
 ghost use Rattle.std.specs.Prelude.{◌≡◌, false, Ok, OnOk};
 ghost use Rattle.lard_agenda.specs.Agenda.{IsAgendaOf};
-ghost use Rattle.lard_settle.specs.Settling.{Does, Settles, all_inner, answer, closed_by, rounds_from, settled, settled_from, takes};
+ghost use Rattle.lard_settling.specs.Settling.{Does, Settles, all_inner, answer, closed_by, rounds_from, settled, settled_from, takes};
 
 use crate::left::left;
 use crate::lists::takes;
@@ -11,16 +11,8 @@ use crate::steps::do_all;
 use lard_agenda::Agenda;
 use lard_cluster::StepFault;
 use lard_cluster_world::World;
+use lard_settling::Settled;
 use std::alloc::Global;
-
-/// How a settle ended.
-#[derive(Debug, Clone, Copy, PartialEq, Eq, Drop)]
-pub enum Settled {
-    /// After so many rounds nothing was left.
-    Quiet(u32),
-    /// So many rounds were done, as many as were allowed, and so many timers and jobs are left.
-    Open { rounds: u32, left: u64 },
-}
 
 /// Settles: first each client that holds takes; then rounds of inner steps, at most so many, until no timer runs but those that are
 /// stalled and no job waits. Where a limit is reached inside, the world is as the steps before have left it. If memory ran out, its

@@ -3,7 +3,7 @@
 ghost use Rattle.std.specs.Prelude.{◌≡◌, false, OnOk};
 ghost use Rattle.std.specs.List.{AllByRecursion};
 ghost use Rattle.lard_cluster.specs.Bounds.{HasRule};
-ghost use Rattle.lard_settle.specs.Settling.{Does, IsFrontOf, all_inner};
+ghost use Rattle.lard_settling.specs.Settling.{Does, IsFrontOf, all_inner};
 
 use lard_base::Events;
 use lard_cluster::StepFault;

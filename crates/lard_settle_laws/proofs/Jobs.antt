@@ -17,7 +17,7 @@ use Rattle.lard_node_rules.specs.Node.{node_read}
 use Rattle.lard_node_rules.specs.NodePlace as place
 use Rattle.lard_node_rules.specs.NodePlace.{NodeSetting, brought, completed, content_sent, disk_step, node_deed, node_env, node_part, node_step}
 use Rattle.lard_rules.specs.declared.front.Out.{Out}
-use Rattle.lard_settle.specs.Settling.{all_inner}
+use Rattle.lard_settling.specs.Settling.{all_inner}
 use Rattle.lard_settle_laws.specs.Stops.{StopsAtLimits}
 use Rattle.lard_settle_laws.proofs.Keeping.{DoneOrLimit, inner-done, one-more}
 use Rattle.lard_settle_laws.proofs.Late.{node-counted}

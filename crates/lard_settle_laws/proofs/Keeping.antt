@@ -33,7 +33,7 @@ use Rattle.lard_rules.specs.declared.places.Turn.{Turn}
 use Rattle.lard_rules.specs.Outs.{out_of}
 use Rattle.lard_segment.specs.declared.segment.Dir.TheVariants.{ToClient}
 use Rattle.lard_segment.specs.Segment.{decoded}
-use Rattle.lard_settle.specs.Settling.{Stop, all_inner}
+use Rattle.lard_settling.specs.Settling.{Stop, all_inner}
 use Rattle.lard_settle_laws.specs.Stops.{StopsAtLimits}
 use Rattle.lard_settling.specs.Steps.{as_inner, inner_given, inner_step}
 use Rattle.lard_table.proofs.Map.{get_inserted, get_other}

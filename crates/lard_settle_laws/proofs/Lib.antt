@@ -1,7 +1,13 @@
+pub mod Events
+pub mod Inside
 pub mod Keeping
 pub mod Late
 pub mod Jobs
 pub mod Packets
 pub mod Seats
 pub mod Lists
+pub mod Firing
+pub mod Given
 pub mod Whole
+pub mod Few
+pub mod Order

@@ -21,7 +21,7 @@ use Rattle.lard_history.proofs.Each.{Each}
 use Rattle.lard_history.proofs.Seeing.{by_number, other_number}
 use Rattle.lard_history.specs.Journal.{armed_step, is_running}
 use Rattle.lard_rules.specs.declared.places.Station.{Station}
-use Rattle.lard_settle.specs.Settling.{deliveries, firings, is_own, is_own_at, takes}
+use Rattle.lard_settling.specs.Settling.{deliveries, firings, is_own, is_own_at, takes}
 use Rattle.lard_settle_laws.specs.Stops.{CompletionsStopAtLimits, DeliveriesStopAtLimits, FiringsStopAtLimits, TakesStopAtLimits}
 use Rattle.lard_settle_laws.proofs.Jobs.{completions-stop}
 use Rattle.lard_settle_laws.proofs.Keeping.{HasClient, HasPacket, IsReady, IsThere, all-ready}

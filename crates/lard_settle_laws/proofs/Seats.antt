@@ -1,8 +1,9 @@
--- Each record of a timer names a place and a connection that have a seat of their own.
-use Rattle.std.proofs.Common.{◌≡◌, ◌≤◌, ℕ, ◌+◌, List, [], ◌∷◌, ◌++◌, length, Some, Ok, inl, inr, ⊎_elim, refl, sym, ap, ◌∙◌, subst, arith}
+-- Each record of a timer names a place and a connection that have a seat of their own, and a low one.
+use Rattle.std.proofs.Common.{◌≡◌, ◌≤◌, ◌<◌, ℕ, ◌+◌, ◌^◌, List, [], ◌∷◌, ◌++◌, length, Some, Ok, inl, inr, ⊎_elim, refl, sym, ap, ◌∙◌, subst, arith}
 use Rattle.std.specs.Prelude.{◌⊎◌}
 use Rattle.std.specs.List.{AllByRecursion}
-use Rattle.lard_agenda.specs.Laws.{IsSeated, NamesSeat}
+use Rattle.lard_agenda.specs.Agenda.{seat}
+use Rattle.lard_agenda.specs.Laws.{IsSeated, NamesLowSeat, NamesSeat}
 use Rattle.lard_base.specs.Config.{config_check}
 use Rattle.lard_base.specs.declared.config.Config.{Config}
 use Rattle.lard_base.specs.declared.event.Event.{Event}
@@ -12,7 +13,7 @@ use Rattle.lard_base.specs.declared.place.Place.TheVariants.{Front, Node, Client
 use Rattle.lard_cluster.specs.Bounds.{HasRule, HasTimer, IsNumber}
 use Rattle.lard_cluster.specs.declared.machine.Machine.{Machine}
 use Rattle.lard_cluster.specs.Machine.{IsReached, machine_step}
-use Rattle.lard_cluster_records.proofs.Named.{usable}
+use Rattle.lard_base.proofs.Usable.{usable}
 use Rattle.lard_cluster_records.proofs.There.{only-nodes}
 use Rattle.lard_cluster_records.specs.Messages.{MayBeThere}
 use Rattle.lard_cluster_view.specs.Carry.{setting}
@@ -181,35 +182,65 @@ module _ (config : Config) (files : List (List ℕ × List ℕ)) where
 
 -- ---- seats
 
-seat-of : (nodes : ℕ) → nodes ≤ 64 → (p : Place) (c : ℕ) → HasTimer p c × IsNumber c → ((n : ℕ) → Some p ≡ Some (Node n) → (1 ≤ n) × (n ≤ nodes)) → IsSeated p c
-seat-of nodes few Front c h there = let number = h.1 in (tt, omega (arith, number))
-seat-of nodes few (Node n) c h there = let number = h.1 in let one = there n refl in ((one.0, omega (arith, one, few)), omega (arith, number))
-seat-of nodes few (Client d) c h there = let number = h.1 in let same : d ≡ c = h.0 in (omega (arith, number, same), omega (arith, number))
+-- it has a seat of its own, below 2^32
+abbrev SitsLow : Place → ℕ → Type 0
+SitsLow p c = IsSeated p c × (seat p c < 2 ^ 32)
 
-rec-seated : (nodes : ℕ) → nodes ≤ 64 → (past : List Rec) (r : Rec) → IsNamed r → MayBeThere nodes past r → NamesSeat r
+seat-of : (nodes : ℕ) → nodes ≤ 64 → (p : Place) (c : ℕ) → HasTimer p c × IsNumber c → ((n : ℕ) → Some p ≡ Some (Node n) → (1 ≤ n) × (n ≤ nodes)) → SitsLow p c
+seat-of nodes few Front c h there = let number = h.1 in ((tt, omega (arith, number)), omega (arith, number))
+seat-of nodes few (Node n) c h there = let number = h.1 in let one = there n refl in (((one.0, omega (arith, one, few)), omega (arith, number)), omega (arith, number, one, few))
+seat-of nodes few (Client d) c h there = let number = h.1 in let same : d ≡ c = h.0 in ((omega (arith, number, same), omega (arith, number)), omega (arith, number, same))
+
+abbrev NamesSeated : Rec → Type 0
+NamesSeated (rec.Armed p c kind) = SitsLow p c
+NamesSeated (rec.Cleared p c kind) = SitsLow p c
+NamesSeated _ = Unit {0}
+
+rec-seated : (nodes : ℕ) → nodes ≤ 64 → (past : List Rec) (r : Rec) → IsNamed r → MayBeThere nodes past r → NamesSeated r
 rec-seated nodes few past (rec.Armed p c kind) h may = seat-of nodes few p c h may
 rec-seated nodes few past (rec.Cleared p c kind) h may = seat-of nodes few p c h may
 rec-seated nodes few past _ h may = tt
 
-all-seated : (nodes : ℕ) → nodes ≤ 64 → (past rs : List Rec) → AreNamed rs → EachMay (MayBeThere nodes) past rs → Each NamesSeat rs
+all-seated : (nodes : ℕ) → nodes ≤ 64 → (past rs : List Rec) → AreNamed rs → EachMay (MayBeThere nodes) past rs → Each NamesSeated rs
 all-seated nodes few past [] h may = tt
 all-seated nodes few past (r ∷ rs) h may = (rec-seated nodes few past r h.0 may.0, all-seated nodes few (past ++ r ∷ []) rs h.1 may.1)
 
 -- ---- of a journal whose settles are written out, and of that journal
 
-first-seated : (i : ℕ) (r : Rec) (rs : List Rec) → Each NamesSeat (written_rec i r ++ rs) → NamesSeat r
+first-seated : (i : ℕ) (r : Rec) (rs : List Rec) → Each NamesSeated (written_rec i r ++ rs) → NamesSeated r
 first-seated i (rec.Armed p c kind) rs h = h.0
 first-seated i (rec.Cleared p c kind) rs h = h.0
 first-seated i _ rs h = tt
 
-rest-seated : (xs ys : List Rec) → Each NamesSeat (xs ++ ys) → Each NamesSeat ys
+rest-seated : (xs ys : List Rec) → Each NamesSeated (xs ++ ys) → Each NamesSeated ys
 rest-seated [] ys h = h
 rest-seated (x ∷ xs) ys h = rest-seated xs ys h.1
 
-unwritten : (i : ℕ) (J : List Rec) → Each NamesSeat (written_from i J) → AllByRecursion NamesSeat J
+unwritten : (i : ℕ) (J : List Rec) → Each NamesSeated (written_from i J) → Each NamesSeated J
 unwritten i [] h = tt
 unwritten i (r ∷ rs) h = (first-seated i r (written_from (steps_with i r) rs) h, unwritten (steps_with i r) rs (rest-seated (written_rec i r) (written_from (steps_with i r) rs) h))
 
-pub seats-named : (config : Config) (files : List (List ℕ × List ℕ)) (m : Machine) → config_check config ≡ Ok tt → IsWrittenOut config files m → AllByRecursion NamesSeat m.journal
-seats-named config files m checked w = unwritten 0 m.journal (subst (Each NamesSeat) w.journal
-    (all-seated config.nodes (usable config checked).nodes [] w.plain.journal (named-always config files w.plain w.reached) (only-nodes config files w.plain w.reached)))
+own-seat : (r : Rec) → NamesSeated r → NamesSeat r
+own-seat (rec.Armed p c kind) h = h.0
+own-seat (rec.Cleared p c kind) h = h.0
+own-seat _ h = tt
+
+low-seat : (r : Rec) → NamesSeated r → NamesLowSeat r
+low-seat (rec.Armed p c kind) h = h.1
+low-seat (rec.Cleared p c kind) h = h.1
+low-seat _ h = tt
+
+each-of : (P : Rec → Type 0) → ((r : Rec) → NamesSeated r → P r) → (rs : List Rec) → Each NamesSeated rs → AllByRecursion P rs
+each-of P f [] h = tt
+each-of P f (r ∷ rs) h = (f r h.0, each-of P f rs h.1)
+
+module _ (config : Config) (files : List (List ℕ × List ℕ)) (m : Machine) (checked : config_check config ≡ Ok tt) (w : IsWrittenOut config files m) where
+  seated : Each NamesSeated m.journal
+  seated = unwritten 0 m.journal (subst (Each NamesSeated) w.journal
+      (all-seated config.nodes (usable config checked).nodes [] w.plain.journal (named-always config files w.plain w.reached) (only-nodes config files w.plain w.reached)))
+
+  pub seats-named : AllByRecursion NamesSeat m.journal
+  seats-named = each-of NamesSeat own-seat m.journal seated
+
+  pub seats-low : AllByRecursion NamesLowSeat m.journal
+  seats-low = each-of NamesLowSeat low-seat m.journal seated

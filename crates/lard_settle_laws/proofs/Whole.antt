@@ -12,8 +12,8 @@ use Rattle.lard_cluster.specs.declared.machine.Machine.{Machine}
 use Rattle.lard_cluster.specs.Machine.{limit_reached, passed, unless_limit}
 use Rattle.lard_history.proofs.Each.{Each}
 use Rattle.lard_machine.specs.declared.fault.What.{What}
-use Rattle.lard_settle.specs.declared.settles.Settled.{Settled}
-use Rattle.lard_settle.specs.Settling.{Stop, all_inner, closed_by, completed_since, completions, deliveries, fired_since, firings, is_own, is_quiet, nodes_complete, round, rounds_from, settled, settled_from, takes}
+use Rattle.lard_settling.specs.declared.settled.Settled.{Settled}
+use Rattle.lard_settling.specs.Settling.{Stop, all_inner, closed_by, completed_since, completions, deliveries, fired_since, firings, is_own, is_quiet, nodes_complete, round, rounds_from, settled, settled_from, takes}
 use Rattle.lard_settle_laws.specs.Stops.{IsLimit, SettlesStopAtLimits, StopsAtLimits}
 use Rattle.lard_settle_laws.proofs.Lists.{completions-all, deliveries-stop, firings-stop, own-timer, takes-stop}
 use Rattle.lard_settling.specs.Left.{is_holder, jobs_at}

@@ -6,7 +6,7 @@ use Rattle.lard_cluster.specs.declared.fault.StepFault.{StepFault}
 use Rattle.lard_cluster.specs.declared.fault.StepFault.TheVariants.{Limit}
 use Rattle.lard_cluster.specs.declared.machine.Machine.{Machine}
 use Rattle.lard_machine.specs.declared.fault.What.{What}
-use Rattle.lard_settle.specs.Settling.{Stop, all_inner, completions, deliveries, firings, settled, takes}
+use Rattle.lard_settling.specs.Settling.{Stop, all_inner, completions, deliveries, firings, settled, takes}
 use Rattle.lard_settling.specs.Written.{IsWrittenOut}
 
 -- the fault names a limit

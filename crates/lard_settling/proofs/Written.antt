@@ -31,7 +31,7 @@ use Rattle.lard_settling.proofs.Plain.{AreUnmarked, HasPlainRows, step-plain}
 -- ---- limits
 
 -- nothing was reached, and the step is done
-unless-ok : (o : Option What) (given : Result Machine StepFault) (n : Machine) → unless_limit o given ≡ Ok n → (o ≡ None) × (given ≡ Ok n)
+pub unless-ok : (o : Option What) (given : Result Machine StepFault) (n : Machine) → unless_limit o given ≡ Ok n → (o ≡ None) × (given ≡ Ok n)
 unless-ok None given n is = (refl, is)
 unless-ok (Some what) given n is = cc
 
@@ -50,6 +50,15 @@ fewer-records packets bytes few many answered le is =
       go false false true s a below h = cc
       go false false false s a below h = subst (λ t. first false false t a ≡ None) (sym (below refl)) h
 
+-- so few records stand before a step that is done
+pub few-records : (packets bytes many answered : ℕ) → limit_of packets bytes many answered ≡ None → many < MAX_RECORDS
+few-records packets bytes many answered is = go (nat_le MAX_PACKETS packets) (nat_le MAX_PACKET_BYTES bytes) (nat_le MAX_RECORDS many) (nat_le MAX_RESPONSE_BYTES answered) refl is where
+  go : (p b r a : Bool) → nat_le MAX_RECORDS many ≡ r → first p b r a ≡ None → many < MAX_RECORDS
+  go true b r a e h = cc
+  go false true r a e h = cc
+  go false false true a e h = cc
+  go false false false a e h = leb-false MAX_RECORDS many e
+
 -- ---- a step
 
 -- what is made of an answer was made of one that is done
@@ -67,7 +76,7 @@ step-appends m n e rule is =
     (other.2.rows, ap (λ (k : Machine). k.journal) other.2.right)
 
 -- the record of a step of this event, however it is recorded
-record BeginsStep (e : Event) (h : Rec) : Type 0 where
+pub record BeginsStep (e : Event) (h : Rec) : Type 0 where
   pub stands : (i : ℕ) → written_rec i h ≡ rec.Event (i + 1) e ∷ []
   pub counts : (i : ℕ) → steps_with i h ≡ i + 1
 
@@ -101,13 +110,16 @@ module _ (config : Config) (files : List (List ℕ × List ℕ)) where
   abbrev Is : Machine → Type 0
   Is m = IsWrittenOut config files m
 
-  -- Behind a step stands what is recorded of it; with any record of its event it can be written out.
-  record Leads (m : Machine) (e : Event) (n : Machine) : Type 0 where
+  -- Behind a step stands what is recorded of it, which begins no step and closes no settle; with any record of its event it can be
+  -- written out.
+  pub record Leads (m : Machine) (e : Event) (n : Machine) : Type 0 where
     pub rows : List Rec
     pub journal : n.journal ≡ m.journal ++ rec.Event (m.events + 1) e ∷ rows
+    pub unmarked : AreUnmarked rows
+    pub events : n.events ≡ m.events + 1
     pub recorded : (h : Rec) (events : ℕ) → BeginsStep e h → Is (told_as n (m.journal ++ h ∷ rows) events)
 
-  step-leads : (m n : Machine) (e : Event) → Is m → HasRule e → machine_step m e ≡ Ok n → Leads m e n
+  pub step-leads : (m n : Machine) (e : Event) → Is m → HasRule e → machine_step m e ≡ Ok n → Leads m e n
   unfolding machine_step
   step-leads m n e w rule is =
       let p : Machine = w.plain in
@@ -129,6 +141,8 @@ module _ (config : Config) (files : List (List ℕ × List ℕ)) where
       record {
         rows = a.rows;
         journal = ap (λ (k : Machine). k.journal) a.right;
+        unmarked = unmarked;
+        events = ap (λ (k : Machine). k.events) a.right;
         recorded = λ h events begins.
             let all = written-step m.journal e h a.rows begins unmarked in
             record {

@@ -1,3 +1,6 @@
+pub mod Events
 pub mod Left
+pub mod Order
+pub mod Settling
 pub mod Steps
 pub mod Written

@@ -1,6 +1,6 @@
 -- The jobs that were counted and those of the nodes that are left are all of them.
 use Rattle.std.proofs.Common.{◌≡◌, ◌+◌, ◌-◌, ◌*◌, ◌^◌, ◌≤◌}
-use Rattle.lard_settle.specs.Settling.{jobs_left}
+use Rattle.lard_settling.specs.Settling.{jobs_left}
 use Rattle.lard_settling.specs.Left.{jobs_from}
 use Rattle.lard_settle.proofs.left.jobs_left.Given as goal
 

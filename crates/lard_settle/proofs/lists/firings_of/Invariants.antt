@@ -1,7 +1,7 @@
 -- What was listed and what is left are all of them.
 use Rattle.std.proofs.Common.{◌≡◌, ◌++◌, filter}
 use Rattle.std.specs.Vec.Iter.{into_iter_items}
-use Rattle.lard_settle.specs.Settling.{is_own}
+use Rattle.lard_settling.specs.Settling.{is_own}
 use Rattle.lard_settle.proofs.Ruled.{timers}
 use Rattle.lard_settle.proofs.lists.firings_of.Given as goal
 

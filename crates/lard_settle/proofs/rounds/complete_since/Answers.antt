@@ -1,6 +1,6 @@
 -- Where the nodes stop, all does.
 use Rattle.std.proofs.lemmas.Result.{err_from_is_err_and}
-use Rattle.lard_settle.specs.Settling.{fired_since, nodes_complete}
+use Rattle.lard_settling.specs.Settling.{fired_since, nodes_complete}
 use Rattle.lard_settle.proofs.Going.{stops}
 use Rattle.lard_settle.proofs.Growth.{since-grows}
 use Rattle.lard_settle.proofs.rounds.complete_since.Goals as goal

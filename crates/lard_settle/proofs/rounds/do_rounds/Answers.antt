@@ -2,7 +2,7 @@
 use Rattle.std.proofs.Common.{◌-◌, ◌+◌, ◌∙◌, ℕ, Result, Err, arith, sym, subst}
 use Rattle.std.proofs.lemmas.Result.{err_from_is_err_and}
 use Rattle.lard_cluster.specs.declared.machine.Machine.{Machine}
-use Rattle.lard_settle.specs.Settling.{DoesRounds, IsFrontOf, Stop, counted}
+use Rattle.lard_settling.specs.Settling.{DoesRounds, IsFrontOf, Stop, counted}
 use Rattle.lard_settle.proofs.Going.{rounds-none, rounds-on, rounds-quiet, rounds-stop}
 use Rattle.lard_settle.proofs.Growth.{front-over, rounds-grow}
 use Rattle.lard_settle.proofs.rounds.do_rounds.Goals as goal

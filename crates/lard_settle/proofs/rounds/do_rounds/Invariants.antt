@@ -1,7 +1,7 @@
 -- The rounds that were done and those that are left are all of them.
 use Rattle.std.proofs.Common.{◌≡◌, ◌-◌, false}
 use Rattle.lard_agenda.specs.Agenda.{IsAgendaOf}
-use Rattle.lard_settle.specs.Settling.{IsFrontOf, rounds_from}
+use Rattle.lard_settling.specs.Settling.{IsFrontOf, rounds_from}
 use Rattle.lard_settle.proofs.rounds.do_rounds.Given as goal
 
 abbrev pub invariant-loop-done : goal.invariant-loop-done

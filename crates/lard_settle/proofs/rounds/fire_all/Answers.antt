@@ -1,6 +1,6 @@
 -- Without memory for the list none is done.
 use Rattle.std.proofs.lemmas.Result.{err_from_is_err_and}
-use Rattle.lard_settle.specs.Settling.{firings}
+use Rattle.lard_settling.specs.Settling.{firings}
 use Rattle.lard_settle.proofs.Going.{none-done}
 use Rattle.lard_settle.proofs.rounds.fire_all.Goals as goal
 

@@ -1,6 +1,6 @@
 -- The nodes that completed their jobs and those that are left are all of them.
 use Rattle.std.proofs.Common.{◌≡◌, ◌+◌, ◌-◌, false}
-use Rattle.lard_settle.specs.Settling.{IsFrontOf, nodes_complete}
+use Rattle.lard_settling.specs.Settling.{IsFrontOf, nodes_complete}
 use Rattle.lard_settle.proofs.rounds.nodes_complete.Given as goal
 
 abbrev pub invariant-loop-at : goal.invariant-loop-at

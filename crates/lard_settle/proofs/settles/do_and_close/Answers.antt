@@ -1,6 +1,6 @@
 -- Where the rounds stop, the settle does.
 use Rattle.std.proofs.lemmas.Result.{err_from_is_err_and}
-use Rattle.lard_settle.specs.Settling.{rounds_from}
+use Rattle.lard_settling.specs.Settling.{rounds_from}
 use Rattle.lard_settle.proofs.Going.{closed-stops}
 use Rattle.lard_settle.proofs.settles.do_and_close.Goals as goal
 

@@ -1,6 +1,6 @@
 -- Where the takes stop, the settle does.
 use Rattle.std.proofs.lemmas.Result.{err_from_is_err_and}
-use Rattle.lard_settle.specs.Settling.{all_inner, takes}
+use Rattle.lard_settling.specs.Settling.{all_inner, takes}
 use Rattle.lard_settle.proofs.Going.{takes-stop}
 use Rattle.lard_settle.proofs.settles.settle_from.Goals as goal
 

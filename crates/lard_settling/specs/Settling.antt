@@ -9,8 +9,8 @@ use Rattle.lard_cluster.specs.declared.fault.StepFault.{StepFault}
 use Rattle.lard_cluster.specs.declared.fault.StepFault.TheVariants.{NoMemory}
 use Rattle.lard_cluster.specs.declared.machine.Machine.{Machine}
 use Rattle.lard_journal.specs.declared.rec.Rec.{Rec}
-use Rattle.lard_settle.specs.declared.settles.Settled.{Settled}
-use Rattle.lard_settle.specs.declared.settles.Settled.TheVariants.{Open, Quiet}
+use Rattle.lard_settling.specs.declared.settled.Settled.{Settled}
+use Rattle.lard_settling.specs.declared.settled.Settled.TheVariants.{Open, Quiet}
 use Rattle.lard_settling.specs.Left.{is_holder, jobs_at, jobs_from}
 use Rattle.lard_settling.specs.Steps.{inner_step, settle_begun, settle_closed}
 

@@ -6,8 +6,8 @@ use Rattle.lard_cluster.specs.declared.fault.StepFault.{StepFault}
 use Rattle.lard_cluster.specs.declared.machine.Machine.{Machine}
 use Rattle.lard_cluster.specs.Bounds.{HasRule}
 use Rattle.lard_cluster.specs.Machine.{machine_step}
-use Rattle.lard_settle.specs.declared.settles.Settled.{Settled}
-use Rattle.lard_settle.specs.Settling.{Stop, settled}
+use Rattle.lard_settling.specs.declared.settled.Settled.{Settled}
+use Rattle.lard_settling.specs.Settling.{Stop, settled}
 
 -- a settle leads on where it comes to its end
 abbrev pub settled_to : Result (Machine × Settled) Stop → Result Machine Stop
