@@ -1,5 +1,5 @@
 -- What was read or came for a response is of its request's path.
-use Rattle.std.proofs.Common.{◌≡◌, ◌<◌, ◌^◌, ℕ, Bool, true, false, cond, List, [], ◌∷◌, ◌++◌, Some, Ok, refl, sym, ap, ◌∙◌, subst, arith, inl, inr, ⊎_elim, append_assoc}
+use Rattle.std.proofs.Common.{◌≡◌, ◌<◌, ◌+◌, ◌^◌, ℕ, Bool, true, false, cond, List, [], ◌∷◌, ◌++◌, Some, Ok, refl, sym, ap, ◌∙◌, subst, arith, inl, inr, ⊎_elim, append_assoc}
 use Rattle.std.specs.Prelude.{◌⊎◌, slice_get}
 use Rattle.std.specs.List.{AllByRecursion}
 use Rattle.lard_answers.specs.Answers.{FilesAt, good_path, verdicts}
@@ -10,23 +10,25 @@ use Rattle.lard_base.specs.declared.place.Place.TheVariants.{Client, Front, Node
 use Rattle.lard_base.specs.declared.place.Via.{Via}
 use Rattle.lard_base.specs.declared.place.Via.TheVariants as via
 use Rattle.lard_cluster.specs.Bounds.{IsNumber}
-use Rattle.lard_cluster_backing.specs.Requests.{HasComeFor, IsBehindTook, IsFor, MayBeBacked, WasFor, WasReadFor}
+use Rattle.lard_cluster_backing.specs.Requests.{HasComeFor, IsBehindTold, IsFor, IsQueuedAndRead, MayBeBacked, StandsFor, WasFor}
 use Rattle.lard_cluster_backing.specs.State.{MayBack, SaysFor}
-use Rattle.lard_cluster_backing.proofs.Finding.{IsSentIn, Stands, came-sent, each-from, has-stands, job-queued, packet-sent, read-told}
-use Rattle.lard_cluster_backing.proofs.Hitting.{MayHit, NoteFor}
+use Rattle.lard_cluster_backing.proofs.Finding.{IsSentIn, Stands, came-sent, each-from, has-stands, job-queued, packet-sent}
+use Rattle.lard_cluster_backing.proofs.Held.{Comes, HasCome, IsDone, IsHit, Started, WasDone}
+use Rattle.lard_cluster_backing.proofs.Hitting.{MayHit}
 use Rattle.lard_cluster_backing.proofs.Marks.{MayMark, each-at, for-later, untouched-before}
+use Rattle.lard_cluster_backing.proofs.Matching.{matched}
 use Rattle.lard_cluster_backing.proofs.Spelled.{content-reads}
+use Rattle.lard_cluster_bytes.specs.Records.{MayServe}
 use Rattle.lard_cluster_stores.specs.Laws.{Completes, MayStore, MustRead, NoneRead, is_read}
 use Rattle.lard_cluster_view.proofs.Naming.{decoded-names, spelled-named}
-use Rattle.lard_cluster_ways.specs.Before.{HasCome, MayBeServed, SawBehind, WasRead, WasThere}
 use Rattle.lard_cluster_ways.specs.Contents.{AnswersFetch, BringsFile, IsContent, MayBring, MustBring}
-use Rattle.lard_cluster_ways.specs.Ways.{marks}
-use Rattle.lard_history.specs.Journal.{is_touched, wrote}
+use Rattle.lard_cluster_ways.specs.Ways.{AnswersNext, MayCome, marks}
+use Rattle.lard_history.specs.Journal.{is_touched, served, wrote}
 use Rattle.lard_history.specs.Laws.{EachMay}
-use Rattle.lard_history.specs.Own.{Came, Has, Letter, Row, Seen, letter_of, named_in, own, whose}
+use Rattle.lard_history.specs.Own.{Came, Has, Letter, Seen, letter_of, named_in, net_of, own, seen_on, whose}
 use Rattle.lard_history.specs.Steps.{EachStep, is_opening, split, steps}
 use Rattle.lard_history.proofs.Each.{Each}
-use Rattle.lard_history.proofs.Seeing.{has-before, has-behind}
+use Rattle.lard_history.proofs.Seeing.{has-before, has-behind, own-append}
 use Rattle.lard_journal.specs.declared.rec.Rec.{Rec}
 use Rattle.lard_journal.specs.declared.rec.Rec.TheVariants as rec
 use Rattle.lard_message.specs.declared.message.Body.TheVariants as body
@@ -158,7 +160,8 @@ pub record Known (files : FilesAt) (limit : ℕ) (J : List Rec) : Type 0 where
   pub marks : EachMay (MayMark files) [] J
   pub stores : EachMay (MayStore files limit) [] J
   pub hits : EachMay (MayHit files) [] J
-  pub served : EachMay MayBeServed [] J
+  pub ways : EachMay (MayCome files) [] J
+  pub service : EachMay (MayServe files) [] J
   pub whole : (split J).0 ≡ []
   pub brings : EachStep (MustBring files) [] (steps J)
   pub reads : EachStep MustRead [] (steps J)
@@ -212,7 +215,7 @@ module _ (files : FilesAt) (limit : ℕ) (J : List Rec) (known : Known files lim
       let named : whose x ≡ Some c = (λ i. whose (rec.Sent sent.0 (f.from i) (f.to i) f.packet.bytes)) ∙ (decoded-names (record { c = c; epoch = record { 0 = epoch }; body = body.Fetch r path }) f.packet.bytes f.asks).named in
       let may : MayBack files (marks s.before c) x = marked-at s.before s.behind rest x c (is ∙ ap (λ (l : List Rec). l ++ rest) s.split) named (subst (λ (l : List Rec). is_touched l c ≡ false) s.split u) in
       let says : SaysFor files (wrote s.before c) (Node m) (Node n) f.packet.bytes = subst (λ (p : Place). SaysFor files (wrote s.before c) (Node m) p f.packet.bytes) f.to (subst (λ (p : Place). SaysFor files (wrote s.before c) p f.packet.to f.packet.bytes) f.from may) in
-      let for : IsFor files (wrote s.before c) r path × (r < 2 ^ 32) = says (record { c = c; epoch = record { 0 = epoch }; body = body.Fetch r path }) f.asks in
+      let for = says (record { c = c; epoch = record { 0 = epoch }; body = body.Fetch r path }) f.asks in
       (subst (λ (l : List Rec). IsFor files (wrote l c) r path) (sym s.split) (for-later files s.before (x ∷ s.behind) c r path for.0), for.1)
 
   all-at : (P : Rec → Type 0) (rs : List Rec) (x : Rec) → AllByRecursion P rs → Has x rs → P x
@@ -258,49 +261,73 @@ module _ (files : FilesAt) (limit : ℕ) (J : List Rec) (known : Known files lim
 
   -- ---- a response
 
-  module _ (past b : List Rec) (n c r code size : ℕ) (path : List ℕ) (untouched : is_touched past c ≡ false) (for : IsFor files (wrote past c) r path) where
-    saw : (epoch : ℕ) (it : Seen) → SawBehind (own c past) n c epoch it → Has it (own c past)
-    saw epoch it h = subst (Has it) (sym h.split) (has-behind it h.before h.later h.saw)
+  module _ (past b : List Rec) (n c r : ℕ) (path : List ℕ) (way : Via) (untouched : is_touched past c ≡ false) (for : IsFor files (wrote past c) r path) (number : r ≡ served past c + 1) (next : AnswersNext files (marks past c) (Node n) way) where
+    -- what started is meant for this path
+    mine : (other : List ℕ) → IsFor files (wrote past c) r other → other ≡ path
+    mine other its = for-one files (wrote past c) r other path its for
 
-    disk-for : J ≡ past ++ b → WasRead (own c past) n c r → WasReadFor past n c r path
-    disk-for is w =
-        let was : IsFor files (wrote past c) r w.path = read-for past b n n c r w.path is untouched (read-told n n c r w.path c past (saw w.epoch (Row (rec.Read n n c r w.path)) w.read)) in
-        (w.epoch, subst (λ (p : List ℕ). SawBehind (own c past) n c w.epoch (Row (rec.Read n n c r p))) (for-one files (wrote past c) r w.path path was for) w.read)
-
-    content-for : (m : ℕ) → J ≡ past ++ b → HasCome (own c past) n m c r → HasComeFor files past n m c r path
-    content-for m is w =
-        let l : Letter = record { from = Node m; to = Node n; bytes = w.bytes } in
-        let sent : IsSentIn l past = came-sent l c past (saw w.epoch (Came l) w.came) in
-        let x : Rec = rec.Sent sent.0 (Node m) (Node n) w.bytes in
+    -- of a content that came for the request
+    content-for : (m epoch : ℕ) (file bytes : List ℕ) → J ≡ past ++ b → Has (Came (record { from = Node m; to = Node n; bytes = bytes })) (own c past) → decoded_message bytes ≡ Ok (record { c = c; epoch = record { 0 = epoch }; body = body.Content r file }) → file ≡ bytes_of (files path)
+    content-for m epoch file bytes is came reads =
+        let l : Letter = record { from = Node m; to = Node n; bytes = bytes } in
+        let sent : IsSentIn l past = came-sent l c past came in
+        let x : Rec = rec.Sent sent.0 (Node m) (Node n) bytes in
         let s : Stands x past = has-stands x past sent.1 in
-        let got : Message = record { c = c; epoch = record { 0 = w.epoch }; body = body.Content r w.file } in
-        let k : Carries s.before w.bytes = carries s.before (s.behind ++ b) sent.0 m n w.bytes (is ∙ ap (λ (l : List Rec). l ++ b) s.split ∙ append_assoc s.before (x ∷ s.behind) b) (got, w.reads, refl) in
+        let got : Message = record { c = c; epoch = record { 0 = epoch }; body = body.Content r file } in
+        let k : Carries s.before bytes = carries s.before (s.behind ++ b) sent.0 m n bytes (is ∙ ap (λ (l : List Rec). l ++ b) s.split ∙ append_assoc s.before (x ∷ s.behind) b) (got, reads, refl) in
         let said : Message = record { c = k.c; epoch = record { 0 = k.epoch }; body = body.Content k.r (bytes_of (files k.path)) } in
-        let mine : k.c ≡ c = some-same k.c c (sym (spelled-named said k.number) ∙ ap named_in (sym k.is) ∙ (decoded-names got w.bytes w.reads).named) in
-        let before : is_touched s.before k.c ≡ false = subst (λ (q : ℕ). is_touched s.before q ≡ false) (sym mine) (untouched-before s.before (x ∷ s.behind) c (subst (λ (l : List Rec). is_touched l c ≡ false) s.split untouched)) in
+        let mine_is : k.c ≡ c = some-same k.c c (sym (spelled-named said k.number) ∙ ap named_in (sym k.is) ∙ (decoded-names got bytes reads).named) in
+        let before : is_touched s.before k.c ≡ false = subst (λ (q : ℕ). is_touched s.before q ≡ false) (sym mine_is) (untouched-before s.before (x ∷ s.behind) c (subst (λ (l : List Rec). is_touched l c ≡ false) s.split untouched)) in
         let its = k.for before in
-        let read : body.Content r w.file ≡ body.Content k.r (bytes_of (files k.path)) = content-reads k.c k.epoch k.r (bytes_of (files k.path)) its.1 got (ap decoded_message (sym k.is) ∙ w.reads) in
+        let read : body.Content r file ≡ body.Content k.r (bytes_of (files k.path)) = content-reads k.c k.epoch k.r (bytes_of (files k.path)) its.1 got (ap decoded_message (sym k.is) ∙ reads) in
         let number : r ≡ k.r = cc in
-        let file : w.file ≡ bytes_of (files k.path) = cc in
-        let there : IsFor files (wrote past c) k.r k.path = subst (λ (l : List Rec). IsFor files (wrote l c) k.r k.path) (sym s.split) (for-later files s.before (x ∷ s.behind) c k.r k.path (subst (λ (q : ℕ). IsFor files (wrote s.before q) k.r k.path) mine its.0)) in
+        let carried : file ≡ bytes_of (files k.path) = cc in
+        let there : IsFor files (wrote past c) k.r k.path = subst (λ (l : List Rec). IsFor files (wrote l c) k.r k.path) (sym s.split) (for-later files s.before (x ∷ s.behind) c k.r k.path (subst (λ (q : ℕ). IsFor files (wrote s.before q) k.r k.path) mine_is its.0)) in
         let same : path ≡ k.path = for-one files (wrote past c) r path k.path for (subst (λ (q : ℕ). IsFor files (wrote past c) q k.path) (sym number) there) in
-        record { epoch = w.epoch; bytes = w.bytes; came = w.came; reads = w.reads ∙ (λ i. Ok (record { c = c; epoch = record { 0 = w.epoch }; body = body.Content r (file_is file same i) })) } where
-          file_is : {f : List ℕ} {p q : List ℕ} → f ≡ bytes_of (files q) → p ≡ q → f ≡ bytes_of (files p)
-          file_is e same = e ∙ ap (λ (p : List ℕ). bytes_of (files p)) (sym same)
+        carried ∙ ap (λ (p : List ℕ). bytes_of (files p)) (sym same)
 
-    note-for : (of : List ℕ → Rec) → NoteFor files past n c r of → IsBehindTook past n c (of path)
-    note-for of h = subst (λ (p : List ℕ). IsBehindTook past n c (of p)) (for-one files (wrote past c) r h.0 path (h.2 untouched) for) h.1
+    -- what started, and stands so, is backed
+    backs : (epoch : ℕ) (P : List ℕ → List Rec → List Rec → Type 0) → ((before later : List Rec) → past ≡ before ++ later → P path before later → StandsFor files before later n c epoch r path way) → Started files n c epoch P past r → IsBehindTold files past n c r path way
+    backs epoch P stands h = let meant = h.for untouched in record {
+      epoch = epoch;
+      ask = h.ask;
+      before = h.before;
+      later = h.later;
+      split = h.split;
+      assigned = matched files past c n r path way number for next h.before h.later h.ask h.split meant.1;
+      told = h.told;
+      stands = stands h.before h.later h.split (subst (λ (p : List ℕ). P p h.before h.later) (mine h.path meant.0) h.stands);
+    }
 
-    way-for : (way : Via) → J ≡ past ++ b → MayHit files past (rec.Served (Node n) c r code size way) → WasThere (own c past) n c r way → WasFor files past n c r path way
-    way-for via.Own is h w = tt
-    way-for via.Cache is h w = note-for (λ path. rec.Hit n path) h
-    way-for via.Disk is h w = (note-for (λ path. rec.Queued n n c r path) h, disk-for is w)
-    way-for (via.Node m) is h w = content-for m is w
+    disk-for : J ≡ past ++ b → (before later : List Rec) → past ≡ before ++ later → WasDone n c r path later → IsQueuedAndRead later n c r path
+    disk-for is before later split w =
+        let read : Rec = rec.Read n n c r w.other in
+        let stood : Has read past = subst (Has read) (sym split) (has-behind read before later (subst (Has read) (sym w.split) (has-behind read w.before w.later w.read))) in
+        record {
+          before = w.before;
+          later = w.later;
+          split = w.split;
+          queued = w.queued;
+          read = subst (λ (p : List ℕ). Has (rec.Read n n c r p) w.later) (mine w.other (read-for past b n n c r w.other is untouched stood)) w.read;
+        }
+
+    node-for : (m epoch : ℕ) → J ≡ past ++ b → (before later : List Rec) → past ≡ before ++ later → HasCome n m c epoch r (seen_on c (net_of before) later) → HasComeFor files (seen_on c (net_of before) later) n m c epoch r path
+    node-for m epoch is before later split w =
+        let l : Seen = Came (record { from = Node m; to = Node n; bytes = w.bytes }) in
+        let seen : Has l (own c past) = subst (λ (k : List Rec). Has l (own c k)) (sym split) (subst (Has l) (sym (own-append c before later)) (has-behind l (own c before) (seen_on c (net_of before) later) w.came)) in
+        let file : w.file ≡ bytes_of (files path) = content-for m epoch w.file w.bytes is seen w.reads in
+        record { bytes = w.bytes; came = w.came; reads = w.reads ∙ (λ i. Ok (record { c = c; epoch = record { 0 = epoch }; body = body.Content r (file i) })) }
+
+  way-for : (past b : List Rec) (n c r code size : ℕ) (path : List ℕ) (way : Via) → is_touched past c ≡ false → IsFor files (wrote past c) r path → r ≡ served past c + 1 → AnswersNext files (marks past c) (Node n) way → J ≡ past ++ b → MayHit files past (rec.Served (Node n) c r code size way) → WasFor files past n c r path way
+  way-for past b n c r code size path via.Own u for number next is h = tt
+  way-for past b n c r code size path via.Cache u for number next is h = backs past b n c r path via.Cache u for number next h.0 (IsHit files n c h.0) (λ before later split s. s) h.1
+  way-for past b n c r code size path via.Disk u for number next is h = backs past b n c r path via.Disk u for number next h.0 (IsDone files n c h.0 r) (λ before later split s. disk-for past b n c r path via.Disk u for number next is before later split s) h.1
+  way-for past b n c r code size path (via.Node m) u for number next is h = backs past b n c r path (via.Node m) u for number next h.0 (Comes files n c h.0 m r) (λ before later split s. node-for past b n c r path (via.Node m) u for number next m h.0 is before later split s) h.1
 
   backed-at : (a b : List Rec) (x : Rec) → J ≡ a ++ x ∷ b → MayBeBacked files a x
   backed-at a b (rec.Served (Node n) c r code size way) is = λ u path for.
       let x : Rec = rec.Served (Node n) c r code size way in
-      way-for a (x ∷ b) n c r code size path u for way is (each-at (MayHit files) J a b x is known.hits) (each-at MayBeServed J a b x is known.served)
+      way-for a (x ∷ b) n c r code size path way u for (each-at (MayServe files) J a b x is known.service u).1.0 (each-at (MayCome files) J a b x is known.ways u) is (each-at (MayHit files) J a b x is known.hits)
   backed-at a b (rec.Served Front c r code size way) is = λ u path for. tt
   backed-at a b (rec.Served (Client e) c r code size way) is = λ u path for. tt
   backed-at a b _ is = tt

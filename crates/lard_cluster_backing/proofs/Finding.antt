@@ -4,7 +4,6 @@ use Rattle.std.specs.Prelude.{◌⊎◌, slice_get}
 use Rattle.std.specs.List.{fold}
 use Rattle.std.proofs.lemmas.Bool.{eqb-true}
 use Rattle.std.proofs.lemmas.List.{map-append}
-use Rattle.lard_base.specs.declared.place.Place.TheVariants.{Node}
 use Rattle.lard_cluster_stores.specs.Stores.{Queue, Waiting, jobs, jobs_step, no_jobs, waiting_at, without_waiting}
 use Rattle.lard_history.specs.Laws.{EachMay}
 use Rattle.lard_history.specs.Own.{Came, Has, Letter, Row, Seen, came, letter_of, net_of, net_step, one_of, own, plain, seen_of, seen_on, whose}
@@ -139,50 +138,6 @@ seen-sent l q net (r ∷ rs) h = ⊎_elim
 pub came-sent : (l : Letter) (q : ℕ) (J : List Rec) → Has (Came l) (own q J) → IsSentIn l J
 unfolding own
 came-sent l q J h = ⊎_elim (λ (no : ⊥). absurd no) (λ (s : IsSentIn l J). s) (seen-sent l q [] J h)
-
--- a record that it sees stands in the journal
-abbrev IsTold : Rec → List Rec → Type 0
-IsTold r rs = (x : Rec) × (plain x ≡ r) × Has x rs
-
-row-same : (r t : Rec) → Row r ≡ Row t → r ≡ t
-row-same r t e = cc
-
-came-row : (l : Letter) (r : Rec) → Came l ≡ Row r → ⊥
-came-row l r e = cc
-
-row-of : (t : Rec) (q : ℕ) (net : List Packet) (r : Rec) → Has (Row t) (seen_of q net r) → plain r ≡ t
-row-of t q net (rec.Got k) h = go (packet_at net k) h where
-  go : (o : Option Packet) → Has (Row t) (came q o) → rec.Got k ≡ t
-  go None f = absurd f
-  go (Some p) f = absurd (came-row (letter_of p) t (one-has q _ (Came (letter_of p)) (Row t) f))
-row-of t q net r h = row-same (plain r) t (one-has q (whose r) (Row (plain r)) (Row t) h)
-
-seen-told : (t : Rec) (q : ℕ) (net : List Packet) (rs : List Rec) → Has (Row t) (seen_on q net rs) → IsTold t rs
-seen-told t q net [] h = absurd h
-seen-told t q net (r ∷ rs) h = ⊎_elim
-    (λ (a : Has (Row t) (seen_of q net r)). (r, row-of t q net r a, inl refl))
-    (λ (a : Has (Row t) (seen_on q (net_step net r) rs)). let k : IsTold t rs = seen-told t q (net_step net r) rs a in (k.0, k.1, inr k.2))
-    (has-either (Row t) (seen_of q net r) (seen_on q (net_step net r) rs) h)
-
-plain-read : (x : Rec) (n m c r : ℕ) (path : List ℕ) → plain x ≡ rec.Read n m c r path → x ≡ rec.Read n m c r path
-plain-read (rec.Event i e) n m c r path h = absurd (let f : ⊥ = cc in f)
-plain-read (rec.Sent k from to bytes) n m c r path h = absurd (let f : ⊥ = cc in f)
-plain-read _ n m c r path h = h
-
-pub read-told : (n m c r : ℕ) (path : List ℕ) (q : ℕ) (J : List Rec) → Has (Row (rec.Read n m c r path)) (own q J) → Has (rec.Read n m c r path) J
-unfolding own
-read-told n m c r path q J h = let k : IsTold (rec.Read n m c r path) J = seen-told (rec.Read n m c r path) q [] J h in subst (λ (x : Rec). Has x J) (plain-read k.0 n m c r path k.1) k.2
-
-plain-took : (x : Rec) (n c epoch : ℕ) → plain x ≡ rec.Took (Node n) c (record { 0 = epoch }) → x ≡ rec.Took (Node n) c (record { 0 = epoch })
-plain-took (rec.Event i e) n c epoch h = absurd (let f : ⊥ = cc in f)
-plain-took (rec.Sent k from to bytes) n c epoch h = absurd (let f : ⊥ = cc in f)
-plain-took _ n c epoch h = h
-
-pub took-told : (n c epoch q : ℕ) (J : List Rec) → Has (Row (rec.Took (Node n) c (record { 0 = epoch }))) (own q J) → Has (rec.Took (Node n) c (record { 0 = epoch })) J
-unfolding own
-took-told n c epoch q J h =
-    let k : IsTold (rec.Took (Node n) c (record { 0 = epoch })) J = seen-told (rec.Took (Node n) c (record { 0 = epoch })) q [] J h in
-    subst (λ (x : Rec). Has x J) (plain-took k.0 n c epoch k.1) k.2
 
 -- ---- jobs
 

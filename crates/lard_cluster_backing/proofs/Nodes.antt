@@ -5,9 +5,10 @@ use Rattle.std.specs.List.{find}
 use Rattle.lard_answers.specs.Answers.{FilesAt, IsPrefix, verdicts}
 use Rattle.lard_base.specs.declared.place.Place.TheVariants.{Node}
 use Rattle.lard_base.specs.declared.place.TimerKind.TheVariants as timer
+use Rattle.lard_cluster_backing.specs.Requests.{IsFor}
 use Rattle.lard_cluster_backing.specs.State.{FetchesFor, LetterFor, SaysFor}
 use Rattle.lard_cluster_backing.proofs.Moving.{Keeps, again-for, clients-for, each-named, makes, nodes-for}
-use Rattle.lard_cluster_backing.proofs.Turns.{AreAt, Clean, DeedBacks, IsHome, IsSteady, NamedFor, SaidFor, all-named, batch-at, ends-back, goes-clean, steady-backs, tagged-clean, works-back}
+use Rattle.lard_cluster_backing.proofs.Turns.{AreAt, Clean, DeedBacks, EachNamed, IsHome, IsSteady, SaidFor, all-named, batch-at, ends-back, goes-clean, steady-backs, tagged-clean, works-back}
 use Rattle.lard_cluster_bytes.specs.Agreement.{IsOpen}
 use Rattle.lard_cluster_bytes.proofs.NodeMoves.{HasIt}
 use Rattle.lard_cluster_bytes.proofs.NodeTurns.{It, agrees-by, endpoint-or, here-or, talk-of, ways-here}
@@ -118,16 +119,16 @@ module _ (env : NodeEnv) (m : Marks) (home : IsHome env m) (p : NodePart) where
 -- ---- of one whose client opened
 
 module _ (k : Setting) (small : k.stream ≤ 2 ^ 30) (x : Conn) (s : Station) (there : x.part.station ≡ Some s) (l : Talk) (pend : List Verdict) (o : IsOpen k.files x l pend s) (n epoch : ℕ) (env : NodeEnv) (is : IsNodeEnv k x.c n epoch env) where
-  abbrev files : FilesAt
+  abbrev pub files : FilesAt
   files = env.serve.files
 
-  abbrev m : Marks
+  abbrev pub m : Marks
   m = marks_at x
 
-  abbrev p : NodePart
+  abbrev pub p : NodePart
   p = x.part.nodes n
 
-  abbrev IsIt : Type 0
+  abbrev pub IsIt : Type 0
   IsIt = It k small x s there l pend o n env epoch is env.epoch
 
   by-files : (v : Move) → Keeps files x v → Keeps k.files x v
@@ -136,7 +137,7 @@ module _ (k : Setting) (small : k.stream ≤ 2 ^ 30) (x : Conn) (s : Station) (t
   most-written : length m.wrote ≤ 2 ^ 30
   most-written = subst (λ (q : List ℕ). length q ≤ 2 ^ 30) (sym o.tale.wrote) (talk-of k small x s there l pend o n env epoch is).stream.most
 
-  home : IsIt → IsPlaced x → GoesItsWay files x → IsHome env m
+  pub home : IsIt → IsPlaced x → GoesItsWay files x → IsHome env m
   home it placed g =
       let has : HasIt x l pend o.seat placed n env.epoch = (it placed).0 in
       let h : AtHome files m (rest_of x.part.front.rest) n p = at-home files x g n has.row has.found has.at has.decided in
@@ -159,8 +160,16 @@ module _ (k : Setting) (small : k.stream ≤ 2 ^ 30) (x : Conn) (s : Station) (t
   pub contents-keep : (heads : List Seen) (from i : ℕ) → Keeps k.files x (node_does x n heads (node_content env p from i))
   contents-keep heads from i = by-here heads (come_by env from i p) refl (λ it placed h. come-back env m h p from i (here env.epoch p))
 
+  -- as many were answered as its stay counts
+  pub hand-counted : IsIt → IsPlaced x → (y : ControlBlock × Stay) → here env.epoch p ≡ Some y → y.1.served ≡ length l.vs
+  hand-counted it placed = at-epoch env l.w l.out l.vs l.was_reset pend (λ z. (y : ControlBlock × Stay) → z ≡ Some y → y.1.served ≡ length l.vs) (λ y e. let no : None ≡ Some y = e in absurd cc)
+      (λ z held y e.
+      let same : z ≡ y = cc in
+      ap (λ (w : ControlBlock × Stay). w.1.served) (sym same) ∙ held.1.counted)
+      p env.serve.c p.row (agrees-by k small x s there l pend o n env epoch is it placed) (ways-here k small x s there l pend o n env epoch is)
+
   -- the requests in hand of a stay stand behind those that were answered
-  hand-at : IsIt → IsPlaced x → (h : IsHome env m) → (y : ControlBlock × Stay) → here env.epoch p ≡ Some y → AreAt env m h (y.1.served + 1) y.1.batch
+  pub hand-at : IsIt → IsPlaced x → (h : IsHome env m) → (y : ControlBlock × Stay) → here env.epoch p ≡ Some y → AreAt env m h (y.1.served + 1) y.1.batch
   hand-at it placed h = at-epoch env l.w l.out l.vs l.was_reset pend (λ z. (y : ControlBlock × Stay) → z ≡ Some y → AreAt env m h (y.1.served + 1) y.1.batch) (λ y e. let no : None ≡ Some y = e in absurd cc)
       (λ z held y e.
       let same : z ≡ y = cc in
@@ -169,7 +178,7 @@ module _ (k : Setting) (small : k.stream ≤ 2 ^ 30) (x : Conn) (s : Station) (t
       (subst (λ (us : List Verdict). IsPrefix (l.vs ++ us) (verdicts m.wrote)) held.0 (subst (λ (q : List ℕ). IsPrefix (l.vs ++ pend) (verdicts q)) (append-nil l.w.bytes ∙ sym o.tale.wrote) (held.1.has_read.fronts [])))))
       p env.serve.c p.row (agrees-by k small x s there l pend o n env epoch is it placed) (ways-here k small x s there l pend o n env epoch is)
 
-  pub hand-for : IsPlaced x → GoesItsWay files x → (y : ControlBlock × Stay) → here env.epoch p ≡ Some y → NamedFor files m.wrote (y.1.served + 1) y.1.batch
+  pub hand-for : IsPlaced x → GoesItsWay files x → (y : ControlBlock × Stay) → here env.epoch p ≡ Some y → EachNamed files (IsFor files m.wrote) (y.1.served + 1) y.1.batch
   hand-for placed g y e = ⊎_elim
       (λ (none : here env.epoch p ≡ None). let no : None ≡ Some y = sym none ∙ e in absurd cc)
       (λ (it : IsIt). let h = home it placed g in all-named env m h (y.1.served + 1) y.1.batch (hand-at it placed h y e))

@@ -1,13 +1,14 @@
 -- A node that takes a connection starts the request that was assigned with it.
-use Rattle.std.proofs.Common.{◌≡◌, ◌≤◌, ◌<◌, ◌+◌, ◌^◌, ◌==◌, nat_lt, ◌&&◌, ℕ, Bool, true, false, cond, List, [], ◌∷◌, length, take, Option, Some, None, ⊎_elim, refl, sym, ap, ◌∙◌, subst, arith}
+use Rattle.std.proofs.Common.{◌≡◌, ◌≤◌, ◌<◌, ◌+◌, ◌-◌, ◌^◌, ◌==◌, nat_lt, ◌&&◌, ℕ, Bool, true, false, cond, List, [], ◌∷◌, length, take, Option, Some, None, ⊎_elim, refl, sym, ap, ◌∙◌, subst, arith}
 use Rattle.std.specs.Prelude.{◌⊎◌}
 use Rattle.std.proofs.lemmas.Bool.{ltb-true}
-use Rattle.lard_answers.specs.Answers.{FilesAt}
+use Rattle.lard_answers.specs.Answers.{FilesAt, verdicts}
 use Rattle.lard_base.specs.declared.ids.Epoch.{Epoch}
 use Rattle.lard_base.specs.declared.parts.EndpointParts.{EndpointParts}
 use Rattle.lard_base.specs.declared.place.Place.TheVariants.{Front, Node}
 use Rattle.lard_cluster.specs.Bounds.{IsNumber}
 use Rattle.lard_cluster_backing.specs.Requests.{IsFor}
+use Rattle.lard_cluster_backing.specs.Told.{files_before}
 use Rattle.lard_cluster_backing.proofs.Moving.{Keeps, makes}
 use Rattle.lard_cluster_backing.proofs.Next.{next-for}
 use Rattle.lard_cluster_backing.proofs.Nodes.{deed-makes, still-makes}
@@ -24,7 +25,7 @@ use Rattle.lard_cluster_view.specs.Carry.{tale_at}
 use Rattle.lard_cluster_view.specs.View.{Conn, IsNodeEnv, Setting, Spells, Was, node_does, packet_seen}
 use Rattle.lard_cluster_ways.specs.State.{BeginsWith, GoesItsWay, IsAway, IsPlacedOnce, LetterWays, OfferIs, SeatWays, StageWays, marks_at}
 use Rattle.lard_cluster_ways.specs.Under.{Assigned}
-use Rattle.lard_cluster_ways.specs.Ways.{Marks}
+use Rattle.lard_cluster_ways.specs.Ways.{Marks, good_paths}
 use Rattle.lard_endpoint.specs.Control.{ControlBlock}
 use Rattle.lard_endpoint.specs.Moving.{parts_of}
 use Rattle.lard_front_rules.specs.declared.front.FrontRest.{FrontRest}
@@ -55,6 +56,10 @@ first-path a b i j e = ap path_of e where
   path_of : List Assigned → List ℕ
   path_of [] = a
   path_of (g ∷ gs) = g.0
+
+-- it is for its path, one request was assigned, and none for a file stands before it
+abbrev pub IsAlone : FilesAt → Marks → ℕ → List ℕ → Type 0
+IsAlone files m i path = IsFor files m.wrote i path × ((a : Assigned) × (m.assigned ≡ a ∷ [])) × (files_before files m.wrote i ≡ 0)
 
 -- the first batch of an endpoint whose next request is for this path
 takes-back : (env : NodeEnv) (m : Marks) (home : IsHome env m) (p : NodePart) (b : ControlBlock) (count : ℕ) (path : List ℕ) → BeginsWith env.serve.files b.recv.unread path → IsFor env.serve.files m.wrote (count + 1) path
@@ -106,6 +111,8 @@ module _ (k : Setting) (small : k.stream ≤ 2 ^ 30) (x : Conn) (s : Station) (t
     home : IsHome env m
     next : BeginsWith all_files block.recv.unread path
     for : IsFor all_files m.wrote (count + 1) path
+    assigned : m.assigned ≡ (path, n) ∷ []
+    none : files_before all_files m.wrote (count + 1) ≡ 0
 
   module _ (placed : IsPlaced x) (number : IsNumber x.c) (g : GoesItsWay all_files x) (not : IsDecided epoch p.row → ⊥) where
     -- it is on its way to this node
@@ -140,7 +147,10 @@ module _ (k : Setting) (small : k.stream ≤ 2 ^ 30) (x : Conn) (s : Station) (t
         let alone : FrontHolds l.w l.out l.vs pend offering.block offering.count = offering.holds in
         let for : IsFor all_files m.wrote (offering.count + 1) once.path = subst (λ (q : List ℕ). IsFor all_files q (offering.count + 1) once.path) (sym o.tale.wrote)
         (next-for all_files l.w l.out l.vs offering.block offering.count alone.holds offering.frozen once.path next) in
-        record { block = offering.block; count = offering.count; path = once.path; same = same; home = home; next = next; for = for }
+        let answered : offering.count ≡ m.served = alone.holds.counted ∙ sym o.tale.served in
+        let first : (offering.count + 1) - 1 ≡ m.served = omega (arith, answered) in
+        let none : files_before all_files m.wrote (offering.count + 1) ≡ 0 = ap (λ (i : ℕ). length (good_paths all_files (take i (verdicts m.wrote)))) first ∙ ap length once.answered in
+        record { block = offering.block; count = offering.count; path = once.path; same = same; home = home; next = next; for = for; assigned = once.assigned; none = none }
 
     new-stage : (row : FrontRow) → x.part.front.row ≡ Some row → (d : FrontConn) → row.stage ≡ d → Offers n epoch d → Starting
     new-stage row found (stage.Offering i d) at f = new-at row d found (at ∙ ap (λ (j : ℕ). stage.Offering j d) f.0) f.1
@@ -187,10 +197,10 @@ module _ (k : Setting) (small : k.stream ≤ 2 ^ 30) (x : Conn) (s : Station) (t
   pub offered-keep : Keeps k.files x (node_does x n heads (node_offered env p parts))
   offered-keep = subst (λ (f : FilesAt). Keeps f x (node_does x n heads (node_offered env p parts))) is.files (by-answer (offer_answer env.epoch p.row) refl)
 
-  -- the first of its requests for a file is for its path
-  pub offered-for : IsPlaced x → IsNumber x.c → GoesItsWay all_files x → offer_answer env.epoch p.row ≡ New → FirstIn all_files m.wrote (parts.served + 1) (batch_of 8 parts.unread)
+  -- so it is of the first of its requests for a file
+  pub offered-for : IsPlaced x → IsNumber x.c → GoesItsWay all_files x → offer_answer env.epoch p.row ≡ New → FirstIn all_files (IsAlone all_files m) (parts.served + 1) (batch_of 8 parts.unread)
   offered-for placed number g e =
       let at : Starting = new-starts placed number g (undecided p.row e) in
-      subst (λ (q : EndpointParts). FirstIn all_files m.wrote (q.served + 1) (batch_of 8 q.unread)) (sym at.same)
-      (subst (FirstIn all_files m.wrote (at.count + 1)) (sym (ap (take 8) at.next.are))
-      (subst (FirstBy all_files m.wrote (FirstIn all_files m.wrote ((at.count + 1) + 1) (take 7 at.next.others)) (at.count + 1)) (sym at.next.good) at.for))
+      subst (λ (q : EndpointParts). FirstIn all_files (IsAlone all_files m) (q.served + 1) (batch_of 8 q.unread)) (sym at.same)
+      (subst (FirstIn all_files (IsAlone all_files m) (at.count + 1)) (sym (ap (take 8) at.next.are))
+      (subst (FirstBy all_files (IsAlone all_files m) (FirstIn all_files (IsAlone all_files m) ((at.count + 1) + 1) (take 7 at.next.others)) (at.count + 1)) (sym at.next.good) (at.for, ((at.path, n), at.assigned), at.none)))

@@ -43,19 +43,19 @@ module _ (files : FilesAt) (q z : List ℕ) where
         good = h.good;
       }
 
-  body-more : (b : Body) → BodyFor files q b → BodyFor files (q ++ z) b
-  body-more (body.Fetch r path) h = (for-more r path h.0, h.1)
-  body-more (body.Offer parts) h = tt
-  body-more body.Taken h = tt
-  body-more (body.Forward bytes) h = tt
-  body-more (body.Ask number queue size paths) h = tt
-  body-more (body.Tag number nodes) h = tt
-  body-more (body.Content r file) h = tt
-  body-more (body.Ended reason snd rcv count) h = tt
-  body-more body.EndedAck h = tt
+  body-more : (m n : ℕ) (b : Body) → BodyFor files q m n b → BodyFor files (q ++ z) m n b
+  body-more m n (body.Fetch r path) h = (for-more r path h.0, h.1, h.2)
+  body-more m n (body.Offer parts) h = tt
+  body-more m n body.Taken h = tt
+  body-more m n (body.Forward bytes) h = tt
+  body-more m n (body.Ask number queue size paths) h = tt
+  body-more m n (body.Tag number nodes) h = tt
+  body-more m n (body.Content r file) h = tt
+  body-more m n (body.Ended reason snd rcv count) h = tt
+  body-more m n body.EndedAck h = tt
 
   says-more : (from to : Place) (bytes : List ℕ) → SaysFor files q from to bytes → SaysFor files (q ++ z) from to bytes
-  says-more (Node m) (Node n) bytes h = λ msg d. body-more msg.body (h msg d)
+  says-more (Node m) (Node n) bytes h = λ msg d. body-more m n msg.body (h msg d)
   says-more (Node m) Front bytes h = tt
   says-more (Node m) (Client c) bytes h = tt
   says-more Front to bytes h = tt

@@ -183,8 +183,8 @@ module _ (k : Setting) (small : k.stream ≤ 2 ^ 30) where
     fires = λ x s n env there is h. fires-keep k small x s there h.talk h.pend (open-at k.files x s there h) n _ env is (event_seen (event.Timer (Node n) x.c)) is.epoch_is;
     answers = λ x n from epoch r path file bytes there spells was h. makes k.files x (stands x (Node n) (packet_seen (Node from) (Node n) bytes) (contents k n from x.c epoch r path)) tt tt (content-for k.files (marks_at x).wrote n from x.c epoch r (bytes_of (k.files path)), tt);
     queues = λ x n from epoch r path file bytes there spells was h help g old.
-        makes k.files x (stands x (Node n) (packet_seen (Node from) (Node n) bytes) (record nothing_said { notes = rec.Queued n from x.c r path ∷ [] }))
-        ((has-fair (LetterFor k.files (marks_at x).wrote) (record { from = Node from; to = Node n; bytes = bytes }) x.letters was old) _ spells, tt) tt tt help g old;
+        let asked = (has-fair (LetterFor k.files (marks_at x).wrote) (record { from = Node from; to = Node n; bytes = bytes }) x.letters was old) _ spells in
+        makes k.files x (stands x (Node n) (packet_seen (Node from) (Node n) bytes) (record nothing_said { notes = rec.Queued n from x.c r path ∷ [] })) ((asked.0, asked.1), tt) tt tt help g old;
     brings = λ x n from epoch r path h. makes k.files x (stands x (Node n) [] (brought_said k n from x.c epoch r path)) (tt, tt) tt (content-for k.files (marks_at x).wrote n from x.c epoch r (bytes_of (k.files path)), tt);
   }
 

@@ -1,5 +1,5 @@
 -- What each connection's records say of its requests, the journal says.
-use Rattle.std.proofs.Common.{◌≡◌, ◌≤◌, ◌^◌, ℕ, false, List, [], ◌∷◌, Some, None, refl, sym, ap, ◌∙◌, subst, inl, inr}
+use Rattle.std.proofs.Common.{◌≡◌, ◌≤◌, ◌^◌, ℕ, List, [], ◌∷◌, Some, refl, sym, ap, subst, inl, inr}
 use Rattle.std.specs.Prelude.{◌⊎◌}
 use Rattle.lard_answers.specs.Answers.{FilesAt}
 use Rattle.lard_base.specs.declared.config.Config.{Config}
@@ -7,74 +7,35 @@ use Rattle.lard_cluster.specs.declared.machine.Machine.{Machine}
 use Rattle.lard_cluster.specs.Bounds.{IsNumber}
 use Rattle.lard_cluster.specs.Machine.{IsReached}
 use Rattle.lard_cluster_backing.specs.Requests.{MayName}
-use Rattle.lard_cluster_backing.specs.Runs.{JournalsNameRequests, PlacesAnswer, ResponsesAreBacked}
-use Rattle.lard_cluster_backing.specs.State.{MayBack}
+use Rattle.lard_cluster_backing.specs.Runs.{JobsStartWhenTold, JournalsNameRequests, PlacesAnswer, ResponsesAreBacked}
 use Rattle.lard_cluster_backing.proofs.Answering.{places-answer}
-use Rattle.lard_cluster_backing.proofs.Contents.{all-backed}
+use Rattle.lard_cluster_backing.proofs.Contents.{Known, all-backed}
+use Rattle.lard_cluster_backing.proofs.Starting.{all-start}
 use Rattle.lard_cluster_backing.proofs.Finding.{Stands, has-stands}
 use Rattle.lard_cluster_backing.proofs.Hits.{reached-hit}
+use Rattle.lard_cluster_backing.proofs.Marked.{marks-lawful}
 use Rattle.lard_cluster_backing.proofs.Marks.{MayMark}
-use Rattle.lard_cluster_backing.proofs.Rows.{Mine}
-use Rattle.lard_cluster_backing.proofs.Rules.{each-backed}
-use Rattle.lard_cluster_view.specs.Carry.{WhileUntouched}
 use Rattle.lard_cluster_stores.proofs.Disks.{disks-read}
 use Rattle.lard_cluster_stores.proofs.Stored.{lawful}
 use Rattle.lard_cluster_view.specs.View.{Conn, blank, conn}
+use Rattle.lard_cluster_bytes.proofs.Runs.{journals-serve}
 use Rattle.lard_cluster_view.proofs.After.{IsAfter, step-after}
 use Rattle.lard_cluster_view.proofs.Carried.{carried-keep, reached-viewed}
-use Rattle.lard_cluster_view.proofs.InSteps.{carried-records}
-use Rattle.lard_cluster_ways.specs.State.{marks_of}
-use Rattle.lard_cluster_ways.specs.Ways.{Marks, marks}
-use Rattle.lard_cluster_ways.proofs.Earlier.{contents-were-there}
-use Rattle.lard_cluster_ways.proofs.Runs.{contents-come}
+use Rattle.lard_cluster_ways.proofs.Runs.{assign-in-order, contents-come}
 use Rattle.lard_cluster_ways.proofs.Steps.{contents-are-files}
 use Rattle.lard_files.specs.Files.{file_at}
-use Rattle.lard_history.specs.Journal.{Tale, is_touched}
-use Rattle.lard_history.specs.Laws.{EachMay}
-use Rattle.lard_history.specs.Own.{EachRow, Has, Row, Seen, net_of, net_step, own, plain, seen_of, seen_on, tale_of, whose}
+use Rattle.lard_history.specs.Own.{Has, Row, net_of, net_step, own, plain, seen_of, seen_on, whose}
 use Rattle.lard_history.proofs.Each.{each_weaker}
-use Rattle.lard_history.proofs.Lifting.{tale-own}
 use Rattle.lard_history.proofs.Seeing.{has-before, has-behind, own-append, seen-mine}
 use Rattle.lard_history.proofs.Stepping.{AreLawful, one-more}
-use Rattle.lard_history.proofs.Tales.{assigned-tale, served-tale, touched-tale, wrote-tale}
 use Rattle.lard_journal.specs.declared.rec.Rec.{Rec}
 use Rattle.lard_journal.specs.declared.rec.Rec.TheVariants as rec
 
 module _ (files : FilesAt) where
-  abbrev seen_so : ℕ → List Seen → Rec → Type 0
-  seen_so c past r = WhileUntouched (λ c. Mine files c) c past r
-
-  marks-own : (J : List Rec) (c : ℕ) → marks_of (tale_of c (own c J)) ≡ marks J c
-  marks-own J c = ap marks_of (sym (tale-own J c)) ∙ (λ i. record { wrote = sym (wrote-tale J c) i; served = sym (served-tale J c) i; assigned = sym (assigned-tale J c) i })
-
-  -- the numbers of packets and events say nothing
-  plain-back : (m : Marks) (r : Rec) → MayBack files m (plain r) → MayBack files m r
-  plain-back m (rec.Event i e) h = tt
-  plain-back m (rec.Sent k from to bytes) h = h
-  plain-back m _ h = h
-
-  somebody : (J : List Rec) (r : Rec) (c : ℕ) → whose r ≡ Some c → seen_so c (own c J) (plain r) → MayMark files J r
-  somebody J r c e h d f u =
-      let same : c ≡ d = some-number c d (sym e ∙ f) in
-      let now : MayBack files (marks_of (tale_of c (own c J))) (plain r) = h (ap (λ (t : Tale). t.touched) (sym (tale-own J c)) ∙ sym (touched-tale J c) ∙ subst (λ (q : ℕ). is_touched J q ≡ false) (sym same) u) in
-      subst (λ (q : ℕ). MayBack files (marks J q) r) same (plain-back (marks J c) r (subst (λ (m : Marks). MayBack files m (plain r)) (marks-own J c) now)) where
-        some-number : (a b : ℕ) → Some a ≡ Some b → a ≡ b
-        some-number a b e = cc
-
-  nobody : (J : List Rec) (r : Rec) → whose r ≡ None → MayMark files J r
-  nobody J r e d f u = let no : None ≡ Some d = sym e ∙ f in absurd (let f : ⊥ = cc in f)
-
   names : (past : List Rec) (r : Rec) → MayMark files past r → MayName files past r
   names past (rec.AssignedFirst c r path n add remove) may = λ u. may c refl u
   names past (rec.Queued n m c r path) may = λ u. (may c refl u).0
   names past _ may = tt
-
--- each record of a connection that the schedule did not touch may stand by what is marked of it
-pub marks-lawful : (config : Config) (files : List (List ℕ × List ℕ)) (m : Machine) → config.stream ≤ 2 ^ 30 → IsReached config files m → EachMay (MayMark (file_at files)) [] m.journal
-unfolding conn
-marks-lawful config files m small r = carried-records config files (MayMark (file_at files)) (seen_so (file_at files)) (nobody (file_at files)) (somebody (file_at files)) each m r where
-  each : (m : Machine) → IsReached config files m → (q : ℕ) → EachRow (seen_so (file_at files) q) [] (conn m q).seen
-  each m r q = (each-backed config files small m r q).1
 
 pub requests-named : JournalsNameRequests
 requests-named config files m small r = each_weaker (MayMark (file_at files)) (MayName (file_at files)) (names (file_at files)) [] m.journal (marks-lawful config files m small r)
@@ -105,14 +66,23 @@ whole-steps : (config : Config) (files : List (List ℕ × List ℕ)) (m : Machi
 whole-steps config files m r = carried-keep config files (λ k. AreLawful (λ past s. Unit {0}) k.journal) (refl, tt)
     (λ k n e on h rule is. let after : IsAfter k e n = step-after k on.view e n rule is in subst (AreLawful (λ past s. Unit {0})) (sym after.is) (one-more (λ past s. Unit {0}) k.journal after.step after.one h tt)) m r
 
-pub responses-backed : ResponsesAreBacked
-responses-backed config files m small r = all-backed (file_at files) config.cache m.journal (record {
+-- what is known of a journal
+known-of : (config : Config) (files : List (List ℕ × List ℕ)) (m : Machine) → config.stream ≤ 2 ^ 30 → IsReached config files m → Known (file_at files) config.cache m.journal
+known-of config files m small r = record {
   marks = marks-lawful config files m small r;
   hits = (reached-hit config files small m r).law;
   stores = lawful config files m r;
-  served = contents-were-there config files m r;
+  ways = contents-come config files m small r;
+  service = journals-serve config files m small r;
   whole = (whole-steps config files m r).0;
   brings = contents-are-files config files m r;
   reads = disks-read config files m r;
   numbers = λ n k c i path h. numbered config files m r (rec.Queued n k c i path) c refl h;
-})
+}
+
+pub responses-backed : ResponsesAreBacked
+responses-backed config files m small r = all-backed (file_at files) config.cache m.journal (known-of config files m small r)
+
+-- no job of a node itself starts before it is told
+pub jobs-start : JobsStartWhenTold
+jobs-start config files m small r = all-start (file_at files) config.cache m.journal (known-of config files m small r) (assign-in-order config files m small r)

@@ -1,6 +1,6 @@
 -- What a turn of a node notes and says: it answers as the home, and each request that it starts is for its path.
-use Rattle.std.proofs.Common.{◌≡◌, ◌≤◌, ◌+◌, ◌^◌, ◌==◌, nat_lt, ℕ, Bool, true, false, List, [], ◌∷◌, ◌++◌, map, length, slice_get, Option, Some, None, refl, sym, ap, ◌∙◌, subst, arith, append_assoc}
-use Rattle.std.proofs.lemmas.Bool.{cond_both}
+use Rattle.std.proofs.Common.{◌≡◌, ◌≤◌, ◌+◌, ◌^◌, ◌==◌, nat_lt, ℕ, Bool, true, false, List, [], ◌∷◌, ◌++◌, map, length, slice_get, Option, Some, None, refl, sym, ap, ◌∙◌, subst, arith, append_assoc, eq-eqb, ◌≢◌}
+use Rattle.std.proofs.lemmas.Bool.{both_ways, cond_both}
 use Rattle.std.proofs.lemmas.List.{length_push}
 use Rattle.lard_answers.specs.Answers.{FilesAt, IsPrefix, answer, answer_code, good_path, verdicts}
 use Rattle.lard_base.specs.declared.place.Place.{Place}
@@ -51,20 +51,36 @@ IsSteady files m r = IsUnmarked r × MayBack files m r
 
 -- ---- requests of a batch
 
-module _ (files : FilesAt) (wrote : List ℕ) where
-  -- each one that was only read is for its path, from this number on
-  abbrev pub NamedFor : ℕ → List Entry → Type 0
-  NamedFor r [] = Unit {0}
-  NamedFor r (e ∷ es) = ((path : List ℕ) → named_path files e ≡ Some path → IsFor files wrote r path) × NamedFor (r + 1) es
+module _ (files : FilesAt) (P : ℕ → List ℕ → Type 0) where
+  -- so it is of each one that was only read, by its number, from this on, and its path
+  abbrev pub EachNamed : ℕ → List Entry → Type 0
+  EachNamed r [] = Unit {0}
+  EachNamed r (e ∷ es) = ((path : List ℕ) → named_path files e ≡ Some path → P r path) × EachNamed (r + 1) es
 
-  -- the first one for a file is for its path
+  -- and of the first one for a file
   abbrev pub FirstBy : Type 0 → ℕ → Option (List ℕ) → Type 0
   FirstBy later r None = later
-  FirstBy later r (Some path) = IsFor files wrote r path
+  FirstBy later r (Some path) = P r path
 
   abbrev pub FirstIn : ℕ → List Verdict → Type 0
   FirstIn r [] = Unit {0}
   FirstIn r (v ∷ vs) = FirstBy (FirstIn (r + 1) vs) r (good_path files v)
+
+module _ (files : FilesAt) (P Q : ℕ → List ℕ → Type 0) where
+  pub named-weaker : ((r : ℕ) (path : List ℕ) → P r path → Q r path) → (r : ℕ) (es : List Entry) → EachNamed files P r es → EachNamed files Q r es
+  named-weaker f r [] h = tt
+  named-weaker f r (e ∷ es) h = (λ path is. f r path (h.0 path is), named-weaker f (r + 1) es h.1)
+
+  pub named-both : (r : ℕ) (es : List Entry) → EachNamed files P r es → EachNamed files Q r es → EachNamed files (λ r path. P r path × Q r path) r es
+  named-both r [] h k = tt
+  named-both r (e ∷ es) h k = (λ path is. (h.0 path is, k.0 path is), named-both (r + 1) es h.1 k.1)
+
+  pub first-weaker : ((r : ℕ) (path : List ℕ) → P r path → Q r path) → (r : ℕ) (vs : List Verdict) → FirstIn files P r vs → FirstIn files Q r vs
+  first-weaker f r [] h = tt
+  first-weaker f r (v ∷ vs) h = go (good_path files v) h (first-weaker f (r + 1) vs) where
+    go : (o : Option (List ℕ)) → FirstBy files P (FirstIn files P (r + 1) vs) r o → (FirstIn files P (r + 1) vs → FirstIn files Q (r + 1) vs) → FirstBy files Q (FirstIn files Q (r + 1) vs) r o
+    go None h later = later h
+    go (Some path) h later = f r path h
 
 module _ (files : FilesAt) (m : Marks) where
   -- what was assigned and written is as in m
@@ -113,7 +129,7 @@ module _ (env : NodeEnv) (m : Marks) (home : IsHome env m) where
   For r path = IsFor files m.wrote r path
 
   abbrev WantFor : Want → Type 0
-  WantFor w = For w.r w.path
+  WantFor w = For w.r w.path × (env.n ≢ w.node)
 
   -- all that was noted so far may stand, and each Fetch that is to be sent is for its path
   pub record Clean (k : Work) : Type 0 where
@@ -132,7 +148,9 @@ module _ (env : NodeEnv) (m : Marks) (home : IsHome env m) where
 
   started-clean : (node r : ℕ) (path : List ℕ) (v : Verdict) (k : Work) → For r path → Clean k → Clean (started env node r path v k)
   started-clean node r path v k for h = cond_both (node == env.n) (started_here env r path v k) (started_there node r path v k) Clean (λ t. here-clean r path v k for h)
-      (λ t. record { notes = h.notes; wants = Each-append WantFor k.wants (record { r = r; node = node; path = path } ∷ []) h.wants (for, tt) })
+      (λ t. record { notes = h.notes; wants = Each-append WantFor k.wants (record { r = r; node = node; path = path } ∷ []) h.wants ((for, other t), tt) }) where
+        other : (node == env.n) ≡ false → env.n ≢ node
+        other t same = both_ways (node == env.n) t (eq-eqb node env.n (sym same))
 
   -- none has a node yet
   quiet-clean : (r : ℕ) (vs : List Verdict) (k : Work) → Clean k → Clean (enters env false r vs k)
@@ -238,7 +256,7 @@ module _ (env : NodeEnv) (m : Marks) (home : IsHome env m) where
   pub tagged-clean : (nodes : List ℕ) (k : Work) → AreAt (k.service.count + 1) k.batch → Clean k → Clean (tagged env nodes k)
   tagged-clean nodes k are h = at-clean nodes 0 (k.service.count + 1) k.batch (record k { batch = [] }) are (record { notes = h.notes; wants = h.wants })
 
-  pub all-named : (r : ℕ) (es : List Entry) → AreAt r es → NamedFor files m.wrote r es
+  pub all-named : (r : ℕ) (es : List Entry) → AreAt r es → EachNamed files (IsFor files m.wrote) r es
   all-named r [] h = tt
   all-named r (e ∷ es) h = (named-for r e h.0, all-named (r + 1) es h.1)
 
@@ -267,7 +285,8 @@ module _ (env : NodeEnv) (m : Marks) (home : IsHome env m) where
   DeedBacks (Does given) = TurnBacks given.1
 
   want-says : (w : Want) → WantFor w → SaidFor (Node w.node, (fetch_of env w).bytes)
-  want-says w for = λ msg d. subst (BodyFor files m.wrote) (sym (fetch-reads env.serve.c env.epoch w.r w.path (number-small files m.wrote w.r w.path home.most for) (path-short files m.wrote w.r w.path for) msg d)) (for, number-small files m.wrote w.r w.path home.most for)
+  want-says w for = λ msg d. subst (BodyFor files m.wrote env.n w.node) (sym (fetch-reads env.serve.c env.epoch w.r w.path (number-small files m.wrote w.r w.path home.most for.0) (path-short files m.wrote w.r w.path for.0) msg d))
+      (for.0, number-small files m.wrote w.r w.path home.most for.0, for.1)
 
   wants-say : (ws : List Want) → Each WantFor ws → Each SaidFor (wants_sent env ws)
   wants-say [] h = tt

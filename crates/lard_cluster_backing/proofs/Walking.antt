@@ -1,5 +1,5 @@
--- What a node's step keeps and tells was hit or queued, and for which node it queues a job.
-use Rattle.std.proofs.Common.{◌≡◌, ℕ, ◌+◌, ◌==◌, Bool, true, false, List, [], ◌∷◌, ◌++◌, Option, Some, None, Result, Ok, Err, refl, sym, ◌∙◌, subst, append_assoc, inl, inr}
+-- What backs the responses of a node's step, and what it keeps, stands behind what the node was told; and for which node it queues a job.
+use Rattle.std.proofs.Common.{◌≡◌, ℕ, ◌+◌, ◌==◌, Bool, true, false, List, [], ◌∷◌, ◌++◌, Option, Some, None, Result, Ok, Err, refl, sym, ap, ◌∙◌, subst, append_assoc, inl, inr, eqb-true}
 use Rattle.std.specs.Prelude.{◌⊎◌}
 use Rattle.std.proofs.lemmas.Bool.{cond_both}
 use Rattle.std.specs.List.{flat_map, list_any}
@@ -7,14 +7,17 @@ use Rattle.lard_base.specs.declared.place.Place.{Place}
 use Rattle.lard_base.specs.declared.place.Place.TheVariants.{Front, Node}
 use Rattle.lard_base.specs.declared.place.TimerKind.{TimerKind}
 use Rattle.lard_cache.specs.Recency.{has}
-use Rattle.lard_cluster_backing.proofs.Hitting.{DeedHits, FirstFor, IsOwn, IsQuiet, IsStill, MayHit, StayHits, TagKnown, acknowledged-hit, come-hit, fired-hit, forwarded-hit, offered-hit, quiet-may, quiets-may, read-hit, stay-more, tagged-hit}
+use Rattle.lard_cluster_backing.proofs.Held.{HasCome, StayHits, stay-more}
+use Rattle.lard_cluster_backing.proofs.Hitting.{DeedHits, FirstFor, IsOwn, IsQuiet, IsStill, MayHit, TagKnown, acknowledged-hit, come-hit, fired-hit, forwarded-hit, offered-hit, quiet-may, read-hit, tagged-hit}
 use Rattle.lard_cluster_view.proofs.Parts.{node-elsewhere, node-here}
 use Rattle.lard_disk.specs.declared.disk.Job.{Job}
 use Rattle.lard_disk.specs.Jobs.{is_for, job_at}
 use Rattle.lard_endpoint.specs.Control.{ControlBlock}
 use Rattle.lard_handoff_back.specs.declared.table.Adopt.TheVariants.{New}
-use Rattle.lard_handoff_back.specs.Back.{endpoint_of, offer_answer, staying}
+use Rattle.lard_handoff_back.specs.Back.{offer_answer}
+use Rattle.lard_history.specs.Journal.{is_touched}
 use Rattle.lard_history.specs.Laws.{EachMay}
+use Rattle.lard_history.specs.Own.{net_of, seen_on}
 use Rattle.lard_history.proofs.Each.{Each, Each-append, Each-weaker}
 use Rattle.lard_history.proofs.Seeing.{by_number}
 use Rattle.lard_journal.specs.declared.rec.Rec.{Rec}
@@ -29,7 +32,7 @@ use Rattle.lard_node_rules.specs.declared.node.BackIn.TheVariants as input
 use Rattle.lard_node_rules.specs.declared.node.NodeState.{NodeState}
 use Rattle.lard_node_rules.specs.declared.node.NodeTurn.{NodeTurn}
 use Rattle.lard_node_rules.specs.declared.stay.Stay.{Stay}
-use Rattle.lard_node_rules.specs.Node.{Deed, Does, Drops, NodePart, Says, here, node_armed, node_read, saying}
+use Rattle.lard_node_rules.specs.Node.{Deed, Does, Drops, NodePart, Says, here, is_awaited, node_armed, node_read, saying}
 use Rattle.lard_node_rules.specs.NodePlace.{NodeSetting, aside, brought, completed, content_sent, disk_step, epoch_at, fetched, fetched_file, node_deed, node_env, node_gets, node_hears, node_part, node_put, node_step, with_first}
 use Rattle.lard_reader.specs.Batches.{batch_of}
 use Rattle.lard_rules.specs.declared.front.Out.{Out}
@@ -69,16 +72,27 @@ own-by k i _ h = tt
 module _ (k : NodeSetting) where
   -- all that it keeps of each connection
   abbrev pub NodeHits : List Rec → NodeState → Type 0
-  NodeHits J s = (q : ℕ) → StayHits k.files k.n q J (node_part s q).stay
+  NodeHits J s = (q : ℕ) → StayHits k.files k.n q J (node_part s q).row (node_part s q).stay
 
   pub node-more : (J rs : List Rec) (s : NodeState) → NodeHits J s → NodeHits (J ++ rs) s
-  node-more J rs s h q = stay-more k.files k.n q J rs (node_part s q).stay (h q)
+  node-more J rs s h q = stay-more k.files k.n q J rs (node_part s q).row (node_part s q).stay (h q)
 
   module _ (base : List Rec) where
+    -- A content of request r came from node m in the last of these records, and before them this was kept.
+    pub record ContentKnown (s : NodeState) (m c epoch r : ℕ) : Type 0 where
+      pub old : List Rec
+      pub first : List Rec
+      pub is : base ≡ old ++ first
+      pub kept : StayHits k.files k.n c old (node_part s c).row (node_part s c).stay
+      pub comes : HasCome k.n m c epoch r (seen_on c (net_of old) first)
+
     -- what must be known of a message that comes
     abbrev pub BodyKnown : NodeState → Place → ℕ → ℕ → Body → Type 0
-    BodyKnown s Front c epoch (body.Offer parts) = offer_answer epoch (node_part s c).row ≡ New → FirstFor (node_env k s c epoch) refl base (parts.served + 1) (batch_of 8 parts.unread)
-    BodyKnown s Front c epoch (body.Tag number nodes) = (y : ControlBlock × Stay) → here epoch (node_part s c) ≡ Some y → TagKnown (node_env k s c epoch) refl base y
+    BodyKnown s Front c epoch (body.Offer parts) = offer_answer epoch (node_part s c).row ≡ New → FirstFor (node_env k s c epoch) refl base None (parts.served + 1) (batch_of 8 parts.unread)
+    BodyKnown s Front c epoch (body.Tag number nodes) =
+        (y : ControlBlock × Stay) → here epoch (node_part s c) ≡ Some y → is_awaited (node_env k s c epoch) number nodes (node_part s c) y.1 ≡ true → TagKnown (node_env k s c epoch) refl base number y
+    BodyKnown s (Node m) c epoch (body.Content r bytes) = ContentKnown s m c epoch r
+    BodyKnown s (Node m) c epoch (body.Fetch r path) = is_touched base c ≡ false → m ≡ k.n → ⊥
     BodyKnown s _ c epoch _ = Unit {0}
 
     abbrev pub GetsKnown : NodeState → Place → Result Message MsgFault → Type 0
@@ -98,8 +112,8 @@ module _ (k : NodeSetting) (i : BackIn) where
     stays : (s : NodeState) → NodeHits k base s → StepHits base (s, nothing_done)
     stays s h = record { kept = node-more k base [] s h; notes = tt; gave = tt; timers = tt; queued = tt }
 
-    aside-hits : (s : NodeState) (t : NodeTurn) → Each IsQuiet t.notes → Each (QueuesBy k.n i) t.notes → NodeHits k base s → StepHits base (aside s t)
-    aside-hits s t quiet queued h = record { kept = node-more k base t.notes s h; notes = quiets-may k.files base t.notes quiet; gave = tt; timers = tt; queued = queued }
+    aside-hits : (s : NodeState) (t : NodeTurn) → EachMay (MayHit k.files) base t.notes → Each (QueuesBy k.n i) t.notes → NodeHits k base s → StepHits base (aside s t)
+    aside-hits s t may queued h = record { kept = node-more k base t.notes s h; notes = may; gave = tt; timers = tt; queued = queued }
 
     deed-hits : (s : NodeState) (c epoch : ℕ) (d : Deed) → NodeHits k base s → DeedHits (node_env k s c epoch) refl base d → StepHits base (node_deed k s c d)
     deed-hits s c epoch Drops h b = stays s h
@@ -107,9 +121,10 @@ module _ (k : NodeSetting) (i : BackIn) where
     deed-hits s c epoch (Does given) h b =
         let now : List Rec = base ++ given.1.notes in
         record {
-          kept = λ q. by_number (StayHits k.files k.n q now (node_part (node_put s c given.0) q).stay) q c
-              (λ same. subst (λ (d : ℕ). StayHits k.files k.n d now (node_part (node_put s c given.0) d).stay) (sym same) (subst (λ (p : NodePart). StayHits k.files k.n c now p.stay) (sym (node-here s c given.0)) b.0))
-              (λ other. subst (λ (p : NodePart). StayHits k.files k.n q now p.stay) (sym (node-elsewhere s c q given.0 other)) (node-more k base given.1.notes s h q));
+          kept = λ q. by_number (StayHits k.files k.n q now (node_part (node_put s c given.0) q).row (node_part (node_put s c given.0) q).stay) q c
+              (λ same. subst (λ (d : ℕ). StayHits k.files k.n d now (node_part (node_put s c given.0) d).row (node_part (node_put s c given.0) d).stay) (sym same)
+              (subst (λ (p : NodePart). StayHits k.files k.n c now p.row p.stay) (sym (node-here s c given.0)) b.0))
+              (λ other. subst (λ (p : NodePart). StayHits k.files k.n q now p.row p.stay) (sym (node-elsewhere s c q given.0 other)) (node-more k base given.1.notes s h q));
           notes = b.1;
           gave = b.2;
           timers = timers-still (Node k.n) c (node_armed (node_part s c)) (node_armed given.0) kinds;
@@ -118,10 +133,10 @@ module _ (k : NodeSetting) (i : BackIn) where
 
     -- ---- messages
 
-    fetched-hits : (s : NodeState) (from c epoch r : ℕ) (path : List ℕ) (o : Option (List ℕ)) → FetchIn i from c r path → NodeHits k base s → StepHits base (fetched k s from c epoch r path o)
-    fetched-hits s from c epoch r path None f h = stays s h
-    fetched-hits s from c epoch r path (Some bytes) f h = cond_both (list_any (is_for c epoch r) s.disk) (s, nothing_done) (aside s (fetched_file k s from c epoch r path)) (StepHits base) (λ t. stays s h)
-        (λ t. aside-hits s (fetched_file k s from c epoch r path) (cond_both (has s.cache.entries path) _ _ (λ (u : NodeTurn). Each IsQuiet u.notes) (λ there. (tt, tt)) (λ none. (tt, tt)))
+    fetched-hits : (s : NodeState) (from c epoch r : ℕ) (path : List ℕ) (o : Option (List ℕ)) → (is_touched base c ≡ false → from ≡ k.n → ⊥) → FetchIn i from c r path → NodeHits k base s → StepHits base (fetched k s from c epoch r path o)
+    fetched-hits s from c epoch r path None other f h = stays s h
+    fetched-hits s from c epoch r path (Some bytes) other f h = cond_both (list_any (is_for c epoch r) s.disk) (s, nothing_done) (aside s (fetched_file k s from c epoch r path)) (StepHits base) (λ t. stays s h)
+        (λ t. aside-hits s (fetched_file k s from c epoch r path) (cond_both (has s.cache.entries path) _ _ (λ (u : NodeTurn). EachMay (MayHit k.files) base u.notes) (λ there. (tt, tt)) (λ none. ((λ u same. absurd (other u same)), tt)))
         (cond_both (has s.cache.entries path) _ _ (λ (u : NodeTurn). Each (QueuesBy k.n i) u.notes) (λ there. (tt, tt)) (λ none. (inr (refl, f), tt))) h)
 
     -- a Fetch is what comes
@@ -132,10 +147,10 @@ module _ (k : NodeSetting) (i : BackIn) where
     hears-hits : (s : NodeState) (from : Place) (c epoch : ℕ) (b : Body) → Asked from c b → NodeHits k base s → BodyKnown k base s from c epoch b → StepHits base (node_hears k s from c epoch b)
     hears-hits s Front c epoch (body.Offer parts) asked h known = deed-hits s c epoch _ h (offered-hit (node_env k s c epoch) refl base (node_part s c) (h c) parts known)
     hears-hits s Front c epoch (body.Forward bytes) asked h known = deed-hits s c epoch _ h (forwarded-hit (node_env k s c epoch) refl base (node_part s c) (h c) (decoded bytes c ToCluster))
-    hears-hits s Front c epoch (body.Tag number nodes) asked h known = deed-hits s c epoch _ h (tagged-hit (node_env k s c epoch) refl base (node_part s c) (h c) number nodes (staying epoch (node_part s c).row) known)
+    hears-hits s Front c epoch (body.Tag number nodes) asked h known = deed-hits s c epoch _ h (tagged-hit (node_env k s c epoch) refl base (node_part s c) (h c) number nodes known)
     hears-hits s Front c epoch body.EndedAck asked h known = deed-hits s c epoch _ h (acknowledged-hit (node_env k s c epoch) refl base (node_part s c) (h c))
-    hears-hits s (Node from) c epoch (body.Fetch r path) asked h known = fetched-hits s from c epoch r path (k.files path) asked h
-    hears-hits s (Node from) c epoch (body.Content r bytes) asked h known = deed-hits s c epoch _ h (come-hit (node_env k s c epoch) refl base (node_part s c) (h c) from r (staying epoch (node_part s c).row))
+    hears-hits s (Node from) c epoch (body.Fetch r path) asked h known = fetched-hits s from c epoch r path (k.files path) known asked h
+    hears-hits s (Node from) c epoch (body.Content r bytes) asked h known = deed-hits s c epoch _ h (come-hit (node_env k s c epoch) refl base (node_part s c) known.old known.first known.is from r known.comes known.kept)
     hears-hits s _ c epoch _ asked h known = stays s h
 
     asked-by : (from : Place) (bytes : List ℕ) → i ≡ input.Message from bytes → (m : Message) → decoded_message bytes ≡ Ok m → Asked from m.c m.body
@@ -150,14 +165,19 @@ module _ (k : NodeSetting) (i : BackIn) where
 
   -- ---- the disk
 
-  brought-hits : (base : List Rec) (s : NodeState) (job : Job) → NodeHits k base s → StepHits base (brought k s job)
-  brought-hits base s job h = cond_both (job.origin == k.n) (node_deed k s job.c (node_read (node_env k s job.c job.epoch.0) (node_part s job.c) job.r)) (aside s (saying (content_sent k job.origin job.c job.epoch.0 job.r job.path ∷ []))) (StepHits base)
-      (λ t. deed-hits base s job.c job.epoch.0 _ h (read-hit (node_env k s job.c job.epoch.0) refl base (node_part s job.c) (h job.c) job.r (staying job.epoch.0 (node_part s job.c).row)))
-      (λ t. aside-hits base s (saying (content_sent k job.origin job.c job.epoch.0 job.r job.path ∷ [])) tt tt h)
+  -- behind the record that it is read
+  brought-hits : (base : List Rec) (s : NodeState) (job : Job) → NodeHits k base s → StepHits (base ++ rec.Read k.n job.origin job.c job.r job.path ∷ []) (brought k s job)
+  brought-hits base s job h =
+      let read : Rec = rec.Read k.n job.origin job.c job.r job.path in
+      let now : List Rec = base ++ read ∷ [] in
+      let more : NodeHits k now s = node-more k base (read ∷ []) s h in
+      cond_both (job.origin == k.n) (node_deed k s job.c (node_read (node_env k s job.c job.epoch.0) (node_part s job.c) job.r)) (aside s (saying (content_sent k job.origin job.c job.epoch.0 job.r job.path ∷ []))) (StepHits now)
+      (λ t. deed-hits now s job.c job.epoch.0 _ more (read-hit (node_env k s job.c job.epoch.0) refl now (node_part s job.c) base job.r job.path (ap (λ (o : ℕ). base ++ rec.Read k.n o job.c job.r job.path ∷ []) (eqb-true job.origin k.n t)) (h job.c)))
+      (λ t. aside-hits now s (saying (content_sent k job.origin job.c job.epoch.0 job.r job.path ∷ [])) tt tt more)
 
   first-hits : (base : List Rec) (r : Rec) (x : NodeState × Out) → IsQuiet r → QueuesBy k.n i r → StepHits (base ++ r ∷ []) x → StepHits base (with_first r x)
   first-hits base r x quiet by h = record {
-    kept = λ q. subst (λ (J : List Rec). StayHits k.files k.n q J (node_part x.0 q).stay) (append_assoc base (r ∷ []) x.1.notes) (h.kept q);
+    kept = λ q. subst (λ (J : List Rec). StayHits k.files k.n q J (node_part x.0 q).row (node_part x.0 q).stay) (append_assoc base (r ∷ []) x.1.notes) (h.kept q);
     notes = (quiet-may k.files base r quiet, h.notes);
     gave = h.gave;
     timers = h.timers;
@@ -168,7 +188,7 @@ module _ (k : NodeSetting) (i : BackIn) where
   disk-hits base s j None h = stays base s h
   disk-hits base s j (Some job) h =
       let done : Rec = rec.Read k.n job.origin job.c job.r job.path in
-      first-hits base done (brought k (completed k s j job) job) tt tt (brought-hits (base ++ done ∷ []) (completed k s j job) job (λ q. node-more k base (done ∷ []) s h q))
+      first-hits base done (brought k (completed k s j job) job) tt tt (brought-hits base (completed k s j job) job h)
 
 -- ---- a step
 
@@ -179,5 +199,5 @@ module _ (k : NodeSetting) where
 
   pub step-hits : (base : List Rec) (s : NodeState) (i : BackIn) → NodeHits k base s → StepKnown base s i → StepHits k i base (node_step k s i)
   step-hits base s (input.Message from bytes) h known = gets-hits k (input.Message from bytes) base s from bytes refl (decoded_message bytes) refl h known
-  step-hits base s (input.Timer c) h known = deed-hits k (input.Timer c) base s c (epoch_at s c) _ h (fired-hit (node_env k s c (epoch_at s c)) refl base (node_part s c) (h c) (endpoint_of (node_part s c).row))
+  step-hits base s (input.Timer c) h known = deed-hits k (input.Timer c) base s c (epoch_at s c) _ h (fired-hit (node_env k s c (epoch_at s c)) refl base (node_part s c) (h c) refl)
   step-hits base s (input.Disk j) h known = disk-hits k (input.Disk j) base s j (job_at s.disk j) h

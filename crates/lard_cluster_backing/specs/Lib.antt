@@ -1,3 +1,4 @@
+pub mod Told
 pub mod Requests
 pub mod Jobs
 pub mod State

@@ -1,5 +1,5 @@
 -- What holds of one connection between any two steps: each Fetch that was ever sent is of a request for its path.
-use Rattle.std.specs.Prelude.{◌≡◌, ◌<◌, ◌^◌, ℕ, ◌+◌, List, [], ◌∷◌, Ok}
+use Rattle.std.specs.Prelude.{◌≡◌, ◌≢◌, ◌<◌, ◌^◌, ℕ, ◌+◌, List, [], ◌∷◌, Ok}
 use Rattle.lard_answers.specs.Answers.{FilesAt}
 use Rattle.lard_base.specs.declared.place.Place.{Place}
 use Rattle.lard_base.specs.declared.place.Place.TheVariants.{Client, Front, Node}
@@ -19,13 +19,14 @@ use Rattle.lard_message.specs.Reading.{decoded_message}
 
 -- ---- packets
 
-abbrev pub BodyFor : FilesAt → List ℕ → Body → Type 0
-BodyFor files wrote (body.Fetch r path) = IsFor files wrote r path × (r < 2 ^ 32)
-BodyFor files wrote _ = Unit {0}
+-- a Fetch is of a request for its path, and asks another node
+abbrev pub BodyFor : FilesAt → List ℕ → ℕ → ℕ → Body → Type 0
+BodyFor files wrote m n (body.Fetch r path) = IsFor files wrote r path × (r < 2 ^ 32) × (m ≢ n)
+BodyFor files wrote m n _ = Unit {0}
 
 -- what one node says to another
 abbrev pub SaysFor : FilesAt → List ℕ → Place → Place → List ℕ → Type 0
-SaysFor files wrote (Node m) (Node n) bytes = (msg : Message) → decoded_message bytes ≡ Ok msg → BodyFor files wrote msg.body
+SaysFor files wrote (Node m) (Node n) bytes = (msg : Message) → decoded_message bytes ≡ Ok msg → BodyFor files wrote m n msg.body
 SaysFor files wrote _ _ bytes = Unit {0}
 
 abbrev pub LetterFor : FilesAt → List ℕ → Letter → Type 0
