@@ -1,10 +1,11 @@
 -- Each law is proved in a crate of its own.
 use Rattle.std.specs.Prelude.{◌≤◌}
+use Rattle.lard_base.proofs.Usable.{usable}
 use Rattle.lard_base.specs.declared.limits.TheConstants.{MAX_STREAM_BYTES}
 use Rattle.lard_cluster_asks.proofs.Asking.{asks-go-on}
 use Rattle.lard_cluster_asks.proofs.Runs.{asks-answered, batches-end}
 use Rattle.lard_cluster_backing.proofs.Queuing.{jobs-are-asked}
-use Rattle.lard_cluster_backing.proofs.Runs.{home-answers, requests-named, responses-backed}
+use Rattle.lard_cluster_backing.proofs.Runs.{home-answers, jobs-start, requests-named, responses-backed}
 use Rattle.lard_cluster_bytes.proofs.Runs.{clients-accept, journals-serve, journals-tell, states-truthful}
 use Rattle.lard_cluster_clients.proofs.Tables.{clients-keep}
 use Rattle.lard_cluster_clients.proofs.Taking.{clients-take}
@@ -18,8 +19,8 @@ use Rattle.lard_cluster_offers.proofs.Runs.{offers-carry}
 use Rattle.lard_cluster_places.proofs.Runs.{owners-are, senders-are}
 use Rattle.lard_cluster_policy.proofs.Counted.{admits-by-room, admits-to-a-node, assigns-as-stated, loads-are-charges, releases-what-it-took, servers-are-told, shares-one-batch, stays-within}
 use Rattle.lard_cluster_quiet.proofs.Ends.{journals-complete}
-use Rattle.lard_cluster_records.proofs.Named.{usable}
 use Rattle.lard_cluster_records.proofs.There.{only-nodes}
+use Rattle.lard_cluster_sizes.proofs.Runs.{batches-sized}
 use Rattle.lard_cluster_steps.proofs.Linking.{reached-linked}
 use Rattle.lard_cluster_steps.proofs.Places.{reached-in-place}
 use Rattle.lard_cluster_steps.proofs.Timers.{timers-change}
@@ -70,6 +71,7 @@ journals-lawful config files m checked r =
       asks = asks-go-on config files m r;
       tags = asks-answered config files m r;
       batch_ends = batches-end config files m checked r;
+      sizes = batches-sized config files m small r;
       requests = assign-in-order config files m small r;
       paths = assign-a-prefix config files m small r;
       ways = contents-come config files m small r;
@@ -77,6 +79,7 @@ journals-lawful config files m checked r =
       named = requests-named config files m small r;
       came = contents-were-there config files m r;
       backed = responses-backed config files m small r;
+      starts = jobs-start config files m small r;
       contents = contents-are-files config files m r;
       queues = jobs-are-asked config files m small r;
       offers = offers-carry config files m small r;

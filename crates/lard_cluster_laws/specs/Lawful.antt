@@ -8,7 +8,7 @@ use Rattle.lard_cluster.specs.Machine.{IsReached}
 use Rattle.lard_cluster_asks.specs.Answers.{MustAnswer, MustEnd}
 use Rattle.lard_cluster_asks.specs.Sent.{MustAsk}
 use Rattle.lard_cluster_backing.specs.Jobs.{MustQueue}
-use Rattle.lard_cluster_backing.specs.Requests.{MayAnswer, MayBeBacked, MayName}
+use Rattle.lard_cluster_backing.specs.Requests.{MayAnswer, MayBeBacked, MayName, MayStart}
 use Rattle.lard_cluster_bytes.specs.Records.{ServesTheAnswers}
 use Rattle.lard_cluster_line.specs.Laws.{HasFewConnections, IsNearTheThresholds, IsNotBusy, IsWithinTheRoom, LineNeedsAFullRoom, MayPass, MayWait, MustRelease}
 use Rattle.lard_cluster_motion.specs.Motion.{MustMove}
@@ -17,6 +17,7 @@ use Rattle.lard_cluster_policy.specs.Laws.{AreLoadsCharged, ArePaired, AreServer
 use Rattle.lard_cluster_policy.specs.Ledger.{Ledger, admitted, ledger}
 use Rattle.lard_cluster_quiet.specs.Quiet.{CompletesWhenQuiet}
 use Rattle.lard_cluster_records.specs.Messages.{MayBeThere}
+use Rattle.lard_cluster_sizes.specs.Sizes.{MustSize}
 use Rattle.lard_cluster_stores.specs.Laws.{MayStore, MustRead}
 use Rattle.lard_cluster_ways.specs.Before.{MayBeServed}
 use Rattle.lard_cluster_ways.specs.Contents.{MustBring}
@@ -91,6 +92,8 @@ pub record IsLawful (config : Config) (files : FilesAt) (J : List Rec) : Type 0 
   pub asks : EachStep MustAsk [] (steps J)
   pub tags : EachStep MustAnswer [] (steps J)
   pub batch_ends : EachStep (MustEnd config) [] (steps J)
+  -- how many requests the batch of an Ask has, and which of them it names
+  pub sizes : EachStep (MustSize files) [] (steps J)
   -- which request each assignment is for, and by which way its content comes
   pub requests : AreAssignedInOrder files J
   pub paths : AssignsAPrefix files J
@@ -100,8 +103,11 @@ pub record IsLawful (config : Config) (files : FilesAt) (J : List Rec) : Type 0 
   pub named : EachMay (MayName files) [] J
   -- what a node saw before a response whose content it did not have at hand, and what it sends as a content
   pub came : EachMay MayBeServed [] J
-  -- that it is of the path of the request which the response answers, and that one from the cache stands behind a hit of that path
+  -- that it is of the path of the request which the response answers, and stands behind what told the node where the request is
+  -- assigned: the record that it took the connection, and the Tag of the request's Ask
   pub backed : EachMay (MayBeBacked files) [] J
+  -- and that no job of a node itself is queued or read before that
+  pub starts : EachMay (MayStart files) [] J
   pub contents : EachStep (MustBring files) [] (steps J)
   -- for which node it queues a job
   pub queues : EachStep MustQueue [] (steps J)

@@ -103,7 +103,7 @@ module _ (env : NodeEnv) (m : Marks) (p : Part) (n : ℕ) (small : env.epoch < 2
 
   body-says : (b : Body) → BodyIs env m r (p.nodes n).stay b → (msg : Message) → decoded_message (message env.serve.c env.epoch b) ≡ Ok msg → NodeSaysWays files m p n msg.epoch.0 msg.body
   body-says (body.Ask number queue size paths) h msg d =
-      let read : ReadsAsk number paths msg.body = ask-reads env.serve.c env.epoch number queue size paths h.1 msg d in
+      let read : ReadsAsk number size paths msg.body = ask-reads env.serve.c env.epoch number queue size paths h.1 msg d in
       let same : msg.epoch.0 ≡ env.epoch = epoch-reads env.serve.c env.epoch (body.Ask number queue size paths) small msg d in
       let le = read.less in
       subst (NodeSaysWays files m p n msg.epoch.0) (sym read.is) (

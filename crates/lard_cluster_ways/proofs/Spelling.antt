@@ -38,14 +38,13 @@ short-paths (p ∷ ps) h = (h.0, short-paths ps h.1)
 
 -- ---- an Ask
 
-pub record ReadsAsk (number : ℕ) (paths : List (List ℕ)) (b : Body) : Type 0 where
+pub record ReadsAsk (number size : ℕ) (paths : List (List ℕ)) (b : Body) : Type 0 where
   pub read : ℕ
   pub queue : ℕ
-  pub size : ℕ
   pub is : b ≡ body.Ask read queue size paths
   pub less : read ≤ number
 
-asked-body : (number queue size : ℕ) (paths : List (List ℕ)) → AreShort paths → (b : Body) (rest : List ℕ) → ask_at (body_bytes (body.Ask number queue size paths)) ≡ Some (b, rest) → ReadsAsk number paths b
+asked-body : (number queue size : ℕ) (paths : List (List ℕ)) → AreShort paths → (b : Body) (rest : List ℕ) → ask_at (body_bytes (body.Ask number queue size paths)) ≡ Some (b, rest) → ReadsAsk number size paths b
 unfolding ask_at
 asked-body number queue size paths h b rest e =
     let r3 : List ℕ = flat_map counted paths in
@@ -67,12 +66,11 @@ asked-body number queue size paths h b rest e =
     record {
       read = a.0;
       queue = t.0;
-      size = u.0;
-      is = ap (λ (p : Body × List ℕ). p.0) (sym whole) ∙ ap (λ (p : List (List ℕ) × List ℕ). body.Ask a.0 t.0 u.0 p.0) (sym fifth);
+      is = ap (λ (p : Body × List ℕ). p.0) (sym whole) ∙ ap (λ (p : List (List ℕ) × List ℕ). body.Ask a.0 t.0 u.0 p.0) (sym fifth) ∙ ap (λ (p : ℕ × List ℕ). body.Ask a.0 t.0 p.0 paths) (sym third);
       less = subst (λ (p : ℕ × List ℕ). p.0 ≤ number) first (read-less number);
     })))))
 
-pub ask-reads : (c e number queue size : ℕ) (paths : List (List ℕ)) → AreShort paths → (m : Message) → decoded_message (message c e (body.Ask number queue size paths)) ≡ Ok m → ReadsAsk number paths m.body
+pub ask-reads : (c e number queue size : ℕ) (paths : List (List ℕ)) → AreShort paths → (m : Message) → decoded_message (message c e (body.Ask number queue size paths)) ≡ Ok m → ReadsAsk number size paths m.body
 ask-reads c e number queue size paths h m d =
     let read = spelled-body (record { c = c; epoch = record { 0 = e }; body = body.Ask number queue size paths }) m d in
     asked-body number queue size paths h m.body read.0 read.1

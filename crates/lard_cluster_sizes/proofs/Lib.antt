@@ -1,0 +1,10 @@
+pub mod Done
+pub mod Entering
+pub mod Reading
+pub mod Telling
+pub mod Turns
+pub mod Stays
+pub mod Offers
+pub mod Nodes
+pub mod Moving
+pub mod Runs
