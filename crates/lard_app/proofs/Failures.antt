@@ -57,7 +57,7 @@ is_there net k p e = go (nat_eq k 0) refl e where
   go true z f = cc
   go false z f = let within = slice_get_within net (k - 1) p f in (grind (arith, nat_tests, z), grind (arith, nat_tests, z, within))
 
-some_there : (net : List Packet) (k : ℕ) → 1 ≤ k → k ≤ length net → (p : Packet) × (packet_at net k ≡ Some p)
+pub some_there : (net : List Packet) (k : ℕ) → 1 ≤ k → k ≤ length net → (p : Packet) × (packet_at net k ≡ Some p)
 some_there net k first last = go (packet_at net k) refl where
   go : (o : Option Packet) → packet_at net k ≡ o → (p : Packet) × (o ≡ Some p)
   go (Some p) e = (p, refl)

@@ -24,8 +24,8 @@ use Rattle.lard_schedule.specs.declared.reader.Stage.{Stage}
 use Rattle.lard_schedule.specs.declared.reader.Stage.TheVariants.{Start, Settings, Files, Running}
 use Rattle.lard_schedule.specs.Laws.{IsBefore, MayStand}
 use Rattle.lard_schedule.specs.Reader.{HasRange, after}
-use Rattle.lard_settle.specs.Events.{event_step}
-use Rattle.lard_settle.specs.Settling.{Stop}
+use Rattle.lard_settling.specs.Events.{event_step}
+use Rattle.lard_settling.specs.Settling.{Stop}
 use Rattle.lard_app.specs.Causes.{Leads}
 use Rattle.lard_app.specs.declared.status.Status.{Status}
 use Rattle.lard_app.specs.declared.status.Status.TheVariants.{Done, Refused, Limit}

@@ -1,4 +1,4 @@
--- All records of a run with settles are in range, but for what is left where a settle ended.
+-- All records of a run with settles are in range.
 use Rattle.std.proofs.Common.{◌≡◌, ◌⊎◌, inl, inr, ◌≤◌, ◌<◌, ℕ, zero, suc, ◌+◌, Bool, true, false, cond, List, [], ◌∷◌, ◌++◌, length, replicate, Option, Some, None, Result, Ok, Err, refl, sym, ap, ◌∙◌, subst, arith, length-append}
 use Rattle.std.proofs.lemmas.Bool.Decides.{nat_tests}
 use Rattle.std.proofs.lemmas.Option.{slice_get_within}
@@ -17,9 +17,7 @@ use Rattle.lard_base.specs.declared.limits.TheConstants.{MAX_RECORDS}
 use Rattle.lard_cluster.specs.Bounds.{HasRule}
 use Rattle.lard_cluster.specs.declared.fault.StepFault.{StepFault}
 use Rattle.lard_cluster.specs.declared.machine.Machine.{Machine}
-use Rattle.lard_cluster.specs.Machine.{IsReached, machine_step, node_at, start}
-use Rattle.lard_cluster_view.proofs.Carried.{carried-keep}
-use Rattle.lard_cluster_world.proofs.Runs.{step-goes-on}
+use Rattle.lard_cluster.specs.Machine.{machine_step, node_at, start}
 use Rattle.lard_cluster_records.specs.Records.{IsFile, IsGiven}
 use Rattle.lard_cluster_records.proofs.Reached.{records-ranges}
 use Rattle.lard_history.proofs.Each.{Each, Each-append, Each-weaker}
@@ -28,22 +26,23 @@ use Rattle.lard_journal.specs.declared.rec.Rec.{Rec}
 use Rattle.lard_journal.specs.declared.rec.Rec.TheVariants as rec
 use Rattle.lard_laws_records.proofs.Bytes.{all-each, each-all}
 use Rattle.lard_node_rules.specs.declared.node.NodeState.{NodeState}
-use Rattle.lard_settle.specs.Events.{EndsInside, Goes, LeadsTo, MayCome, event_step, stepped_from}
-use Rattle.lard_settle.specs.Settling.{Stop, completions, deliveries, firings, left, takes}
+use Rattle.lard_settling.specs.Events.{EndsInside, Goes, LeadsTo, MayCome, event_step, stepped_from}
+use Rattle.lard_settling.specs.Settling.{Stop, completions, deliveries, firings, left, takes}
 use Rattle.lard_settling.specs.Left.{is_holder, jobs_of}
 use Rattle.lard_settling.specs.Steps.{closing, inner_step, settle_begun, settle_closed}
 use Rattle.lard_settling.specs.Written.{IsWrittenOut, is_settle, steps_with, written_from, written_rec}
 use Rattle.lard_settling.proofs.Plain.{AreUnmarked, is_mark}
 use Rattle.lard_settling.proofs.Written.{written}
 use Rattle.lard_app.specs.Replay.{came}
-use Rattle.lard_app.specs.Run.{IsCounted, step_of, step_told, steps_told}
-use Rattle.lard_app.proofs.Events.{begun-is, either-kind, plain-rule, plain-step}
-use Rattle.lard_app.proofs.Firing.{IsInner, OfTimer, each-filter, each-map, each-parts, entries-each, firings-each, firings-inner}
-use Rattle.lard_app.proofs.Given.{begun-few, InnerRows, StepRows, inner-rows, step-rows}
-use Rattle.lard_app.proofs.Inside.{KeptInside, SettleLands, settle-lands}
+use Rattle.lard_app.specs.Happened.{step_of, step_told, steps_told}
+use Rattle.lard_settle_laws.proofs.Events.{begun-is, either-kind, plain-rule, plain-step}
+use Rattle.lard_settle_laws.proofs.Few.{config-is, few-left}
+use Rattle.lard_settle_laws.proofs.Firing.{IsInner, OfTimer, each-filter, each-map, each-parts, entries-each, firings-each, firings-inner}
+use Rattle.lard_settle_laws.proofs.Given.{begun-few, InnerRows, StepRows, inner-rows, step-rows}
+use Rattle.lard_settle_laws.proofs.Inside.{KeptInside, SettleLands, settle-lands}
 use Rattle.lard_app.proofs.Reached.{Told, written-told}
 use Rattle.lard_app.proofs.Telling.{plain-events}
-use Rattle.lard_app.proofs.Written.{inner-rule}
+use Rattle.lard_settle_laws.proofs.Firing.{inner-rule}
 
 -- ---- what a record of a step or a settle was given
 
@@ -51,7 +50,7 @@ abbrev pub IsGranted : Rec → Type 0
 IsGranted (rec.Event i e) = IsNumber i × IsGiven e
 IsGranted (rec.Inner e) = IsGiven e
 IsGranted (rec.Settled rounds) = IsNumber rounds
-IsGranted (rec.Unsettled rounds left) = IsNumber rounds
+IsGranted (rec.Unsettled rounds left) = IsNumber rounds × IsNumber left
 IsGranted _ = Unit {0}
 
 abbrev AreGranted : List Rec → Type 0
@@ -86,27 +85,20 @@ told-granted (r ∷ J) h = Each-append IsGiven (step_told r) (steps_told J) (rec
 
 -- ---- ranges
 
--- in range, but for what is left where a settle ended
-abbrev pub IsRanged : Rec → Type 0
-IsRanged r = IsCounted r → IsInRange r
+rec-ranged : (i : ℕ) (r : Rec) → IsGranted r → Each IsInRange (written_rec i r) → IsInRange r
+rec-ranged i (rec.Event k e) g h = (g.0, g.1.0)
+rec-ranged i (rec.Inner e) g h = g.0
+rec-ranged i (rec.Settled rounds) g h = g
+rec-ranged i (rec.Unsettled rounds left) g h = g
+rec-ranged i _ g h = h.0
 
-rec-ranged : (i : ℕ) (r : Rec) → IsGranted r → Each IsInRange (written_rec i r) → IsRanged r
-rec-ranged i (rec.Event k e) g h = λ c. (g.0, g.1.0)
-rec-ranged i (rec.Inner e) g h = λ c. g.0
-rec-ranged i (rec.Settled rounds) g h = λ c. g
-rec-ranged i (rec.Unsettled rounds left) g h = λ c. (g, c)
-rec-ranged i _ g h = λ c. h.0
-
-all-ranged : (i : ℕ) (J : List Rec) → AreGranted J → Each IsInRange (written_from i J) → Each IsRanged J
+all-ranged : (i : ℕ) (J : List Rec) → AreGranted J → Each IsInRange (written_from i J) → Each IsInRange J
 all-ranged i [] g h = tt
 all-ranged i (r ∷ J) g h =
     let parts = each-parts IsInRange (written_rec i r) (written_from (steps_with i r) J) h in
     (rec-ranged i r g.0 parts.0, all-ranged (steps_with i r) J g.1 parts.1)
 
 -- ---- what an agenda keeps is in range
-
-abbrev Ranged : List Rec → Type 0
-Ranged J = Each IsRanged J
 
 same-key : (q k : ℕ) → eq_by_cmp nat_cmp q k ≡ true → q ≡ k
 same-key q k h = grind (arith, nat_tests, h)
@@ -138,8 +130,8 @@ IsWay k u = IsNumber k
 abbrev IsHeld : ℕ → ℕ → Type 0
 IsHeld k c = IsNumber c
 
-one-way : (way : FinMap nat_cmp (Unit {0})) (r : Rec) → IsRanged r → AreSo IsWay way → AreSo IsWay (way_step way r)
-one-way way (rec.Sent k from to bytes) g h = insert-so IsWay way k tt h (g tt).0
+one-way : (way : FinMap nat_cmp (Unit {0})) (r : Rec) → IsInRange r → AreSo IsWay way → AreSo IsWay (way_step way r)
+one-way way (rec.Sent k from to bytes) g h = insert-so IsWay way k tt h g.0
 one-way way (rec.Got k) g h = remove-so IsWay way k h
 one-way way (rec.Lost k) g h = remove-so IsWay way k h
 one-way way _ g h = h
@@ -149,22 +141,22 @@ event-held held (event.Hold c) g h = insert-so IsHeld held c c h g
 event-held held (event.Take c) g h = remove-so IsHeld held c h
 event-held held _ g h = h
 
-one-held : (held : FinMap nat_cmp ℕ) (r : Rec) → IsRanged r → AreSo IsHeld held → AreSo IsHeld (held_step held r)
-one-held held (rec.Event i e) g h = event-held held e (g tt).1 h
-one-held held (rec.Inner e) g h = event-held held e (g tt) h
+one-held : (held : FinMap nat_cmp ℕ) (r : Rec) → IsInRange r → AreSo IsHeld held → AreSo IsHeld (held_step held r)
+one-held held (rec.Event i e) g h = event-held held e g.1 h
+one-held held (rec.Inner e) g h = event-held held e g h
 one-held held _ g h = h
 
-all-kept : (J : List Rec) (a : Agenda) → Each IsRanged J → AreSo IsWay a.way → AreSo IsHeld a.held → AreSo IsWay (fold noted_by a J).way × AreSo IsHeld (fold noted_by a J).held
+all-kept : (J : List Rec) (a : Agenda) → Each IsInRange J → AreSo IsWay a.way → AreSo IsHeld a.held → AreSo IsWay (fold noted_by a J).way × AreSo IsHeld (fold noted_by a J).held
 all-kept [] a g h k = (h, k)
 all-kept (r ∷ J) a g h k = all-kept J (noted_by a r) g.1 (one-way a.way r g.0 h) (one-held a.held r g.0 k)
 
-agenda-kept : (J : List Rec) → Each IsRanged J → AreSo IsWay (agenda_of J).way × AreSo IsHeld (agenda_of J).held
+agenda-kept : (J : List Rec) → Each IsInRange J → AreSo IsWay (agenda_of J).way × AreSo IsHeld (agenda_of J).held
 unfolding agenda_of
 agenda-kept J g = all-kept J nothing g (empty-so IsWay nothing.way (λ q. get-empty nat_cmp q)) (empty-so IsHeld nothing.held (λ q. get-empty nat_cmp q))
 
-timer-ranged : (r : Rec) → IsRanged r → OfTimer (λ p c. IsPlaceInRange p × IsNumber c) r
-timer-ranged (rec.Armed p c kind) g = g tt
-timer-ranged (rec.Cleared p c kind) g = g tt
+timer-ranged : (r : Rec) → IsInRange r → OfTimer (λ p c. IsPlaceInRange p × IsNumber c) r
+timer-ranged (rec.Armed p c kind) g = g
+timer-ranged (rec.Cleared p c kind) g = g
 timer-ranged _ g = tt
 
 each-both : {A : Type 0} (P Q : A → Type 0) (xs : List A) → Each P xs → Each Q xs → Each (λ x. P x × Q x) xs
@@ -175,10 +167,6 @@ replicate-each : {A : Type 0} (P : A → Type 0) (n : ℕ) (x : A) → P x → E
 replicate-each P zero x h = tt
 replicate-each P (suc n) x h = (h, replicate-each P n x h)
 
--- the numbers of a run stay
-config-is : (config : Config) (files : List (List ℕ × List ℕ)) (m : Machine) → IsReached config files m → m.config ≡ config
-config-is config files m r = carried-keep config files (λ k. k.config ≡ config) refl (λ k n e on h rule is. (step-goes-on k n e is).config ∙ h) m r
-
 -- ---- a state
 
 -- It can be written out, and what its records were given is in range.
@@ -187,9 +175,9 @@ pub record IsGrantedBy (config : Config) (files : List (List ℕ × List ℕ)) (
   pub all : AreGranted m.journal
   pub events : m.events ≤ length m.journal
 
-closing-granted : (done left : ℕ) → IsNumber done → IsGranted (closing done left)
-closing-granted done zero h = h
-closing-granted done (suc left) h = h
+closing-granted : (done left : ℕ) → IsNumber done → IsNumber left → IsGranted (closing done left)
+closing-granted done zero h few = h
+closing-granted done (suc left) h few = (h, few)
 
 -- an event's number, where few records stand before it
 numbered : (events records : ℕ) → events ≤ records → records < MAX_RECORDS → IsNumber (events + 1)
@@ -203,7 +191,7 @@ module _ (config : Config) (files : List (List ℕ × List ℕ)) (checked : conf
   pub granted-events : (m : Machine) (g : Is m) → Each IsGiven g.written.reached.0
   granted-events m g = subst (Each IsGiven) (sym (plain-events config files m g.written)) (told-granted m.journal g.all)
 
-  pub granted-ranged : (m : Machine) → Is m → Each IsRanged m.journal
+  pub granted-ranged : (m : Machine) → Is m → Each IsInRange m.journal
   granted-ranged m g =
       let w : IsWrittenOut config files m = g.written in
       let es : List Event = w.reached.0 in
@@ -234,7 +222,7 @@ module _ (config : Config) (files : List (List ℕ × List ℕ)) (checked : conf
   closed-granted : (m : Machine) (done most : ℕ) → Is m → done ≤ most → IsNumber most → Is (settle_closed m done (left m))
   closed-granted m done most g le small = record {
     written = (written config files).closes m done (left m) g.written;
-    all = more-granted m.journal [] (closing done (left m)) g.all (closing-granted done (left m) (omega (arith, le, small))) tt;
+    all = more-granted m.journal [] (closing done (left m)) g.all (closing-granted done (left m) (omega (arith, le, small)) (let few = few-left config files m checked g.written in omega (arith, few))) tt;
     events = let more = longer m.journal [] (closing done (left m)) in omega (arith, more, g.events);
   }
 
@@ -265,11 +253,11 @@ module _ (config : Config) (files : List (List ℕ × List ℕ)) (checked : conf
   complete-given m n g = go (node_at m.nodes n) refl where
     go : (o : Option NodeState) → node_at m.nodes n ≡ o → Each IsInnerGiven (replicate (jobs_of o) (event.Disk n 1))
     go None at = tt
-    go (Some s) at = replicate-each IsInnerGiven (jobs_of (Some s)) (event.Disk n 1) (tt, ((node-number m n s g at, omega arith), tt))
+    go (Some s) at = replicate-each IsInnerGiven (jobs_of (Some s)) (event.Disk n 1) (refl, ((node-number m n s g at, omega arith), tt))
 
   fire-given : (m : Machine) → Is m → Each IsInnerGiven (firings m)
   fire-given m g = each-both IsInner IsGiven (firings m) (firings-inner m)
-      (firings-each (λ p c. IsPlaceInRange p × IsNumber c) IsGiven (λ p c h. (h, tt)) m (Each-weaker IsRanged (OfTimer (λ p c. IsPlaceInRange p × IsNumber c)) timer-ranged m.journal (granted-ranged m g)))
+      (firings-each (λ p c. IsPlaceInRange p × IsNumber c) IsGiven (λ p c h. (h, tt)) m (Each-weaker IsInRange (OfTimer (λ p c. IsPlaceInRange p × IsNumber c)) timer-ranged m.journal (granted-ranged m g)))
 
   kept-granted : (most : ℕ) → IsNumber most → KeptInside Is IsInnerGiven most
   kept-granted most small = record {

@@ -19,8 +19,8 @@ use Rattle.lard_schedule.specs.declared.reader.Stage.TheVariants.{Start, Setting
 use Rattle.lard_schedule.specs.Laws.{IsBefore, MayStand}
 use Rattle.lard_schedule.specs.Reader.{item_of}
 use Rattle.lard_schedule.proofs.Lines.{line_spelled}
-use Rattle.lard_settle.specs.Events.{event_step}
-use Rattle.lard_settle.specs.Settling.{Stop}
+use Rattle.lard_settling.specs.Events.{event_step}
+use Rattle.lard_settling.specs.Settling.{Stop}
 use Rattle.lard_app.specs.declared.status.Status.{Status}
 use Rattle.lard_app.specs.declared.status.Why.{Why}
 use Rattle.lard_app.specs.Replay.{Progress, begun, came, config_set, counted, event_gain, event_listed, filed, followed, found, gain, halted, go_gain, is_past, item_gain, item_taken, judged, judged_gain, machine_behind, moved, passed, replayed, report_at, report_of, sizes, taken}

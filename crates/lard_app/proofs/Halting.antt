@@ -7,8 +7,8 @@ use Rattle.lard_cluster.specs.declared.machine.Machine.{Machine}
 use Rattle.lard_schedule.specs.declared.item.Item.{Item}
 use Rattle.lard_schedule.specs.declared.item.Item.TheVariants as item
 use Rattle.lard_schedule.specs.Reader.{item_of}
-use Rattle.lard_settle.specs.Events.{event_step}
-use Rattle.lard_settle.specs.Settling.{Stop}
+use Rattle.lard_settling.specs.Events.{event_step}
+use Rattle.lard_settling.specs.Settling.{Stop}
 use Rattle.lard_app.specs.declared.status.Status.{Status}
 use Rattle.lard_app.specs.declared.status.Why.{Why}
 use Rattle.lard_app.specs.Replay.{Progress, begun_by, came, counted, event_listed, followed, found, halted, is_past, item_taken, judged, machine_behind, moved, passed}

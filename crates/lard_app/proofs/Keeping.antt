@@ -30,8 +30,8 @@ use Rattle.lard_schedule.specs.declared.reader.Stage.TheVariants.{Start, Setting
 use Rattle.lard_schedule.specs.Files.{is_file_path}
 use Rattle.lard_schedule.specs.Laws.{IsBefore, MayStand, SpellsFile, SpellsItem}
 use Rattle.lard_schedule.specs.Reader.{HasRange}
-use Rattle.lard_settle.specs.Events.{Goes, LeadsTo, MayCome, event_step}
-use Rattle.lard_settle.specs.Settling.{Stop}
+use Rattle.lard_settling.specs.Events.{Goes, LeadsTo, MayCome, event_step}
+use Rattle.lard_settling.specs.Settling.{Stop}
 use Rattle.lard_settling.specs.Written.{IsWrittenOut}
 use Rattle.lard_settling.proofs.Written.{written}
 use Rattle.lard_app.specs.declared.status.Status.{Status}

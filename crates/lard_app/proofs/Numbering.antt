@@ -7,19 +7,20 @@ use Rattle.lard_cluster.specs.declared.machine.Machine.{Machine}
 use Rattle.lard_cluster.specs.Machine.{passed, start}
 use Rattle.lard_journal.specs.declared.rec.Rec.{Rec}
 use Rattle.lard_journal.specs.declared.rec.Rec.TheVariants as rec
-use Rattle.lard_settle.specs.Events.{EndsInside, Goes, LeadsTo, MayCome, event_step}
-use Rattle.lard_settle.specs.Settling.{Stop, left}
+use Rattle.lard_settling.specs.Events.{EndsInside, Goes, LeadsTo, MayCome, event_step}
+use Rattle.lard_settling.specs.Settling.{Stop, left}
 use Rattle.lard_settling.specs.Steps.{closing, inner_step, settle_begun, settle_closed}
 use Rattle.lard_settling.specs.Written.{IsWrittenOut, is_settle}
 use Rattle.lard_settling.proofs.Plain.{AreUnmarked, is_mark}
 use Rattle.lard_settling.proofs.Written.{written}
 use Rattle.lard_app.specs.Replay.{came}
-use Rattle.lard_app.specs.Run.{event_told, events_told, numbered_from}
-use Rattle.lard_app.proofs.Events.{begun-is, either-kind, plain-done, plain-rule}
-use Rattle.lard_app.proofs.Firing.{IsInner}
-use Rattle.lard_app.proofs.Given.{InnerRows, StepRows, inner-rows, step-rows}
-use Rattle.lard_app.proofs.Inside.{KeptInside, SettleLands, settle-lands}
-use Rattle.lard_app.proofs.Written.{event-written, inner-rule, kept-inside}
+use Rattle.lard_app.specs.Happened.{event_told, events_told, numbered_from}
+use Rattle.lard_settle_laws.proofs.Events.{begun-is, either-kind, plain-done, plain-rule}
+use Rattle.lard_settle_laws.proofs.Firing.{IsInner}
+use Rattle.lard_settle_laws.proofs.Given.{InnerRows, StepRows, inner-rows, step-rows}
+use Rattle.lard_settle_laws.proofs.Inside.{KeptInside, SettleLands, settle-lands}
+use Rattle.lard_settle_laws.proofs.Firing.{inner-rule}
+use Rattle.lard_app.proofs.Written.{event-written, kept-inside}
 
 -- ---- journals
 

@@ -13,8 +13,8 @@ use Rattle.lard_schedule.specs.declared.reader.Reader.{Reader}
 use Rattle.lard_schedule.specs.Laws.{IsLineOf, MayStand}
 use Rattle.lard_schedule.specs.Reader.{HasRange, item_of}
 use Rattle.lard_schedule.proofs.Lines.{line_spelled}
-use Rattle.lard_settle.specs.Events.{event_step}
-use Rattle.lard_settle.specs.Settling.{Stop}
+use Rattle.lard_settling.specs.Events.{event_step}
+use Rattle.lard_settling.specs.Settling.{Stop}
 use Rattle.lard_app.specs.declared.status.Status.{Status}
 use Rattle.lard_app.specs.declared.status.Status.TheVariants.{Limit}
 use Rattle.lard_app.specs.declared.status.Why.TheVariants as why

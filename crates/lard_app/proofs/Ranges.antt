@@ -24,7 +24,7 @@ use Rattle.lard_journal.specs.Range.{IsConfigInRange, IsFileInRange, IsNumber, I
 use Rattle.lard_laws_records.proofs.Bytes.{AreBytes, bytes-index, each-all}
 use Rattle.lard_schedule.specs.Events.{IsInRange, IsPlace, IsUpTo, is_path, is_visible}
 use Rattle.lard_schedule.specs.Files.{is_file_path}
-use Rattle.lard_schedule.specs.Laws.{Spells, SpellsFile}
+use Rattle.lard_schedule.specs.Laws.{HasBytes, Spells, SpellsFile}
 use Rattle.lard_app.specs.Replay.{sizes}
 
 -- ---- a configuration that was checked
@@ -119,22 +119,32 @@ place-given place.Front h = tt
 place-given (place.Node n) h = up-to 64 n (omega arith) h
 place-given (place.Client c) h = client c h
 
+-- an event that a line can have
+pub event-ranged : (e : Event) → IsInRange e → HasBytes e → IsGiven e
+event-ranged (event.Open c isn iss wnd mss) r b = ((client c r.0, word isn r.1, word iss r.2, up-to 65535 wnd (omega arith) r.3, up-to 1460 mss (omega arith) r.4), tt)
+event-ranged (event.Get c path) r b = let v = path-visible path r.1 in ((client c r.0, visible-unspaced path v), visible-bytes path v)
+event-ranged (event.Write c bytes) r b = ((client c r.0, b), tt)
+event-ranged (event.Shut c) r b = (client c r, tt)
+event-ranged (event.Abort c) r b = (client c r, tt)
+event-ranged (event.Hold c) r b = (client c r, tt)
+event-ranged (event.Take c) r b = (client c r, tt)
+event-ranged (event.Deliver k) r b = (word k r, tt)
+event-ranged (event.Lose k) r b = (word k r, tt)
+event-ranged (event.Timer p c) r b = ((place-given p r.0, client c r.1), tt)
+event-ranged (event.Disk n j) r b = ((word n r.0, word j r.1), tt)
+event-ranged (event.Clock ms) r b = (word ms r, r)
+event-ranged (event.Settle rounds) r b = (word rounds r.1, tt)
+event-ranged (event.Inject c bytes) r b = ((client c r.0, b), tt)
+
+-- what words spell in hexadecimal digits are bytes
+spells-bytes : (words : List (List ℕ)) (e : Event) → Spells words e → HasBytes e
+spells-bytes words (event.Write c bytes) s = (decode_of-ok s.0 bytes s.2).3
+spells-bytes words (event.Inject c bytes) s = (decode_of-ok s.0 bytes s.2).3
+spells-bytes words _ s = tt
+
 -- the event of a line
 pub event-given : (words : List (List ℕ)) (e : Event) → Spells words e → IsInRange e → IsGiven e
-event-given words (event.Open c isn iss wnd mss) s r = ((client c r.0, word isn r.1, word iss r.2, up-to 65535 wnd (omega arith) r.3, up-to 1460 mss (omega arith) r.4), tt)
-event-given words (event.Get c path) s r = let v = path-visible path r.1 in ((client c r.0, visible-unspaced path v), visible-bytes path v)
-event-given words (event.Write c bytes) s r = ((client c r.0, (decode_of-ok s.0 bytes s.2).3), tt)
-event-given words (event.Shut c) s r = (client c r, tt)
-event-given words (event.Abort c) s r = (client c r, tt)
-event-given words (event.Hold c) s r = (client c r, tt)
-event-given words (event.Take c) s r = (client c r, tt)
-event-given words (event.Deliver k) s r = (word k r, tt)
-event-given words (event.Lose k) s r = (word k r, tt)
-event-given words (event.Timer p c) s r = ((place-given p r.0, client c r.1), tt)
-event-given words (event.Disk n j) s r = ((word n r.0, word j r.1), tt)
-event-given words (event.Clock ms) s r = (word ms r, r)
-event-given words (event.Settle rounds) s r = (word rounds r.1, tt)
-event-given words (event.Inject c bytes) s r = ((client c r.0, (decode_of-ok s.0 bytes s.2).3), tt)
+event-given words e s r = event-ranged e r (spells-bytes words e s)
 
 -- ---- files
 
@@ -158,12 +168,16 @@ short-file false count sum len e = go (nat_lt (2 ^ 20) len) refl e where
   go true t h = cc
   go false t h = grind (arith, nat_tests, t)
 
--- the file of a line, once it is added
-pub file-given : (files : List (List ℕ × List ℕ)) (words : List (List ℕ)) (path bytes : List ℕ) → SpellsFile words path bytes → is_file_path path ≡ true → add_check files path (length bytes) ≡ Ok tt → IsFile (path, bytes)
-file-given files words path bytes s fits e =
+-- a file that a line can have, and which is not too long
+pub file-ranged : (path bytes : List ℕ) → is_file_path path ≡ true → length bytes ≤ 2 ^ 20 → IsBytes bytes → IsFile (path, bytes)
+file-ranged path bytes fits short are =
     let is : is_path path ≡ true = (and_parts (is_path path) _ fits).0 in
     let visible_ = path-visible path is in
-    ((path-short path is, short-file _ _ _ (length bytes) e), visible-unspaced path visible_, visible-bytes path visible_, content-bytes words path bytes s)
+    ((path-short path is, short), visible-unspaced path visible_, visible-bytes path visible_, are)
+
+-- the file of a line, once it is added
+pub file-given : (files : List (List ℕ × List ℕ)) (words : List (List ℕ)) (path bytes : List ℕ) → SpellsFile words path bytes → is_file_path path ≡ true → add_check files path (length bytes) ≡ Ok tt → IsFile (path, bytes)
+file-given files words path bytes s fits e = file-ranged path bytes fits (short-file _ _ _ (length bytes) e) (content-bytes words path bytes s)
 
 -- ---- a replay
 

@@ -11,7 +11,7 @@ use Rattle.lard_cluster.specs.declared.machine.Machine.{Machine}
 use Rattle.lard_cluster_world.proofs.Runs.{GoesOn, step-goes-on}
 use Rattle.lard_journal.specs.declared.rec.Rec.{Rec}
 use Rattle.lard_schedule.specs.Events.{IsInRange}
-use Rattle.lard_settle.specs.Events.{MayCome, event_step}
+use Rattle.lard_settling.specs.Events.{MayCome, event_step}
 use Rattle.lard_app.specs.Replay.{came}
 use Rattle.lard_app.specs.Seen.{rounds_of}
 use Rattle.lard_app.proofs.Events.{event-came}

@@ -1,9 +1,10 @@
--- A step or a settle that is done, or is not, and what was written of it.
-use Rattle.std.proofs.Common.{◌≡◌, ◌≢◌, ℕ, ◌≤◌, List, [], length, drop, Option, Some, None, Result, Ok, Err, OnOk, refl, sym, ap, subst}
+-- What comes of an event, a step or a settle, done or not, and what was written of it.
+use Rattle.std.proofs.Common.{◌≡◌, ◌≢◌, ℕ, ◌≤◌, List, [], length, drop, Option, Some, None, Result, Ok, Err, OnOk, refl, sym, ap, ◌∙◌, subst}
 use Rattle.std.proofs.KnownBytes.{Appends-nil}
-use Rattle.std.proofs.Math.Seq.{drop-length}
-use Rattle.std.specs.Io.KnownBytes.{Appends}
 use Rattle.std.specs.List.{flat_map}
+use Rattle.lard_agenda.specs.Agenda.{IsAgendaOf}
+use Rattle.lard_agenda.specs.Laws.{AgendasGoOn}
+use Rattle.lard_agenda.specs.declared.agenda.Agenda.{Agenda}
 use Rattle.lard_base.specs.Outside.{WrotePrefix}
 use Rattle.lard_base.specs.declared.event.Event.{Event}
 use Rattle.lard_base.specs.declared.event.Event.TheVariants as event
@@ -13,15 +14,16 @@ use Rattle.lard_cluster.specs.declared.machine.Machine.{Machine}
 use Rattle.lard_cluster.specs.Machine.{Steps, machine_step}
 use Rattle.lard_journal.specs.Report.{rec_line}
 use Rattle.lard_journal.specs.declared.rec.Rec.{Rec}
-use Rattle.lard_settle.specs.Events.{event_step, settled_to, stepped_from}
-use Rattle.lard_settle.specs.Settling.{Settles, Stop, settled}
-use Rattle.lard_settle.specs.declared.settles.Settled.{Settled}
+use Rattle.lard_settling.specs.Events.{event_step, settled_to, stepped_from}
+use Rattle.lard_settling.specs.Settling.{Settles, Stop, settled}
+use Rattle.lard_settling.specs.declared.settled.Settled.{Settled}
 use Rattle.lard_app.specs.declared.status.Status.{Status}
 use Rattle.lard_app.specs.declared.status.Status.TheVariants.{Done, Usage, Refused, ReadFault, WriteFault, NoMemory, Limit}
+use Rattle.lard_app.specs.Generate.{Happens}
 use Rattle.lard_app.specs.Replay.{Passes, Progress, Writes, came, ended_by, event_gain}
 use Rattle.lard_app.specs.Seen.{Does, Stops, rounds_of}
-use Rattle.lard_app.proofs.Events.{plain-step}
-use Rattle.lard_app.proofs.Steps.{Grows, event-grows, grows-longer}
+use Rattle.lard_settle_laws.proofs.Events.{plain-step}
+use Rattle.lard_app.proofs.Steps.{Grows, event-grows, grows-longer, step-grows}
 
 -- ---- kinds of events
 
@@ -80,60 +82,62 @@ pub done-does : (s t : Progress) (n : Machine) (given : Result Machine Stop) (ol
 done-does s t n given old new r J from is left journal at w =
     writes-does s t n given old new r is left (subst (λ (K : List Rec). Writes (flat_map rec_line (drop (length s.machine.journal) K)) old new r) journal (subst (λ i. Writes (flat_map rec_line (drop i J)) old new r) at w))
 
-none_left : (J : List Rec) → flat_map rec_line (drop (length J) J) ≡ []
-none_left J = ap (flat_map rec_line) (drop-length J)
+-- ---- what comes of an event, done or not
 
--- a fault before anything was done
-fault-does : (s t : Progress) (f : StepFault) (text : List ℕ) (old : Option (List ℕ)) → text ≡ [] → Passes (Err (ended_by s.lines f)) text old old t (Err (ended_by s.lines f))
-fault-does s t fault.NoMemory text old e = record { front = []; rest = text; is = refl; written = Appends-nil old }
-fault-does s t (fault.NotSent k sent) text old e = (refl, subst (Appends old old) (sym e) (Appends-nil old))
-fault-does s t (fault.WasLost k) text old e = (refl, subst (Appends old old) (sym e) (Appends-nil old))
-fault-does s t (fault.NoClient c) text old e = (refl, subst (Appends old old) (sym e) (Appends-nil old))
-fault-does s t (fault.Used c) text old e = (refl, subst (Appends old old) (sym e) (Appends-nil old))
-fault-does s t (fault.NoNode k nodes) text old e = (refl, subst (Appends old old) (sym e) (Appends-nil old))
-fault-does s t (fault.NoJob k j len) text old e = (refl, subst (Appends old old) (sym e) (Appends-nil old))
-fault-does s t (fault.Limit what) text old e = (refl, subst (Appends old old) (sym e) (Appends-nil old))
+-- a step
+pub steps-happens : (given : Result Machine StepFault) (old new : Machine) (r : Result (Unit {0}) StepFault) → Steps given old new r → Happens (stepped_from old given) new r
+steps-happens given old new (Ok done) h = ap (stepped_from old) h
+steps-happens given old new (Err f) h = go f h where
+  same : (g : StepFault) → new ≡ old → given ≡ Err g → stepped_from old given ≡ Err (new, g)
+  same g at is = ap (stepped_from old) is ∙ ap (λ (k : Machine). Err (k, g)) (sym at)
 
--- a step that was not done, or not for want of memory
-pub step-stopped : (s t : Progress) (n : Machine) (given : Result Machine StepFault) (old : Option (List ℕ)) (f : StepFault) (status : Status) → status ≡ ended_by s.lines f → Steps given s.machine n (Err f)
-    → Does (stepped_from s.machine given) s old old t (Err status)
-step-stopped s t n given old f status is steps = subst (λ (x : Status). Does (stepped_from s.machine given) s old old t (Err x)) (sym is) (go f steps) where
-  same : (g : StepFault) → given ≡ Err g → Does (stepped_from s.machine given) s old old t (Err (ended_by s.lines g))
-  same g e = subst (λ (x : Result Machine StepFault). Does (stepped_from s.machine x) s old old t (Err (ended_by s.lines g))) (sym e) (fault-does s t g (event_gain s.machine s.machine) old (none_left s.machine.journal))
+  go : (g : StepFault) → Steps given old new (Err g) → Happens (stepped_from old given) new (Err g)
+  go fault.NoMemory d = tt
+  go (fault.NotSent k sent) d = same (fault.NotSent k sent) d.0 d.1
+  go (fault.WasLost k) d = same (fault.WasLost k) d.0 d.1
+  go (fault.NoClient c) d = same (fault.NoClient c) d.0 d.1
+  go (fault.Used c) d = same (fault.Used c) d.0 d.1
+  go (fault.NoNode k nodes) d = same (fault.NoNode k nodes) d.0 d.1
+  go (fault.NoJob k j len) d = same (fault.NoJob k j len) d.0 d.1
+  go (fault.Limit what) d = same (fault.Limit what) d.0 d.1
 
-  go : (g : StepFault) → Steps given s.machine n (Err g) → Does (stepped_from s.machine given) s old old t (Err (ended_by s.lines g))
-  go fault.NoMemory h = record { front = []; rest = _; is = refl; written = Appends-nil old }
-  go (fault.NotSent k sent) h = same (fault.NotSent k sent) h.1
-  go (fault.WasLost k) h = same (fault.WasLost k) h.1
-  go (fault.NoClient c) h = same (fault.NoClient c) h.1
-  go (fault.Used c) h = same (fault.Used c) h.1
-  go (fault.NoNode k nodes) h = same (fault.NoNode k nodes) h.1
-  go (fault.NoJob k j len) h = same (fault.NoJob k j len) h.1
-  go (fault.Limit what) h = same (fault.Limit what) h.1
+-- an agenda of the journal is one of it still
+pub step-agenda : (a : Agenda) (m n : Machine) (e : Event) (r : Result (Unit {0}) StepFault) → AgendasGoOn → IsAgendaOf a m.journal → Steps (machine_step m e) m n r → OnOk r (IsAgendaOf a n.journal)
+step-agenda a m n e (Ok done) on is h = subst (IsAgendaOf a) (sym (step-grows m n e h)) (on a m.journal (drop (length m.journal) n.journal) is)
+step-agenda a m n e (Err f) on is h = tt
 
--- ---- a settle
+-- a settle
+pub settles-happens : (given : Result (Machine × Settled) Stop) (n : Machine) (f : StepFault) → Settles given n (Err f) → Happens (settled_to given) n (Err f)
+settles-happens given n fault.NoMemory h = tt
+settles-happens given n (fault.NotSent k sent) h = ap settled_to h
+settles-happens given n (fault.WasLost k) h = ap settled_to h
+settles-happens given n (fault.NoClient c) h = ap settled_to h
+settles-happens given n (fault.Used c) h = ap settled_to h
+settles-happens given n (fault.NoNode k nodes) h = ap settled_to h
+settles-happens given n (fault.NoJob k j len) h = ap settled_to h
+settles-happens given n (fault.Limit what) h = ap settled_to h
 
 -- where it was not done, and not for want of memory, so far it came
-pub settle-stopped : (given : Result (Machine × Settled) Stop) (n : Machine) (f : StepFault) → f ≢ fault.NoMemory → Settles given n (Err f) → given ≡ Err (n, f)
-settle-stopped given n fault.NoMemory some h = absurd (some refl)
-settle-stopped given n (fault.NotSent k sent) some h = h
-settle-stopped given n (fault.WasLost k) some h = h
-settle-stopped given n (fault.NoClient c) some h = h
-settle-stopped given n (fault.Used c) some h = h
-settle-stopped given n (fault.NoNode k nodes) some h = h
-settle-stopped given n (fault.NoJob k j len) some h = h
-settle-stopped given n (fault.Limit what) some h = h
+pub event-stopped : (given : Result Machine Stop) (n : Machine) (f : StepFault) → f ≢ fault.NoMemory → Happens given n (Err f) → given ≡ Err (n, f)
+event-stopped given n fault.NoMemory some h = absurd (some refl)
+event-stopped given n (fault.NotSent k sent) some h = h
+event-stopped given n (fault.WasLost k) some h = h
+event-stopped given n (fault.NoClient c) some h = h
+event-stopped given n (fault.Used c) some h = h
+event-stopped given n (fault.NoNode k nodes) some h = h
+event-stopped given n (fault.NoJob k j len) some h = h
+event-stopped given n (fault.Limit what) some h = h
 
 -- what was written then
-pub stops-does : (s t : Progress) (n : Machine) (given : Result (Machine × Settled) Stop) (old new : Option (List ℕ)) (f : StepFault) (status : Status) (from : ℕ) → from ≡ length s.machine.journal
-    → Settles given n (Err f) → Stops f s.lines (flat_map rec_line (drop from n.journal)) old new status → Does (settled_to given) s old new t (Err status)
+pub stops-does : (s t : Progress) (n : Machine) (given : Result Machine Stop) (old new : Option (List ℕ)) (f : StepFault) (status : Status) (from : ℕ) → from ≡ length s.machine.journal
+    → Happens given n (Err f) → Stops f s.lines (flat_map rec_line (drop from n.journal)) old new status → Does given s old new t (Err status)
 stops-does s t n given old new f status from at done stops = go f done stops where
-  same : (g : StepFault) → given ≡ Err (n, g) → ((u : Progress) → Passes (Err (ended_by s.lines g)) (flat_map rec_line (drop from n.journal)) old new u (Err status)) → Does (settled_to given) s old new t (Err status)
-  same g e h = subst (λ (x : Result (Machine × Settled) Stop). Does (settled_to x) s old new t (Err status)) (sym e)
+  same : (g : StepFault) → given ≡ Err (n, g) → ((u : Progress) → Passes (Err (ended_by s.lines g)) (flat_map rec_line (drop from n.journal)) old new u (Err status)) → Does given s old new t (Err status)
+  same g e h = subst (λ (x : Result Machine Stop). Does x s old new t (Err status)) (sym e)
       (subst (λ i. Passes (Err (ended_by s.lines g)) (flat_map rec_line (drop i n.journal)) old new t (Err status)) at (h t))
 
-  go : (g : StepFault) → Settles given n (Err g) → Stops g s.lines (flat_map rec_line (drop from n.journal)) old new status → Does (settled_to given) s old new t (Err status)
-  go fault.NoMemory d h = subst (λ (x : Status). Does (settled_to given) s old new t (Err x)) (sym h.0) (subst (λ (b : Option (List ℕ)). WrotePrefix old b (event_gain s.machine (came (settled_to given)))) (sym h.1) (record { front = []; rest = _; is = refl; written = Appends-nil old }))
+  go : (g : StepFault) → Happens given n (Err g) → Stops g s.lines (flat_map rec_line (drop from n.journal)) old new status → Does given s old new t (Err status)
+  go fault.NoMemory d h = subst (λ (x : Status). Does given s old new t (Err x)) (sym h.0) (subst (λ (b : Option (List ℕ)). WrotePrefix old b (event_gain s.machine (came given))) (sym h.1) (record { front = []; rest = _; is = refl; written = Appends-nil old }))
   go (fault.NotSent k sent) d h = same (fault.NotSent k sent) d h
   go (fault.WasLost k) d h = same (fault.WasLost k) d h
   go (fault.NoClient c) d h = same (fault.NoClient c) d h
@@ -179,15 +183,11 @@ stop-failed f line text old new status some w = go f some where
 
 -- ---- a journal that is no shorter
 
-settled-grows : (m : Machine) (rounds : ℕ) → Grows m (came (settled_to (settled m rounds)))
-unfolding event_step
-settled-grows m rounds = event-grows m (event.Settle rounds)
+pub event-longer : (m n : Machine) (e : Event) → event_step m e ≡ Ok n → length m.journal ≤ length n.journal
+event-longer m n e is = grows-longer m n (subst (λ (x : Result Machine Stop). Grows m (came x)) is (event-grows m e))
 
-pub settled-longer : (m : Machine) (rounds : ℕ) (n : Machine) (s : Settled) → settled m rounds ≡ Ok (n, s) → length m.journal ≤ length n.journal
-settled-longer m rounds n s is = grows-longer m n (subst (λ (x : Result (Machine × Settled) Stop). Grows m (came (settled_to x))) is (settled-grows m rounds))
-
-pub stopped-longer : (m : Machine) (rounds : ℕ) (n : Machine) (f : StepFault) → f ≢ fault.NoMemory → Settles (settled m rounds) n (Err f) → length m.journal ≤ length n.journal
-stopped-longer m rounds n f some h = grows-longer m n (subst (λ (x : Result (Machine × Settled) Stop). Grows m (came (settled_to x))) (settle-stopped (settled m rounds) n f some h) (settled-grows m rounds))
+pub stopped-longer : (m n : Machine) (e : Event) (f : StepFault) → f ≢ fault.NoMemory → Happens (event_step m e) n (Err f) → length m.journal ≤ length n.journal
+stopped-longer m n e f some h = grows-longer m n (subst (λ (x : Result Machine Stop). Grows m (came x)) (event-stopped (event_step m e) n f some h) (event-grows m e))
 
 -- what holds anyway holds where a call is done
 pub on-ok : (r : Result (Unit {0}) Status) (P : Type 0) → P → OnOk r P

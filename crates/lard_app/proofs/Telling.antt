@@ -11,7 +11,7 @@ use Rattle.lard_journal.specs.declared.rec.Rec.TheVariants as rec
 use Rattle.lard_settling.specs.Written.{IsWrittenOut, is_settle, steps_with, written_from, written_rec}
 use Rattle.lard_settling.proofs.Folds.{rule-step}
 use Rattle.lard_settling.proofs.Plain.{AreUnmarked, HasPlainRows, is_mark, step-plain}
-use Rattle.lard_app.specs.Run.{step_of, step_told, steps_told}
+use Rattle.lard_app.specs.Happened.{step_of, step_told, steps_told}
 
 -- of two journals, one behind the other
 pub told-append : (J K : List Rec) → steps_told (J ++ K) ≡ steps_told J ++ steps_told K

@@ -1,5 +1,5 @@
 -- What events lead to can be written out, settles and all, and where a settle ended inside: which step was not done.
-use Rattle.std.proofs.Common.{◌≡◌, ◌⊎◌, inl, inr, ℕ, zero, suc, false, List, [], ◌∷◌, ◌++◌, map, replicate, Result, Ok, Err, refl, sym, ap, ◌∙◌, subst, arith}
+use Rattle.std.proofs.Common.{◌≡◌, ◌⊎◌, inl, inr, ℕ, false, List, [], ◌∷◌, ◌++◌, Result, Ok, Err, refl, sym, ap, ◌∙◌, subst, arith}
 use Rattle.lard_base.specs.declared.config.Config.{Config}
 use Rattle.lard_base.specs.declared.event.Event.{Event}
 use Rattle.lard_base.specs.declared.event.Event.TheVariants as event
@@ -7,38 +7,17 @@ use Rattle.lard_cluster.specs.declared.fault.StepFault.{StepFault}
 use Rattle.lard_cluster.specs.declared.machine.Machine.{Machine}
 use Rattle.lard_cluster.specs.Bounds.{HasRule}
 use Rattle.lard_cluster.specs.Machine.{machine_step}
-use Rattle.lard_history.proofs.Each.{Each}
-use Rattle.lard_settle.specs.Events.{Goes, MayCome, event_step, stepped_from}
-use Rattle.lard_settle.specs.Settling.{Stop, left}
+use Rattle.lard_settling.specs.Events.{Goes, MayCome, event_step, stepped_from}
+use Rattle.lard_settling.specs.Settling.{Stop, left}
 use Rattle.lard_settling.specs.Steps.{inner_given, inner_step, settle_begun}
 use Rattle.lard_settling.specs.Written.{AreWrittenOut, IsWrittenOut, is_settle}
 use Rattle.lard_settling.proofs.Written.{written}
 use Rattle.lard_app.specs.Replay.{came}
-use Rattle.lard_app.proofs.Events.{either-kind, plain-rule, plain-step}
-use Rattle.lard_app.proofs.Firing.{IsInner, firings-inner}
-use Rattle.lard_app.proofs.Inside.{KeptInside, SettleLands, settle-lands}
+use Rattle.lard_settle_laws.proofs.Events.{either-kind, plain-rule, plain-step}
+use Rattle.lard_settle_laws.proofs.Firing.{IsInner, deliver-inner, disk-inner, firings-inner, inner-rule, take-inner}
+use Rattle.lard_settle_laws.proofs.Inside.{KeptInside, SettleLands, settle-lands}
 
--- ---- the events of inner steps
-
--- they have rules
-pub inner-rule : (e : Event) → IsInner e → HasRule e
-inner-rule (event.Take c) h = tt
-inner-rule (event.Deliver k) h = tt
-inner-rule (event.Disk n j) h = tt
-inner-rule (event.Timer p c) h = h
-inner-rule _ h = absurd h
-
-take-inner : (cs : List ℕ) → Each IsInner (map event.Take cs)
-take-inner [] = tt
-take-inner (c ∷ cs) = (tt, take-inner cs)
-
-deliver-inner : (ks : List ℕ) → Each IsInner (map event.Deliver ks)
-deliver-inner [] = tt
-deliver-inner (k ∷ ks) = (tt, deliver-inner ks)
-
-disk-inner : (n i : ℕ) → Each IsInner (replicate i (event.Disk n 1))
-disk-inner n zero = tt
-disk-inner n (suc i) = (tt, disk-inner n i)
+-- ---- the faults of inner steps
 
 -- an inner step that is not done has the fault of its step
 pub inner-fault : (m : Machine) (e : Event) (f : StepFault) → inner_step m e ≡ Err f → machine_step m e ≡ Err f

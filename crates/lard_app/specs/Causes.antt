@@ -28,7 +28,7 @@ use Rattle.lard_schedule.specs.declared.item.Item.TheVariants as item
 use Rattle.lard_schedule.specs.declared.reader.Stage.TheVariants.{Running}
 use Rattle.lard_schedule.specs.Laws.{IsLineOf, MayStand}
 use Rattle.lard_schedule.specs.Reader.{HasRange}
-use Rattle.lard_settle.specs.Events.{event_step}
+use Rattle.lard_settling.specs.Events.{event_step}
 use Rattle.lard_app.specs.declared.status.Status.{Status}
 use Rattle.lard_app.specs.declared.status.Status.TheVariants.{Done, Refused, Limit}
 use Rattle.lard_app.specs.declared.status.Why.{Why}

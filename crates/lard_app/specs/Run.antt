@@ -1,36 +1,19 @@
 -- What an answer of `run` says: of the bytes that were read and written, of what they stand for, and of its journal.
-use Rattle.std.specs.Prelude.{All, if◌then◌else◌, ◌≡◌, ◌↔◌, ℕ, ◌+◌, ◌≤◌, ◌⊎◌, List, [], ◌∷◌, ◌++◌, length, map, codes, Option, Some, None, Err}
+use Rattle.std.specs.Prelude.{◌≡◌, ◌↔◌, ℕ, ◌+◌, ◌≤◌, ◌⊎◌, List, [], ◌∷◌, ◌++◌, length, Option, Some, None, Err}
 use Rattle.std.specs.Io.KnownBytes.{Appends, Consumes, IsAtEnd}
-use Rattle.std.specs.List.{flat_map}
-use Rattle.std.specs.String.{string_bytes}
-use Rattle.std.specs.declared.string.String.{String}
-use Rattle.std.specs.declared.alloc.Global.{Global}
 use Rattle.lard_base.specs.declared.config.Config.{Config}
 use Rattle.lard_base.specs.declared.event.Event.{Event}
 use Rattle.lard_base.specs.declared.limits.TheConstants.{MAX_INPUT_BYTES}
 use Rattle.lard_base.specs.Outside.{WrotePrefix}
-use Rattle.lard_cluster.specs.Machine.{start}
-use Rattle.lard_cluster.specs.declared.machine.Machine.{Machine}
-use Rattle.lard_cluster_laws.specs.Lawful.{IsLawful}
-use Rattle.lard_files.specs.Files.{file_at}
 use Rattle.lard_grammar.specs.Schedule.{IsSchedule, text_of}
-use Rattle.lard_cluster_records.specs.Messages.{MayTalk}
-use Rattle.lard_history.specs.Laws.{EachMay, Follows}
 use Rattle.lard_journal.specs.declared.rec.Rec.{Rec}
-use Rattle.lard_journal.specs.declared.rec.Rec.TheVariants as rec
-use Rattle.lard_journal.specs.Range.{IsNumber}
 use Rattle.lard_lines.specs.Lines.{lines_of}
-use Rattle.lard_settle.specs.Events.{LeadsTo}
-use Rattle.lard_settling.specs.Written.{is_settle, written_out}
 use Rattle.lard_schedule.specs.declared.reader.Stage.TheVariants.{Running}
 use Rattle.lard_app.specs.Causes.{Ends, Leads}
+use Rattle.lard_app.specs.Happened.{Happened}
 use Rattle.lard_app.specs.declared.status.Status.{Status}
 use Rattle.lard_app.specs.declared.status.Status.TheVariants.{Done, Usage, Refused, ReadFault, WriteFault, NoMemory, Limit}
 use Rattle.lard_app.specs.Replay.{Progress, begin, begun_by, config_of, events_of, files_of, halted, journal_of, passed, report_of, sizes, whole}
-
--- the words ask for a replay
-abbrev pub IsReplay : List (String Global) → Type 0
-IsReplay words = map string_bytes words ≡ codes "replay" ∷ []
 
 -- ---- how a run ends over the text that it read
 
@@ -91,40 +74,6 @@ pub record Passed (text : List ℕ) (config : Config) (files : List (List ℕ ×
   pub schedule : state.reader.stage ≡ Running → IsSchedule (text_of lines) config files done
   pub all : (whole text).1 ≡ Done → (behind ≡ []) × (last ≡ [])
 
--- ---- the steps of a journal
-
--- an event that is no settle does one step
-abbrev pub step_of : Event → List Event
-step_of e = if is_settle e then [] else e ∷ []
-
--- the event of the step that a record begins, of the schedule or inside a settle
-abbrev pub step_told : Rec → List Event
-step_told (rec.Event i e) = step_of e
-step_told (rec.Inner e) = step_of e
-step_told _ = []
-
--- those of all steps of a journal
-abbrev pub steps_told : List Rec → List Event
-steps_told J = flat_map step_told J
-
--- the events of the schedule that a journal tells of, with their numbers
-abbrev pub event_told : Rec → List (ℕ × Event)
-event_told (rec.Event i e) = (i, e) ∷ []
-event_told _ = []
-
-abbrev pub events_told : List Rec → List (ℕ × Event)
-events_told J = flat_map event_told J
-
--- events with their numbers, the first of which is i
-abbrev pub numbered_from : ℕ → List Event → List (ℕ × Event)
-numbered_from i [] = []
-numbered_from i (e ∷ es) = (i, e) ∷ numbered_from (i + 1) es
-
--- what is left where a settle ended is a number of at most 64 bits
-abbrev pub IsCounted : Rec → Type 0
-IsCounted (rec.Unsettled rounds left) = IsNumber left
-IsCounted _ = Unit {0}
-
 -- ---- the whole of a run
 
 -- All that a run says: the text that was read, what it stands for, how the run ended over it, and the journal with its laws.
@@ -143,18 +92,11 @@ pub record Ran (status : Status) (left left_now old new : Option (List ℕ)) : T
   pub journal : List Rec
   pub are : (config_of text ≡ config) × (files_of text ≡ files) × (events_of text ≡ events) × (journal_of text ≡ journal)
   pub passed : Passed text config files events
-  -- The journal is the machine's, after these events, and has a record of each, by number. With its settles written out it is the steps
-  -- of the events that are no settles, and of those inside settles.
-  pub machine : (m : Machine) × LeadsTo (start config files) events m × (m.journal ≡ journal)
-  pub numbered : events_told journal ≡ numbered_from 1 events
-  pub follows : Follows 1 (steps_told journal) (written_out journal)
-  -- the laws that it obeys with its settles written out, each a field of their record
-  pub laws : IsLawful config (file_at files) (written_out journal)
-  -- machines of the cluster talk in messages
-  pub messages : EachMay MayTalk [] (written_out journal)
-  -- The report tells all of this, where what each settle of both left is counted in 64 bits: a text with the same report has the
-  -- same configuration, files with the same paths and lengths, and the same journal.
-  pub tells_all : (also : List ℕ) → All IsCounted journal → All IsCounted (journal_of also) → report_of (whole text).0 ≡ report_of (whole also).0
+  -- the journal is the machine's after these events, and obeys every law
+  pub happened : Happened config files events journal
+  -- The report tells all of this: a text with the same report has the same configuration, files with the same paths and lengths, and
+  -- the same journal.
+  pub tells_all : (also : List ℕ) → report_of (whole text).0 ≡ report_of (whole also).0
       → (config ≡ config_of also) × (sizes files ≡ sizes (files_of also)) × (journal ≡ journal_of also)
 
 -- the status is that of a known input, unless memory ran out

@@ -5,7 +5,7 @@ use Rattle.lard_base.specs.declared.event.Event.TheVariants as event
 use Rattle.lard_cluster.specs.declared.fault.StepFault.{StepFault}
 use Rattle.lard_cluster.specs.declared.fault.StepFault.TheVariants as fault
 use Rattle.lard_cluster.specs.declared.machine.Machine.{Machine}
-use Rattle.lard_settle.specs.Settling.{Stop}
+use Rattle.lard_settling.specs.Settling.{Stop}
 use Rattle.lard_app.specs.declared.replay.Replay.{Replay}
 use Rattle.lard_app.specs.declared.status.Status.{Status}
 use Rattle.lard_app.specs.declared.status.Status.TheVariants.{NoMemory, Refused}

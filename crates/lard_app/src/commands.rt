@@ -1,35 +1,41 @@
 //! The top call.
 
-ghost use Rattle.std.specs.Prelude.{◌≡◌, ◌↔◌, false, [], codes, IsTrue};
+ghost use Rattle.std.specs.Prelude.{◌≡◌, ◌↔◌, ◌⊎◌, ℕ, false, []};
 ghost use Rattle.std.specs.Io.KnownBytes.{Keeps};
 ghost use Rattle.lard_agenda.specs.Agenda.{IsAgendaOf};
 ghost use Rattle.lard_base.specs.Causes.{Rose};
 ghost use Rattle.lard_app.specs.declared.status.Status.{Status};
 ghost use Rattle.lard_app.specs.Replay.{EndsCount, begin};
-ghost use Rattle.lard_app.specs.Run.{IsReplay, IsSettled, Ran, Reads};
+ghost use Rattle.lard_app.specs.Generate.{Generated, run_of};
+ghost use Rattle.lard_app.specs.Run.{IsSettled, Ran, Reads};
 ghost use Rattle.lard_app.specs.Seen.{seen};
+ghost use Rattle.lard_app.specs.Words.{IsGenerate, IsNeither, IsReplay};
 
+use crate::generating::generate;
 use crate::replay::Replay;
 use crate::status::Status;
+use crate::words::{Command, asked};
 use lard_base::{InputFault, NoMemory, Sink, Source};
 use lard_journal::report_tells_all;
 use lard_lines::Lines;
 use std::alloc::Global;
 
 /// Does all that the program does for these words, which are those after its name. `replay` reads a schedule of at
-/// most 2^26 bytes from the source and writes the report of its replay to the sink; all other words are `Usage`,
-/// which reads and writes nothing.
+/// most 2^26 bytes from the source and writes the report of its replay to the sink; `generate` with a seed and a number of clients
+/// replays the schedule that is generated of them and writes four lines of what is counted of it; all other words are `Usage`.
+/// Only `replay` reads, and nothing is written for `Usage`.
 pub fn run<S: Source, K: Sink>(
     alloc: Global,
     words: &[String],
     source: &mut S,
     sink: &mut K,
 ) -> Status
-    ensures usage { (result ≡ Status.Usage) ↔ (¬ IsReplay words.now) }
-    ensures unread { result ≡ Status.Usage → Keeps (S.left source.old) (S.left source.new) }
+    ensures usage { (result ≡ Status.Usage) ↔ IsNeither words.now }
+    ensures unread { ¬ IsReplay words.now → Keeps (S.left source.old) (S.left source.new) }
     ensures unwritten { result ≡ Status.Usage → Keeps (K.written sink.old) (K.written sink.new) }
 
     ensures replay { IsReplay words.now → Ran result (S.left source.old) (S.left source.new) (K.written sink.old) (K.written sink.new) }
+    ensures generate { (seed clients : ℕ) → IsGenerate words.now seed clients → Generated seed clients result (K.written sink.old) (K.written sink.new) }
 
     // The first fault ends the run: where it ends otherwise, the count of faults is as it was.
     ensures read_fault { result ≡ Status.ReadFault → Rose (S.faults source.old) (S.faults source.new) }
@@ -37,30 +43,19 @@ pub fn run<S: Source, K: Sink>(
     ensures write_fault { result ≡ Status.WriteFault → Rose (K.faults sink.old) (K.faults sink.new) }
     ensures no_write_fault { ¬ (result ≡ Status.WriteFault) → K.faults sink.new ≡ K.faults sink.old }
 
-    // Where no count of faults rose, the input alone decides how the run ends, unless memory runs out.
+    // Where no count of faults rose, the input alone decides how a replay ends, and the words alone how a generated run does, unless
+    // memory runs out.
     ensures complete { IsReplay words.now → ¬ Rose (S.faults source.old) (S.faults source.new) → ¬ Rose (K.faults sink.old) (K.faults sink.new)
         → IsSettled result (S.left source.old) }
+    ensures complete_generate { (seed clients : ℕ) → IsGenerate words.now seed clients → ¬ Rose (K.faults sink.old) (K.faults sink.new)
+        → (result ≡ (run_of seed clients).1) ⊎ (result ≡ Status.NoMemory) }
 {
     report_tells_all();
-    if !asks_replay(words) {
-        return Status::Usage;
+    match asked(words) {
+        Some(Command::Replay) => return replay(alloc, source, sink),
+        Some(Command::Generate { seed, clients }) => return generate(alloc, sink, seed, clients),
+        None => return Status::Usage,
     }
-    replay(alloc, source, sink)
-}
-
-fn asks_replay(words: &[String]) -> bool
-    ensures { IsTrue result ↔ IsReplay words.now }
-{
-    match words {
-        [word] => is_replay(word.as_str()),
-        _ => false,
-    }
-}
-
-fn is_replay(word: &str) -> bool
-    ensures { IsTrue result ↔ (word.now ≡ codes "replay") }
-{
-    word == "replay"
 }
 
 /// Replays the input line by line.

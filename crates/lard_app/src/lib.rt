@@ -1,17 +1,20 @@
-//! The top call `run`: it reads a schedule, replays it through the core, and writes the report. `flush_report` passes on
-//! what a sink of standard output still holds back behind it.
+//! The top call `run`: it reads a schedule, replays it through the core, and writes the report; or it replays a generated schedule
+//! and writes four lines of what is counted. `flush_report` passes on what a sink of standard output still holds back behind it.
 //!
 //! It stands at the top of the path. `run` reads its words and the input, the reader of `lard_schedule` makes an item
 //! of each line, the world of `lard_cluster_world` does the step of an event, or `lard_settle` the steps of a settle, and their
-//! records go to the sink as lines.
+//! records go to the sink as lines. `lard_generate` makes the generated schedule, and `lard_summary` counts its journal.
 #![tactic(auto)]
 
 mod commands;
 mod flush;
+mod generating;
+mod happening;
 mod replay;
 mod status;
 #[cfg(test)]
 mod tests;
+mod words;
 
 pub use commands::run;
 pub use flush::flush_report;

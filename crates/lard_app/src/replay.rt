@@ -9,14 +9,11 @@ ghost use Rattle.lard_schedule.specs.Events.{IsInRange};
 ghost use Rattle.lard_schedule.specs.Files.{is_file_path};
 ghost use Rattle.lard_schedule.specs.Reader.{HasRange};
 ghost use Rattle.lard_agenda.specs.Agenda.{IsAgendaOf};
-ghost use Rattle.lard_cluster.specs.Bounds.{HasRule};
-ghost use Rattle.lard_cluster.specs.Machine.{machine_step};
-ghost use Rattle.lard_settle.specs.Events.{settled_to, stepped_from};
-ghost use Rattle.lard_settle.specs.Settling.{settled};
 ghost use Rattle.lard_app.specs.Replay.{CountsFault, EndsCount, IsSound, Passes, Writes, begin, begun, config_set, ended_by, ending, file_ends, filed, gain, item_gain, passed, taken};
-ghost use Rattle.lard_app.specs.Seen.{Adds, Does, Sets, Stops, rounds_of, seen};
+ghost use Rattle.lard_app.specs.Seen.{Adds, Does, Sets, Stops, seen};
 
-use crate::status::{Status, Why};
+use crate::happening::{ended_by, happen};
+use crate::status::{Status, Why, refused};
 use lard_agenda::Agenda;
 use lard_agenda::laws::agendas_go_on;
 use lard_base::limits::MAX_INPUT_BYTES;
@@ -27,7 +24,6 @@ use lard_files::{FileFault, Files};
 use lard_journal::{Journal, Rec, file_line, heading, push_line};
 use lard_machine::What;
 use lard_schedule::{Item, LineFault, Reader, Stage};
-use lard_settle::settle;
 use std::alloc::Global;
 use std::mem;
 
@@ -189,8 +185,7 @@ impl Replay {
         Ok(text)
     }
 
-    /// Does what an event does, a step or a settle, and writes the records that came of it.
-    #[tactic(auto, unfolding(lard_settle::specs::Events::event_step))]
+    /// Does what an event does, a step or a settle, and writes the records that came of it, also where a limit ended a settle inside.
     fn step<K: Sink>(&mut self, alloc: Global, sink: &mut K, event: Event) -> Result<(), Status>
         requires usable { self.old.world.spoiled ≡ false }
         requires agenda { IsAgendaOf self.old.agenda self.old.world.machine.journal }
@@ -200,42 +195,9 @@ impl Replay {
         ensures agenda { OnOk result (IsAgendaOf self.new.agenda self.new.world.machine.journal) }
         ensures faults { CountsFault (K.faults sink.old) (K.faults sink.new) result }
     {
-        match rounds_of(&event) {
-            Some(rounds) => return self.settle(alloc, sink, rounds),
-            None => return self.act(alloc, sink, event),
-        }
-    }
-
-    /// Does the step of an event that is no settle, and writes its records.
-    fn act<K: Sink>(&mut self, alloc: Global, sink: &mut K, event: Event) -> Result<(), Status>
-        requires usable { self.old.world.spoiled ≡ false }
-        requires agenda { IsAgendaOf self.old.agenda self.old.world.machine.journal }
-        requires ruled { HasRule event }
-        ensures taken { Does (stepped_from self.old.world.machine (machine_step self.old.world.machine event)) (seen self.old) (K.written sink.old) (K.written sink.new) (seen self.new) result }
-        ensures usable { OnOk result (self.new.world.spoiled ≡ false) }
-        ensures agenda { OnOk result (IsAgendaOf self.new.agenda self.new.world.machine.journal) }
-        ensures faults { CountsFault (K.faults sink.old) (K.faults sink.new) result }
-    {
-        agendas_go_on();
         let before = self.world.journal().len() as usize;
-        match self.world.step(alloc, event) {
+        match happen(&mut self.world, &mut self.agenda, alloc, event) {
             Ok(()) => return write_records(alloc, sink, self.world.journal(), before),
-            Err(fault) => return Err(ended_by(self.lines, fault)),
-        }
-    }
-
-    /// Settles, and writes the records that came, also where a limit ended it inside.
-    fn settle<K: Sink>(&mut self, alloc: Global, sink: &mut K, rounds: u32) -> Result<(), Status>
-        requires usable { self.old.world.spoiled ≡ false }
-        requires agenda { IsAgendaOf self.old.agenda self.old.world.machine.journal }
-        ensures taken { Does (settled_to (settled self.old.world.machine rounds)) (seen self.old) (K.written sink.old) (K.written sink.new) (seen self.new) result }
-        ensures usable { OnOk result (self.new.world.spoiled ≡ false) }
-        ensures agenda { OnOk result (IsAgendaOf self.new.agenda self.new.world.machine.journal) }
-        ensures faults { CountsFault (K.faults sink.old) (K.faults sink.new) result }
-    {
-        let before = self.world.journal().len() as usize;
-        match settle(&mut self.world, &mut self.agenda, alloc, rounds) {
-            Ok(_) => return write_records(alloc, sink, self.world.journal(), before),
             Err(fault) => return Err(self.stop(alloc, sink, before, fault)),
         }
     }
@@ -290,22 +252,6 @@ impl Replay {
     }
 }
 
-/// For how many rounds an event settles, if it does.
-fn rounds_of(event: &Event) -> Option<u32>
-    ensures { result ≡ rounds_of event.now }
-{
-    match event {
-        Event::Settle(rounds) => Some(*rounds),
-        _ => None,
-    }
-}
-
-fn refused(line: u64, why: Why) -> Status
-    ensures { result ≡ Status.Refused line why }
-{
-    Status::Refused { line, why }
-}
-
 /// How a fault of a file ends the run at a line.
 fn file_ends(line: u64, fault: FileFault) -> Status
     ensures { result ≡ file_ends line fault }
@@ -316,22 +262,6 @@ fn file_ends(line: u64, fault: FileFault) -> Status
         FileFault::TooMany(_) => refused(line, Why::File(fault)),
         FileFault::TooMuch(_) => refused(line, Why::File(fault)),
         FileFault::NoMemory => Status::NoMemory,
-    }
-}
-
-/// How a fault of a step ends the run at a line.
-fn ended_by(line: u64, fault: StepFault) -> Status
-    ensures { result ≡ ended_by line fault }
-{
-    match fault {
-        StepFault::NotSent { k, sent } => refused(line, Why::NotSent { k, sent }),
-        StepFault::WasLost(k) => refused(line, Why::WasLost(k)),
-        StepFault::NoClient(c) => refused(line, Why::NoClient(c)),
-        StepFault::Used(c) => refused(line, Why::Used(c)),
-        StepFault::NoNode { n, nodes } => refused(line, Why::NoNode { n, nodes }),
-        StepFault::NoJob { n, j, len } => refused(line, Why::NoJob { n, j, len }),
-        StepFault::Limit(what) => Status::Limit { line, what },
-        StepFault::NoMemory => Status::NoMemory,
     }
 }
 

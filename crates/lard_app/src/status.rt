@@ -87,6 +87,13 @@ impl Status {
     }
 }
 
+/// A line was refused.
+pub fn refused(line: u64, why: Why) -> Status
+    ensures { result ≡ Status.Refused line why }
+{
+    Status::Refused { line, why }
+}
+
 fn owned(alloc: Global, text: &str) -> Result<String, NoMemory>
     ensures { IfOk result (λ copy. string_bytes copy ≡ text.now) }
 {

@@ -5,4 +5,4 @@ mod Listing
 mod Making
 mod Paths
 mod Ranges
-mod Spelled
+pub mod Spelled

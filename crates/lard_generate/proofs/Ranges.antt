@@ -22,7 +22,7 @@ length-sizes g = length-each drawn_size 256 g (λ k h. refl)
 abbrev pub IsSmall : ℕ → Type 0
 IsSmall size = size ≤ 8192
 
-sizes_small : (g : Lcg) → All IsSmall (each drawn_size 256 g).0
+pub sizes_small : (g : Lcg) → All IsSmall (each drawn_size 256 g).0
 sizes_small g = All-each IsSmall drawn_size 256 g (λ k h low high. All-cons IsSmall (1 + draw 8192 h) [] (omega arith) (All-nil IsSmall))
 
 -- the sizes that a call drew

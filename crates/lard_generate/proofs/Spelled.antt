@@ -26,7 +26,7 @@ use Rattle.lard_generate.specs.Generated.{generated}
 use Rattle.lard_generate.specs.Laws.{EventsAreSpelled, FilesAreSpelled, IsSpelled, IsSpelledFile}
 use Rattle.lard_generate.proofs.Listing.{length-listed}
 use Rattle.lard_generate.proofs.Making.{All-each}
-use Rattle.lard_generate.proofs.Ranges.{length-sizes, rounds_are_fit}
+use Rattle.lard_generate.proofs.Ranges.{IsSmall, length-sizes, rounds_are_fit, sizes_small}
 
 -- ---- draws
 
@@ -97,8 +97,10 @@ sized_fine : (g : Lcg) → All IsSpelledFile (files_of (each drawn_size 256 g).0
 sized_fine g =
     let sizes = (each drawn_size 256 g).0 in
     All-listed IsSpelledFile (file_of sizes) 256 (λ i small.
-    let size : 1 ≤ slice_index sizes i = All-get_or (λ size. 1 ≤ size) sizes i 0 (omega (arith, length-sizes g)) (sizes_some g) in
-    (path_fine i small, omega (arith, size, length-listed (λ j. (i + j) % 256) (slice_index sizes i)), content_fine i (slice_index sizes i)))
+    let least : 1 ≤ slice_index sizes i = All-get_or (λ size. 1 ≤ size) sizes i 0 (omega (arith, length-sizes g)) (sizes_some g) in
+    let most : slice_index sizes i ≤ 8192 = All-get_or IsSmall sizes i 0 (omega (arith, length-sizes g)) (sizes_small g) in
+    let length_is = length-listed (λ j. (i + j) % 256) (slice_index sizes i) in
+    (path_fine i small, omega (arith, least, length_is), omega (arith, most, length_is), content_fine i (slice_index sizes i)))
 
 pub files_spelled : FilesAreSpelled
 unfolding generated

@@ -20,9 +20,9 @@ IsSpelled event = IsInRange event × HasBytes event
 abbrev pub EventsAreSpelled : Type 0
 EventsAreSpelled = (seed clients : ℕ) → clients ≤ 2000 → All IsSpelled (generated seed clients).events
 
--- a line can have this file: the path of a file, and bytes, at least one
+-- a line can have this file: the path of a file, and bytes, 1 to 8,192 of them
 abbrev pub IsSpelledFile : List ℕ × List ℕ → Type 0
-IsSpelledFile (path, bytes) = (is_file_path path ≡ true) × (1 ≤ length bytes) × IsBytes bytes
+IsSpelledFile (path, bytes) = (is_file_path path ≡ true) × (1 ≤ length bytes) × (length bytes ≤ 8192) × IsBytes bytes
 
 abbrev pub FilesAreSpelled : Type 0
 FilesAreSpelled = (seed clients : ℕ) → All IsSpelledFile (generated seed clients).files

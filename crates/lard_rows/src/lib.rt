@@ -4,6 +4,8 @@
 //! two that move one byte at a time.
 #![tactic(auto)]
 
+#[cfg(test)]
+mod hostile;
 pub mod moves;
 pub mod report;
 pub mod rows;

@@ -121,3 +121,101 @@ deliver 17
 
 /// All rows of which lines alone are told.
 pub const TOLD: [Told; 1] = [THREE_REQUESTS];
+
+/// Eight requests in one segment: one moves the connection, seven are asked for in one batch.
+pub const EIGHT_REQUESTS: &str = "\
+lard 1
+file /a 61
+file /b 62
+file /c 63
+file /d 64
+file /e 65
+file /f 66
+file /g 67
+file /h 68
+go
+open 1 1000 5000 65535 1460
+get 1 /a
+get 1 /b
+get 1 /c
+get 1 /d
+get 1 /e
+get 1 /f
+get 1 /g
+get 1 /h
+deliver 1
+deliver 2
+deliver 3
+deliver 4
+deliver 7
+deliver 8
+disk 1 8
+disk 1 7
+disk 1 6
+disk 1 5
+disk 1 4
+disk 1 3
+disk 1 2
+disk 1 1
+deliver 9
+deliver 10
+deliver 11
+";
+
+/// A later request is assigned to another node; its Content is lost, and fetched again.
+pub const CONTENT_IS_LOST: &str = "\
+lard 1
+file /x 58
+file /b 42
+go
+open 1 1000 5000 65535 1460
+get 1 /x
+deliver 1
+deliver 2
+deliver 3
+deliver 4
+open 2 1000 5000 65535 1460
+get 2 /b
+deliver 7
+deliver 8
+deliver 9
+deliver 10
+open 4 1000 5000 65535 1460
+get 4 /x
+deliver 13
+deliver 14
+deliver 15
+deliver 16
+open 5 1000 5000 65535 1460
+get 5 /x
+deliver 19
+deliver 20
+deliver 21
+deliver 22
+open 6 1000 5000 65535 1460
+get 6 /x
+deliver 25
+deliver 26
+deliver 27
+deliver 28
+open 3 1000 5000 65535 1460
+get 3 /x
+get 3 /b
+deliver 31
+deliver 32
+deliver 33
+deliver 34
+deliver 37
+deliver 38
+deliver 39
+disk 2 2
+lose 40
+timer n1 3
+deliver 41
+deliver 42
+disk 1 5
+deliver 43
+deliver 44
+deliver 45
+deliver 42
+";

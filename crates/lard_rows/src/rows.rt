@@ -5,6 +5,7 @@ use crate::settles::{SETTLED, SETTLED_LATER};
 use lard_app::{FileFault, Status, What, Why};
 
 /// An input, how its run ends, and what it writes.
+#[derive(Drop)]
 pub struct Row {
     pub input: &'static str,
     pub status: Status,

@@ -2,7 +2,7 @@
 
 use crate::moves::TOLD;
 use crate::report::{HEADING, PARTS};
-use crate::rows::{ONE_REQUEST, REQUEST_IN_PARTS, ROWS};
+use crate::rows::ROWS;
 use crate::slow::{Counting, Drip, Trickle, Waiting};
 use lard_app::{FileFault, Status, What, Why, run};
 use lard_base::{Bytes, Calls, ConfigFault, Key, MemSink, MemSource, NoMemory};
@@ -47,7 +47,7 @@ const TOO_LONG: [&str; 3] = [
 ];
 
 /// The words of a command line, as `run` takes them.
-fn words_of(alloc: Global, line: &str) -> Result<Vec<String>, NoMemory> {
+pub fn words_of(alloc: Global, line: &str) -> Result<Vec<String>, NoMemory> {
     let mut all = Vec::new(alloc);
     for word in line.split_whitespace() {
         all.push(String::from_str(alloc, word)?)?;
@@ -56,7 +56,7 @@ fn words_of(alloc: Global, line: &str) -> Result<Vec<String>, NoMemory> {
 }
 
 /// Runs `replay` over an input, with a sink of which these calls fail.
-fn replayed(alloc: Global, input: &[u8], failing: Calls) -> Result<(Status, Bytes), NoMemory> {
+pub fn replayed(alloc: Global, input: &[u8], failing: Calls) -> Result<(Status, Bytes), NoMemory> {
     let words = words_of(alloc, "replay")?;
     let mut source = MemSource::new(Bytes::from_slice(alloc, input)?, Calls::new(alloc));
     let mut sink = MemSink::new(alloc, 100_000, failing)?;
@@ -365,10 +365,27 @@ fn paths_at_their_greatest_length(rt: HostRuntime) -> Result<(), Fail> {
     Ok(())
 }
 
+/// Words that ask for nothing that there is.
+const NO_COMMANDS: [&str; 13] = [
+    "",
+    "replay x",
+    "--help",
+    "Replay",
+    "generate",
+    "generate 7",
+    "generate 7 0",
+    "generate 7 2001",
+    "generate 7 20 1",
+    "generate 07 20",
+    "generate 7 +20",
+    "generate -1 20",
+    "generate 18446744073709551616 20",
+];
+
 #[test]
 fn words_that_are_no_command(rt: HostRuntime) -> Result<(), Fail> {
     let alloc = rt.alloc();
-    for line in ["", "replay x", "generate 7 0", "--help", "Replay"] {
+    for line in NO_COMMANDS {
         let words = words_of(alloc, line)?;
         let mut source = MemSource::new(
             Bytes::from_slice(alloc, b"lard 1\ngo\n")?,
@@ -379,6 +396,49 @@ fn words_that_are_no_command(rt: HostRuntime) -> Result<(), Fail> {
         assert_eq!(rt; status, Status::Usage);
         assert_eq!(rt; sink.bytes().len(), 0);
     }
+    Ok(())
+}
+
+/// Words, and the four lines that they give: what is counted of the report of what `tools/generate-schedule` writes for them.
+const GENERATED: [(&str, &str); 2] = [
+    (
+        "generate 7 20",
+        "seed 7 clients 20\nrequests 116\naccepted 561121 packets 1656 records 6698\nsettled\n",
+    ),
+    (
+        "generate 5 1",
+        "seed 5 clients 1\nrequests 4\naccepted 27475 packets 77 records 301\nsettled\n",
+    ),
+];
+
+/// Runs words that read nothing, with a sink of which these calls fail.
+fn generated(alloc: Global, line: &str, failing: Calls) -> Result<(Status, Bytes), NoMemory> {
+    let words = words_of(alloc, line)?;
+    let mut source = MemSource::new(Bytes::from_slice(alloc, b"")?, Calls::new(alloc));
+    let mut sink = MemSink::new(alloc, 1_000, failing)?;
+    let status = run(alloc, words.as_slice(), &mut source, &mut sink);
+    Ok((status, Bytes::from_slice(alloc, sink.bytes())?))
+}
+
+#[test]
+fn generated_runs_are_counted(rt: HostRuntime) -> Result<(), Fail> {
+    let alloc = rt.alloc();
+    for (line, lines) in GENERATED {
+        let (status, written) = generated(alloc, line, Calls::new(alloc))?;
+        assert_eq!(rt; status, Status::Done);
+        assert_eq!(rt; written.as_slice(), lines.as_bytes());
+    }
+    Ok(())
+}
+
+#[test]
+fn four_lines_that_cannot_be_written(rt: HostRuntime) -> Result<(), Fail> {
+    let alloc = rt.alloc();
+    let mut failing = Calls::new(alloc);
+    failing.push(1)?;
+    let (status, written) = generated(alloc, "generate 7 1", failing)?;
+    assert_eq!(rt; status, Status::WriteFault);
+    assert_eq!(rt; written.as_slice().len(), 0);
     Ok(())
 }
 
@@ -393,17 +453,12 @@ fn a_sink_whose_third_call_fails(rt: HostRuntime) -> Result<(), Fail> {
     Ok(())
 }
 
-/// How long the front of a report is that stands before an event.
-fn before_event(alloc: Global, report: &str, event: usize) -> Result<usize, NoMemory> {
-    let line = format!(in alloc; "\nevent {event} ")?;
-    match report.find(line.as_str()) {
-        Some(at) => Ok(at + 1),
-        None => Ok(report.len()),
-    }
-}
-
 /// Runs `replay` over an input that fails behind so many bytes.
-fn broken(alloc: Global, input: &[u8], before_fault: usize) -> Result<(Status, Bytes), NoMemory> {
+pub fn broken(
+    alloc: Global,
+    input: &[u8],
+    before_fault: usize,
+) -> Result<(Status, Bytes), NoMemory> {
     let words = words_of(alloc, "replay")?;
     let mut source = Trickle {
         rest: input,
@@ -413,27 +468,6 @@ fn broken(alloc: Global, input: &[u8], before_fault: usize) -> Result<(Status, B
     let mut sink = MemSink::new(alloc, 10_000, Calls::new(alloc))?;
     let status = run(alloc, words.as_slice(), &mut source, &mut sink);
     Ok((status, Bytes::from_slice(alloc, sink.bytes())?))
-}
-
-#[test]
-fn a_source_that_fails_behind_each_byte(rt: HostRuntime) -> Result<(), Fail> {
-    let alloc = rt.alloc();
-    for row in [&ONE_REQUEST, &REQUEST_IN_PARTS] {
-        let input = row.input.as_bytes();
-        let whole = row.report.as_bytes();
-        for at in 0..input.len() {
-            let (status, report) = broken(alloc, input, at)?;
-            let lines = input[..at].iter().filter(|byte| **byte == b'\n').count();
-            let wanted = match lines.checked_sub(1) {
-                Some(event) if event > 0 => before_event(alloc, row.report, event)?,
-                _ => 0,
-            };
-            let front = &whole[..wanted.min(whole.len())];
-            assert_eq!(rt; status, Status::ReadFault, "at {at}");
-            assert_eq!(rt; report.as_slice(), front, "at {at}");
-        }
-    }
-    Ok(())
 }
 
 #[test]

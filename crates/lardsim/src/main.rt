@@ -21,18 +21,23 @@ const HELP: &str = "\
 lardsim: replays schedules through a content-aware web cluster behind one address
 
 usage: lardsim replay
+       lardsim generate SEED CLIENTS
        lardsim --help
        lardsim --version
 
 replay      reads a schedule from standard input, replays it, and writes the
             report, with every record of what happened, to standard output
+generate    makes a large schedule of a number below 2^64 with 1 to 2000
+            clients, replays it, and writes four lines of what is counted:
+            the responses, the bytes that the clients accepted, the packets
+            and the records, and whether anything was left (open) or not
 
 exit statuses, each with a line on standard error:
-  0  done: the input was read to its end, and the whole report was written
+  0  done: the input was read to its end, and all was written
   1  usage: the words are no command with its arguments
   2  a line of the schedule was refused; the report of the steps before it stands
   3  the input could not be read
-  4  the report could not be written
+  4  the output could not be written
   5  memory ran out
   6  a limit was reached; the report of the steps before it stands
 

@@ -1,0 +1,63 @@
+-- What the words ask for is one thing, and what its run says.
+use Rattle.std.proofs.Common.{◌≡◌, ◌⊎◌, inl, inr, ℕ, List, ◌∷◌, [], Option, Some, refl, sym, ◌∙◌, subst, arith}
+use Rattle.std.proofs.lemmas.Fmt.{decimal_injective}
+use Rattle.lard_app.specs.declared.status.Status.{Status}
+use Rattle.lard_app.specs.declared.status.Status.TheVariants.{Done, Usage, Refused, ReadFault, WriteFault, NoMemory, Limit}
+use Rattle.lard_app.specs.Generate.{Generated, Prints, run_of}
+use Rattle.lard_app.specs.Run.{Ended, Reads}
+use Rattle.lard_app.specs.declared.words.Command.{Command}
+use Rattle.lard_app.specs.declared.words.Command.TheVariants as command
+use Rattle.lard_app.specs.Words.{AreGenerate, AreReplay, IsOne}
+use Rattle.lard_summary.specs.Lines.{summary}
+
+-- what was found
+pub are-replay : (words : List (List ℕ)) (k : Command) → k ≡ command.Replay → IsOne words (Some k) → AreReplay words
+are-replay words k is h = subst (λ (j : Command). IsOne words (Some j)) is h
+
+pub are-generate : (words : List (List ℕ)) (k : Command) (seed clients : ℕ) → k ≡ command.Generate seed clients → IsOne words (Some k) → AreGenerate words seed clients
+are-generate words k seed clients is h = subst (λ (j : Command). IsOne words (Some j)) is h
+
+-- one word is not three
+pub not-both : (words : List (List ℕ)) (seed clients : ℕ) → AreReplay words → ¬ (AreGenerate words seed clients)
+not-both words seed clients r g = let both = sym r ∙ g.are in cc
+
+three : (a b c d e f : List ℕ) → ◌≡◌ {A = List (List ℕ)} (a ∷ b ∷ c ∷ []) (d ∷ e ∷ f ∷ []) → (b ≡ e) × (c ≡ f)
+three a b c d e f h = (cc, cc)
+
+-- three words are of one seed and one number of clients
+pub same-words : (words : List (List ℕ)) (seed clients s k : ℕ) → AreGenerate words seed clients → AreGenerate words s k → (seed ≡ s) × (clients ≡ k)
+same-words words seed clients s k g h =
+    let both = three _ _ _ _ _ _ (sym g.are ∙ h.are) in
+    let few = g.few in
+    let many = h.few in
+    (decimal_injective seed s g.seed_fits h.seed_fits both.0, decimal_injective clients k (omega (arith, few)) (omega (arith, many)) both.1)
+
+pub of-words : (words : List (List ℕ)) (seed clients s k : ℕ) (P : ℕ → ℕ → Type 0) → AreGenerate words seed clients → AreGenerate words s k → P seed clients → P s k
+of-words words seed clients s k P g h p = let same = same-words words seed clients s k g h in subst (λ i. P i k) same.0 (subst (P seed) same.1 p)
+
+-- a replay does not end by `Usage`
+pub reads-not-usage : (status : Status) (left left_now old new : Option (List ℕ)) → Reads status left left_now old new → ¬ (status ≡ Usage)
+reads-not-usage status left left_now old new r is = subst (λ (s : Status). Ended s r.text left_now old new) is r.ended
+
+module _ (seed clients : ℕ) (status : Status) (old new : Option (List ℕ)) (g : Generated seed clients status old new) where
+  abbrev Says : Status → Type 0
+  Says s = Prints (run_of seed clients).1 s (summary seed clients g.journal) old new
+
+  -- nor does a generated run, which does not read either
+  pub generated-not-usage : ¬ (status ≡ Usage)
+  generated-not-usage is = subst Says is g.printed
+
+  pub generated-not-read : ¬ (status ≡ ReadFault)
+  generated-not-read is = subst Says is g.printed
+
+  -- where writing did not fail, the words alone decide how it ends
+  pub generated-settled : ¬ (status ≡ WriteFault) → (status ≡ (run_of seed clients).1) ⊎ (status ≡ NoMemory)
+  generated-settled well = go status refl g.printed where
+    go : (s : Status) → status ≡ s → Says s → (status ≡ (run_of seed clients).1) ⊎ (status ≡ NoMemory)
+    go Done is h = inl (is ∙ sym h.0)
+    go (Limit line what) is h = inl (is ∙ sym h.0)
+    go NoMemory is h = inr is
+    go WriteFault is h = absurd (well is)
+    go Usage is h = absurd h
+    go ReadFault is h = absurd h
+    go (Refused line why) is h = absurd h

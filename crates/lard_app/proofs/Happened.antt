@@ -1,0 +1,42 @@
+-- A journal to which events lead is that of the machine, and obeys its laws.
+use Rattle.std.proofs.Common.{◌≡◌, ℕ, Ok, List, [], refl, subst}
+use Rattle.lard_base.specs.Config.{config_check}
+use Rattle.lard_base.specs.declared.config.Config.{Config}
+use Rattle.lard_base.specs.declared.event.Event.{Event}
+use Rattle.lard_cluster.specs.Machine.{start}
+use Rattle.lard_cluster.specs.declared.machine.Machine.{Machine}
+use Rattle.lard_cluster_world.specs.Lawful.{IsLawful}
+use Rattle.lard_cluster_world.proofs.Lawful.{journals-lawful}
+use Rattle.lard_cluster_records.specs.Messages.{MayTalk}
+use Rattle.lard_cluster_records.specs.Records.{IsFile, IsGiven}
+use Rattle.lard_cluster_records.proofs.Talking.{packets-decode}
+use Rattle.lard_cluster_steps.proofs.Following.{follows}
+use Rattle.lard_files.specs.Files.{file_at}
+use Rattle.lard_history.specs.Laws.{EachMay, Follows}
+use Rattle.lard_history.proofs.Each.{Each}
+use Rattle.lard_journal.specs.Range.{IsNumber}
+use Rattle.lard_laws_records.proofs.Bytes.{each-all}
+use Rattle.lard_settling.specs.Events.{LeadsTo}
+use Rattle.lard_settle_laws.proofs.Order.{in-order}
+use Rattle.lard_settling.specs.Written.{IsWrittenOut, written_out}
+use Rattle.lard_app.specs.Happened.{Happened}
+use Rattle.lard_app.proofs.Granted.{IsGrantedBy, granted-events, leads-granted}
+use Rattle.lard_app.proofs.Numbering.{leads-number}
+use Rattle.lard_app.proofs.Telling.{plain-events}
+
+module _ (config : Config) (files : List (List ℕ × List ℕ)) (checked : config_check config ≡ Ok tt) (nodes : IsNumber config.nodes) (are : Each IsFile files) where
+  pub happened : (es : List Event) (m : Machine) → Each IsGiven es → LeadsTo (start config files) es m → Happened config files es m.journal
+  happened es m given leads = record {
+    machine = (m, leads, refl);
+    numbered = leads-number config files es m leads;
+    follows = subst (λ (ds : List Event). Follows 1 ds (written_out m.journal)) (plain-events config files m w) (subst (Follows 1 w.reached.0) w.journal (follows config files w.reached.0 w.plain w.reached.1));
+    laws = subst (IsLawful config (file_at files)) w.journal (journals-lawful config files w.plain checked w.reached);
+    settles = in-order config files es m leads;
+    messages = subst (EachMay MayTalk []) w.journal
+        (packets-decode config files w.reached.0 w.plain checked (each-all IsFile files are) (each-all IsGiven w.reached.0 (granted-events config files checked nodes are m granted)) w.reached.1);
+  } where
+    granted : IsGrantedBy config files m
+    granted = leads-granted config files checked nodes are es m given leads
+
+    w : IsWrittenOut config files m
+    w = granted.written

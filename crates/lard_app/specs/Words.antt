@@ -1,0 +1,54 @@
+-- What the words of a call ask for.
+use Rattle.std.specs.Prelude.{◌≡◌, ℕ, ◌<◌, ◌≤◌, ◌^◌, List, [], ◌∷◌, map, codes, decimal, Option, Some, None}
+use Rattle.std.specs.String.{string_bytes}
+use Rattle.std.specs.declared.string.String.{String}
+use Rattle.std.specs.declared.alloc.Global.{Global}
+use Rattle.lard_app.specs.declared.words.Command.{Command}
+use Rattle.lard_app.specs.declared.words.Command.TheVariants as command
+
+-- the word of a replay
+abbrev pub AreReplay : List (List ℕ) → Type 0
+AreReplay words = words ≡ codes "replay" ∷ []
+
+-- The words of the generated run of this seed and of so many clients: 1 to 2,000, and a seed below 2^64. Both are written in decimal,
+-- without a sign and without a leading zero.
+pub record AreGenerate (words : List (List ℕ)) (seed clients : ℕ) : Type 0 where
+  pub are : words ≡ codes "generate" ∷ decimal seed ∷ decimal clients ∷ []
+  pub seed_fits : seed < 2 ^ 64
+  pub some : 1 ≤ clients
+  pub few : clients ≤ 2000
+
+-- the bytes of each word
+abbrev pub bytes_of : List (String Global) → List (List ℕ)
+bytes_of words = map string_bytes words
+
+abbrev pub IsReplay : List (String Global) → Type 0
+IsReplay words = AreReplay (bytes_of words)
+
+abbrev pub IsGenerate : List (String Global) → ℕ → ℕ → Type 0
+IsGenerate words seed clients = AreGenerate (bytes_of words) seed clients
+
+-- they ask for nothing that there is
+abbrev pub IsNeither : List (String Global) → Type 0
+IsNeither words = (¬ (IsReplay words)) × ((seed clients : ℕ) → ¬ (IsGenerate words seed clients))
+
+-- ---- what calls find
+
+-- the command that words are, if they are one
+abbrev pub IsOne : List (List ℕ) → Option Command → Type 0
+IsOne words None = (¬ (AreReplay words)) × ((seed clients : ℕ) → ¬ (AreGenerate words seed clients))
+IsOne words (Some command.Replay) = AreReplay words
+IsOne words (Some (command.Generate seed clients)) = AreGenerate words seed clients
+
+abbrev pub Asks : List (String Global) → Option Command → Type 0
+Asks words found = IsOne (bytes_of words) found
+
+-- the number below 2^64 that a word writes in decimal, if it does
+abbrev pub IsNumber : List ℕ → Option ℕ → Type 0
+IsNumber word None = (n : ℕ) → n < 2 ^ 64 → ¬ (word ≡ decimal n)
+IsNumber word (Some n) = (word ≡ decimal n) × (n < 2 ^ 64)
+
+-- the number of clients, 1 to 2,000, that a word writes in decimal, if it does
+abbrev pub IsCount : List ℕ → Option ℕ → Type 0
+IsCount word None = (n : ℕ) → 1 ≤ n → n ≤ 2000 → ¬ (word ≡ decimal n)
+IsCount word (Some n) = (word ≡ decimal n) × (1 ≤ n) × (n ≤ 2000)
