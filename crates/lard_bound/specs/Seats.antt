@@ -1,0 +1,83 @@
+-- Where a connection is, by what the front end and the nodes keep of it, as far as settling asks.
+use Rattle.std.specs.Prelude.{ℕ, ◌==◌, Bool, true, false, if◌then◌else◌, List, [], Option, Some, None}
+use Rattle.lard_cluster_view.specs.View.{Part}
+use Rattle.lard_endpoint.specs.Control.{ControlBlock}
+use Rattle.lard_endpoint.specs.declared.control.moving.Final.{Final}
+use Rattle.lard_front_rules.specs.Front.{FrontPart, rest_of}
+use Rattle.lard_handoff_back.specs.declared.row.BackConn.{BackConn}
+use Rattle.lard_handoff_back.specs.declared.row.BackConn.TheVariants as back
+use Rattle.lard_handoff_back.specs.declared.row.BackRow.{BackRow}
+use Rattle.lard_handoff_front.specs.declared.row.FrontConn.{FrontConn}
+use Rattle.lard_handoff_front.specs.declared.row.FrontConn.TheVariants as stage
+use Rattle.lard_handoff_front.specs.declared.row.FrontRow.{FrontRow}
+use Rattle.lard_node_rules.specs.declared.stay.Stay.{Stay}
+use Rattle.lard_node_rules.specs.Node.{NodePart}
+use Rattle.lard_resend.specs.declared.kept.Kept.{Kept}
+
+-- what a node has of a connection that is here: what was read of it, the Ask that awaits its answer, and the Fetches whose contents
+-- are awaited
+pub record Staying : Type 0 where
+  pub stay : Stay
+  pub kept : List Kept
+  pub fetches : List Kept
+
+-- Who has the endpoint. The flag is whether the front end knows that its Offer was taken.
+pub data Seat : Type 0 where
+  Unborn : Seat  -- no SYN came
+  Held : ControlBlock → ℕ → Seat  -- the front end, which queued so many responses
+  Waiting : ControlBlock → ℕ → Seat  -- the same, and the connection is in the line
+  Offered : ℕ → ℕ → ℕ → Seat  -- nobody: it is in an Offer to a node, in an epoch, after so many responses
+  Here : Bool → ℕ → ℕ → ControlBlock → Staying → Seat  -- a node has it, in an epoch
+  Gone : Bool → ℕ → ℕ → Seat  -- nobody: the node tells the front end how it ended
+  Over : Final → Seat  -- nobody: the front end has its last numbers
+
+-- a stay of which nothing was read
+abbrev pub no_stay : Stay
+no_stay = record { served = 0; batch = []; asks = 0 }
+
+abbrev pub stay_of : Option Stay → Stay
+stay_of None = no_stay
+stay_of (Some s) = s
+
+abbrev pub staying_of : NodePart → Staying
+staying_of p = record { stay = stay_of p.stay; kept = p.kept; fetches = p.fetches }
+
+-- what the node has decided of the epoch in which the connection was offered to it
+abbrev pub seat_there : Bool → ℕ → ℕ → ℕ → NodePart → BackConn → Seat
+seat_there told n e count p (back.Here b) = Here told n e b (staying_of p)
+seat_there told n e count p back.Out = Offered n e count
+seat_there told n e count p back.Ended = Gone told n e
+seat_there told n e count p back.Gone = Gone told n e
+
+abbrev pub seat_decided : Bool → ℕ → ℕ → ℕ → NodePart → Option BackRow → Seat
+seat_decided told n e count p None = Offered n e count
+seat_decided told n e count p (Some row) = if row.epoch.0 == e then seat_there told n e count p row.stage else Offered n e count
+
+abbrev pub seat_away : Bool → ℕ → ℕ → ℕ → NodePart → Seat
+seat_away told n e count p = seat_decided told n e count p p.row
+
+abbrev pub seat_in : FrontPart → (ℕ → NodePart) → FrontConn → Seat
+seat_in f nodes (stage.Held b) = Held b (rest_of f.rest).count
+seat_in f nodes (stage.Waiting b) = Waiting b (rest_of f.rest).count
+seat_in f nodes stage.Lent = Unborn
+seat_in f nodes (stage.Offering n e) = seat_away false n e.0 (rest_of f.rest).count (nodes n)
+seat_in f nodes (stage.Moved n e) = seat_away true n e.0 (rest_of f.rest).count (nodes n)
+seat_in f nodes (stage.Closed last) = Over last
+
+abbrev pub seat_by : FrontPart → (ℕ → NodePart) → Option FrontRow → Seat
+seat_by f nodes None = Unborn
+seat_by f nodes (Some row) = seat_in f nodes row.stage
+
+unfoldable pub seat_of : Part → Seat
+seat_of p = seat_by p.front p.nodes p.front.row
+
+-- a node tells the end of its stay in this epoch until that is acknowledged
+abbrev pub telling : BackConn → ℕ → Option ℕ
+telling (back.Here b) e = None
+telling back.Out e = None
+telling back.Ended e = Some e
+telling back.Gone e = None
+
+abbrev pub tells_end : Option BackRow → Option ℕ
+tells_end None = None
+tells_end (Some row) = telling row.stage row.epoch.0

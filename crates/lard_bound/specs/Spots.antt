@@ -1,0 +1,78 @@
+-- What of a connection decides how much comes of a packet: it changes only where a unit goes.
+use Rattle.std.specs.Prelude.{ℕ, Bool, List, length, Option}
+use Rattle.lard_answers.specs.Answers.{FilesAt}
+use Rattle.lard_bound.specs.Seats.{Gone, Held, Here, Offered, Over, Seat, Staying, Unborn, Waiting, seat_of, tells_end}
+use Rattle.lard_bound.specs.Units.{taken}
+use Rattle.lard_client.specs.declared.phase.Phase.{Phase}
+use Rattle.lard_client.specs.declared.phase.Phase.TheVariants as phase
+use Rattle.lard_client.specs.Control.{ClientBlock}
+use Rattle.lard_cluster_view.specs.View.{Part}
+use Rattle.lard_endpoint.specs.Control.{ControlBlock, rcv_nxt}
+use Rattle.lard_endpoint.specs.declared.control.moving.Final.{Final}
+use Rattle.lard_node_rules.specs.Stay.{named_paths}
+use Rattle.lard_resend.specs.declared.kept.Kept.{Kept}
+use Rattle.lard_rules.specs.declared.places.Station.{Station}
+use Rattle.lard_send.specs.Send.{symbols}
+
+-- Of an endpoint: how many of its symbols are acknowledged, how many it has, and, where its client was aborted, the number that it
+-- awaits.
+pub record Ends : Type 0 where
+  pub una : ℕ
+  pub symbols : ℕ
+  pub awaited : ℕ
+
+-- Of a stay: the number of its last Ask, how many requests of its batch have no node yet, the Ask and the Fetches that await an answer.
+pub record Awaits : Type 0 where
+  pub asks : ℕ
+  pub named : ℕ
+  pub kept : List Kept
+  pub fetches : List Kept
+
+pub data Post : Type 0 where
+  Nowhere : Post
+  AtFront : Ends → Post
+  InLine : Post
+  OnOffer : ℕ → ℕ → Post
+  AtNode : Bool → ℕ → ℕ → Ends → Awaits → Post
+  Left : Bool → ℕ → ℕ → Post
+  Ended : Final → ℕ → Post  -- the last numbers, and how many symbols of the cluster the client took
+
+pub record Spot : Type 0 where
+  pub phase : Phase
+  pub isn : ℕ
+  pub iss : ℕ
+  pub una : ℕ  -- how many symbols of the client's it knows to be taken
+  pub last : ℕ  -- how many it has
+  pub post : Post
+  pub telling : ℕ → Option ℕ  -- in which epoch each node ended a stay whose end is not acknowledged
+
+abbrev pub awaited_in : ControlBlock → Phase → ℕ
+awaited_in b phase.Open = 0
+awaited_in b phase.Aborted = rcv_nxt b
+awaited_in b phase.Reset = 0
+
+abbrev pub ends_of : ClientBlock → ControlBlock → Ends
+ends_of x b = record { una = b.send.una; symbols = symbols b.send; awaited = awaited_in b x.phase }
+
+abbrev pub awaits_of : FilesAt → Staying → Awaits
+awaits_of files s = record { asks = s.stay.asks; named = length (named_paths files s.stay.batch); kept = s.kept; fetches = s.fetches }
+
+abbrev pub post_of : FilesAt → ClientBlock → Seat → Post
+post_of files x Unborn = Nowhere
+post_of files x (Held b count) = AtFront (ends_of x b)
+post_of files x (Waiting b count) = InLine
+post_of files x (Offered n e count) = OnOffer n e
+post_of files x (Here told n e b s) = AtNode told n e (ends_of x b) (awaits_of files s)
+post_of files x (Gone told n e) = Left told n e
+post_of files x (Over last) = Ended last (taken x)
+
+unfoldable pub spot_of : FilesAt → Part → Station → Spot
+spot_of files p s = record {
+  phase = s.client.phase;
+  isn = s.client.send.iss;
+  iss = s.iss;
+  una = s.client.send.una;
+  last = symbols s.client.send;
+  post = post_of files s.client (seat_of p);
+  telling = λ n. tells_end (p.nodes n).row;
+}

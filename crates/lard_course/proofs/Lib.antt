@@ -1,0 +1,4 @@
+pub mod Moves
+pub mod Lasting
+pub mod Staying
+pub mod Going

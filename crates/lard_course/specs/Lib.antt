@@ -1,0 +1,3 @@
+pub mod Course
+pub mod Game
+pub mod Laws
