@@ -1,7 +1,7 @@
 // The look-ups of `lard_bench lookups N` in plain C, beside which bench/run measures the cache: lookups N. A path that is
-// there goes to the front, any other is put in front, and paths drop from the end while there are too many. Each path
-// has its bytes in a buffer of its own, as a `Vec<u8>` of Rust has; with -DINLINE they stand in the entry, one wait for
-// memory less for each look-up.
+// there goes to the front, any other is put in front, and paths drop from the end while there are too many. Each path, of
+// those that are looked up and of those that are kept, has its bytes in a buffer of its own, as a `Vec<u8>` of Rust has;
+// with -DINLINE those that are kept stand in the entry, one wait for memory less for each look-up.
 #include <stdint.h>
 #include <stdio.h>
 #include <stdlib.h>
@@ -15,28 +15,44 @@ enum { PATHS = 100000, MOST = 65536, BUCKETS = 1 << 17, SIZE = 1024 };
 #define ROOM(len) 0
 #endif
 
+// a `Vec<u8>`: its bytes, how many there are, and how many there is room for
+struct vec {
+    unsigned char *bytes;
+    size_t len, room;
+};
+
 struct entry {
     struct entry *chained, *before, *behind;
-    uint32_t len, size;
 #ifdef INLINE
+    size_t len;
+    uint32_t size;
     unsigned char path[];
 #else
-    unsigned char *path;
+    struct vec path;
+    uint32_t size;
 #endif
 };
+
+#ifdef INLINE
+#define BYTES(entry) ((entry)->path)
+#define LEN(entry) ((entry)->len)
+#else
+#define BYTES(entry) ((entry)->path.bytes)
+#define LEN(entry) ((entry)->path.len)
+#endif
 
 static struct entry *buckets[BUCKETS], ends;
 static uint64_t count, bytes, limit = (uint64_t)MOST * SIZE;
 
-static uint64_t hash_of(const unsigned char *path, uint32_t len) {
+static uint64_t hash_of(const unsigned char *path, size_t len) {
     uint64_t hash = 14695981039346656037u;
-    for (uint32_t i = 0; i < len; i++) hash = (hash ^ path[i]) * 1099511628211u;
+    for (size_t i = 0; i < len; i++) hash = (hash ^ path[i]) * 1099511628211u;
     return hash ^ hash >> 32;
 }
 
-static struct entry **place_of(const unsigned char *path, uint32_t len) {
+static struct entry **place_of(const unsigned char *path, size_t len) {
     struct entry **at = &buckets[hash_of(path, len) % BUCKETS];
-    while (*at && ((*at)->len != len || memcmp((*at)->path, path, len))) at = &(*at)->chained;
+    while (*at && (LEN(*at) != len || memcmp(BYTES(*at), path, len))) at = &(*at)->chained;
     return at;
 }
 
@@ -49,7 +65,7 @@ static void put_first(struct entry *e) {
     ends.behind = e;
 }
 
-static int hit(const unsigned char *path, uint32_t len) {
+static int hit(const unsigned char *path, size_t len) {
     struct entry *e = *place_of(path, len);
     if (!e) return 0;
     unlink_entry(e);
@@ -57,7 +73,7 @@ static int hit(const unsigned char *path, uint32_t len) {
     return 1;
 }
 
-static int put(const unsigned char *path, uint32_t len, uint32_t size) {
+static int put(const unsigned char *path, size_t len, uint32_t size) {
     if (size > limit) return 1;
     struct entry **at = place_of(path, len);
     if (*at) {
@@ -66,26 +82,27 @@ static int put(const unsigned char *path, uint32_t len, uint32_t size) {
     } else {
         *at = malloc(sizeof **at + ROOM(len));
         if (!*at) return 0;
-#ifndef INLINE
-        (*at)->path = malloc(len);
-        if (!(*at)->path) return 0;
+#ifdef INLINE
+        (*at)->len = len;
+#else
+        (*at)->path = (struct vec){malloc(len), len, len};
+        if (!(*at)->path.bytes) return 0;
 #endif
         (*at)->chained = NULL;
-        (*at)->len = len;
-        memcpy((*at)->path, path, len);
+        memcpy(BYTES(*at), path, len);
         count++;
     }
     (*at)->size = size;
     bytes += size;
     put_first(*at);
     while (count > MOST || bytes > limit) {
-        struct entry *last = ends.before, **from = place_of(last->path, last->len);
+        struct entry *last = ends.before, **from = place_of(BYTES(last), LEN(last));
         *from = last->chained;
         unlink_entry(last);
         count--;
         bytes -= last->size;
 #ifndef INLINE
-        free(last->path);
+        free(last->path.bytes);
 #endif
         free(last);
     }
@@ -94,20 +111,20 @@ static int put(const unsigned char *path, uint32_t len, uint32_t size) {
 
 int main(int argc, char **argv) {
     long times = argc > 1 ? atol(argv[1]) : 1, hits = 0;
-    static unsigned char *paths[PATHS];
+    static struct vec paths[PATHS];
     uint64_t seed = 1;
     ends.before = ends.behind = &ends;
     for (uint32_t i = 0; i < PATHS; i++) {
-        paths[i] = malloc(11);
-        if (!paths[i]) return 1;
-        memcpy(paths[i], "/files/", 7);
-        for (int k = 0; k < 4; k++) paths[i][7 + k] = (unsigned char)(i >> (24 - 8 * k));
+        paths[i] = (struct vec){malloc(11), 11, 11};
+        if (!paths[i].bytes) return 1;
+        memcpy(paths[i].bytes, "/files/", 7);
+        for (int k = 0; k < 4; k++) paths[i].bytes[7 + k] = (unsigned char)(i >> (24 - 8 * k));
     }
     for (long i = 0; i < times; i++) {
         seed = (seed * 1103515245 + 12345) % (1u << 31);
-        const unsigned char *path = paths[seed % PATHS];
-        if (hit(path, 11)) hits++;
-        else if (!put(path, 11, SIZE)) return 1;
+        const struct vec *path = &paths[seed % PATHS];
+        if (hit(path->bytes, path->len)) hits++;
+        else if (!put(path->bytes, path->len, SIZE)) return 1;
     }
     printf("%ld look-ups, %ld hits\n", times, hits);
     return 0;
