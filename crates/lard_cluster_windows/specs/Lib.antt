@@ -1,0 +1,5 @@
+pub mod Early
+pub mod Laws
+pub mod Refusals
+pub mod Windows
+pub mod Words
