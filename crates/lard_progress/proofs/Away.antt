@@ -48,7 +48,7 @@ abbrev pub IsWith : Bool → ℕ → ℕ → FrontConn → Type 0
 IsWith false n e c = c ≡ stage.Offering n (record { 0 = e })
 IsWith true n e c = c ≡ stage.Moved n (record { 0 = e })
 
-put-there : (nodes : ℕ → NodePart) (n : ℕ) (q : NodePart) → node_put nodes n q n ≡ q
+pub put-there : (nodes : ℕ → NodePart) (n : ℕ) (q : NodePart) → node_put nodes n q n ≡ q
 put-there nodes n q = cond-true (n == n) q (nodes n) (self n)
 
 pub seat-with : (p : Part) (n e : ℕ) (told : Bool) (row : FrontRow) → p.front.row ≡ Some row → IsWith told n e row.stage → seat_of p ≡ seat_away told n e (rest_of p.front.rest).count (p.nodes n)
@@ -127,7 +127,7 @@ tells-one q = cond_both (is_some (tells_end q.row)) 1 0 (λ z. z ≤ 1) (λ t. o
 pub stay-less : (k : Whole) (r r' c c' : ℕ) → r ≤ r' → r' ≤ k.requests → c' + 4 * r ≤ c + 4 * r' → 4 * (k.requests - r') + c' ≤ 4 * (k.requests - r) + c
 stay-less k r r' c c' up in_ cheap = omega arith
 
-stay-same : (k : Whole) (r r' c c' : ℕ) → r ≤ r' → r' ≤ k.requests → c' + 4 * r < c + 4 * r' → 4 * (k.requests - r') + c' < 4 * (k.requests - r) + c
+pub stay-same : (k : Whole) (r r' c c' : ℕ) → r ≤ r' → r' ≤ k.requests → c' + 4 * r < c + 4 * r' → 4 * (k.requests - r') + c' < 4 * (k.requests - r) + c
 stay-same k r r' c c' up in_ cheap = omega arith
 
 module _ (k : Whole) (K : ℕ) (files : FilesAt) (p : Part) (st : Station) (n : ℕ) (told : Bool) (row : FrontRow) (b : ControlBlock) (env : NodeEnv)

@@ -118,8 +118,8 @@ module _ (env : NodeEnv) (fetches : List Kept) where
 
   pub tagged-on : (nodes : List ℕ) (w : Work) → let b = tagged env nodes w in
       (length b.batch ≡ length w.batch) × (batch_left b.batch + wanted b ≤ batch_left w.batch + wanted w) × (b.service.block ≡ w.service.block) × (b.service.count ≡ w.service.count)
-      × (b.service.over ≡ w.service.over) × (b.asked ≡ w.asked)
-  tagged-on nodes w = let h = starts-all nodes 0 (w.service.count + 1) w.batch (record w { batch = [] }) in let l = h.longer in let k = h.costs in (omega (arith, l), omega (arith, k), h.block, h.count, h.over, h.asked)
+      × (b.service.over ≡ w.service.over) × (b.asked ≡ w.asked) × (b.asks ≡ w.asks)
+  tagged-on nodes w = let h = starts-all nodes 0 (w.service.count + 1) w.batch (record w { batch = [] }) in let l = h.longer in let k = h.costs in (omega (arith, l), omega (arith, k), h.block, h.count, h.over, h.asked, h.asks)
 
 -- ---- what comes for one request
 

@@ -68,7 +68,7 @@ module _ (k : Whole) (K : ℕ) (files : FilesAt) (p : Part) (st : Station) (b : 
   unfolding seat_of
   seat-waits f row rest d n = refl
 
-  carries : (env : NodeEnv) (d : ControlBlock) (w : Service) (e : ControlBlock) → Came d → Further (serving d count []) w → IsSaid w.block e → Carries x b e count w.count
+  pub carries : (env : NodeEnv) (d : ControlBlock) (w : Service) (e : ControlBlock) → Came d → Further (serving d count []) w → IsSaid w.block e → Carries x b e count w.count
   carries env d w e came h said = record {
     una = let a : e.send.una ≡ w.block.send.una = said.una in let c : w.block.send.una ≡ d.send.una = h.una in let u : b.send.una ≤ d.send.una = came.una in omega (arith, a, c, u);
     shut = λ t. said.finished ∙ h.shut (came.shut t);

@@ -98,7 +98,7 @@ module _ (k : Whole) (K : ℕ) (files : FilesAt) (p : Part) (st : Station) where
     abbrev count : ℕ
     count = (rest_of p.front.rest).count
 
-    over-there : (q : NodePart) → q.row ≡ Some (record { stage = back.Ended; epoch = record { 0 = env.epoch } }) → To (with_node p n q)
+    pub over-there : (q : NodePart) → q.row ≡ Some (record { stage = back.Ended; epoch = record { 0 = env.epoch } }) → To (with_node p n q)
     over-there q is =
         let seat : seat_of (with_node p n q) ≡ Gone false n env.epoch = seat-put p n env.epoch false row q front with_ ∙ away-ended false n env.epoch count q is in
         let e = ended-untaken x.phase in let more = tellers-put p.nodes n q K in let one = tells-one q in
@@ -164,10 +164,10 @@ module _ (k : Whole) (K : ℕ) (files : FilesAt) (p : Part) (st : Station) where
 
   -- ---- the node hears that its end is known
 
-  pub acknowledged-less : (n : ℕ) (q : NodePart) (last : Final) → seat_of p ≡ Over last → seat_of (with_node p n q) ≡ Over last → 1 ≤ n → n ≤ K → tells (p.nodes n) ≡ 1 → tells q ≡ 0 → To (with_node p n q)
-  acknowledged-less n q last was now some within told quiet =
+  pub acknowledged-less : (n : ℕ) (q : NodePart) (z : Seat) → seat_of p ≡ z → seat_of (with_node p n q) ≡ z → 1 ≤ n → n ≤ K → tells (p.nodes n) ≡ 1 → tells q ≡ 0 → To (with_node p n q)
+  acknowledged-less n q z was now some within told quiet =
       let f = fewer p.nodes n q some told quiet K within in
-      falls k K files p (with_node p n q) st (Over last) (Over last) was now (omega (arith, f))
+      falls k K files p (with_node p n q) st z z was now (omega (arith, f))
     where
       above : (nodes : ℕ → NodePart) (n : ℕ) (q : NodePart) (m : ℕ) → m < n → tellers (node_put nodes n q) m ≡ tellers nodes m
       above nodes n q zero low = refl

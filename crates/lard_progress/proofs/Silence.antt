@@ -65,7 +65,7 @@ pub record IsKept (s t : Sending) : Type 0 where
 kept-self : (s : Sending) → IsKept s s
 kept-self s = record { nxt = refl; mss = refl; total = refl; finished = refl; iss = refl }
 
-ack-kept : (s t : Sending) (ack seq wnd : ℕ) → IsKept s t → IsKept s (after_ack t ack seq wnd)
+pub ack-kept : (s t : Sending) (ack seq wnd : ℕ) → IsKept s t → IsKept s (after_ack t ack seq wnd)
 ack-kept s t ack seq wnd h =
     let up = moved_up t (seq_offset ack t.iss) in
     let u : IsKept s up = cond_both (nat_lt t.una (seq_offset ack t.iss)) (record t { una = seq_offset ack t.iss; rest = drop ((seq_offset ack t.iss - 1) - (t.una - 1)) t.rest }) t (IsKept s)

@@ -1,7 +1,8 @@
 -- After a round all that is on its way is as what is sent in a round is.
-use Rattle.std.proofs.Common.{ℕ, zero, suc, ◌<◌, ◌≤◌, List, [], ◌∷◌, sym, subst, ⊎_elim, arith}
+use Rattle.std.proofs.Common.{ℕ, zero, suc, ◌+◌, ◌*◌, ◌≡◌, ◌<◌, ◌≤◌, List, [], ◌∷◌, sym, subst, ⊎_elim, arith}
 use Rattle.lard_rounds.specs.Ripening.{Ripens, Turns}
-use Rattle.lard_rounds.specs.Rounds.{FireOn, Game, Item, Job, Packet, Round, Shoots, Takes, Works}
+use Rattle.lard_rounds.proofs.Resting.{rests}
+use Rattle.lard_rounds.specs.Rounds.{FireOn, Game, Item, Job, Owes, Packet, Round, Rounds, Shoots, Takes, Works}
 
 module _ {M J : Type 0} (g : Game M J) (Good : M → Type 0) (Before After : M → ℕ → Type 0) (o : Ripens g Good Before After) where
   -- within a round, in which at first so many packets were sent
@@ -52,3 +53,21 @@ module _ {M J : Type 0} (g : Game M J) (Good : M → Type 0) (Before After : M �
       (h.good, λ k on. h.news k on (w.emptied k on)))
       (λ (s : Shoots g m n). fires-on (suc s.more) m n good (λ k on. absurd (s.idle.packets k on)) (s.after, o.are_timers m s.after s.begins, s.rest))
       r
+
+-- ---- two rounds before
+
+-- Where two rounds lead to what is known of a state, and few units are left then, it comes to rest.
+module _ {M J : Type 0} (g : Game M J) (longest reach : ℕ) (o : Owes g longest reach) (Begun Between : M → Type 0) (r : ℕ)
+    (first : (m n : M) → Begun m → Round g m n → Between n)
+    (second : (m n : M) → Between m → Round g m n → g.good n × ((longest + 1 + reach) * (g.units n + 1) ≤ r)) where
+  after-one : (m n : M) → Between m → Rounds g (suc r) m n → g.is_quiet n
+  after-one m n between t = ⊎_elim
+      (λ (e : g.is_quiet m × (n ≡ m)). subst g.is_quiet (sym e.1) e.0)
+      (λ (e : (l : M) × Round g m l × Rounds g r l n). let h = second m e.0 between e.1 in rests g longest reach o r e.0 n h.0 h.1 e.2)
+      t
+
+  pub ripe-rests : (m n : M) → Begun m → Rounds g (suc (suc r)) m n → g.is_quiet n
+  ripe-rests m n begun t = ⊎_elim
+      (λ (e : g.is_quiet m × (n ≡ m)). subst g.is_quiet (sym e.1) e.0)
+      (λ (e : (l : M) × Round g m l × Rounds g (suc r) l n). after-one e.0 n (first m e.0 begun e.1) e.2)
+      t
