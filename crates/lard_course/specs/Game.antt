@@ -10,7 +10,7 @@ use Rattle.lard_bound.specs.Progress.{spot_at}
 use Rattle.lard_bound.specs.Spots.{Spot}
 use Rattle.lard_bound.specs.Units.{Whole, units_of}
 use Rattle.lard_cluster.specs.declared.machine.Machine.{Machine}
-use Rattle.lard_cluster.specs.Bounds.{IsNumber}
+use Rattle.lard_cluster.specs.Bounds.{HasTimer, IsNumber}
 use Rattle.lard_cluster.specs.Machine.{machine_step, node_at}
 use Rattle.lard_cluster_view.specs.View.{conn}
 use Rattle.lard_course.specs.Course.{NearIn, chain_in}
@@ -33,15 +33,15 @@ Waits m t = (s : NodeState) × (node_at m.nodes t.0 ≡ Some s) × Has t.1 s.dis
 abbrev pub Completes : Machine → Task → Machine → Type 0
 Completes m t n = (s : NodeState) × (node_at m.nodes t.0 ≡ Some s) × (job_at s.disk 1 ≡ Some t.1) × (machine_step m (event.Disk t.0 1) ≡ Ok n)
 
--- a timer fires; and the first of those that are due at a place of its own
+-- a timer of a place's own fires; and the first of those that are due at a place of its own
 abbrev pub FiresAt : Machine → Machine → Type 0
-FiresAt m n = (p : Place) × (c : ℕ) × (machine_step m (event.Timer p c) ≡ Ok n)
+FiresAt m n = (p : Place) × (c : ℕ) × HasTimer p c × (machine_step m (event.Timer p c) ≡ Ok n)
 
 abbrev pub seats_due : Machine → List (Place × ℕ)
 seats_due m = filter is_own (due m.front.dispatch (agenda_of m.journal))
 
 abbrev pub Begins : Machine → Machine → Type 0
-Begins m n = (p : Place) × (c : ℕ) × (more : List (Place × ℕ)) × (seats_due m ≡ (p, c) ∷ more) × (machine_step m (event.Timer p c) ≡ Ok n)
+Begins m n = (p : Place) × (c : ℕ) × (more : List (Place × ℕ)) × HasTimer p c × (seats_due m ≡ (p, c) ∷ more) × (machine_step m (event.Timer p c) ≡ Ok n)
 
 abbrev pub JobNearOn : Machine → Task → ℕ → Option Spot → Type 0
 JobNearOn m t d None = ⊥

@@ -67,7 +67,7 @@ module _ (Q : Place → ℕ → Type 0) where
   none-timed : AreTimed nothing.running
   none-timed at r e = let h : None ≡ Some r = sym (get-empty nat_cmp at) ∙ e in absurd cc
 
-  agenda-timed : (J : List Rec) → Each OfTimer J → AreTimed (agenda_of J).running
+  pub agenda-timed : (J : List Rec) → Each OfTimer J → AreTimed (agenda_of J).running
   unfolding agenda_of
   agenda-timed J all = all-timed J nothing none-timed all
 

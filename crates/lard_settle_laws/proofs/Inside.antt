@@ -20,7 +20,7 @@ no-timers : (rs : List Running) → no_seats (map (λ r. (r.place, r.c)) rs) ≡
 no-timers [] h = refl
 no-timers (r ∷ rs) h = cc
 
-quiet-left : (m : Machine) → is_quiet m ≡ true → left m ≡ 0
+pub quiet-left : (m : Machine) → is_quiet m ≡ true → left m ≡ 0
 quiet-left m h =
     let parts = and_parts (rests m.front.dispatch (agenda_of m.journal)) (jobs_left m == 0) h in
     let timers : timers_left m.front.dispatch (agenda_of m.journal) ≡ 0 = no-timers (firing m.front.dispatch (agenda_of m.journal)) parts.0 in

@@ -37,12 +37,12 @@ use Rattle.lard_view.proofs.Shapes.{behind}
 -- ---- records
 
 -- a timer is one of a connection, and a client has those of its own
-abbrev IsNamed : Rec → Type 0
+abbrev pub IsNamed : Rec → Type 0
 IsNamed (rec.Armed p c kind) = HasTimer p c × IsNumber c
 IsNamed (rec.Cleared p c kind) = HasTimer p c × IsNumber c
 IsNamed _ = Unit {0}
 
-abbrev AreNamed : List Rec → Type 0
+abbrev pub AreNamed : List Rec → Type 0
 AreNamed rs = Each IsNamed rs
 
 note-named : (place : Place) (c : ℕ) (r : Rec) → NotedAt place c r → IsNamed r
@@ -177,7 +177,7 @@ module _ (config : Config) (files : List (List ℕ × List ℕ)) where
       let step : IsStepOf Moves k n e = step_acts k n e Moves on.view (subst (λ (s : Setting). Rules s Moves) (on-setting config files k on) (moves (setting config files))) rule is in
       subst AreNamed (sym step.journal) (Each-append IsNamed k.journal (rec.Event (k.events + 1) e ∷ step.adds) h (tt, adds-named k on.view e step.adds step.acts))
 
-  named-always : (m : Machine) → IsReached config files m → AreNamed m.journal
+  pub named-always : (m : Machine) → IsReached config files m → AreNamed m.journal
   named-always m r = carried-keep config files (λ k. AreNamed k.journal) tt step-named m r
 
 -- ---- seats
