@@ -3,13 +3,14 @@ use Rattle.std.proofs.Common.{◌≡◌, ℕ, List, [], ◌∷◌, ◌++◌, map
 use Rattle.std.proofs.lemmas.List.{map-append}
 use Rattle.std.proofs.lemmas.List.Sums.{fold-append}
 use Rattle.std.specs.List.{fold}
+use Rattle.lard_base.specs.declared.config.Config.{Config}
 use Rattle.lard_base.specs.declared.event.Event.TheVariants as event
 use Rattle.lard_base.specs.declared.place.Place.{Place}
 use Rattle.lard_base.specs.declared.place.Place.TheVariants.{Front, Node, Client}
 use Rattle.lard_client.specs.Control.{ClientBlock, is_armed}
 use Rattle.lard_cluster_clients.specs.Laws.{ClientsKeepTheirTables}
 use Rattle.lard_cluster_clients.proofs.Asides.{IsAside, asides-step, asides-still, machine-aside, same-station}
-use Rattle.lard_cluster_view.specs.Carry.{IsLaw, IsStepLaw, MayMove, setting}
+use Rattle.lard_cluster_view.specs.Carry.{IsLaw, IsStepLaw, MayMove, OfEach, setting}
 use Rattle.lard_cluster_view.specs.View.{Conn, IsNobody, Move, Rules, Setting, client_begins, client_does, grown, nothing_said, packet_seen, rows_of, seen_in, sending, stands, station_armed, timer_rows}
 use Rattle.lard_cluster_view.proofs.Carried.{carried}
 use Rattle.lard_cluster_view.proofs.Fine.{IsFine, IsItsOwn, fine}
@@ -35,12 +36,12 @@ use Rattle.lard_segment.specs.Segment.{decoded}
 
 -- ---- the state
 
-abbrev client_at : Option Station → Option ClientBlock
+abbrev pub client_at : Option Station → Option ClientBlock
 client_at None = None
 client_at (Some s) = Some s.client
 
 -- a client is what it saw makes of it
-abbrev IsFolded : Conn → Type 0
+abbrev pub IsFolded : Conn → Type 0
 IsFolded x = client_of x.c x.seen ≡ client_at x.part.station
 
 row-still : (c : ℕ) (o : Option ClientBlock) (r : Rec) → is_opening r ≡ false → client_step c o (Row r) ≡ o
@@ -193,6 +194,10 @@ stepping k = record {
       (λ x v owes may. subst (λ (o : Option ClientBlock). IsClientStep x.c o (seen_in x v)) (sym may.given) (owes may.number may.sound).step) (owing k);
 }
 
+-- each client is what it saw, in every run
+pub clients-folded : (config : Config) (files : List (List ℕ × List ℕ)) → OfEach config files IsFolded
+clients-folded config files = carried config files Anything IsFolded (folding (setting config files)) (λ m r q. tt)
+
 pub clients-keep : ClientsKeepTheirTables
 clients-keep config files m r = carried-steps config files IsFolded MustKeepTables (λ c past seen. IsClientStep c (client_of c past) seen) (λ past s h. h)
-    (stepping (setting config files)) (carried config files Anything IsFolded (folding (setting config files)) (λ m r q. tt)) m r
+    (stepping (setting config files)) (clients-folded config files) m r

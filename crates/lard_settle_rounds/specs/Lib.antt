@@ -1,0 +1,3 @@
+pub mod ToDo
+pub mod Rounds
+pub mod Laws
