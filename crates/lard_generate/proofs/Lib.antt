@@ -1,8 +1,8 @@
-mod Answered
+pub mod Answered
 mod Assembling
 mod Costs
 mod Listing
-mod Making
+pub mod Making
 mod Paths
-mod Ranges
+pub mod Ranges
 pub mod Spelled
