@@ -18,6 +18,8 @@ use Rattle.lard_journal.specs.Range.{IsNumber}
 use Rattle.lard_laws_records.proofs.Bytes.{each-all}
 use Rattle.lard_settling.specs.Events.{LeadsTo}
 use Rattle.lard_settle_laws.proofs.Order.{in-order}
+use Rattle.lard_settle.proofs.Enough.{runs-settle}
+use Rattle.lard_settle_rounds.proofs.Runs.{take-rounds}
 use Rattle.lard_settling.specs.Written.{IsWrittenOut, written_out}
 use Rattle.lard_app.specs.Happened.{Happened}
 use Rattle.lard_app.proofs.Granted.{IsGrantedBy, granted-events, leads-granted}
@@ -32,6 +34,8 @@ module _ (config : Config) (files : List (List ℕ × List ℕ)) (checked : conf
     follows = subst (λ (ds : List Event). Follows 1 ds (written_out m.journal)) (plain-events config files m w) (subst (Follows 1 w.reached.0) w.journal (follows config files w.reached.0 w.plain w.reached.1));
     laws = subst (IsLawful config (file_at files)) w.journal (journals-lawful config files w.plain checked w.reached);
     settles = in-order config files es m leads;
+    rounds = take-rounds config files es m checked leads;
+    enough = runs-settle config files checked (each-all IsFile files are) es m (each-all IsGiven es given) leads;
     messages = subst (EachMay MayTalk []) w.journal
         (packets-decode config files w.reached.0 w.plain checked (each-all IsFile files are) (each-all IsGiven w.reached.0 (granted-events config files checked nodes are m granted)) w.reached.1);
   } where

@@ -22,6 +22,7 @@ mod Numbers
 mod Passing
 mod Pieces
 mod Played
+mod Quieted
 mod Ranges
 mod Reached
 mod Reading

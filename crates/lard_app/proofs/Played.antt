@@ -103,6 +103,16 @@ front line m (e ∷ es) may = go (event_step m e) refl (λ n. front (line + 1) n
         all = λ h. f.all (sym (ap (λ (p : Machine × Status). p.1) (played-goes line m n e es is)) ∙ h);
       }
 
+-- where the run is done, all of them were done
+pub played-done : (line : ℕ) (m : Machine) (events : List Event) → Each MayCome events → (played line m events).1 ≡ Done → Goes m events (played line m events).0
+played-done line m [] may h = refl
+played-done line m (e ∷ es) may h = go (event_step m e) refl (λ n. played-done (line + 1) n es may.1) where
+  go : (x : Result Machine Stop) → event_step m e ≡ x → ((n : Machine) → (played (line + 1) n es).1 ≡ Done → Goes n es (played (line + 1) n es).0) → Goes m (e ∷ es) (played line m (e ∷ es)).0
+  go (Err stop) is later = absurd (not-done line stop.1 (sym (ap (λ (p : Machine × Status). p.1) (played-stops line m e es stop is)) ∙ h))
+  go (Ok n) is later =
+      let same = played-goes line m n e es is in
+      subst (λ (p : Machine × Status). Goes m (e ∷ es) p.0) (sym same) (n, may.0, is, later n (sym (ap (λ (p : Machine × Status). p.1) same) ∙ h))
+
 -- ---- why they end
 
 -- a fault of an event that may come is a limit

@@ -20,7 +20,8 @@ use Rattle.lard_app.specs.Generate.{EndsLeft, EndsPlay, Generated, Gives, Prints
 use Rattle.lard_settle_laws.proofs.Firing.{each-parts}
 use Rattle.lard_app.proofs.Happened.{happened}
 use Rattle.lard_app.proofs.Fit.{IsFit}
-use Rattle.lard_app.proofs.Played.{Front, caused, front}
+use Rattle.lard_app.proofs.Played.{Front, caused, front, played-done}
+use Rattle.lard_app.proofs.Quieted.{ends-settled}
 use Rattle.lard_app.proofs.Ranges.{event-ranged, file-ranged}
 use Rattle.lard_app.proofs.Steps.{may-come}
 use Rattle.lard_app.proofs.Timely.{are-timely}
@@ -61,6 +62,7 @@ module _ (seed clients : ℕ) where
         journal = (run_of seed clients).0.journal;
         is = refl;
         happened = happened large (generated seed clients).files refl (omega arith) files f.done (run_of seed clients).0 (front-given f.done f.rest f.are) f.leads;
+        settles = λ done. ends-settled seed clients files (given few) (run_of seed clients).0 (played-done first_line (begins (generated seed clients)) (generated seed clients).events (come few) done);
         printed = printed;
         causes = λ other. caused first_line (begins (generated seed clients)) (generated seed clients).events (come few) fit (are-timely seed clients fit) other;
       } where

@@ -13,6 +13,7 @@ use Rattle.lard_cluster.specs.declared.machine.Machine.{Machine}
 use Rattle.lard_generate.specs.Generated.{generated}
 use Rattle.lard_generate.specs.declared.schedule.Schedule.{Schedule}
 use Rattle.lard_journal.specs.declared.rec.Rec.{Rec}
+use Rattle.lard_journal.specs.declared.rec.Rec.TheVariants as rec
 use Rattle.lard_settling.specs.Events.{Goes, event_step}
 use Rattle.lard_settling.specs.Settling.{Stop}
 use Rattle.lard_summary.specs.Lines.{summary}
@@ -79,6 +80,12 @@ Prints given (Refused line why) text old new = ⊥
 Prints given Usage text old new = ⊥
 Prints given ReadFault text old new = ⊥
 
+-- ---- how its settle ends
+
+-- the last record tells that a settle ended with nothing left to do
+abbrev pub EndsSettled : List Rec → Type 0
+EndsSettled J = (before : List Rec) × (done : ℕ) × (J ≡ before ++ rec.Settled done ∷ [])
+
 -- ---- the whole
 
 -- All that a generated run says: which events happened, its journal with the laws, what was printed, and why it ended.
@@ -92,6 +99,8 @@ pub record Generated (seed clients : ℕ) (status : Status) (old new : Option (L
   pub journal : List Rec
   pub is : (run_of seed clients).0.journal ≡ journal
   pub happened : Happened large (generated seed clients).files events journal
+  -- where the run is done, the settle of the schedule ended with nothing left to do
+  pub settles : (run_of seed clients).1 ≡ Done → EndsSettled journal
   -- the four lines say what is counted of this journal
   pub printed : Prints (run_of seed clients).1 status (summary seed clients journal) old new
   -- the run ends with a status exactly where an event, or that none is left, gives its cause

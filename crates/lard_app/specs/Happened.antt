@@ -12,6 +12,8 @@ use Rattle.lard_files.specs.Files.{file_at}
 use Rattle.lard_history.specs.Laws.{EachMay, Follows}
 use Rattle.lard_journal.specs.declared.rec.Rec.{Rec}
 use Rattle.lard_journal.specs.declared.rec.Rec.TheVariants as rec
+use Rattle.lard_settle.specs.Enough.{MayLeave}
+use Rattle.lard_settle_rounds.specs.Rounds.{SettlesTakeRounds}
 use Rattle.lard_settling.specs.Events.{LeadsTo}
 use Rattle.lard_settling.specs.Order.{SettlesInOrder}
 use Rattle.lard_settling.specs.Written.{is_settle, written_out}
@@ -54,8 +56,14 @@ pub record Happened (config : Config) (files : List (List ℕ × List ℕ)) (eve
   pub numbered : events_told journal ≡ numbered_from 1 events
   pub follows : Follows 1 (steps_told journal) (written_out journal)
   -- The settles stand in order: between the event of one and the record that closes it stand its inner steps and what was told in them,
-  -- and these stand nowhere else. The last may be open. One that left something did as many rounds as its event names, any other no more.
+  -- and these stand nowhere else. The last may be open. One that left something tells as many rounds as its event names, any other no more.
   pub settles : SettlesInOrder journal
+  -- Behind the event of a settle each client that holds takes, and rounds follow as long as anything is left, at most as many as it names;
+  -- and the record that closes it tells how many there were, and what is left. If the last is open, what stands of it begins so.
+  pub rounds : SettlesTakeRounds config.nodes [] journal
+  -- A settle leaves something only where a packet was put on the way in a client's name, or a client wrote 16,383 bytes or more, or where
+  -- it did fewer rounds than the bound of the journal.
+  pub enough : EachMay (MayLeave (file_at files)) [] journal
   -- the laws that it obeys with its settles written out, each a field of their record
   pub laws : IsLawful config (file_at files) (written_out journal)
   -- machines of the cluster talk in messages

@@ -1,3 +1,4 @@
 pub mod Going
 pub mod Growth
 pub mod Ruled
+pub mod Enough

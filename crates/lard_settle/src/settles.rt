@@ -1,7 +1,8 @@
 //! A settle.
 
-ghost use Rattle.std.specs.Prelude.{◌≡◌, false, Ok, OnOk};
+ghost use Rattle.std.specs.Prelude.{◌≡◌, false, Ok, IfOk, OnOk};
 ghost use Rattle.lard_agenda.specs.Agenda.{IsAgendaOf};
+ghost use Rattle.lard_settle_bound.specs.Enough.{EndsWithEnough};
 ghost use Rattle.lard_settling.specs.Settling.{Does, Settles, all_inner, answer, closed_by, rounds_from, settled, settled_from, takes};
 
 use crate::left::left;
@@ -16,7 +17,8 @@ use std::alloc::Global;
 
 /// Settles: first each client that holds takes; then rounds of inner steps, at most so many, until no timer runs but those that are
 /// stalled and no job waits. Where a limit is reached inside, the world is as the steps before have left it. If memory ran out, its
-/// journal is a front of what it would have been.
+/// journal is a front of what it would have been. With as many rounds as the bound of the journal nothing is left, where no packet was
+/// put on the way in a client's name and each client wrote fewer than 16,383 bytes.
 pub fn settle(
     world: &mut World,
     agenda: &mut Agenda,
@@ -26,6 +28,7 @@ pub fn settle(
     requires usable { world.old.spoiled ≡ false }
     requires agenda { IsAgendaOf agenda.old world.old.machine.journal }
     ensures settled { Settles (settled world.old.machine rounds) world.new.machine result }
+    ensures enough { IfOk result (λ s. EndsWithEnough world.old.machine rounds s) }
     ensures usable { OnOk result (world.new.spoiled ≡ false) }
     ensures agenda { IsAgendaOf agenda.new world.new.machine.journal }
 {
