@@ -109,6 +109,19 @@ static int put(const unsigned char *path, size_t len, uint32_t size) {
     return 1;
 }
 
+// at their end both programs give back all that they keep, as the drop of a cache and of its paths does
+static void drop_all(struct vec *paths) {
+    for (struct entry *e = ends.behind; e != &ends;) {
+        struct entry *behind = e->behind;
+#ifndef INLINE
+        free(e->path.bytes);
+#endif
+        free(e);
+        e = behind;
+    }
+    for (int i = 0; i < PATHS; i++) free(paths[i].bytes);
+}
+
 int main(int argc, char **argv) {
     long times = argc > 1 ? atol(argv[1]) : 1, hits = 0;
     static struct vec paths[PATHS];
@@ -126,6 +139,7 @@ int main(int argc, char **argv) {
         if (hit(path->bytes, path->len)) hits++;
         else if (!put(path->bytes, path->len, SIZE)) return 1;
     }
+    drop_all(paths);
     printf("%ld look-ups, %ld hits\n", times, hits);
     return 0;
 }
