@@ -6,7 +6,7 @@ use Rattle.lard_cluster.specs.declared.fault.StepFault.{StepFault}
 use Rattle.lard_cluster.specs.declared.fault.StepFault.TheVariants as fault
 use Rattle.lard_cluster.specs.declared.machine.Machine.{Machine}
 use Rattle.lard_cluster.specs.Machine.{limit_reached, machine_step, passed, unless_limit}
-use Rattle.lard_cluster_world.proofs.Runs.{GoesOn, step-goes-on}
+use Rattle.lard_settle.proofs.Runs.{GoesOn, step-goes-on}
 use Rattle.lard_history.proofs.Each.{Each}
 use Rattle.lard_journal.specs.Inner.{turned_at}
 use Rattle.lard_journal.specs.declared.rec.Rec.{Rec}

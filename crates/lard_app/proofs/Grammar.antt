@@ -8,7 +8,7 @@ use Rattle.lard_base.specs.declared.event.Event.{Event}
 use Rattle.lard_base.specs.declared.event.Event.TheVariants as event
 use Rattle.lard_base.specs.declared.limits.TheConstants.{MAX_INPUT_BYTES}
 use Rattle.lard_cluster.specs.declared.machine.Machine.{Machine}
-use Rattle.lard_cluster_world.proofs.Runs.{GoesOn}
+use Rattle.lard_settle.proofs.Runs.{GoesOn}
 use Rattle.lard_files.specs.Files.{add_check}
 use Rattle.lard_files.specs.declared.fault.FileFault.{FileFault}
 use Rattle.lard_grammar.proofs.Parts.{reads_on}

@@ -5,8 +5,8 @@ use Rattle.lard_base.specs.declared.config.Config.{Config}
 use Rattle.lard_base.specs.declared.event.Event.{Event}
 use Rattle.lard_cluster.specs.Machine.{start}
 use Rattle.lard_cluster.specs.declared.machine.Machine.{Machine}
-use Rattle.lard_cluster_world.specs.Lawful.{IsLawful}
-use Rattle.lard_cluster_world.proofs.Lawful.{journals-lawful}
+use Rattle.lard_settle.specs.Lawful.{IsLawful}
+use Rattle.lard_settle.proofs.Lawful.{journals-lawful}
 use Rattle.lard_cluster_records.specs.Messages.{MayTalk}
 use Rattle.lard_cluster_records.specs.Records.{IsFile, IsGiven}
 use Rattle.lard_cluster_records.proofs.Talking.{packets-decode}

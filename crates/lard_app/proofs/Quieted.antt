@@ -10,7 +10,7 @@ use Rattle.lard_generate_bound.specs.Laws.{before_settle, rounds_of}
 use Rattle.lard_generate_bound.proofs.Reaching.{reach-the-bound, settles-last}
 use Rattle.lard_history.proofs.Each.{Each}
 use Rattle.lard_laws_records.proofs.Bytes.{each-all}
-use Rattle.lard_settle.proofs.Enough.{settled-enough}
+use Rattle.lard_settle.proofs.Enough.{settles-end-quiet}
 use Rattle.lard_settle_laws.proofs.Firing.{each-parts}
 use Rattle.lard_settling.specs.declared.settled.Settled.{Settled}
 use Rattle.lard_settling.specs.declared.settled.Settled.TheVariants.{Quiet}
@@ -73,5 +73,5 @@ ends-settled seed clients files given n goes =
     let before : Each IsGiven es = (each-parts IsGiven es (event.Settle rounds ∷ []) (subst (Each IsGiven) (settles-last seed clients) given)).0 in
     let reaches = reach-the-bound seed clients large m apart.1 in
     let comes = comes-to (settled m rounds) n (sym (settles-as m (event.Settle rounds) rounds refl) ∙ apart.3) in
-    let quiet = settled-enough m rounds n (Ok comes.0) comes.1 large (generated seed clients).files refl (each-all IsFile (generated seed clients).files files) es (each-all IsGiven es before) apart.1 reaches.1 reaches.0 in
+    let quiet = settles-end-quiet m rounds n comes.0 comes.1 large (generated seed clients).files refl (each-all IsFile (generated seed clients).files files) es (each-all IsGiven es before) apart.1 reaches.1 reaches.0 in
     subst Closes comes.1 (settled-ends m rounds) quiet.0 quiet.1

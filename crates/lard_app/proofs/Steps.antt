@@ -8,7 +8,7 @@ use Rattle.lard_base.specs.declared.place.Place.TheVariants as place
 use Rattle.lard_cluster.specs.Bounds.{HasRule}
 use Rattle.lard_cluster.specs.Machine.{machine_step}
 use Rattle.lard_cluster.specs.declared.machine.Machine.{Machine}
-use Rattle.lard_cluster_world.proofs.Runs.{GoesOn, step-goes-on}
+use Rattle.lard_settle.proofs.Runs.{GoesOn, step-goes-on}
 use Rattle.lard_journal.specs.declared.rec.Rec.{Rec}
 use Rattle.lard_schedule.specs.Events.{IsInRange}
 use Rattle.lard_settling.specs.Events.{MayCome, event_step}

@@ -6,7 +6,7 @@ use Rattle.lard_base.specs.declared.config.Config.{Config}
 use Rattle.lard_base.specs.declared.event.Event.{Event}
 use Rattle.lard_cluster.specs.Machine.{start}
 use Rattle.lard_cluster.specs.declared.machine.Machine.{Machine}
-use Rattle.lard_cluster_world.specs.Lawful.{IsLawful}
+use Rattle.lard_settle.specs.Lawful.{IsLawful}
 use Rattle.lard_cluster_records.specs.Messages.{MayTalk}
 use Rattle.lard_files.specs.Files.{file_at}
 use Rattle.lard_history.specs.Laws.{EachMay, Follows}

@@ -11,9 +11,9 @@ use crate::status::Status;
 use lard_agenda::Agenda;
 use lard_agenda::laws::agendas_go_on;
 use lard_base::{Bytes, Config, Events, Failed, NoMemory, Sink, write_all};
-use lard_cluster_world::World;
 use lard_generate::Schedule;
 use lard_journal::Journal;
+use lard_settle::World;
 use lard_summary::summary;
 use std::alloc::Global;
 

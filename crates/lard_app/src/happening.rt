@@ -16,8 +16,7 @@ use lard_agenda::Agenda;
 use lard_agenda::laws::agendas_go_on;
 use lard_base::Event;
 use lard_cluster::StepFault;
-use lard_cluster_world::World;
-use lard_settle::settle;
+use lard_settle::{World, settle};
 use std::alloc::Global;
 
 /// Does what an event does. After a fault the world is as it was, or, of a settle that had begun, as far as it came.

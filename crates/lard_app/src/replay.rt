@@ -10,7 +10,7 @@ ghost use Rattle.lard_schedule.specs.Files.{is_file_path};
 ghost use Rattle.lard_schedule.specs.Reader.{HasRange};
 ghost use Rattle.lard_agenda.specs.Agenda.{IsAgendaOf};
 ghost use Rattle.lard_app.specs.Replay.{CountsFault, EndsCount, IsSound, Passes, Writes, begin, begun, config_set, ended_by, ending, file_ends, filed, gain, item_gain, passed, taken};
-ghost use Rattle.lard_app.specs.Seen.{Adds, Does, Sets, Stops, seen};
+ghost use Rattle.lard_app.specs.Seen.{Adds, Sets, Stops, seen};
 
 use crate::happening::{ended_by, happen};
 use crate::status::{Status, Why, refused};
@@ -19,11 +19,11 @@ use lard_agenda::laws::agendas_go_on;
 use lard_base::limits::MAX_INPUT_BYTES;
 use lard_base::{Bytes, Config, Event, Failed, Key, NoMemory, Path, Sink, write_all};
 use lard_cluster::StepFault;
-use lard_cluster_world::World;
 use lard_files::{FileFault, Files};
 use lard_journal::{Journal, Rec, file_line, heading, push_line};
 use lard_machine::What;
 use lard_schedule::{Item, LineFault, Reader, Stage};
+use lard_settle::World;
 use std::alloc::Global;
 use std::mem;
 

@@ -1,9 +1,9 @@
 -- How many rounds surely settle a journal: by what its clients wrote, and what that is answered with.
-use Rattle.std.specs.Prelude.{ℕ, ◌+◌, ◌*◌, ◌≤◌, List, [], ◌∷◌, ◌++◌, length}
+use Rattle.std.specs.Prelude.{◌≡◌, ℕ, ◌+◌, ◌*◌, ◌<◌, ◌≤◌, false, List, [], ◌∷◌, ◌++◌, length}
 use Rattle.std.specs.List.{fold}
 use Rattle.lard_answers.specs.Answers.{FilesAt, answer_bytes}
 use Rattle.lard_block.specs.Blocks.{blocks}
-use Rattle.lard_history.specs.Journal.{wrote}
+use Rattle.lard_history.specs.Journal.{is_touched, wrote}
 use Rattle.lard_journal.specs.declared.rec.Rec.{Rec}
 use Rattle.lard_journal.specs.declared.rec.Rec.TheVariants as rec
 
@@ -30,6 +30,10 @@ bytes_of files J c = length (wrote J c) + length (answer_bytes files (wrote J c)
 -- 128 for each client and one more, 64 for each request, 16 for each byte that was written or is answered
 abbrev pub settling_bound : FilesAt → List Rec → ℕ
 settling_bound files J = 128 * (length (openers J) + 1) + 64 * total_of (requests_of J) (openers J) + 16 * total_of (bytes_of files J) (openers J)
+
+-- the schedule put no packet on the way in a client's name, and each client wrote fewer than 16,383 bytes
+abbrev pub IsOrdinary : List Rec → Type 0
+IsOrdinary J = (c : ℕ) → (is_touched J c ≡ false) × (length (wrote J c) < 16383)
 
 -- Nine rounds for each unit of what is left to do, nine more, and two before them are within the bound, where there are at most 14 units
 -- for each client, 7 for each request, and one for each byte.

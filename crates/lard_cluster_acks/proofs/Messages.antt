@@ -7,9 +7,8 @@ use Rattle.lard_base.specs.declared.parts.EndpointParts.{EndpointParts}
 use Rattle.lard_base.specs.declared.place.Place.TheVariants.{Front, Node}
 use Rattle.lard_base.specs.declared.place.Reason.{Reason}
 use Rattle.lard_cluster_acks.specs.Acks.{Bounds, EndActs, FrontBodyActs, LetterActsOn, NodeBodyActs, WordActs}
-use Rattle.lard_cluster_bytes.proofs.FrontMoves.{kinds-same}
-use Rattle.lard_cluster_bytes.proofs.Messages.{forwards-read}
-use Rattle.lard_cluster_places.proofs.Heads.{spelled-body}
+use Rattle.lard_cluster_bytes.proofs.Messages.{ended-fields, forwards-read}
+use Rattle.lard_cluster_places.proofs.Heads.{kinds-same, spelled-body}
 use Rattle.lard_cluster_view.specs.View.{Part}
 use Rattle.lard_endpoint.specs.declared.control.moving.Final.{Final}
 use Rattle.lard_endpoint.specs.Control.{ControlBlock, IsControlBlock}
@@ -20,9 +19,9 @@ use Rattle.lard_message.specs.declared.kind.Kind.TheVariants as kind
 use Rattle.lard_message.specs.declared.message.Body.{Body}
 use Rattle.lard_message.specs.declared.message.Body.TheVariants as body
 use Rattle.lard_message.specs.declared.message.Message.{Message}
-use Rattle.lard_message.specs.Message.{body_bytes, counted, flag_byte, kind_of, parts_bytes, reason_byte}
-use Rattle.lard_message.specs.Reading.{counted_at, decoded_message, ended_at, flag_at, number_at, offer_at, parts_at, reason_at}
-use Rattle.lard_message.proofs.Fields.{bind_then, flag_again, number_again, reason_again, some_same, wide32}
+use Rattle.lard_message.specs.Message.{counted, flag_byte, kind_of, parts_bytes}
+use Rattle.lard_message.specs.Reading.{counted_at, decoded_message, flag_at, number_at, offer_at, parts_at}
+use Rattle.lard_message.proofs.Fields.{bind_then, flag_again, number_again, some_same, wide32}
 use Rattle.lard_rules.specs.declared.places.Ending.TheVariants as ending
 use Rattle.lard_seq.specs.Seq.{one_if}
 use Rattle.lard_truth.proofs.Speaking.{one_small}
@@ -174,24 +173,6 @@ Ends = Reason × ℕ × ℕ
 ended_of : Ends → Body → Ends
 ended_of d (body.Ended why snd rcv n) = (why, snd, rcv)
 ended_of d _ = d
-
-ended-fields : (why : Reason) (snd rcv count : ℕ) → snd < 2 ^ 32 → rcv < 2 ^ 32 → (b : Body) (rest : List ℕ) → ended_at (body_bytes (body.Ended why snd rcv count)) ≡ Some (b, rest)
-    → (n : ℕ) × (body.Ended why snd rcv n ≡ b)
-unfolding ended_at
-ended-fields why snd rcv count s r b rest e =
-    let r3 : List ℕ = to_be_bytes w32 count in
-    let r2 : List ℕ = to_be_bytes w32 rcv ++ r3 in
-    let r1 : List ℕ = to_be_bytes w32 snd ++ r2 in
-    let y : Body × List ℕ = (b, rest) in
-    bind_then (reason_at (reason_byte why ∷ r1)) _ y e (λ a e1 n1.
-    bind_then (number_at w32 a.1) _ y n1 (λ t e2 n2.
-    bind_then (number_at w32 t.1) _ y n2 (λ u e3 n3.
-    bind_then (number_at w32 u.1) _ y n3 (λ v e4 n4.
-    let first : (why, r1) ≡ a = some_same (why, r1) a (sym (reason_again why r1) ∙ e1) in
-    let second : (snd, r2) ≡ t = some_same (snd, r2) t (sym (number_again w32 (2 ^ 32) wide32 snd r2 s) ∙ ap (λ (p : Reason × List ℕ). number_at w32 p.1) first ∙ e2) in
-    let third : (rcv, r3) ≡ u = some_same (rcv, r3) u (sym (number_again w32 (2 ^ 32) wide32 rcv r3 r) ∙ ap (λ (p : ℕ × List ℕ). number_at w32 p.1) second ∙ e3) in
-    let whole : (body.Ended a.0 t.0 u.0 v.0, v.1) ≡ y = some_same (body.Ended a.0 t.0 u.0 v.0, v.1) y n4 in
-    (v.0, (λ i. body.Ended (first i).0 (second i).0 (third i).0 v.0) ∙ ap (λ (p : Body × List ℕ). p.0) whole)))))
 
 -- What is read of it is why it ended, and with which numbers.
 pub ended-same : (c e count : ℕ) (last : Final) → last.snd.0 < 2 ^ 32 → last.rcv.0 < 2 ^ 32 → (m : Message) (why : Reason) (snd rcv k : ℕ) → decoded_message (message c e (body.Ended last.reason last.snd.0 last.rcv.0 count)) ≡ Ok m → m.body ≡ body.Ended why snd rcv k

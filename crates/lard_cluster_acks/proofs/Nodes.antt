@@ -21,13 +21,14 @@ use Rattle.lard_cluster_bytes.proofs.ClientMoves.{has-fair}
 use Rattle.lard_cluster_bytes.proofs.NodeMoves.{has-it, known}
 use Rattle.lard_cluster_limits.proofs.Working.{KeptByServing, batch-state, came-so, goes-so, tagged-so}
 use Rattle.lard_cluster_places.specs.Places.{HasEnded, IsComing, IsDecided, IsOffered, IsOver, IsPast, IsThere, LetterMay, Offers, OthersArePast, Owning, Sits, StageSits, owning}
-use Rattle.lard_cluster_places.proofs.Growing.{Grows, put-each, put-same}
+use Rattle.lard_cluster_places.proofs.Growing.{Grows}
 use Rattle.lard_cluster_places.proofs.FrontMessages.{came-says}
 use Rattle.lard_cluster_places.proofs.FrontRules.{has-each}
 use Rattle.lard_cluster_places.proofs.NodeRules.{by-node, past-held}
 use Rattle.lard_cluster_places.proofs.Turns.{IsPlaced}
 use Rattle.lard_cluster_view.specs.Carry.{tale_at}
 use Rattle.lard_cluster_view.specs.View.{AreSent, Conn, IsNodeEnv, IsSound, Move, Part, Setting, Spells, Was, epoch_in, letter, node_does, node_put, with_node}
+use Rattle.lard_cluster_view.proofs.Parts.{put-each, put-same}
 use Rattle.lard_endpoint.specs.Arriving.{on_segment}
 use Rattle.lard_endpoint.specs.Control.{ControlBlock}
 use Rattle.lard_endpoint.specs.Leaving.{after_timer, filled, timed}

@@ -17,16 +17,16 @@ use Rattle.lard_cluster_motion.proofs.Nodes.{IsFirst}
 use Rattle.lard_cluster_motion.proofs.Picking.{pick, pick-none, pick-parts, pick-seen, picked-append, picked-none, segments-none, timers-none}
 use Rattle.lard_cluster_places.specs.Places.{head_of, IsDecided, IsOffered, Offers, Owning, Sits, StageSits, owning}
 use Rattle.lard_cluster_places.proofs.FrontMessages.{came-says}
-use Rattle.lard_cluster_places.proofs.Growing.{put-same}
 use Rattle.lard_cluster_places.proofs.NodeRules.{here-has}
 use Rattle.lard_cluster_places.proofs.Turns.{IsPlaced}
 use Rattle.lard_cluster_view.specs.Carry.{tale_at}
 use Rattle.lard_cluster_view.specs.View.{ClientRules, Conn, IsNodeEnv, Move, Rules, Setting, Spells, Was, client_begins, client_does, epoch_in, event_seen, front_admits, front_does, grown, inject_seen, node_does, node_put, nothing_said, packet_seen, reads_first, rows_of, seen_in, sending, stands, timer_rows}
 use Rattle.lard_cluster_view.proofs.Fine.{IsItsOwn}
+use Rattle.lard_cluster_view.proofs.Parts.{put-same}
 use Rattle.lard_cluster_view.proofs.Saying.{GaveAt, NotedAt}
 use Rattle.lard_front_rules.specs.declared.front.FrontTurn.{FrontTurn}
 use Rattle.lard_front_rules.specs.Front as front
-use Rattle.lard_front_rules.specs.Front.{FrontEnv, FrontPart, ask_of, front_asked, front_ended, front_gets, front_taken, front_timer}
+use Rattle.lard_front_rules.specs.Front.{FrontPart, ask_of, front_asked, front_ended, front_gets, front_taken, front_timer}
 use Rattle.lard_handoff_back.specs.declared.row.BackRow.{BackRow}
 use Rattle.lard_handoff_back.specs.declared.table.Adopt.TheVariants.{New, Again, Stale}
 use Rattle.lard_handoff_back.specs.Back.{offer_answer}

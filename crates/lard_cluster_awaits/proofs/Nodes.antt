@@ -10,8 +10,8 @@ use Rattle.lard_base.specs.declared.place.TimerKind.TheVariants as timer
 use Rattle.lard_cluster_awaits.specs.Awaits.{AwaitsWhatItAsked, BatchComes, NodeComes, RowComes, StageComes, StayComes}
 use Rattle.lard_cluster_awaits.proofs.Batches.{batch-came, batch-later, batch-read}
 use Rattle.lard_cluster_awaits.proofs.Stays.{Comes, all-started, batch-state, goes-comes, starts-come}
-use Rattle.lard_cluster_places.proofs.Growing.{put-each}
 use Rattle.lard_cluster_view.specs.View.{Conn, node_does, grown}
+use Rattle.lard_cluster_view.proofs.Parts.{put-each}
 use Rattle.lard_endpoint.specs.Arriving.{on_segment}
 use Rattle.lard_endpoint.specs.Control.{ControlBlock}
 use Rattle.lard_endpoint.specs.Leaving.{after_timer, timed}

@@ -7,7 +7,7 @@ use Rattle.lard_cluster_backing.specs.State.{BodyFor, FetchesFor, LetterFor, Say
 use Rattle.lard_cluster_backing.proofs.Rows.{Backs, IsBackedMove, backed-move}
 use Rattle.lard_cluster_bytes.specs.Law.{Helps}
 use Rattle.lard_cluster_bytes.proofs.ClientMoves.{has-fair}
-use Rattle.lard_cluster_bytes.proofs.FrontMoves.{kinds-same}
+use Rattle.lard_cluster_places.proofs.Heads.{kinds-same}
 use Rattle.lard_cluster_view.specs.View.{AreSent, Conn, Move, letter, named}
 use Rattle.lard_cluster_ways.specs.State.{GoesItsWay, marks_at}
 use Rattle.lard_history.specs.Own.{whose}

@@ -8,7 +8,7 @@ use Rattle.lard_base.specs.declared.place.Reason.TheVariants as reason
 use Rattle.lard_cluster_bytes.specs.Agreement.{EndAgrees, EndedIt, HasRead, HoldsIt, IsWide}
 use Rattle.lard_cluster_bytes.specs.Turning.{EndTurned, IsReading, Serves}
 use Rattle.lard_cluster_bytes.proofs.Reading.{read-same}
-use Rattle.lard_cluster_bytes.proofs.Wide.{half-wide, speaks-wide, wide-half}
+use Rattle.lard_cluster_bytes.proofs.Wide.{half-wide, wide-half}
 use Rattle.lard_endpoint.specs.Control.{ControlBlock}
 use Rattle.lard_endpoint.specs.Leaving.{emits_left}
 use Rattle.lard_endpoint.specs.Moving.{end_reason, final_of, is_closed, may_end}
@@ -22,6 +22,7 @@ use Rattle.lard_rules.specs.declared.places.Ending.TheVariants as ending
 use Rattle.lard_rules.specs.declared.places.Turn.{Turn}
 use Rattle.lard_rules.specs.Serving.{ServeEnv, Service, cut_off, limit_said, settled, spoken, told}
 use Rattle.lard_rules.specs.Speaking.{speaks, speaks_symbols}
+use Rattle.lard_rules.proofs.Wide.{speaks-wide}
 use Rattle.lard_truth.specs.Truth.{Stream}
 use Rattle.lard_truth.proofs.Pieces.{bare-true}
 

@@ -14,9 +14,9 @@ use Rattle.lard_cluster_bytes.proofs.Fronts.{front-hears, timer-keeps}
 use Rattle.lard_cluster_bytes.proofs.Messages.{forwards-read}
 use Rattle.lard_cluster_bytes.proofs.Moves.{idle-goes, move-goes, replies-fair, talk_after}
 use Rattle.lard_cluster_bytes.proofs.Told.{bytes_of}
-use Rattle.lard_cluster_places.specs.Places.{ArePast, Head, IsOffered, Offers, Owning, Sits, StageSits, owning}
+use Rattle.lard_cluster_places.specs.Places.{ArePast, IsOffered, Offers, Owning, Sits, StageSits, owning}
 use Rattle.lard_cluster_places.proofs.Growing.{past-later}
-use Rattle.lard_cluster_places.proofs.Heads.{decoded-head, spelled-some}
+use Rattle.lard_cluster_places.proofs.Heads.{kinds-same}
 use Rattle.lard_cluster_view.specs.Carry.{tale_at}
 use Rattle.lard_cluster_view.specs.View.{AreSent, Conn, IsFrontEnv, Move, Part, Setting, Was, event_seen, front_does, letter, packet_seen}
 use Rattle.lard_cluster_view.proofs.Rows.{tale_before}
@@ -34,13 +34,11 @@ use Rattle.lard_history.proofs.Each.{Each, Each-append}
 use Rattle.lard_laws_bytes.specs.Agreement.{AreReplies, IsWord, SaysAnswers}
 use Rattle.lard_laws_bytes.specs.Keeping.{resets, served_in, size_in}
 use Rattle.lard_laws_bytes.specs.Truthful.{Talk}
-use Rattle.lard_message.specs.declared.kind.Kind.{Kind}
 use Rattle.lard_message.specs.declared.kind.Kind.TheVariants as kind
 use Rattle.lard_message.specs.declared.message.Body.{Body}
 use Rattle.lard_message.specs.declared.message.Body.TheVariants as body
 use Rattle.lard_message.specs.declared.message.Message.{Message}
 use Rattle.lard_message.specs.Message.{kind_of, spelled_message}
-use Rattle.lard_message.specs.Reading.{decoded_message}
 use Rattle.lard_request.specs.declared.verdict.Verdict.{Verdict}
 use Rattle.lard_resend.specs.declared.kept.Kept.{Kept}
 use Rattle.lard_resend.specs.Pending.{sent_of}
@@ -54,13 +52,6 @@ use Rattle.lard_truth.specs.Truth.{IsStream, Stream}
 use Rattle.lard_truth.proofs.Speaking.{speaks-stream}
 
 -- ---- messages of the front end
-
--- what is read of a message has the kind with which it was spelled
-pub kinds-same : (x m : Message) → decoded_message (spelled_message x) ≡ Ok m → kind_of x.body ≡ kind_of m.body
-kinds-same x m d = ap head_kind (sym (spelled-some x) ∙ decoded-head (spelled_message x) m d) where
-  head_kind : Option Head → Kind
-  head_kind None = kind_of x.body
-  head_kind (Some h) = h.kind
 
 tells-kind : (k : Talk) (c : ℕ) (p : Part) (n e : ℕ) (bytes : List ℕ) (b : Body) → SaysOfKind p.front bytes (kind_of b) → FrontTells k c p n e bytes b
 tells-kind k c p n e bytes (body.Offer parts) h = inr h

@@ -5,7 +5,7 @@ use Rattle.lard_cluster_bytes.specs.Turning.{Counts, EndTurned}
 use Rattle.lard_cluster_bytes.proofs.Ending.{spoken-ends}
 use Rattle.lard_cluster_bytes.proofs.Reading.{read-arrived, read-same}
 use Rattle.lard_cluster_bytes.proofs.Serving.{So, counts-nothing}
-use Rattle.lard_cluster_bytes.proofs.Wide.{half-wide, segment-wide, timer-wide, wide-half}
+use Rattle.lard_cluster_bytes.proofs.Wide.{half-wide, wide-half}
 use Rattle.lard_endpoint.specs.Arriving.{on_segment}
 use Rattle.lard_endpoint.specs.Control.{ControlBlock}
 use Rattle.lard_endpoint.specs.Leaving.{after_timer, filled, timed}
@@ -15,6 +15,7 @@ use Rattle.lard_laws_bytes.proofs.FrontEndpoint.{IsBetween, between-arrived, bet
 use Rattle.lard_laws_bytes.proofs.FrontSpeaking.{timed-reply}
 use Rattle.lard_request.specs.declared.verdict.Verdict.{Verdict}
 use Rattle.lard_rules.specs.Serving.{ServeEnv, ready_of, serving, spoken}
+use Rattle.lard_rules.proofs.Wide.{segment-wide, timer-wide}
 use Rattle.lard_segment.specs.declared.segment.Ready.{Ready}
 use Rattle.lard_segment.specs.Segment.{Said}
 use Rattle.lard_truth.specs.Truth.{IsStream, Stream}

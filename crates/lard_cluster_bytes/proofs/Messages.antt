@@ -71,7 +71,7 @@ ended_of : Ends → Body → Ends
 ended_of d (body.Ended why snd rcv n) = (why, snd, rcv)
 ended_of d _ = d
 
-ended-fields : (why : Reason) (snd rcv count : ℕ) → snd < 2 ^ 32 → rcv < 2 ^ 32 → (b : Body) (rest : List ℕ) → ended_at (body_bytes (body.Ended why snd rcv count)) ≡ Some (b, rest)
+pub ended-fields : (why : Reason) (snd rcv count : ℕ) → snd < 2 ^ 32 → rcv < 2 ^ 32 → (b : Body) (rest : List ℕ) → ended_at (body_bytes (body.Ended why snd rcv count)) ≡ Some (b, rest)
     → (n : ℕ) × (body.Ended why snd rcv n ≡ b)
 unfolding ended_at
 ended-fields why snd rcv count s r b rest e =

@@ -11,15 +11,15 @@ use Rattle.lard_cluster_bytes.specs.Law.{Helps, IsTrueMove}
 use Rattle.lard_cluster_bytes.specs.Turning.{AnswersAfter, IsNoteOf}
 use Rattle.lard_cluster_bytes.proofs.ClientMoves.{has-fair}
 use Rattle.lard_cluster_bytes.proofs.Fair.{GoesOnFairly, all-on}
-use Rattle.lard_cluster_bytes.proofs.FrontMoves.{kinds-same}
 use Rattle.lard_cluster_bytes.proofs.Moves.{idle-goes, move-goes, replies-fair, talk_after}
 use Rattle.lard_cluster_bytes.proofs.Told.{bytes_of}
 use Rattle.lard_cluster_places.specs.Places.{HasEnded, IsComing, IsDecided, IsLeft, IsOver, IsPast, IsThere, LetterMay, Owning, OthersArePast, Sits, StageSits, owning}
 use Rattle.lard_cluster_places.proofs.FrontRules.{has-each}
-use Rattle.lard_cluster_places.proofs.Growing.{put-same}
+use Rattle.lard_cluster_places.proofs.Heads.{kinds-same}
 use Rattle.lard_cluster_places.proofs.Turns.{IsPlaced}
 use Rattle.lard_cluster_view.specs.Carry.{TellsBy, tale_at}
 use Rattle.lard_cluster_view.specs.View.{AreSent, Conn, Move, Part, Setting, letter, node_put, nothing_said, stands, with_node}
+use Rattle.lard_cluster_view.proofs.Parts.{put-same}
 use Rattle.lard_cluster_view.proofs.Rows.{tale_before}
 use Rattle.lard_endpoint.specs.Control.{ControlBlock}
 use Rattle.lard_front_rules.specs.Front.{message}

@@ -11,7 +11,7 @@ use Rattle.lard_cluster_bytes.specs.Records.{IsWay}
 use Rattle.lard_cluster_bytes.specs.Turning.{AnswersAfter, Counts, IsNoteOf, IsReading, Serves}
 use Rattle.lard_cluster_bytes.proofs.Next.{answers-next, mute-answers, resets-next, tells-on}
 use Rattle.lard_cluster_bytes.proofs.Reading.{IsFirst, first-fronts, first-read}
-use Rattle.lard_cluster_bytes.proofs.Wide.{closed-wide, wide-half}
+use Rattle.lard_cluster_bytes.proofs.Wide.{wide-half}
 use Rattle.lard_cluster_view.specs.Carry.{TellsBy}
 use Rattle.lard_endpoint.specs.Control.{ControlBlock, consuming, discarding_on, finishing, queueing}
 use Rattle.lard_history.specs.Journal.{Tale, told_on}
@@ -24,6 +24,7 @@ use Rattle.lard_laws_bytes.proofs.FrontEndpoint.{IsBetween, Onward, between-cons
 use Rattle.lard_request.specs.declared.verdict.Verdict.{Verdict}
 use Rattle.lard_request.specs.Verdict.{closes}
 use Rattle.lard_rules.specs.Serving.{ServeEnv, Service, answered, closed_behind, consumed, ended_at_fin, may_read, passed_over, queued}
+use Rattle.lard_rules.proofs.Wide.{closed-wide}
 use Rattle.lard_truth.specs.Truth.{GoesOn, Stream}
 use Rattle.lard_view.proofs.Rows.{TellsBy-append}
 use Rattle.lard_truth.proofs.Growth.{goes_on-same}

@@ -10,7 +10,7 @@ use Rattle.lard_cluster_bytes.specs.Turning.{IsReading}
 use Rattle.lard_cluster_bytes.proofs.Holding.{begins-so}
 use Rattle.lard_cluster_bytes.proofs.Reading.{read-alone, read-same}
 use Rattle.lard_cluster_bytes.proofs.Serving.{So, counts-nothing}
-use Rattle.lard_cluster_bytes.proofs.Wide.{half-wide, timer-wide, wide-half}
+use Rattle.lard_cluster_bytes.proofs.Wide.{half-wide, wide-half}
 use Rattle.lard_cluster_ended.specs.Ends.{IsTrueEnd, WasClosed}
 use Rattle.lard_cluster_stops.proofs.Same.{Same, same-stopped, speaks-same}
 use Rattle.lard_endpoint.specs.Control.{ControlBlock}
@@ -26,6 +26,7 @@ use Rattle.lard_rules.specs.declared.places.Ending.TheVariants as ending
 use Rattle.lard_rules.specs.declared.places.Turn.{Turn}
 use Rattle.lard_rules.specs.Serving.{ServeEnv, Service, cut_off, limit_said, serving, settled, spoken, told}
 use Rattle.lard_rules.specs.Speaking.{speaks, speaks_symbols}
+use Rattle.lard_rules.proofs.Wide.{timer-wide}
 use Rattle.lard_send.specs.Send.{is_clear}
 use Rattle.lard_truth.specs.Truth.{Stream}
 use Rattle.lard_truth.proofs.Endpoint.{timer-left}

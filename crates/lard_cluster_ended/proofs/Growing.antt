@@ -4,12 +4,12 @@ use Rattle.lard_answers.specs.Answers.{FilesAt}
 use Rattle.lard_base.specs.declared.place.Place.{Place}
 use Rattle.lard_base.specs.declared.place.Place.TheVariants.{Client, Front, Node}
 use Rattle.lard_cluster_bytes.specs.Agreement.{IsInner, IsNode}
-use Rattle.lard_cluster_bytes.proofs.FrontMoves.{kinds-same}
 use Rattle.lard_cluster_bytes.proofs.Later.{said-stays}
 use Rattle.lard_cluster_acks.proofs.Messages.{ended-same}
 use Rattle.lard_cluster_ended.specs.Ends.{BodyEnds, IsTrueEnd, LetterEnds, LetterEndsOn, RowEnds, StageEnds, WasClosed}
 use Rattle.lard_cluster_places.specs.Places.{HasEnded}
 use Rattle.lard_cluster_places.proofs.Growing.{FrontGrows, ended-grows}
+use Rattle.lard_cluster_places.proofs.Heads.{kinds-same}
 use Rattle.lard_cluster_view.specs.View.{letter}
 use Rattle.lard_endpoint.specs.declared.control.moving.Final.{Final}
 use Rattle.lard_handoff_front.specs.declared.row.FrontConn.{FrontConn}

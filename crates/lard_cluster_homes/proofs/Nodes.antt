@@ -1,20 +1,16 @@
 -- What a node does leaves one home.
-use Rattle.std.proofs.Common.{◌≡◌, ◌≢◌, ◌<◌, ◌==◌, ◌&&◌, nat_lt, ℕ, Bool, true, false, cond, Option, Some, None, refl, sym, ◌∙◌, subst, arith}
-use Rattle.std.proofs.lemmas.Bool.{and_parts, ltb-true}
+use Rattle.std.proofs.Common.{◌≡◌, ◌≢◌, ℕ, Option, Some, None, refl, sym, ◌∙◌, subst}
 use Rattle.lard_answers.specs.Answers.{FilesAt}
 use Rattle.lard_cluster_homes.specs.Homes.{HasOneHome, KnowsOf, RowHomes, StageHomes, WasAt}
 use Rattle.lard_cluster_kept.proofs.Here.{IsHere, here-is}
 use Rattle.lard_cluster_kept.proofs.Nodes.{DeedGoes, IsOfEpoch}
 use Rattle.lard_handoff_back.specs.declared.row.BackConn.TheVariants as back
-use Rattle.lard_cluster_places.specs.Places.{IsDecided, IsOffered, Offers}
-use Rattle.lard_cluster_places.proofs.Growing.{put-each}
+use Rattle.lard_cluster_places.specs.Places.{IsOffered, Offers}
 use Rattle.lard_cluster_view.specs.View.{Conn, grown, node_does, node_put}
+use Rattle.lard_cluster_view.proofs.Parts.{put-each}
 use Rattle.lard_base.specs.declared.ids.Epoch.{Epoch}
 use Rattle.lard_endpoint.specs.Control.{ControlBlock}
 use Rattle.lard_handoff_back.specs.declared.row.BackRow.{BackRow}
-use Rattle.lard_handoff_back.specs.declared.table.Adopt.TheVariants.{New, Again, Stale}
-use Rattle.lard_handoff_back.specs.Back.{offer_answer}
-use Rattle.lard_handoff_back.specs.Row.{is_gone}
 use Rattle.lard_handoff_front.specs.declared.row.FrontConn.{FrontConn}
 use Rattle.lard_handoff_front.specs.declared.row.FrontConn.TheVariants as stage
 use Rattle.lard_handoff_front.specs.declared.row.FrontRow.{FrontRow}
@@ -97,18 +93,6 @@ module _ (nodes : ℕ → NodePart) (n : ℕ) (q : NodePart) where
       put-each nodes n q (λ m p. m ≢ k → p.row ≡ None) (λ other. absurd (other (sym f.0))) (λ m away other. h.0 m other),
       subst (λ (i : ℕ). KnowsOf d.0 (after i).row) (sym f.0) (put-each nodes n q (λ m p. m ≡ n → KnowsOf d.0 p.row) (λ same. knows-of e d.0 q.row of (sym f.1)) (λ m other same. absurd (other same)) n refl),
     )
-
--- where an Offer of this epoch is new, it was not decided
-pub not-decided : (e : ℕ) (o : Option BackRow) → offer_answer e o ≡ New → IsDecided e o → ⊥
-not-decided e None is h = h
-not-decided e (Some row) is h = go (row.epoch.0 == e) is where
-  later : (b : Bool) → (nat_lt row.epoch.0 e && is_gone row.stage) ≡ b → cond b New Stale ≡ New → ⊥
-  later true t f = let less : row.epoch.0 < e = ltb-true row.epoch.0 e (and_parts (nat_lt row.epoch.0 e) (is_gone row.stage) t).0 in omega (arith, less, h)
-  later false t f = let no : Stale ≡ New = f in absurd cc
-
-  go : (b : Bool) → cond b Again (cond (nat_lt row.epoch.0 e && is_gone row.stage) New Stale) ≡ New → ⊥
-  go true f = let no : Again ≡ New = f in absurd cc
-  go false f = later (nat_lt row.epoch.0 e && is_gone row.stage) refl f
 
 -- ---- its move
 

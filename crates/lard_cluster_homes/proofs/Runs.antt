@@ -9,7 +9,7 @@ use Rattle.lard_base.specs.declared.place.TimerKind.TheVariants as kind
 use Rattle.lard_cluster_homes.specs.Homes.{HasOneHome}
 use Rattle.lard_cluster_homes.specs.Laws.{ConnectionsHaveOneHome}
 use Rattle.lard_cluster_homes.proofs.Fronts.{AdmittedHomes, admitted-home, asked-home, ended-home, front-move, gets-home, taken-home, timer-home}
-use Rattle.lard_cluster_homes.proofs.Nodes.{DeedGoesOn, gone-goes, node-move, not-decided, offered-home, stay-goes}
+use Rattle.lard_cluster_homes.proofs.Nodes.{DeedGoesOn, gone-goes, node-move, offered-home, stay-goes}
 use Rattle.lard_cluster_kept.specs.Kept.{IsKeptByStage, NodeKeeps}
 use Rattle.lard_cluster_kept.specs.Laws.{AnyNode}
 use Rattle.lard_cluster_kept.proofs.Here.{here-timer}
@@ -18,6 +18,7 @@ use Rattle.lard_cluster_kept.proofs.Nodes.{DeedFollows, DeedGoes}
 use Rattle.lard_cluster_kept.proofs.Runs.{connections-are-kept}
 use Rattle.lard_cluster_places.specs.Places.{IsDecided, IsOffered}
 use Rattle.lard_cluster_places.proofs.FrontMessages.{came-says}
+use Rattle.lard_cluster_places.proofs.NodeRules.{not-decided}
 use Rattle.lard_cluster_places.proofs.Runs.{each-placed}
 use Rattle.lard_cluster_places.proofs.Turns.{IsPlaced}
 use Rattle.lard_cluster_view.specs.Carry.{IsLaw, MayMove, setting}

@@ -9,8 +9,8 @@ use Rattle.lard_base.specs.declared.place.TimerKind.TheVariants as kind
 use Rattle.lard_cluster_kept.specs.Kept.{AsksFor, awaited_in, HereKeeps, IsKeptByStage, NodeKeeps, NodeRowKeeps, NodeStageKeeps, StayKeeps}
 use Rattle.lard_cluster_kept.proofs.Batches.{AreFetches, IsCalm, Loses, awaited-come, come-calm, come-loses, found-less, named-come, read-calm, read-loses, without-fetches}
 use Rattle.lard_cluster_kept.proofs.Stays.{Awaits, Follows, Starts, batch-state, goes-await, started-await, starts-all}
-use Rattle.lard_cluster_places.proofs.Growing.{put-each}
 use Rattle.lard_cluster_view.specs.View.{Conn, epoch_in, grown, node_does}
+use Rattle.lard_cluster_view.proofs.Parts.{put-each}
 use Rattle.lard_endpoint.specs.Arriving.{on_segment}
 use Rattle.lard_endpoint.specs.Control.{ControlBlock}
 use Rattle.lard_endpoint.specs.Leaving.{after_timer, timed}

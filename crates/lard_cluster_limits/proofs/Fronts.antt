@@ -10,7 +10,7 @@ use Rattle.lard_cluster_limits.proofs.Moves.{IsLimited, MoveCounts, client-lette
 use Rattle.lard_cluster_limits.proofs.Offers.{offer-counts}
 use Rattle.lard_cluster_limits.proofs.Reading.{HasStopped, MayPlace, reads-so}
 use Rattle.lard_cluster_limits.proofs.Rows.{CountsBy, IsMute, IsMuteSeen, after, after_all, counts-append, mute-after, mute-counts}
-use Rattle.lard_cluster_limits.proofs.Serving.{EndCounts, EndSound, IsServing, TurnCounts, UnlessOver, begins-serving, listening-sound, noted-mute, settled-counts, settled-sound, spoken-counts, spoken-sound}
+use Rattle.lard_cluster_limits.proofs.Serving.{EndCounts, EndSound, IsServing, TurnCounts, UnlessOver, begins-serving, noted-mute, settled-counts, settled-sound, spoken-counts, spoken-sound}
 use Rattle.lard_cluster_places.specs.Places.{ArePast, IsLeft, IsOffered, IsPast, Offers, Owning, Sits, StageSits, owning}
 use Rattle.lard_cluster_places.proofs.FrontRules.{has-each}
 use Rattle.lard_cluster_places.proofs.Turns.{IsPlaced}
@@ -57,6 +57,7 @@ use Rattle.lard_rules.specs.declared.places.Ending.TheVariants as ending
 use Rattle.lard_rules.specs.declared.places.Turn.{Turn}
 use Rattle.lard_rules.specs.Front.{is_plain_syn, last_words, tombstone}
 use Rattle.lard_rules.specs.Serving.{Service, ready_of, serving, settled, spoken}
+use Rattle.lard_rules.proofs.Endpoints.{listening-sound}
 use Rattle.lard_rules.proofs.Totals.{segment-many, timer-many}
 use Rattle.lard_segment.specs.declared.fault.SegFault.{SegFault}
 use Rattle.lard_segment.specs.Segment.{Said as Segment}

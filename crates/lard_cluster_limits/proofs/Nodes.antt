@@ -13,13 +13,13 @@ use Rattle.lard_cluster_limits.proofs.Rows.{IsMute, IsMuteSeen, after_all, named
 use Rattle.lard_cluster_limits.proofs.Serving.{EndCounts, IsServing, TurnCounts, answered-serving, begins-serving, ended-serving, noted-mute, reads-within, reblocked, settled-counts, spoken-counts}
 use Rattle.lard_cluster_limits.proofs.Working.{IsStart, KeptByServing, batch-state, came-so, goes-so, tagged-so}
 use Rattle.lard_cluster_places.specs.Places.{IsComing, IsDecided, IsOffered, IsPast, IsThere, Offers, OthersArePast, Owning, Sits, StageSits, owning}
-use Rattle.lard_cluster_places.proofs.Growing.{put-each, put-same}
 use Rattle.lard_cluster_places.proofs.FrontMessages.{came-says}
 use Rattle.lard_cluster_places.proofs.FrontRules.{has-each}
 use Rattle.lard_cluster_places.proofs.NodeRules.{by-node, past-held}
 use Rattle.lard_cluster_places.proofs.Turns.{IsPlaced}
 use Rattle.lard_cluster_view.specs.Carry.{tale_at}
 use Rattle.lard_cluster_view.specs.View.{Conn, IsNodeEnv, Move, Setting, Spells, Was, epoch_in, letter, named, node_does, node_put}
+use Rattle.lard_cluster_view.proofs.Parts.{put-each, put-same}
 use Rattle.lard_endpoint.specs.Arriving.{on_segment}
 use Rattle.lard_endpoint.specs.Control.{ControlBlock, consuming}
 use Rattle.lard_endpoint.specs.Leaving.{after_timer, timed}

@@ -7,7 +7,7 @@ use Rattle.lard_block.specs.declared.block.Found.{Found}
 use Rattle.lard_block.specs.declared.block.Found.TheVariants as found
 use Rattle.lard_block.specs.Blocks.{cut_of}
 use Rattle.lard_cluster_limits.specs.Counts.{Served}
-use Rattle.lard_cluster_limits.proofs.Serving.{IsServing, answered-serving, answered-sound, consuming-sound, ended-serving, ended-sound, reads-unfinished, reads-within, reblocked}
+use Rattle.lard_cluster_limits.proofs.Serving.{IsServing, answered-serving, answered-sound, ended-serving, ended-sound, reads-unfinished, reads-within, reblocked}
 use Rattle.lard_endpoint.specs.Control.{IsControlBlock, consuming}
 use Rattle.lard_endpoint.specs.Moving.{may_freeze}
 use Rattle.lard_front_rules.specs.Reading.{Reading, block_at, left, reads, reads_block, reads_found, targeted, turn, with_service}
@@ -16,6 +16,7 @@ use Rattle.lard_request.specs.declared.verdict.Verdict.{Verdict}
 use Rattle.lard_request.specs.declared.verdict.Verdict.TheVariants.{Fault}
 use Rattle.lard_rules.specs.Loop.{Step, More, Done, runs_on}
 use Rattle.lard_rules.specs.Serving.{ServeEnv, Service, answered, consumed, ended_at_fin, may_read}
+use Rattle.lard_rules.proofs.Endpoints.{consuming-sound}
 
 -- what is to be placed may move, and nothing is to be reset
 abbrev pub MayPlace : Option (List ℕ) → Service → Type 0

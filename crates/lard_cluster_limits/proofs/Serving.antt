@@ -1,5 +1,5 @@
 -- What a place that serves a connection counts, whichever place it is.
-use Rattle.std.proofs.Common.{◌≡◌, ◌≤◌, ◌+◌, ◌^◌, ℕ, true, false, nat_lt, List, [], ◌∷◌, ◌++◌, length, Option, Some, None, arith, refl, ◌∙◌, sym, subst, length-drop}
+use Rattle.std.proofs.Common.{◌≡◌, ◌≤◌, ◌+◌, ◌^◌, ℕ, true, false, nat_lt, List, [], ◌∷◌, ◌++◌, length, Option, Some, None, arith, refl, ◌∙◌, sym, subst}
 use Rattle.std.proofs.lemmas.Bool.{and_parts, cond_both, ltb-false, ltb-true, not-true}
 use Rattle.std.proofs.lemmas.List.Sums.{fold-append}
 use Rattle.lard_answers.specs.Answers.{answer, answer_code}
@@ -9,10 +9,9 @@ use Rattle.lard_base.specs.declared.place.Reason.TheVariants.{Limit}
 use Rattle.lard_base.specs.declared.place.Via.{Via}
 use Rattle.lard_cluster_limits.specs.Counts.{Counts, Served}
 use Rattle.lard_cluster_limits.proofs.Rows.{CountsBy, IsMute, after, after_all, counts-append, mute-after, mute-counts}
-use Rattle.lard_endpoint.specs.Control.{ControlBlock, IsControlBlock, consuming, discarding_on, finishing, listening, queueing}
+use Rattle.lard_endpoint.specs.Control.{ControlBlock, IsControlBlock, discarding_on, finishing, queueing}
 use Rattle.lard_endpoint.specs.Moving.{end_reason, final_of, may_end}
 use Rattle.lard_endpoint.proofs.Sound.{after_emit-sound, queueing-sound}
-use Rattle.lard_front_rules.proofs.Blocks.{one-few}
 use Rattle.lard_history.proofs.Each.{Each, Each-append}
 use Rattle.lard_journal.specs.declared.rec.Rec.{Rec}
 use Rattle.lard_journal.specs.declared.rec.Rec.TheVariants as rec
@@ -23,8 +22,8 @@ use Rattle.lard_rules.specs.declared.places.Ending.TheVariants as ending
 use Rattle.lard_rules.specs.declared.places.Turn.{Turn}
 use Rattle.lard_rules.specs.Serving.{ServeEnv, Service, answered, closed_behind, cut_off, ended_at_fin, limit_said, may_read, passed_over, queued, rested, settled, spoken, told}
 use Rattle.lard_rules.specs.Speaking.{speaks, speaks_symbols}
+use Rattle.lard_rules.proofs.Endpoints.{closed-sound, finishing-sound}
 use Rattle.lard_rules.proofs.Loops.{speaks_keep}
-use Rattle.lard_segment.specs.Segment.{Said}
 use Rattle.lard_view.proofs.Endpoints.{AllTo, speaks-to, speaks_symbols-to}
 
 -- ---- what may be read on
@@ -143,36 +142,6 @@ module _ (env : ServeEnv) (u : Served) where
   begins-serving b d count e h = record { told = tt; counts = subst (Counts env.stream u) (sym e) h }
 
 -- ---- the endpoint stays sound
-
-pub listening-sound : (syn : Said) (iss : ℕ) → IsControlBlock (listening syn iss)
-listening-sound syn iss = record {
-  received = record { received = omega arith; buffered = omega arith; within = omega arith; dropped = λ e. omega arith };
-  sending = record { sent = omega arith; queued = omega arith; kept = omega arith; most = omega arith; some_mss = omega arith; small_mss = omega arith };
-  same_irs = refl;
-}
-
-pub finishing-sound : (b : ControlBlock) → IsControlBlock b → IsControlBlock (finishing b)
-finishing-sound b h =
-    let s = h.sending in
-    let few = one-few b.send.finished in
-    let sent = s.queued in
-    record { received = h.received; sending = record { sent = s.sent; queued = omega (arith, few, sent); kept = s.kept; most = s.most; some_mss = s.some_mss; small_mss = s.small_mss }; same_irs = h.same_irs }
-
-discarding-sound : (b : ControlBlock) → IsControlBlock b → IsControlBlock (discarding_on b)
-discarding-sound b h = record { received = record { received = h.received.received; buffered = omega arith; within = omega arith; dropped = λ e. omega arith }; sending = h.sending; same_irs = h.same_irs }
-
-pub consuming-sound : (b : ControlBlock) (n : ℕ) → IsControlBlock b → IsControlBlock (consuming b n)
-consuming-sound b n h =
-    let r = h.received in
-    let less = length-drop n b.recv.unread in
-    record {
-      received = record { received = r.received; buffered = omega (arith, less, r.buffered); within = omega (arith, less, r.within); dropped = λ e. omega (arith, less, r.dropped e) };
-      sending = h.sending;
-      same_irs = h.same_irs;
-    }
-
-pub closed-sound : (v : Verdict) (b : ControlBlock) → IsControlBlock b → IsControlBlock (closed_behind v b)
-closed-sound v b h = cond_both (closes v) (finishing (discarding_on b)) b IsControlBlock (λ t. finishing-sound (discarding_on b) (discarding-sound b h)) (λ t. h)
 
 pub answered-sound : (env : ServeEnv) (via : Via) (v : Verdict) (s : Service) → env.stream ≤ 2 ^ 30 → s.block.send.finished ≡ false → IsControlBlock s.block → IsControlBlock (answered env via v s).block
 answered-sound env via v s most unfinished h =

@@ -13,7 +13,6 @@ use Rattle.lard_cluster_motion.specs.Story.{from_node, highest, node_gave, node_
 use Rattle.lard_cluster_motion.proofs.Elsewhere.{Helps}
 use Rattle.lard_cluster_motion.proofs.Picking.{pick, pick-append, pick-none, pick-parts, pick-seen}
 use Rattle.lard_cluster_places.specs.Places.{Head, IsDecided, IsOffered, Offers, Owning, Sits, StageSits, owning}
-use Rattle.lard_cluster_places.proofs.Growing.{put-same}
 use Rattle.lard_cluster_places.proofs.Heads.{spelled-head}
 use Rattle.lard_cluster_places.proofs.Loops.{batch-state, came-notes, goes-notes, settled-is, tagged-notes}
 use Rattle.lard_cluster_places.proofs.NodeRules.{Begins, has-at, here-has}
@@ -22,6 +21,7 @@ use Rattle.lard_cluster_places.proofs.Turns.{IsPlaced}
 use Rattle.lard_cluster_view.specs.Carry.{tale_at}
 use Rattle.lard_cluster_view.specs.View.{Conn, IsNodeEnv, Move, Setting, epoch_in, named, node_does, node_put, rows_of, seen_in, sending, timer_rows}
 use Rattle.lard_cluster_view.proofs.Fine.{IsItsOwn}
+use Rattle.lard_cluster_view.proofs.Parts.{put-same}
 use Rattle.lard_endpoint.specs.Arriving.{on_segment}
 use Rattle.lard_endpoint.specs.Control.{ControlBlock}
 use Rattle.lard_endpoint.specs.Leaving.{after_timer, timed}

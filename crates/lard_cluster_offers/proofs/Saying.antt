@@ -7,11 +7,10 @@ use Rattle.lard_base.specs.declared.place.Place.TheVariants.{Client, Front, Node
 use Rattle.lard_cluster.specs.Bounds.{IsNumber}
 use Rattle.lard_cluster_bytes.specs.Agreement.{FrontHolds, IsOffering}
 use Rattle.lard_cluster_bytes.specs.Keeping.{FrontTurned}
-use Rattle.lard_cluster_bytes.proofs.FrontMoves.{kinds-same}
 use Rattle.lard_cluster_bytes.proofs.Told.{Bytes, bytes_of, place-notes}
 use Rattle.lard_cluster_offers.specs.Offers.{BodyCarries}
 use Rattle.lard_cluster_offers.proofs.Parts.{Tells, carries}
-use Rattle.lard_cluster_places.proofs.Heads.{spelled-body}
+use Rattle.lard_cluster_places.proofs.Heads.{kinds-same, spelled-body}
 use Rattle.lard_cluster_view.specs.View.{Conn, Was}
 use Rattle.lard_endpoint.specs.Control.{ControlBlock}
 use Rattle.lard_endpoint.specs.Moving.{may_freeze, parts_of}

@@ -1,15 +1,14 @@
 -- A move leaves it so that only nodes that know of a connection ask for its contents.
-use Rattle.std.proofs.Common.{◌≡◌, ℕ, List, [], ◌∷◌, ◌++◌, map, is_some, Option, Some, None, Ok, refl, sym, ap, ◌∙◌, subst}
+use Rattle.std.proofs.Common.{◌≡◌, ℕ, List, [], ◌∷◌, ◌++◌, map, is_some, Option, Some, None, refl, sym, ◌∙◌, subst}
 use Rattle.std.proofs.lemmas.Bool.{cond_both}
 use Rattle.lard_base.specs.declared.place.Place.{Place}
 use Rattle.lard_base.specs.declared.place.Place.TheVariants.{Client, Front, Node}
 use Rattle.lard_cluster_kept.proofs.Nodes.{IsOfEpoch}
 use Rattle.lard_cluster_origins.specs.Origins.{AreKnown, BodyKnown, KnownBy, Knows, LetterKnown, SeenKnown}
 use Rattle.lard_cluster_origins.proofs.Notes.{IsOwn}
-use Rattle.lard_cluster_places.specs.Places.{Head}
 use Rattle.lard_cluster_places.proofs.FrontRules.{has-each}
 use Rattle.lard_cluster_places.proofs.Growing.{BackGrows, Grows}
-use Rattle.lard_cluster_places.proofs.Heads.{decoded-head, spelled-some}
+use Rattle.lard_cluster_places.proofs.Heads.{kinds-same}
 use Rattle.lard_cluster_view.specs.View.{AreSent, Conn, Move, Part, grown, letter, letters_of, named, rows_of, seen_in, sending, timer_rows}
 use Rattle.lard_cluster_view.proofs.Fine.{IsItsOwn}
 use Rattle.lard_cluster_view.proofs.Saying.{GaveAt, NotedAt}
@@ -19,13 +18,10 @@ use Rattle.lard_history.specs.Own.{Came, Row, Seen, whose}
 use Rattle.lard_history.proofs.Each.{Each, Each-append, Each-weaker}
 use Rattle.lard_journal.specs.declared.rec.Rec.{Rec}
 use Rattle.lard_journal.specs.declared.rec.Rec.TheVariants as rec
-use Rattle.lard_message.specs.declared.kind.Kind.{Kind}
 use Rattle.lard_message.specs.declared.kind.Kind.TheVariants as kind
 use Rattle.lard_message.specs.declared.message.Body.{Body}
 use Rattle.lard_message.specs.declared.message.Body.TheVariants as body
-use Rattle.lard_message.specs.declared.message.Message.{Message}
 use Rattle.lard_message.specs.Message.{kind_of, spelled_message}
-use Rattle.lard_message.specs.Reading.{decoded_message}
 use Rattle.lard_resend.specs.declared.kept.Kept.{Kept}
 use Rattle.lard_resend.specs.Pending.{sent_of}
 
@@ -162,12 +158,6 @@ else-new x v own e heads = record {
 }
 
 -- ---- kinds of messages
-
-kinds-same : (x m : Message) → decoded_message (spelled_message x) ≡ Ok m → kind_of x.body ≡ kind_of m.body
-kinds-same x m d = ap head_kind (sym (spelled-some x) ∙ decoded-head (spelled_message x) m d) where
-  head_kind : Option Head → Kind
-  head_kind None = kind_of x.body
-  head_kind (Some h) = h.kind
 
 -- what is no Fetch may be said by anybody
 other-body : (o : Option BackRow) (b : Body) → (kind_of b ≡ kind.Fetch → ⊥) → BodyKnown o b

@@ -14,13 +14,13 @@ use Rattle.lard_client.specs.Control.{ClientBlock}
 use Rattle.lard_cluster_kept.specs.Kept.{IsKeptByStage, NodeKeeps}
 use Rattle.lard_cluster_kept.specs.Laws.{AnyNode}
 use Rattle.lard_cluster_kept.proofs.Nodes as kept
-use Rattle.lard_cluster_kept.proofs.Nodes.{DeedFollows, DeedGoes, IsOfEpoch}
+use Rattle.lard_cluster_kept.proofs.Nodes.{DeedFollows, DeedGoes}
 use Rattle.lard_cluster_kept.proofs.Runs.{connections-are-kept}
 use Rattle.lard_cluster_origins.specs.Origins.{AreKnown, Knows, LetterKnown, SeenKnown}
 use Rattle.lard_cluster_origins.proofs.Known.{News, all-by, content-known, else-new, knows-of, moved, named-notes, own-notes, sent-known}
 use Rattle.lard_cluster_origins.proofs.Notes.{DeedOwn, IsOwn, come-own, fired-own, heard-own, offered-own, read-own, tagged-by-own}
 use Rattle.lard_cluster_places.proofs.FrontRules.{has-each}
-use Rattle.lard_cluster_places.proofs.Growing.{Grows, put-same}
+use Rattle.lard_cluster_places.proofs.Growing.{Grows}
 use Rattle.lard_cluster_places.proofs.Law.{owing}
 use Rattle.lard_cluster_places.proofs.Runs.{each-placed}
 use Rattle.lard_cluster_places.proofs.Turns.{IsPlaced, Owes}
@@ -29,6 +29,7 @@ use Rattle.lard_cluster_view.specs.View.{ClientRules, Conn, FrontRules, IsNodeEn
 use Rattle.lard_cluster_view.proofs.Carried.{carried}
 use Rattle.lard_cluster_view.proofs.Fine.{IsFine, IsItsOwn, fine}
 use Rattle.lard_cluster_view.proofs.Guarded.{both, weaker}
+use Rattle.lard_cluster_view.proofs.Parts.{put-same}
 use Rattle.lard_endpoint.specs.Control.{ControlBlock}
 use Rattle.lard_files.specs.Files.{file_at}
 use Rattle.lard_front_rules.specs.declared.front.FrontTurn.{FrontTurn}

@@ -1,9 +1,9 @@
 -- What was said of a packet stays so while the front end and the nodes go on.
-use Rattle.std.proofs.Common.{◌≡◌, ◌≢◌, ◌⊎◌, ℕ, ◌≤◌, ◌==◌, Bool, true, false, cond, List, Option, Some, None, inl, inr, ⊎_elim, refl, sym, ap, ◌∙◌, subst, arith, eqb-true, eq-eqb}
+use Rattle.std.proofs.Common.{◌≡◌, ◌⊎◌, ℕ, ◌≤◌, List, Option, Some, None, inl, inr, ⊎_elim, sym, ◌∙◌, arith}
 use Rattle.lard_base.specs.declared.place.Place.{Place}
 use Rattle.lard_base.specs.declared.place.Place.TheVariants.{Front, Node}
 use Rattle.lard_cluster_places.specs.Places.{FrontSaid, HasEnded, Head, IsDecided, IsLeft, IsOffered, IsOver, IsPast, LetterMay, MaySay, NodeSaid, Offers}
-use Rattle.lard_cluster_view.specs.View.{Part, node_put}
+use Rattle.lard_cluster_view.specs.View.{Part}
 use Rattle.lard_handoff_back.specs.declared.row.BackRow.{BackRow}
 use Rattle.lard_handoff_front.specs.declared.row.FrontRow.{FrontRow}
 use Rattle.lard_history.specs.Own.{Letter}
@@ -89,19 +89,6 @@ may_say-grows p q _ _ _ g m = tt
 
 pub letters-grow : (p q : Part) → Grows p q → (ls : List Letter) → Each (LetterMay p) ls → Each (LetterMay q) ls
 letters-grow p q g ls h = Each-weaker (LetterMay p) (LetterMay q) (λ l. may_say-grows p q l.from l.to _ g) ls h
-
--- ---- one node's part is put back
-
-module _ (nodes : ℕ → NodePart) (n : ℕ) (q : NodePart) where
-  pub put-same : node_put nodes n q n ≡ q
-  put-same = ap (λ b. cond b q (nodes n)) (eq-eqb n n refl)
-
-  -- of each node, if it is so of this one and of the others
-  pub put-each : (P : ℕ → NodePart → Type 0) → P n q → ((m : ℕ) → m ≢ n → P m (nodes m)) → (m : ℕ) → P m (node_put nodes n q m)
-  put-each P here there m = go (m == n) refl where
-    go : (b : Bool) → (m == n) ≡ b → P m (cond b q (nodes m))
-    go true e = subst (λ (k : ℕ). P k q) (sym (eqb-true m n e)) here
-    go false e = there m (λ same. let yes : true ≡ false = sym (eq-eqb m n same) ∙ e in cc)
 
 -- ---- epochs rise
 

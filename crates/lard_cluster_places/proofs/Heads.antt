@@ -140,6 +140,13 @@ module _ (bytes : List ℕ) (m : Message) where
 
 -- ---- what is read of what was spelled
 
+-- what is read of a message has the kind with which it was spelled
+pub kinds-same : (x m : Message) → decoded_message (spelled_message x) ≡ Ok m → kind_of x.body ≡ kind_of m.body
+kinds-same x m d = ap head_kind (sym (spelled-some x) ∙ decoded-head (spelled_message x) m d) where
+  head_kind : Option Head → Kind
+  head_kind None = kind_of x.body
+  head_kind (Some h) = h.kind
+
 module _ (x m : Message) where
   made-body : (o : Option (Body × List ℕ)) → with_body (connection_at (spelled_message x)) (epoch_at (spelled_message x)) o ≡ Ok m → (rest : List ℕ) × (o ≡ Some (m.body, rest))
   made-body None h = absurd cc

@@ -13,3 +13,4 @@ pub mod Rows
 pub mod Runs
 pub mod Telling
 pub mod Turns
+pub mod WithNode

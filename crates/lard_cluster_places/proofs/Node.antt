@@ -4,12 +4,13 @@ use Rattle.lard_base.specs.declared.place.Place.{Place}
 use Rattle.lard_base.specs.declared.place.Place.TheVariants.{Client, Front, Node}
 use Rattle.lard_cluster_places.specs.Places.{IsOver, MaySay, Owning, Owns, Sits, owning}
 use Rattle.lard_cluster_places.proofs.Front.{IsQuiet, Tells, turn-letters}
-use Rattle.lard_cluster_places.proofs.Growing.{BackGrows, back-still, front-still, grows-still, put-each, put-same}
+use Rattle.lard_cluster_places.proofs.Growing.{BackGrows, back-still, front-still, grows-still}
 use Rattle.lard_cluster_places.proofs.Heads.{spelled-head, spelled-some}
 use Rattle.lard_cluster_places.proofs.Rows.{IsPlain, OwnsBy, after_all, plain-after, plain-owns}
 use Rattle.lard_cluster_places.proofs.Turns.{IsPlaced, Owes, Turned, timers-plain, turned-after, turned-owns}
 use Rattle.lard_cluster_view.specs.Carry.{tale_at}
 use Rattle.lard_cluster_view.specs.View.{Conn, IsMachine, Part, Said, by_node, named, node_does, node_put, nothing_said, stands, with_node}
+use Rattle.lard_cluster_view.proofs.Parts.{put-each, put-same}
 use Rattle.lard_handoff_back.specs.declared.row.BackConn.{BackConn}
 use Rattle.lard_handoff_back.specs.declared.row.BackConn.TheVariants as back
 use Rattle.lard_handoff_back.specs.declared.row.BackRow.{BackRow}

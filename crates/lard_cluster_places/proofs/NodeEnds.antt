@@ -8,13 +8,14 @@ use Rattle.lard_cluster_places.specs.Places.{ArePast, HasEnded, IsComing, IsLeft
 use Rattle.lard_cluster_places.proofs.Front.{IsQuiet, Tells}
 use Rattle.lard_cluster_places.proofs.FrontMessages.{came-says}
 use Rattle.lard_cluster_places.proofs.FrontRules.{resent-machines, resent-tells}
-use Rattle.lard_cluster_places.proofs.Growing.{BackGrows, Grows, back-still, front-still, may_say-grows, put-each}
+use Rattle.lard_cluster_places.proofs.Growing.{BackGrows, Grows, back-still, front-still, may_say-grows}
 use Rattle.lard_cluster_places.proofs.Loops.{spoken-to}
 use Rattle.lard_cluster_places.proofs.Node.{node-drops, node-owes, node-says, plain-turned}
 use Rattle.lard_cluster_places.proofs.NodeRules.{HasIt, has-at, turn-owes}
 use Rattle.lard_cluster_places.proofs.Turns.{IsPlaced, Owes}
 use Rattle.lard_cluster_view.specs.Carry.{tale_at}
 use Rattle.lard_cluster_view.specs.View.{AreSent, Conn, IsMachine, IsNodeEnv, IsSound, Setting, Spells, Was, by_node, epoch_in, node_does, node_put, with_node}
+use Rattle.lard_cluster_view.proofs.Parts.{put-each}
 use Rattle.lard_endpoint.specs.Control.{ControlBlock}
 use Rattle.lard_endpoint.specs.Leaving.{after_timer, timed}
 use Rattle.lard_handoff_back.specs.declared.row.BackConn.{BackConn}

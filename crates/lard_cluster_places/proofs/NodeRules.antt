@@ -11,7 +11,7 @@ use Rattle.lard_cluster_places.specs.Places.{IsComing, IsDecided, IsLeft, IsOffe
 use Rattle.lard_cluster_places.proofs.Front.{IsQuiet, Tells}
 use Rattle.lard_cluster_places.proofs.FrontMessages.{came-says}
 use Rattle.lard_cluster_places.proofs.FrontRules.{small}
-use Rattle.lard_cluster_places.proofs.Growing.{BackGrows, put-each, put-same}
+use Rattle.lard_cluster_places.proofs.Growing.{BackGrows}
 use Rattle.lard_cluster_places.proofs.Heads.{spelled-head}
 use Rattle.lard_cluster_places.proofs.Loops.{batch-state, came-notes, goes-notes, settled-is, tagged-notes}
 use Rattle.lard_cluster_places.proofs.Node.{CanSit, node-drops, node-says, rests-owe}
@@ -19,6 +19,7 @@ use Rattle.lard_cluster_places.proofs.Rows.{IsPlain, OwnsBy, after_all, plain-af
 use Rattle.lard_cluster_places.proofs.Turns.{IsPlaced, Owes}
 use Rattle.lard_cluster_view.specs.Carry.{tale_at}
 use Rattle.lard_cluster_view.specs.View.{Conn, IsMachine, IsNodeEnv, Setting, Spells, Was, named, node_does, node_put, with_node}
+use Rattle.lard_cluster_view.proofs.Parts.{put-each, put-same}
 use Rattle.lard_endpoint.specs.Arriving.{on_segment}
 use Rattle.lard_endpoint.specs.Control.{ControlBlock}
 use Rattle.lard_handoff_back.specs.declared.row.BackConn.{BackConn}
@@ -354,3 +355,17 @@ module _ (k : Setting) (x : Conn) (heads : List Seen) (quiet : IsQuiet x heads) 
   pub offered-rule : (parts : EndpointParts) (bytes : List ℕ) → Spells x.c epoch (body.Offer parts) bytes → Was x Front (Node n) bytes → Owed (node_offered env ours parts)
   offered-rule parts bytes spells was =
       offered-row parts ours.row refl (subst (λ (e : ℕ). IsDecided e ours.row ⊎ IsOffered n e x.part.front.row) (sym is.epoch_is) (came-says x Front (Node n) epoch (body.Offer parts) bytes held.letters was spells))
+
+-- ---- an Offer that is new
+
+-- where an Offer of this epoch is new, it was not decided
+pub not-decided : (e : ℕ) (o : Option BackRow) → offer_answer e o ≡ New → IsDecided e o → ⊥
+not-decided e None is h = h
+not-decided e (Some row) is h = go (row.epoch.0 == e) is where
+  later : (b : Bool) → (nat_lt row.epoch.0 e && is_gone row.stage) ≡ b → cond b New Stale ≡ New → ⊥
+  later true t f = let less : row.epoch.0 < e = ltb-true row.epoch.0 e (and_parts (nat_lt row.epoch.0 e) (is_gone row.stage) t).0 in omega (arith, less, h)
+  later false t f = let no : Stale ≡ New = f in absurd cc
+
+  go : (b : Bool) → cond b Again (cond (nat_lt row.epoch.0 e && is_gone row.stage) New Stale) ≡ New → ⊥
+  go true f = let no : Again ≡ New = f in absurd cc
+  go false f = later (nat_lt row.epoch.0 e && is_gone row.stage) refl f

@@ -3,8 +3,6 @@ use Rattle.std.proofs.Common.{◌≡◌, ℕ, ◌+◌, ◌≤◌, ◌<◌, ◌^�
 use Rattle.std.proofs.lemmas.Bool.{cond_both}
 use Rattle.lard_base.specs.declared.parts.EndpointParts.{EndpointParts}
 use Rattle.lard_base.specs.Parts.{IsValidParts}
-use Rattle.lard_cluster_bytes.proofs.Wide.{IsWideHalf, closed-wide, emit-wide, numbers-wide, timer-wide}
-use Rattle.lard_cluster_limits.proofs.Serving.{closed-sound, consuming-sound, finishing-sound, listening-sound}
 use Rattle.lard_endpoint.specs.Arriving.{on_segment}
 use Rattle.lard_endpoint.specs.Control.{ControlBlock, IsControlBlock, consuming, discarding_on, finishing, listening, queueing}
 use Rattle.lard_endpoint.specs.Leaving.{after_emit, after_timer}
@@ -23,6 +21,8 @@ use Rattle.lard_request.specs.Verdict.{closes}
 use Rattle.lard_rules.proofs.Halves.{KeptBySending, endpoint-emit, endpoint-fires, endpoint-segment}
 use Rattle.lard_rules.proofs.Sides.{ack-side, next-side, resend-side}
 use Rattle.lard_rules.specs.Serving.{closed_behind}
+use Rattle.lard_rules.proofs.Endpoints.{closed-sound, consuming-sound, finishing-sound, listening-sound}
+use Rattle.lard_rules.proofs.Wide.{IsWideHalf, closed-wide, emit-wide, numbers-wide, timer-wide}
 use Rattle.lard_segment.specs.declared.segment.Dir.{Dir}
 use Rattle.lard_segment.specs.Segment.{Said, decoded}
 use Rattle.lard_segment.proofs.Decoded.{decoded-read, length-decoded}

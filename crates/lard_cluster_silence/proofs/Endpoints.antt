@@ -7,7 +7,7 @@ use Rattle.lard_base.specs.declared.parts.EndpointParts.{EndpointParts}
 use Rattle.lard_base.specs.declared.place.Place.{Place}
 use Rattle.lard_base.specs.declared.place.Via.{Via}
 use Rattle.lard_base.specs.Parts.{IsValidParts}
-use Rattle.lard_cluster_limits.proofs.Serving.{answered-sound, consuming-sound, ended-sound, listening-sound, reads-unfinished}
+use Rattle.lard_cluster_limits.proofs.Serving.{answered-sound, ended-sound, reads-unfinished}
 use Rattle.lard_cluster_limits.proofs.Working.{KeptByServing}
 use Rattle.lard_cluster_silence.specs.Silence.{HasSpoken}
 use Rattle.lard_cluster_silence.proofs.Turns.{IsKept}
@@ -24,6 +24,7 @@ use Rattle.lard_request.specs.declared.verdict.Verdict.{Verdict}
 use Rattle.lard_request.specs.Verdict.{closes}
 use Rattle.lard_rules.specs.Serving.{ServeEnv, Service, answered, ended_at_fin, passed_over, queued}
 use Rattle.lard_rules.specs.Speaking.{emits, speaks, to_client}
+use Rattle.lard_rules.proofs.Endpoints.{consuming-sound, listening-sound}
 use Rattle.lard_rules.proofs.Loops.{speaks_keep}
 use Rattle.lard_segment.specs.declared.segment.Ready.{Ready}
 use Rattle.lard_segment.specs.Segment.{Said}

@@ -6,7 +6,6 @@ use Rattle.lard_base.specs.declared.place.Place.TheVariants.{Client, Front, Node
 use Rattle.lard_base.specs.Parts.{IsValidParts}
 use Rattle.lard_client.specs.Control.{ClientBlock}
 use Rattle.lard_endpoint.specs.Control.{ControlBlock}
-use Rattle.lard_cluster_places.proofs.Growing.{put-each}
 use Rattle.lard_cluster_policy.proofs.Messages.{IsTold, message-told}
 use Rattle.lard_cluster_silence.specs.Laws.{ConnectionsHaveSpoken}
 use Rattle.lard_cluster_silence.specs.Places.{FrontHas, NodeHas}
@@ -20,12 +19,13 @@ use Rattle.lard_cluster_silence.proofs.Turns.{IsKept}
 use Rattle.lard_cluster_view.specs.Carry.{IsLaw, MayMove, setting}
 use Rattle.lard_cluster_view.specs.View.{ClientRules, Conn, FrontRules, IsFrontEnv, IsNodeEnv, Move, NodeRules, Rules, Setting, Spells, event_seen, front_does, grown, node_does, packet_seen, with_station}
 use Rattle.lard_cluster_view.proofs.Carried.{carried}
+use Rattle.lard_cluster_view.proofs.Parts.{put-each}
 use Rattle.lard_front_rules.specs.Front as front
 use Rattle.lard_front_rules.specs.Front.{ask_of, front_asked, front_ended, front_gets, front_taken, front_timer}
 use Rattle.lard_history.specs.Own.{Seen}
 use Rattle.lard_message.specs.declared.message.Body.TheVariants as body
 use Rattle.lard_node_rules.specs.Node as node
-use Rattle.lard_node_rules.specs.Node.{NodePart, node_acknowledged, node_content, node_forwarded, node_offered, node_read, node_tagged, node_timer}
+use Rattle.lard_node_rules.specs.Node.{node_acknowledged, node_content, node_forwarded, node_offered, node_read, node_tagged, node_timer}
 use Rattle.lard_node_rules.specs.Stay.{NodeEnv}
 use Rattle.lard_rules.specs.declared.places.Station.{Station}
 use Rattle.lard_rules.specs.Front.{last_words}

@@ -20,7 +20,6 @@ use Rattle.lard_cluster_bytes.proofs.NodeTurns.{It, agrees-by, endpoint-or, here
 use Rattle.lard_cluster_bytes.proofs.Told.{bytes_of, named-each, named-served}
 use Rattle.lard_cluster_bytes.proofs.Working.{verdicts_of}
 use Rattle.lard_cluster_line.proofs.Speaking.{heard_by}
-use Rattle.lard_cluster_places.proofs.Growing.{put-same}
 use Rattle.lard_cluster_places.proofs.Turns.{IsPlaced, Owes}
 use Rattle.lard_cluster_sizes.specs.Sizes.{Marks}
 use Rattle.lard_cluster_sizes.proofs.Moving.{IsSaid, IsTelling, acts, marks_now, node-said}
@@ -31,6 +30,7 @@ use Rattle.lard_cluster_sizes.proofs.Turns.{DeedFits, PartReach, Reads, RowReach
 use Rattle.lard_cluster_view.specs.Carry.{tale_at}
 use Rattle.lard_cluster_view.specs.View.{AreSent, Conn, IsNodeEnv, IsSound, Move, NodeRules, Setting, Spells, Was, contents, epoch_in, event_seen, named, node_does, nothing_said, packet_seen, reads_first, stands, with_node}
 use Rattle.lard_cluster_view.proofs.Fine.{IsItsOwn}
+use Rattle.lard_cluster_view.proofs.Parts.{put-same}
 use Rattle.lard_cluster_view.proofs.Rows.{tale_before}
 use Rattle.lard_cluster_ways.specs.State.{GoesItsWay, StayWays, marks_at}
 use Rattle.lard_cluster_ways.proofs.Homes.{AtHome, at-home}

@@ -6,12 +6,12 @@ use Rattle.lard_base.specs.declared.place.Place.{Place}
 use Rattle.lard_base.specs.declared.place.Place.TheVariants.{Client, Front, Node}
 use Rattle.lard_cluster_bytes.specs.Keeping.{IsTalk}
 use Rattle.lard_cluster_bytes.specs.Turning.{IsNoteOf}
-use Rattle.lard_cluster_bytes.proofs.FrontMoves.{kinds-same}
 use Rattle.lard_cluster_bytes.proofs.Working.{Right, Works}
 use Rattle.lard_cluster_line.proofs.Holding.{EndsHeld, IsHeld}
 use Rattle.lard_cluster_line.proofs.Speaking.{IsTold, heard_by}
 use Rattle.lard_cluster_sizes.specs.Sizes.{BodyIsOfBatch, IsOfBatch, Marks, acknowledged, batch_behind, begins, complete, to_assign}
 use Rattle.lard_cluster_awaits.proofs.Nodes.{HasServed, settled-served}
+use Rattle.lard_cluster_places.proofs.Heads.{kinds-same}
 use Rattle.lard_cluster_sizes.proofs.Reading.{AskSo, Fits, Reach, goes-fit}
 use Rattle.lard_cluster_sizes.proofs.Telling.{Acknowledges, IsQuiet, SameRecv, goes-wider, settled-held, settled-recv, settled-told, wider-quiet}
 use Rattle.lard_cluster_view.specs.Carry.{tale_at}

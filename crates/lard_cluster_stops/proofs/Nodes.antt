@@ -10,11 +10,11 @@ use Rattle.lard_base.specs.declared.place.Via.TheVariants as via
 use Rattle.lard_block.specs.declared.block.Found.{Found}
 use Rattle.lard_block.specs.declared.block.Found.TheVariants as found
 use Rattle.lard_block.specs.Blocks.{blocks, cut_of}
-use Rattle.lard_cluster_places.proofs.Growing.{put-each}
 use Rattle.lard_cluster_stops.specs.Stops.{BackStageStops, HereStops, IsAwaited, NodeStops, ReadingStops, RowStops, StayStops}
 use Rattle.lard_cluster_stops.proofs.Falling.{falls}
 use Rattle.lard_cluster_stops.proofs.Same.{Same, Stays, answered-closes, closed-there, ended-stopped, none-behind, rested-stays, same-stopped, segment-closes, speaks-same, timer-same}
 use Rattle.lard_cluster_view.specs.View.{Conn, node_does, grown}
+use Rattle.lard_cluster_view.proofs.Parts.{put-each}
 use Rattle.lard_endpoint.specs.Arriving.{on_segment}
 use Rattle.lard_endpoint.specs.Control.{ControlBlock}
 use Rattle.lard_endpoint.specs.Leaving.{after_timer, timed}

@@ -10,21 +10,17 @@ use Rattle.lard_cluster_kept.specs.Kept.{AsksFor, FrontRowKeeps, FrontStageKeeps
 use Rattle.lard_cluster_kept.specs.Laws.{AnyNode}
 use Rattle.lard_cluster_kept.proofs.Here.{IsHere, here-is}
 use Rattle.lard_cluster_kept.proofs.Runs.{TagsName}
-use Rattle.lard_cluster_places.specs.Places.{IsComing, IsPast, IsThere, Owning, Sits, StageSits, owning}
 use Rattle.lard_cluster_places.proofs.FrontRules.{has-each}
-use Rattle.lard_cluster_places.proofs.Turns.{IsPlaced}
+use Rattle.lard_cluster_places.proofs.WithNode.{IsWithNode, with-node}
 use Rattle.lard_cluster_tags.specs.Tags.{NamesNodes}
 use Rattle.lard_cluster_tags.proofs.Nodes.{Facts, asks-are}
-use Rattle.lard_cluster_view.specs.Carry.{tale_at}
 use Rattle.lard_cluster_view.specs.View.{Conn, Spells, Was}
 use Rattle.lard_cluster_ways.specs.State.{FrontSaysWays, LetterWays, TagIs, marks_at}
 use Rattle.lard_endpoint.specs.Control.{ControlBlock}
 use Rattle.lard_front_rules.specs.declared.front.FrontRest.{FrontRest}
 use Rattle.lard_front_rules.specs.Front.{is_at, is_with, rest_of}
 use Rattle.lard_handoff_back.specs.declared.row.BackConn.TheVariants as back
-use Rattle.lard_handoff_front.specs.declared.row.FrontConn.{FrontConn}
 use Rattle.lard_handoff_front.specs.declared.row.FrontConn.TheVariants as stage
-use Rattle.lard_handoff_front.specs.declared.row.FrontRow.{FrontRow}
 use Rattle.lard_history.proofs.Each.{Each}
 use Rattle.lard_lateral.specs.Lateral.{is_from, is_node, names_epoch}
 use Rattle.lard_message.specs.declared.message.Body.TheVariants as body
@@ -35,51 +31,6 @@ use Rattle.lard_resend.specs.declared.kept.Kept.{Kept}
 use Rattle.lard_resend.specs.Kept.{is_under}
 
 -- ---- with whom the front end has it
-
--- the front end has it with this node, in this epoch
-pub record IsWithNode (x : Conn) (n e : ℕ) : Type 0 where
-  pub row : FrontRow
-  pub found : x.part.front.row ≡ Some row
-  pub stage : (row.stage ≡ stage.Offering n (record { 0 = e })) ⊎ (row.stage ≡ stage.Moved n (record { 0 = e }))
-
--- where a node has it, the front end has it with that node, in the epoch of the stay
-pub with-node : (x : Conn) → IsPlaced x → (n e : ℕ) (b : ControlBlock) → (x.part.nodes n).row ≡ Some (record { stage = back.Here b; epoch = record { 0 = e } }) → IsWithNode x n e
-with-node x placed n e b row = go x.part.front.row refl placed.sits where
-  w : Owning
-  w = owning (tale_at x)
-
-  past : (d : ℕ) → IsPast d (x.part.nodes n).row → ⊥
-  past d h = (subst (IsPast d) row h).1
-
-  of-there : (d : ℕ) → IsThere n d w (x.part.nodes n).row → e ≡ d
-  of-there d h = (subst (IsThere n d w) row h).0
-
-  at-stage : (fr : FrontRow) → x.part.front.row ≡ Some fr → (st : FrontConn) → fr.stage ≡ st → StageSits fr.epoch.0 w x.part.nodes st → IsWithNode x n e
-  at-stage fr found (stage.Held c) eq h = absurd (past fr.epoch.0 (h.1.1 n))
-  at-stage fr found (stage.Waiting c) eq h = absurd (past fr.epoch.0 (h.1.1 n))
-  at-stage fr found stage.Lent eq h = absurd h
-  at-stage fr found (stage.Closed last) eq h = absurd (past fr.epoch.0 (h.1.1 n))
-  at-stage fr found (stage.Offering m d) eq h = by-node (m == n) refl where
-    by-node : (t : Bool) → (m == n) ≡ t → IsWithNode x n e
-    by-node false t = absurd (past fr.epoch.0 (h.2 n (λ same. let yes : false ≡ true = sym t ∙ eq-eqb m n (sym same) in cc)))
-    by-node true t =
-        let node : m ≡ n = eqb-true m n t in
-        let its : IsComing fr.epoch.0 w (x.part.nodes n).row ⊎ IsThere n fr.epoch.0 w (x.part.nodes n).row = subst (λ (i : ℕ). IsComing fr.epoch.0 w (x.part.nodes i).row ⊎ IsThere i fr.epoch.0 w (x.part.nodes i).row) node h.3 in
-        let epoch : e ≡ fr.epoch.0 = ⊎_elim (λ (c : IsComing fr.epoch.0 w (x.part.nodes n).row). absurd (past fr.epoch.0 c.2)) (λ (c : IsThere n fr.epoch.0 w (x.part.nodes n).row). of-there fr.epoch.0 c) its in
-        let same : d.0 ≡ e = h.1 ∙ sym epoch in
-        record { row = fr; found = found; stage = inl (eq ∙ (λ i. stage.Offering (node i) (record { 0 = same i }))) }
-  at-stage fr found (stage.Moved m d) eq h = by-node (m == n) refl where
-    by-node : (t : Bool) → (m == n) ≡ t → IsWithNode x n e
-    by-node false t = absurd (past fr.epoch.0 (h.2 n (λ same. let yes : false ≡ true = sym t ∙ eq-eqb m n (sym same) in cc)))
-    by-node true t =
-        let node : m ≡ n = eqb-true m n t in
-        let its : IsThere n fr.epoch.0 w (x.part.nodes n).row = subst (λ (i : ℕ). IsThere i fr.epoch.0 w (x.part.nodes i).row) node h.3 in
-        let same : d.0 ≡ e = h.1 ∙ sym (of-there fr.epoch.0 its) in
-        record { row = fr; found = found; stage = inr (eq ∙ (λ i. stage.Moved (node i) (record { 0 = same i }))) }
-
-  go : (o : Option FrontRow) → x.part.front.row ≡ o → Sits w x.part.nodes o → IsWithNode x n e
-  go None found h = absurd (past 0 (h.1 n))
-  go (Some fr) found h = at-stage fr found fr.stage refl h.0
 
 self : (n : ℕ) → (n == n) ≡ true
 self n = eq-eqb n n refl

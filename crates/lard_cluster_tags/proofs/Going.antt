@@ -1,10 +1,7 @@
 -- In every run: Fetches go to nodes that are there, and so do connections.
-use Rattle.std.proofs.Common.{◌≡◌, ◌≤◌, ℕ, zero, suc, false, true, List, length, Option, Some, None, Ok, refl, sym, ap, ◌∙◌, subst, arith}
-use Rattle.std.proofs.lemmas.Option.{slice_get_within}
+use Rattle.std.proofs.Common.{◌≡◌, ℕ, false, true, List, Ok, subst}
 use Rattle.lard_base.specs.Config.{config_check}
 use Rattle.lard_base.specs.declared.config.Config.{Config}
-use Rattle.lard_cluster.specs.declared.machine.Machine.{Machine}
-use Rattle.lard_cluster.specs.Machine.{node_at}
 use Rattle.lard_cluster_kept.specs.Kept.{IsKeptByStage}
 use Rattle.lard_cluster_kept.proofs.Runs.{kept-law}
 use Rattle.lard_cluster_policy.proofs.Counted.{IsCounted, reached-counted}
@@ -12,16 +9,12 @@ use Rattle.lard_cluster_tags.proofs.Agree.{Agreed, tags-name}
 use Rattle.lard_cluster_tags.proofs.Choices.{with-there}
 use Rattle.lard_cluster_tags.proofs.Runs.{connections-name-nodes, known-of}
 use Rattle.lard_cluster_view.specs.Carry.{IsUntouchedLaw, MayMove, OfEach, Untouched, setting, tale_at}
-use Rattle.lard_cluster_view.specs.View.{Conn, IsViewed, Setting, conn, grown, kept_at, part_of}
-use Rattle.lard_cluster_view.proofs.After.{IsAfter, step-after}
-use Rattle.lard_cluster_view.proofs.Carried.{carried, carried-keep, viewed-kept}
-use Rattle.lard_cluster_view.proofs.Runs.{start-blank}
+use Rattle.lard_cluster_view.specs.View.{Conn, Setting, conn, grown, part_of}
+use Rattle.lard_cluster_view.proofs.Carried.{carried}
 use Rattle.lard_cluster_view.proofs.Guarded.{untouched-law, untouched-weaker}
 use Rattle.lard_dispatch.specs.Sound.{IsNode}
 use Rattle.lard_files.specs.Files.{file_at}
 use Rattle.lard_front_rules.specs.Front.{is_at}
-use Rattle.lard_handoff_back.specs.declared.row.BackRow.{BackRow}
-use Rattle.lard_node_rules.specs.declared.node.NodeState.{NodeState}
 
 module _ (config : Config) (files : List (List ℕ × List ℕ)) (checked : config_check config ≡ Ok tt) where
   abbrev N : ℕ → Type 0
@@ -69,29 +62,3 @@ module _ (config : Config) (files : List (List ℕ × List ℕ)) (checked : conf
   each-with m r q n e at =
       let counted : IsCounted config m = reached-counted config files checked m r in
       subst (λ (c : Config). IsNode c.nodes n) counted.config_is (with-there m counted.sound q n e at)
-
--- a node that keeps something is there
-kept-there : (ns : List NodeState) (n q : ℕ) (row : BackRow) → (kept_at q (node_at ns n)).row ≡ Some row → (1 ≤ n) × (n ≤ length ns)
-kept-there ns zero q row is = let no : None ≡ Some row = is in absurd cc
-kept-there ns (suc i) q row is = go (node_at ns (suc i)) refl is where
-  go : (o : Option NodeState) → node_at ns (suc i) ≡ o → (kept_at q o).row ≡ Some row → (1 ≤ suc i) × (suc i ≤ length ns)
-  go None at e = let no : None ≡ Some row = e in absurd cc
-  go (Some s) at e = let within = slice_get_within ns i s at in (omega arith, omega (arith, within))
-
-of-machine : (m : Machine) → IsViewed m → (config : Config) → m.config.nodes ≡ config.nodes → (q n : ℕ) (row : BackRow) → ((conn m q).part.nodes n).row ≡ Some row → IsNode config.nodes n
-unfolding conn part_of
-of-machine m view config same q n row is =
-    let there = kept-there m.nodes n q row is in
-    let few = view.nodes in
-    let most = there.1 in
-    (there.0, omega (arith, most, few, same))
-
-pub each-there : (config : Config) (files : List (List ℕ × List ℕ)) → OfEach config files (λ x. (n : ℕ) (row : BackRow) → (x.part.nodes n).row ≡ Some row → IsNode config.nodes n)
-each-there config files m r = carried-keep config files IsThere (λ q n row is. let no : None ≡ Some row = sym (ap (λ (x : Conn). (x.part.nodes n).row) (start-blank config files q)) ∙ is in absurd cc)
-    (λ j i e on before rule is q n row found.
-    let after : IsAfter j e i = step-after j on.view e i rule is in
-    let view : IsViewed i = viewed-kept j i e on.view rule is in
-    let nodes : i.config.nodes ≡ config.nodes = ap (λ (c : Config). c.nodes) (after.config ∙ on.config_is) in
-    of-machine i view config nodes q n row found) m r where
-      IsThere : Machine → Type 0
-      IsThere k = (q n : ℕ) (row : BackRow) → ((conn k q).part.nodes n).row ≡ Some row → IsNode config.nodes n

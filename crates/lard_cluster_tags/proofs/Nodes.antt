@@ -1,24 +1,24 @@
 -- What a node does leaves the last Tag with as many nodes as requests wait for one.
-use Rattle.std.proofs.Common.{◌≡◌, ◌⊎◌, ◌<◌, ◌+◌, ◌==◌, ◌&&◌, nat_lt, ℕ, Bool, true, false, cond, List, [], length, Option, Some, None, refl, sym, ap, ◌∙◌, subst, arith, eqb-true, inl, inr, ⊎_elim}
-use Rattle.std.proofs.lemmas.Bool.{and_parts, ltb-true}
+use Rattle.std.proofs.Common.{◌≡◌, ◌⊎◌, ◌+◌, ◌==◌, ℕ, true, false, List, [], length, Option, Some, None, refl, sym, ap, ◌∙◌, subst, arith, eqb-true, inl, inr, ⊎_elim}
+use Rattle.std.proofs.lemmas.Bool.{and_parts}
 use Rattle.lard_answers.specs.Answers.{FilesAt}
 use Rattle.lard_cluster_kept.proofs.Here.{IsHere, here-is}
 use Rattle.lard_cluster_kept.proofs.Nodes.{DeedFollows, DeedGoes, IsIdle, IsOfEpoch, MayFollow, StayFollows}
-use Rattle.lard_cluster_places.specs.Places.{IsDecided, IsPast, Sits, StageSits, owning}
-use Rattle.lard_cluster_places.proofs.Growing.{put-each}
+use Rattle.lard_cluster_places.specs.Places.{IsPast, Sits, StageSits, owning}
+use Rattle.lard_cluster_places.proofs.NodeRules.{not-decided}
 use Rattle.lard_cluster_places.proofs.Turns.{IsPlaced}
 use Rattle.lard_cluster_tags.specs.Tags.{FitsAt, NamesNodes}
 use Rattle.lard_cluster_view.specs.Carry.{tale_at}
 use Rattle.lard_cluster_view.specs.View.{Conn, grown, node_does}
+use Rattle.lard_cluster_view.proofs.Parts.{put-each}
 use Rattle.lard_cluster_ways.specs.State.{GoesItsWay, IsAway, SeatWays, StageWays, StayWays, marks_at}
 use Rattle.lard_endpoint.specs.Control.{ControlBlock}
 use Rattle.lard_front_rules.specs.declared.front.FrontRest.{FrontRest}
 use Rattle.lard_front_rules.specs.Front.{is_at, is_with, rest_of}
 use Rattle.lard_handoff_back.specs.declared.row.BackConn.TheVariants as back
 use Rattle.lard_handoff_back.specs.declared.row.BackRow.{BackRow}
-use Rattle.lard_handoff_back.specs.declared.table.Adopt.TheVariants.{New, Again, Stale}
+use Rattle.lard_handoff_back.specs.declared.table.Adopt.TheVariants.{New}
 use Rattle.lard_handoff_back.specs.Back.{offer_answer}
-use Rattle.lard_handoff_back.specs.Row.{is_gone}
 use Rattle.lard_handoff_front.specs.declared.row.FrontConn.{FrontConn}
 use Rattle.lard_handoff_front.specs.declared.row.FrontConn.TheVariants as stage
 use Rattle.lard_handoff_front.specs.declared.row.FrontRow.{FrontRow}
@@ -83,17 +83,7 @@ module _ (files : FilesAt) (x : Conn) (facts : Facts files x) (n e : ℕ) (r : F
 
   -- where an Offer of this epoch is new, no Ask was answered
   pub none-answered : offer_answer e p.row ≡ New → r.asks ≡ 0
-  none-answered new = ⊎_elim (λ past. past.1.asks) (λ there. absurd (not-decided p.row new there.0)) away-is.away where
-    not-decided : (o : Option BackRow) → offer_answer e o ≡ New → IsDecided e o → ⊥
-    not-decided None is h = h
-    not-decided (Some row) is h = go (row.epoch.0 == e) refl is where
-      later : (b : Bool) → (nat_lt row.epoch.0 e && is_gone row.stage) ≡ b → cond b New Stale ≡ New → ⊥
-      later true t f = let less : row.epoch.0 < e = ltb-true row.epoch.0 e (and_parts (nat_lt row.epoch.0 e) (is_gone row.stage) t).0 in omega (arith, less, h)
-      later false t f = let no : Stale ≡ New = f in absurd cc
-
-      go : (b : Bool) → (row.epoch.0 == e) ≡ b → cond b Again (cond (nat_lt row.epoch.0 e && is_gone row.stage) New Stale) ≡ New → ⊥
-      go true t f = let no : Again ≡ New = f in absurd cc
-      go false t f = later (nat_lt row.epoch.0 e && is_gone row.stage) refl f
+  none-answered new = ⊎_elim (λ past. past.1.asks) (λ there. absurd (not-decided e p.row new there.0)) away-is.away
 
 -- ---- a rule of a node
 

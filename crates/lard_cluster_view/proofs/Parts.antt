@@ -1,5 +1,5 @@
 -- What each place keeps of a connection, over what is put back of one.
-use Rattle.std.proofs.Common.{◌≡◌, ◌≢◌, ℕ, zero, suc, ◌-◌, cond, List, [], ◌∷◌, length, Some, None, refl, sym, ap, ◌∙◌, arith, nat_eq}
+use Rattle.std.proofs.Common.{◌≡◌, ◌≢◌, ℕ, zero, suc, ◌-◌, ◌==◌, Bool, true, false, cond, List, [], ◌∷◌, length, Some, None, refl, sym, ap, ◌∙◌, subst, arith, nat_eq, eq-eqb, eqb-true}
 use Rattle.std.specs.Prelude.{slice_get, slice_set}
 use Rattle.std.specs.FinMap as table
 use Rattle.lard_cluster.specs.declared.machine.Machine.{Machine}
@@ -17,6 +17,19 @@ use Rattle.lard_resend.proofs.Lists.{found_other, held_put}
 use Rattle.lard_resend.specs.Pending.{list_of}
 use Rattle.lard_rules.specs.declared.places.Station.{Station}
 use Rattle.lard_table.proofs.Map.{get_inserted, get_other, get_put_other, get_put_same}
+
+-- ---- one node's part is put back among those of all nodes
+
+module _ (nodes : ℕ → NodePart) (n : ℕ) (q : NodePart) where
+  pub put-same : node_put nodes n q n ≡ q
+  put-same = ap (λ b. cond b q (nodes n)) (eq-eqb n n refl)
+
+  -- of each node, if it is so of this one and of the others
+  pub put-each : (P : ℕ → NodePart → Type 0) → P n q → ((m : ℕ) → m ≢ n → P m (nodes m)) → (m : ℕ) → P m (node_put nodes n q m)
+  put-each P here there m = go (m == n) refl where
+    go : (b : Bool) → (m == n) ≡ b → P m (cond b q (nodes m))
+    go true e = subst (λ (k : ℕ). P k q) (sym (eqb-true m n e)) here
+    go false e = there m (λ same. let yes : true ≡ false = sym (eq-eqb m n same) ∙ e in cc)
 
 -- ---- a node's part
 

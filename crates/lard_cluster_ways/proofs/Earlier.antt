@@ -6,14 +6,14 @@ use Rattle.lard_base.specs.declared.place.Place.{Place}
 use Rattle.lard_base.specs.declared.place.Place.TheVariants.{Client, Front, Node}
 use Rattle.lard_cluster.specs.declared.machine.Machine.{Machine}
 use Rattle.lard_cluster.specs.Machine.{IsReached}
-use Rattle.lard_cluster_places.proofs.Growing.{put-each}
 use Rattle.lard_cluster_view.specs.Carry.{IsLaw, MayMove, OfEach, setting}
-use Rattle.lard_cluster_view.specs.View.{ClientRules, Conn, FrontRules, IsNodeEnv, Move, NodeRules, Part, Rules, Setting, brought_said, conn, contents, epoch_in, event_seen, front_does, grown, named, node_does, nothing_said, packet_seen, reads_first, rows_of, seen_in, sending, stands, timer_rows}
+use Rattle.lard_cluster_view.specs.View.{ClientRules, Conn, FrontRules, IsNodeEnv, Move, NodeRules, Rules, Setting, brought_said, conn, contents, epoch_in, event_seen, front_does, grown, named, node_does, nothing_said, packet_seen, reads_first, rows_of, seen_in, sending, stands, timer_rows}
 use Rattle.lard_cluster_view.specs.View as view
 use Rattle.lard_cluster_view.proofs.Carried.{carried}
 use Rattle.lard_cluster_view.proofs.Fine.{IsFine, IsItsOwn, fine}
 use Rattle.lard_cluster_view.proofs.Guarded.{both, weaker}
 use Rattle.lard_cluster_view.proofs.InSteps.{carried-records}
+use Rattle.lard_cluster_view.proofs.Parts.{put-each}
 use Rattle.lard_cluster_view.proofs.Saying.{GaveAt, NamesAll, NotedAt}
 use Rattle.lard_cluster_view.proofs.Timers.{IsTimerAt, timer_rows-are}
 use Rattle.lard_cluster_ways.specs.Before.{ContentsWereThere, MayBeServed, MayFollow, SawBehind, WasAt, WasThere}

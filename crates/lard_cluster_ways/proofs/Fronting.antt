@@ -8,10 +8,10 @@ use Rattle.lard_base.specs.declared.place.Place.{Place}
 use Rattle.lard_base.specs.declared.place.Place.TheVariants.{Client, Front, Node}
 use Rattle.lard_cluster.specs.Bounds.{IsNumber}
 use Rattle.lard_cluster_bytes.specs.Agreement.{FrontHolds}
-use Rattle.lard_cluster_bytes.proofs.FrontMoves.{kinds-same}
 use Rattle.lard_cluster_bytes.proofs.Messages.{offers-read}
 use Rattle.lard_cluster_places.specs.Places.{ArePast, IsDecided, IsPast}
 use Rattle.lard_cluster_places.proofs.Growing.{past-later}
+use Rattle.lard_cluster_places.proofs.Heads.{kinds-same}
 use Rattle.lard_cluster_view.specs.View.{Conn, Move, Part, front_does, letter, with_front}
 use Rattle.lard_cluster_ways.specs.State.{BeginsWith, FrontSaysWays, IsBy, LetterWays, SeatWays, marks_at}
 use Rattle.lard_cluster_ways.specs.Under.{Assigned}

@@ -6,12 +6,12 @@ use Rattle.lard_answers.specs.Answers.{FilesAt}
 use Rattle.lard_base.specs.declared.place.Place.{Place}
 use Rattle.lard_base.specs.declared.place.Place.TheVariants.{Front, Node}
 use Rattle.lard_cluster_bytes.specs.Law.{Helps}
-use Rattle.lard_cluster_bytes.proofs.FrontMoves.{kinds-same}
 use Rattle.lard_cluster_bytes.proofs.FrontMessages.{past-undecided}
 use Rattle.lard_cluster_bytes.proofs.NodeMoves.{IsAt}
 use Rattle.lard_cluster_places.specs.Places.{IsDecided, IsPast}
-use Rattle.lard_cluster_places.proofs.Growing.{put-each, put-same}
+use Rattle.lard_cluster_places.proofs.Heads.{kinds-same}
 use Rattle.lard_cluster_view.specs.View.{AreSent, Conn, Move, Part, letter, named, node_put, stands, nothing_said, with_node}
+use Rattle.lard_cluster_view.proofs.Parts.{put-each, put-same}
 use Rattle.lard_cluster_ways.specs.State.{GoesItsWay, IsAway, IsPlacedOnce, LetterWays, NodeSaysWays, SeatWays, StageWays, StayAsks, StayWays, marks_at}
 use Rattle.lard_cluster_ways.specs.Under.{Assigned}
 use Rattle.lard_cluster_ways.specs.Ways.{Marks}

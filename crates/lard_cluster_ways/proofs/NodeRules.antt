@@ -11,12 +11,12 @@ use Rattle.lard_cluster_bytes.proofs.FrontMessages.{opened-at}
 use Rattle.lard_cluster_bytes.proofs.NodeRest.{by-station, front-opens, nothing-here}
 use Rattle.lard_cluster_places.specs.Places.{IsDecided, IsPast}
 use Rattle.lard_cluster_view.specs.View.{Conn, IsNodeEnv, Move, NodeRules, Setting, Spells, Was, brought_said, contents, event_seen, node_does, nothing_said, packet_seen, reads_first, stands}
+use Rattle.lard_cluster_view.proofs.Parts.{put-each}
 use Rattle.lard_cluster_ways.specs.State.{GoesItsWay, StayAsks, marks_at}
 use Rattle.lard_cluster_ways.specs.Ways.{Marks}
 use Rattle.lard_cluster_ways.proofs.Homes.{seat-kept}
 use Rattle.lard_cluster_ways.proofs.Letters.{carries-same}
 use Rattle.lard_cluster_ways.proofs.Moving.{IsMade, Keeps, makes, same-marks, stands-makes}
-use Rattle.lard_cluster_places.proofs.Growing.{put-each}
 use Rattle.lard_cluster_ways.proofs.Nodes.{contents-keep, fires-keep, forwards-keep, read-keeps, tags-keep}
 use Rattle.lard_cluster_ways.proofs.Offered.{offered-keep}
 use Rattle.lard_front_rules.specs.Front.{rest_of}

@@ -7,7 +7,7 @@ use Rattle.lard_base.specs.declared.place.Place.{Place}
 use Rattle.lard_base.specs.declared.place.Place.TheVariants.{Client}
 use Rattle.lard_base.specs.declared.place.TimerKind.{TimerKind}
 use Rattle.lard_base.specs.declared.place.TimerKind.TheVariants as timer
-use Rattle.lard_cluster_bytes.proofs.FrontMoves.{kinds-same}
+use Rattle.lard_cluster_places.proofs.Heads.{kinds-same}
 use Rattle.lard_cluster_places.proofs.Loops.{settled-is, spoken-to}
 use Rattle.lard_cluster_view.proofs.Nodes.{anew-all}
 use Rattle.lard_cluster_ways.specs.Contents.{IsContent}

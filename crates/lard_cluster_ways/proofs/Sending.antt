@@ -5,11 +5,11 @@ use Rattle.lard_base.specs.declared.config.Config.{Config}
 use Rattle.lard_base.specs.declared.event.Event.TheVariants as event
 use Rattle.lard_base.specs.declared.place.Place.{Place}
 use Rattle.lard_base.specs.declared.place.Place.TheVariants.{Client, Front, Node}
-use Rattle.lard_cluster_places.proofs.Growing.{put-each}
 use Rattle.lard_cluster_view.specs.Carry.{IsLaw, MayMove, OfEach, setting}
 use Rattle.lard_cluster_view.specs.View.{ClientRules, Conn, FrontRules, IsNodeEnv, Move, NodeRules, Rules, Setting, Spells, event_seen, front_does, grown, node_does, nothing_said, packet_seen, reads_first, stands}
 use Rattle.lard_cluster_view.proofs.Carried.{carried}
 use Rattle.lard_cluster_view.proofs.Guarded.{weaker}
+use Rattle.lard_cluster_view.proofs.Parts.{put-each}
 use Rattle.lard_cluster_ways.proofs.Quiet.{DeedNone, PartNone, SentNone, acknowledged-none, content-none, fires-none, forwarded-none, offered-none, read-none, tagged-none}
 use Rattle.lard_front_rules.specs.Front as front
 use Rattle.lard_front_rules.specs.Front.{ask_of, front_asked, front_ended, front_gets, front_taken, front_timer}

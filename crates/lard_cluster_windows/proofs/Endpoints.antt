@@ -6,7 +6,7 @@ use Rattle.lard_answers.specs.Answers.{answer}
 use Rattle.lard_arrival.specs.Arrival.{seg_len}
 use Rattle.lard_base.specs.declared.place.Reason.TheVariants.{Limit}
 use Rattle.lard_base.specs.declared.place.Via.{Via}
-use Rattle.lard_cluster_limits.proofs.Serving.{consuming-sound, finishing-sound, reads-unfinished}
+use Rattle.lard_cluster_limits.proofs.Serving.{reads-unfinished}
 use Rattle.lard_cluster_limits.proofs.Working.{KeptByServing}
 use Rattle.lard_cluster_silence.proofs.Endpoints.{Anything, window-wide}
 use Rattle.lard_cluster_silence.proofs.Turns.{IsKept}
@@ -25,6 +25,7 @@ use Rattle.lard_request.specs.declared.verdict.Verdict.{Verdict}
 use Rattle.lard_request.specs.Verdict.{closes}
 use Rattle.lard_rules.specs.Serving.{ServeEnv, Service, answered, ended_at_fin, limit_said, may_read, passed_over, queued}
 use Rattle.lard_rules.specs.Speaking.{speaks}
+use Rattle.lard_rules.proofs.Endpoints.{consuming-sound, finishing-sound}
 use Rattle.lard_rules.proofs.Halves.{KeptBySending, endpoint-emit, endpoint-fires, endpoint-segment}
 use Rattle.lard_rules.proofs.Loops.{speaks_keep}
 use Rattle.lard_segment.specs.declared.segment.Ready.{Ready}

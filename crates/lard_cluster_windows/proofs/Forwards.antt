@@ -4,9 +4,9 @@ use Rattle.std.proofs.lemmas.Bool.{cond_both}
 use Rattle.lard_base.specs.declared.event.Event.TheVariants as event
 use Rattle.lard_base.specs.declared.place.Place.{Place}
 use Rattle.lard_base.specs.declared.place.Place.TheVariants.{Client, Front, Node}
-use Rattle.lard_cluster_bytes.proofs.FrontMoves.{kinds-same}
 use Rattle.lard_cluster_bytes.proofs.Messages.{forwards-read}
 use Rattle.lard_cluster_places.proofs.FrontRules.{has-each}
+use Rattle.lard_cluster_places.proofs.Heads.{kinds-same}
 use Rattle.lard_cluster_silence.proofs.Endpoints.{AnyReply, Anything}
 use Rattle.lard_cluster_silence.proofs.Fronts as fronts
 use Rattle.lard_cluster_silence.proofs.Turns.{AreTold, IsKept, nobody}
@@ -26,7 +26,7 @@ use Rattle.lard_endpoint.specs.Control.{ControlBlock}
 use Rattle.lard_front_rules.specs.declared.front.FrontRest.{FrontRest}
 use Rattle.lard_front_rules.specs.declared.front.FrontTurn.{FrontTurn}
 use Rattle.lard_front_rules.specs.Front as front
-use Rattle.lard_front_rules.specs.Front.{Deed, Drops, Says, Does, FrontEnv, FrontPart, admitted_at, admitted_by, admitted_with, ask_of, asked_by, assigns, begun, ended_by, fired_by, fires_at, front_admitted, front_asked, front_ended, front_gets, front_hears, front_taken, front_timer, handed_off, heard, hears_at, is_at, message, met, placed, rest_of, saying, settled_by, tag_sent, taken_by}
+use Rattle.lard_front_rules.specs.Front.{Deed, Drops, Says, Does, FrontEnv, FrontPart, admitted_at, admitted_by, admitted_with, ask_of, asked_by, assigns, begun, ended_by, fired_by, fires_at, front_admitted, front_asked, front_ended, front_gets, front_hears, front_taken, front_timer, handed_off, hears_at, is_at, message, placed, rest_of, saying, settled_by, tag_sent, taken_by}
 use Rattle.lard_front_rules.specs.Reading.{Reading, reads}
 use Rattle.lard_handoff_front.specs.declared.row.FrontConn.{FrontConn}
 use Rattle.lard_handoff_front.specs.declared.row.FrontConn.TheVariants as stage
@@ -63,11 +63,6 @@ module _ (c : ℕ) (ls : List Letter) where
   -- a message of the front end
   abbrev MessageWas : List ℕ → Type 0
   MessageWas bytes = (m : Message) (segment : List ℕ) → decoded_message bytes ≡ Ok m → m.body ≡ body.Forward segment → Has (record { from = Client c; to = Front; bytes = segment }) ls
-
-  to-any : (to : Place) (bytes : List ℕ) → MessageWas bytes → ForwardWasOn c ls Front to bytes
-  to-any (Node n) bytes h = h
-  to-any Front bytes h = tt
-  to-any (Client d) bytes h = tt
 
   -- of another kind
   other-was : (c' e : ℕ) (b : Body) → (kind_of b ≡ kind.Forward → ⊥) → MessageWas (message c' e b)

@@ -8,7 +8,6 @@ use Rattle.lard_base.specs.declared.place.Reason.TheVariants as reason
 use Rattle.lard_cluster_acks.proofs.Runs.{front-station}
 use Rattle.lard_cluster_bytes.specs.Agreement.{EndedIt, IsFair, IsFairOn, IsTruthful, SeatAgrees, StageAgrees}
 use Rattle.lard_cluster_bytes.proofs.ClientMoves.{has-fair}
-use Rattle.lard_cluster_limits.proofs.Serving.{listening-sound}
 use Rattle.lard_cluster_places.proofs.Turns.{IsPlaced}
 use Rattle.lard_cluster_silence.specs.Places.{FrontHas}
 use Rattle.lard_cluster_silence.proofs.Endpoints.{Anything}
@@ -29,6 +28,7 @@ use Rattle.lard_history.specs.Own.{Seen}
 use Rattle.lard_laws_bytes.specs.Agreement.{IsWord}
 use Rattle.lard_rules.specs.declared.places.Station.{Station}
 use Rattle.lard_rules.specs.Front.{is_plain_syn, is_telling, last_ack, last_words, refusal}
+use Rattle.lard_rules.proofs.Endpoints.{listening-sound}
 use Rattle.lard_segment.proofs.Again.{again}
 use Rattle.lard_segment.specs.declared.fault.SegFault.{SegFault}
 use Rattle.lard_segment.specs.declared.segment.Dir.TheVariants.{ToCluster}

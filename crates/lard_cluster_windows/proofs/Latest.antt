@@ -1,16 +1,14 @@
 -- What follows where few bytes were written: an established client sent all that it has, and an endpoint has an open window.
 use Rattle.std.proofs.Common.{◌≡◌, ◌≤◌, ◌<◌, ◌+◌, ◌-◌, ◌==◌, ◌&&◌, nat_lt, not, ℕ, Bool, true, false, cond, List, Option, Some, None, refl, ap, subst, arith}
-use Rattle.std.proofs.lemmas.Bool.{eqb-false, eqb-true, ltb-false, ltb-true}
-use Rattle.lard_client.specs.Control.{ClientBlock, is_established, is_open}
+use Rattle.std.proofs.lemmas.Bool.{eqb-true, ltb-false, ltb-true}
+use Rattle.lard_client.specs.Control.{ClientBlock, is_open}
 use Rattle.lard_client.specs.Leaving.{emitted, owed_ready, piece_ready, ready_of}
 use Rattle.lard_cluster_places.proofs.FrontRules.{has-each}
-use Rattle.lard_cluster_silence.specs.Silence.{ClientHasSpoken, HasSpoken}
-use Rattle.lard_cluster_silence.proofs.Endpoints.{window-wide}
+use Rattle.lard_cluster_silence.specs.Silence.{HasSpoken}
 use Rattle.lard_cluster_view.specs.View.{Conn, Spells, Was}
 use Rattle.lard_base.specs.declared.place.Place.TheVariants.{Client, Front, Node}
-use Rattle.lard_cluster_windows.specs.Windows.{ClientReaches}
 use Rattle.lard_cluster_windows.specs.Words.{BytesFit, ForwardWas, ForwardsWere, HasFittingWords, FitsOn, WordFits}
-use Rattle.lard_endpoint.specs.Control.{ControlBlock, rcv_wnd}
+use Rattle.lard_endpoint.specs.Control.{ControlBlock}
 use Rattle.lard_history.specs.Own.{Has}
 use Rattle.lard_message.specs.declared.message.Body.TheVariants as body
 use Rattle.lard_rules.specs.declared.places.Station.{Station}
@@ -62,19 +60,6 @@ few-symbols s few = go s.finished where
   go true = omega (arith, few)
   go false = omega (arith, few)
 
--- An open client that is established and wrote fewer than 16,383 bytes sent all that it has.
-pub latest : (x : ClientBlock) → ClientHasSpoken x → ClientReaches x → is_open x ≡ true → is_established x ≡ true → x.send.total ≤ 16382 → x.send.nxt ≡ symbols x.send
-latest x h r open_ est few =
-    let begun : x.send.una ≡ 0 → ⊥ = eqb-false x.send.una 0 (off (x.send.una == 0) est) in
-    let some : 0 < x.send.una = omega (arith, begun) in
-    let wide = r.wide some in
-    let all = few-symbols x.send few in
-    all-sent x.send h.speaks.sound (none-next x open_ h.none) some (omega (arith, wide, all))
-  where
-    off : (b : Bool) → not b ≡ true → b ≡ false
-    off true e = absurd (let bad : false ≡ true = e in cc)
-    off false e = refl
-
 -- ---- an endpoint that took fewer than 16,384 bytes
 
 -- it told an open window last, and has one
@@ -83,9 +68,6 @@ told-open b h few = go (b.last_window == 0) refl where
   go : (t : Bool) → (b.last_window == 0) ≡ t → (b.last_window == 0) ≡ false
   go false e = e
   go true e = absurd (let z : b.last_window ≡ 0 = eqb-true b.last_window 0 e in let told = h.told in omega (arith, z, told, few))
-
-pub window-open : (b : ControlBlock) → HasSpoken b → b.recv.got < 16384 → 0 < rcv_wnd b
-window-open b h few = let wide = window-wide b h.sound in omega (arith, wide, few)
 
 -- ---- a segment that was forwarded fits as the client's do
 

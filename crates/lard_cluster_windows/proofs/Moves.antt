@@ -3,15 +3,15 @@ use Rattle.std.proofs.Common.{◌≡◌, ◌⊎◌, ⊎_elim, ◌≤◌, ◌<◌
 use Rattle.lard_base.specs.declared.place.Place.{Place}
 use Rattle.lard_base.specs.declared.place.Place.TheVariants.{Client, Front, Node}
 use Rattle.lard_client.specs.Control.{ClientBlock}
-use Rattle.lard_cluster_places.proofs.Growing.{put-each}
 use Rattle.lard_cluster_silence.specs.Places.{FrontHas, KnownHas, NodeHas}
 use Rattle.lard_cluster_silence.proofs.Fronts as fronts
 use Rattle.lard_cluster_silence.proofs.Nodes as nodes
 use Rattle.lard_cluster_silence.proofs.Places.{front-weaker, known-front, node-weaker}
 use Rattle.lard_cluster_silence.proofs.Turns.{AreTold, nobody}
-use Rattle.lard_cluster_view.specs.View.{Conn, IsMachine, client_does, front_does, grown, letter, letters_of, node_does, stands, with_station}
+use Rattle.lard_cluster_view.specs.View.{Conn, IsMachine, client_does, front_does, grown, letter, letters_of, node_does, stands}
 use Rattle.lard_cluster_view.specs.View as view
 use Rattle.lard_cluster_view.proofs.Fine.{IsItsOwn}
+use Rattle.lard_cluster_view.proofs.Parts.{put-each}
 use Rattle.lard_cluster_view.proofs.Saying.{AreMessages}
 use Rattle.lard_cluster_windows.specs.Windows.{AnyBlock, ClientReaches, EndSent, FrontSent, IsEnd, LetterReaches, StationReaches, WasSent}
 use Rattle.lard_cluster_windows.proofs.Endpoints.{Goes, Replies}

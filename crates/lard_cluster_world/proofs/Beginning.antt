@@ -15,7 +15,7 @@ use Rattle.lard_base.specs.declared.config.Key.{Key}
 use Rattle.lard_cluster.specs.Machine.{start}
 use Rattle.lard_cluster.specs.declared.machine.Machine.{Machine}
 use Rattle.lard_cluster_world.specs.Runs.{IsRun}
-use Rattle.lard_cluster_world.specs.Sound.{IsNodeFit, IsSet}
+use Rattle.lard_stepping.specs.Sound.{IsNodeFit, IsSet}
 use Rattle.lard_dispatch.specs.Sound.{AreBefore}
 use Rattle.lard_front_rules.specs.FrontPlace.{no_connections}
 use Rattle.lard_front_rules.specs.Sound.{IsFrontSound}

@@ -17,9 +17,9 @@ use Rattle.lard_cluster.specs.declared.machine.Machine.{Machine}
 use Rattle.lard_cluster_laws.specs.Lawful.{IsLawful}
 use Rattle.lard_cluster_laws.proofs.Lawful.{journals-lawful}
 use Rattle.lard_cluster_world.specs.Runs.{IsRun}
-use Rattle.lard_cluster_world.specs.Sound.{IsSet, IsSound}
+use Rattle.lard_stepping.specs.Sound.{IsSet, IsSound}
 use Rattle.lard_cluster_world.specs.World.{is_short}
-use Rattle.lard_cluster_world.proofs.Sound.{closed_sound}
+use Rattle.lard_stepping.proofs.Sound.{closed_sound}
 use Rattle.lard_files.specs.Files.{file_at}
 use Rattle.lard_journal.specs.Inner.{turned_at}
 use Rattle.lard_journal.specs.declared.rec.Rec.{Rec}
@@ -42,6 +42,8 @@ use Rattle.lard_rules.specs.Outs.{out_of}
 use Rattle.lard_rules.specs.Client.{client_opens, client_writes, client_shuts, client_holds, client_takes, client_aborts, client_timer, client_gets, client_injects}
 use Rattle.lard_segment.specs.declared.segment.Dir.TheVariants.{ToClient}
 use Rattle.lard_segment.specs.Segment.{decoded}
+use Rattle.lard_settle_bound.specs.Enough.{RestsWithEnough}
+use Rattle.lard_settle_bound.proofs.Law.{settles-rest}
 use Rattle.lard_settling.specs.Steps.{as_inner, inner_given, inner_step, settle_begun, settle_closed}
 use Rattle.lard_settling.specs.Written.{IsWrittenOut, written_out}
 use Rattle.lard_settling.proofs.Written.{given-done, written}
@@ -285,3 +287,8 @@ where-done (Err fault) P h fine = absurd (both_ways true fine refl)
 -- a settle that closes
 pub closed-run : (m : Machine) (rounds left : ℕ) → IsRun m → IsRun (settle_closed m rounds left)
 closed-run m rounds left r = record { reached = (written m.config m.files).closes m rounds left r.reached; set = r.set; sound = closed_sound m rounds left r.sound }
+
+-- where it closes in a state with such numbers, it rests if its rounds were enough
+pub closed-rests : {E : Type 0} (old new : Machine) (rounds left : ℕ) (result : Result (Unit {0}) E) → IsRun old → OnOk result (new ≡ settle_closed old rounds left) → OnOk result (RestsWithEnough new)
+closed-rests old new rounds left (Ok done) run is = subst RestsWithEnough (sym is) (settles-rest (settle_closed old rounds left) run.set.usable)
+closed-rests old new rounds left (Err fault) run is = tt

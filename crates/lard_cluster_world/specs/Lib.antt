@@ -1,6 +1,4 @@
-pub mod Acting
-pub mod Lent
-pub mod Sound
 pub mod World
 pub mod Runs
 pub use Rattle.lard_cluster_laws.specs.Lawful
+pub use Rattle.lard_settle_bound.specs.Enough

@@ -1,6 +1,6 @@
 -- What holds of every world that can take a step.
 use Rattle.lard_cluster.specs.declared.machine.Machine.{Machine}
-use Rattle.lard_cluster_world.specs.Sound.{IsSet, IsSound}
+use Rattle.lard_stepping.specs.Sound.{IsSet, IsSound}
 use Rattle.lard_settling.specs.Written.{IsWrittenOut}
 
 -- With its settles written out, the journal is that of some events; and the code can rely on the machine.

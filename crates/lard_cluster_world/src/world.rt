@@ -8,11 +8,11 @@ ghost use Rattle.lard_cluster_laws.specs.Lawful.{IsLawful};
 ghost use Rattle.lard_cluster_world.specs.World.{is_short};
 ghost use Rattle.lard_files.specs.Files.{file_at};
 ghost use Rattle.lard_node_rules.specs.NodePlace.{no_stays};
+ghost use Rattle.lard_settle_bound.specs.Enough.{RestsWithEnough};
 ghost use Rattle.lard_settling.specs.Left.{is_holder, jobs_at};
 ghost use Rattle.lard_settling.specs.Steps.{inner_step, settle_begun, settle_closed};
 ghost use Rattle.lard_settling.specs.Written.{written_out};
 
-use crate::{settling, steps};
 use lard_base::{Config, ConnId, Event, NoMemory, NodeId};
 use lard_cluster::{Machine, NodeList, StepFault};
 use lard_dispatch::Dispatch;
@@ -20,6 +20,7 @@ use lard_files::Files;
 use lard_journal::Journal;
 use lard_net::Net;
 use lard_rules::Station;
+use lard_stepping::{settling, steps};
 use lard_table::Table;
 use std::alloc::Global;
 use std::marker::Model;
@@ -121,11 +122,14 @@ impl World {
     }
 
     /// Ends a settle by its closing record: so many rounds were done, and so many timers and jobs are left. Without memory the world
-    /// is spoiled, and its journal is as it was.
+    /// is spoiled, and its journal is as it was. Where the settle that ends so was begun with as many rounds as the bound of its journal,
+    /// no job waits and no timer runs but those that are stalled, where no packet was put on the way in a client's name and each client
+    /// wrote fewer than 16,383 bytes.
     pub fn end_settle(&mut self, alloc: Global, rounds: u32, left: u64) -> Result<(), NoMemory>
         requires usable { self.old.spoiled ≡ false }
         ensures ok { OnOk result (self.new.machine ≡ settle_closed self.old.machine rounds left) }
         ensures usable { OnOk result (self.new.spoiled ≡ false) }
+        ensures enough { OnOk result (RestsWithEnough self.new.machine) }
         ensures err { OnErr result (self.new.machine.journal ≡ self.old.machine.journal) }
         ensures spoiled { OnErr result (self.new.spoiled ≡ true) }
     {

@@ -9,7 +9,7 @@ use Rattle.lard_answers.specs.Answers.{answer_bytes}
 use Rattle.lard_base.specs.declared.event.Event.{Event}
 use Rattle.lard_base.specs.declared.event.Event.TheVariants as event
 use Rattle.lard_block.specs.Blocks.{blocks}
-use Rattle.lard_bound.specs.Bound.{bytes_of, opener_step, openers, requests_of, settling_bound, total_of}
+use Rattle.lard_bound.specs.Bound.{IsOrdinary, bytes_of, opener_step, openers, requests_of, settling_bound, total_of}
 use Rattle.lard_cluster.specs.declared.fault.StepFault.{StepFault}
 use Rattle.lard_cluster.specs.declared.machine.Machine.{Machine}
 use Rattle.lard_cluster.specs.Bounds.{HasRule}
@@ -28,7 +28,7 @@ use Rattle.lard_history.specs.Laws.{Follows}
 use Rattle.lard_journal.specs.declared.rec.Rec.{Rec}
 use Rattle.lard_settling.specs.Events.{Goes, MayCome, event_step, stepped_from}
 use Rattle.lard_settling.specs.Settling.{Stop}
-use Rattle.lard_generate_bound.specs.Laws.{IsOrdinary, RoundsReachTheBound, SettlesLast}
+use Rattle.lard_generate_bound.specs.Laws.{RoundsReachTheBound, SettlesLast}
 use Rattle.lard_generate_bound.specs.Shares.{Wrote, numbers, share}
 use Rattle.lard_generate_bound.proofs.Cut.{heads-answered, heads-blocks, heads-length}
 use Rattle.lard_generate_bound.proofs.Leaving.{IsPlain, acts-are, fates-are, opener-still, opens-are, touched-still, unopening, untouched, unwritten, wrote-still}

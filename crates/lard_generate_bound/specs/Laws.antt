@@ -1,9 +1,9 @@
 -- What holds of a generated schedule where its settle begins: the rounds of the settle reach the bound of the journal.
-use Rattle.std.specs.Prelude.{◌≡◌, ℕ, ◌<◌, ◌≤◌, false, List, [], ◌∷◌, ◌++◌, length, map}
+use Rattle.std.specs.Prelude.{◌≡◌, ℕ, ◌≤◌, List, [], ◌∷◌, ◌++◌, map}
 use Rattle.lard_base.specs.declared.config.Config.{Config}
 use Rattle.lard_base.specs.declared.event.Event.{Event}
 use Rattle.lard_base.specs.declared.event.Event.TheVariants.{Settle}
-use Rattle.lard_bound.specs.Bound.{settling_bound}
+use Rattle.lard_bound.specs.Bound.{IsOrdinary, settling_bound}
 use Rattle.lard_cluster.specs.declared.machine.Machine.{Machine}
 use Rattle.lard_cluster.specs.Machine.{start}
 use Rattle.lard_files.specs.Files.{file_at}
@@ -11,8 +11,6 @@ use Rattle.lard_generate.specs.Clients.{drawn_actions, drawn_fate, drawn_open, e
 use Rattle.lard_generate.specs.Draws.{each, seeded}
 use Rattle.lard_generate.specs.Files.{drawn_size}
 use Rattle.lard_generate.specs.Generated.{generated}
-use Rattle.lard_history.specs.Journal.{is_touched, wrote}
-use Rattle.lard_journal.specs.declared.rec.Rec.{Rec}
 use Rattle.lard_settling.specs.Events.{Goes}
 
 -- the events of a generated schedule before its settle
@@ -34,10 +32,6 @@ rounds_of seed clients =
 -- its settle is its last event
 abbrev pub SettlesLast : Type 0
 SettlesLast = (seed clients : ℕ) → (generated seed clients).events ≡ before_settle seed clients ++ Settle (rounds_of seed clients) ∷ []
-
--- the schedule put no packet on the way in a client's name, and each client wrote fewer than 16,383 bytes
-abbrev pub IsOrdinary : List Rec → Type 0
-IsOrdinary J = (c : ℕ) → (is_touched J c ≡ false) × (length (wrote J c) < 16383)
 
 -- Where all its events before the settle were done, the rounds reach the bound of the journal so far, and this journal is ordinary.
 abbrev pub RoundsReachTheBound : Type 0

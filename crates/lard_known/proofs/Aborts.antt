@@ -102,9 +102,6 @@ Told (Some s) b = b ≡ true → s.client.phase ≡ Open → ⊥
 abbrev pub AbortedIsOver : Conn → Type 0
 AbortedIsOver x = Told x.part.station (story_at x).aborted
 
-pub aborted-over : (x : Conn) (s : Station) → x.part.station ≡ Some s → AbortedIsOver x → (story_at x).aborted ≡ true → s.client.phase ≡ Open → ⊥
-aborted-over x s there h = let at : Told (Some s) (story_at x).aborted = subst (λ (o : Option Station). Told o (story_at x).aborted) there h in at
-
 abbrev Keeps : Conn → Move → Type 0
 Keeps x v = IsItsOwn x v → AbortedIsOver x → AbortedIsOver (grown x v)
 

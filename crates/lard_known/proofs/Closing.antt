@@ -1,6 +1,6 @@
 -- A connection that both sides closed: its last numbers are those behind all that its client took and has.
-use Rattle.std.proofs.Common.{◌≡◌, ◌≤◌, ◌<◌, ◌+◌, ◌^◌, ◌==◌, not, ℕ, Bool, true, false, cond, List, map, length, arith, Some, sym, ap, ◌∙◌, subst, refl}
-use Rattle.std.proofs.lemmas.Bool.{eqb-false, eqb-true}
+use Rattle.std.proofs.Common.{◌≡◌, ◌≤◌, ◌<◌, ◌+◌, ◌^◌, ◌==◌, not, ℕ, Bool, true, false, cond, List, map, length, arith, Some, sym, ap, ◌∙◌, subst}
+use Rattle.std.proofs.lemmas.Bool.{eqb-true}
 use Rattle.std.proofs.lemmas.List.{length-append}
 use Rattle.std.specs.List.{concat}
 use Rattle.lard_answers.specs.Answers.{FilesAt, answer, answer_bytes, verdicts}
@@ -87,13 +87,6 @@ module _ (files : FilesAt) (x : Conn) (truth : IsTruthful files x) (acts : AcksW
         let within = o.client.accepts.within in
         let fewer = said-most in
         took-all (st.client.send.una == 0) st.client.eof st.client.accepted (length was.out.bytes) most (omega (arith, within, fewer))
-
-    -- so it is established
-    pub closed-knows : 1 ≤ st.client.send.una
-    closed-knows = let two = took in took-one (st.client.send.una == 0) refl (omega (arith, two)) where
-      took-one : (z : Bool) → (st.client.send.una == 0) ≡ z → 1 ≤ cond z 0 (1 + st.client.accepted + cond st.client.eof 1 0) → 1 ≤ st.client.send.una
-      took-one true is some = absurd (omega (arith, some))
-      took-one false is some = let never = eqb-false st.client.send.una 0 is in omega (arith, never)
 
     -- ---- the last numbers
 

@@ -4,8 +4,6 @@ use Rattle.std.specs.Prelude.{All}
 use Rattle.lard_base.specs.Config.{config_check}
 use Rattle.lard_base.proofs.Usable.{usable}
 use Rattle.lard_base.specs.declared.config.Config.{Config}
-use Rattle.lard_base.specs.declared.event.Event.{Event}
-use Rattle.lard_base.specs.declared.place.Place.TheVariants.{Front, Node}
 use Rattle.lard_bound.specs.Seats.{Held, Waiting, seat_of}
 use Rattle.lard_bound.specs.Units.{Whole, whole_of}
 use Rattle.lard_cluster.specs.declared.machine.Machine.{Machine}
@@ -27,7 +25,7 @@ use Rattle.lard_known.proofs.EventsGiven.{config-of}
 use Rattle.lard_known.proofs.NodesGiven.{node-given}
 use Rattle.lard_known.proofs.Runs.{each-known, written_on}
 use Rattle.lard_progress.proofs.AnswersClientGiven.{ClientGiven}
-use Rattle.lard_progress.proofs.AnswersFrontGiven.{AtSeat, FrontGiven, IsTalking}
+use Rattle.lard_progress.proofs.AnswersFrontGiven.{AtSeat, IsTalking}
 use Rattle.lard_progress.proofs.AnswersNodeGiven.{HasIt, NodeGiven}
 use Rattle.lard_progress.proofs.Given.{Given, Known}
 use Rattle.lard_progress.proofs.Leading.{AllGiven}
@@ -99,7 +97,3 @@ module _ (config : Config) (files : List (List ℕ × List ℕ)) (checked : conf
     node = by-node beside;
     client = beside.client;
   }
-
-  -- in the machine's own settings
-  pub all-given : Beside → AllGiven (setting_of m) all x
-  all-given beside = subst (λ (s : Setting). AllGiven s all x) (setting-is config files m reached) (given-by beside)

@@ -1,11 +1,10 @@
 -- In every state that events lead to: what the front end's answers rest on, of a connection that the schedule did not touch.
-use Rattle.std.proofs.Common.{◌≡◌, ◌≤◌, Bool, false, List, ℕ, Some, Ok, subst}
+use Rattle.std.proofs.Common.{◌≡◌, false, List, ℕ, Some, Ok, subst}
 use Rattle.lard_base.proofs.Usable.{usable}
 use Rattle.lard_base.specs.Config.{config_check}
 use Rattle.lard_base.specs.declared.config.Config.{Config}
 use Rattle.lard_base.specs.declared.place.Place.TheVariants.{Client, Front, Node}
-use Rattle.lard_base.specs.declared.place.Reason.TheVariants.{Closed}
-use Rattle.lard_bound.specs.Seats.{Held, Here, Staying, Waiting, seat_of}
+use Rattle.lard_bound.specs.Seats.{Held, Waiting, seat_of}
 use Rattle.lard_bound.specs.Units.{Whole}
 use Rattle.lard_cluster.specs.declared.machine.Machine.{Machine}
 use Rattle.lard_cluster.specs.Machine.{IsReached}
@@ -27,17 +26,11 @@ use Rattle.lard_cluster_windows.proofs.Forwards.{forwards-were}
 use Rattle.lard_cluster_windows.proofs.WordRuns.{words-fit}
 use Rattle.lard_dispatch.specs.Sound.{IsNode}
 use Rattle.lard_endpoint.specs.Control.{ControlBlock}
-use Rattle.lard_endpoint.specs.declared.control.moving.Final.{Final}
 use Rattle.lard_files.specs.Files.{file_at}
-use Rattle.lard_known.proofs.Closing.{closed-knows}
 use Rattle.lard_known.proofs.FrontGiving.{front-given}
-use Rattle.lard_known.proofs.Greeting.{at-away, each-knows}
 use Rattle.lard_known.proofs.FrontWords.{word, word-there}
 use Rattle.lard_front_rules.specs.Front.{rest_of}
-use Rattle.lard_handoff_front.specs.declared.row.FrontConn.TheVariants as stage
-use Rattle.lard_handoff_front.specs.declared.row.FrontRow.{FrontRow}
 use Rattle.lard_message.specs.declared.message.Body.TheVariants as body
-use Rattle.lard_progress.proofs.AnswersFrontHome.{home}
 use Rattle.lard_progress.proofs.AnswersFrontGiven.{AtSeat, FrontGiven, IsWord}
 use Rattle.lard_progress.proofs.AnswersNodeGiven.{HasIt, IsForwarded}
 use Rattle.lard_rules.specs.declared.places.Station.{Station}
@@ -74,14 +67,6 @@ module _ (config : Config) (files : List (List ℕ × List ℕ)) (checked : conf
     each-forwarded n e b segment bytes s here spells was read =
         word-there (file_at files) x st there truth.talk truth.pend agrees acts ((reached-viewed config files m reached).sound q) (words-fit config files (usable config checked).stream m reached q free)
         (forwards-were config files m reached q) n e b segment bytes s here spells was read
-
-    -- it is established where it is at a node, and where both sides closed it
-    pub each-away : (told : Bool) (n e : ℕ) (b : ControlBlock) (s : Staying) → seat_of x.part ≡ Here told n e b s → 1 ≤ st.client.send.una
-    each-away told n e b s seat = each-knows config files checked m reached q free st there (at-away n e x.part.front.row (home x.part told n e b s seat))
-
-    pub each-closed : (row : FrontRow) (last : Final) → x.part.front.row ≡ Some row → row.stage ≡ stage.Closed last → last.reason ≡ Closed → 1 ≤ st.client.send.una
-    each-closed row last found at why =
-        closed-knows (file_at files) x truth (connections-ack config files (usable config checked).stream m reached q free) (connections-were-closed config files (usable config checked).stream m reached q free) st there row last found at why
 
   -- all of it, given of what an endpoint at the front end is
   pub each-front : Holds m → (w : Whole) → ((st : Station) (b : ControlBlock) (count : ℕ) → x.part.station ≡ Some st → seat_of x.part ≡ Held b count → AtSeat w st (Held b count))

@@ -25,6 +25,5 @@ pub mod Staying
 pub mod FrontGiving
 pub mod FrontWords
 pub mod Shapes
-pub mod Greeting
 pub mod FrontRuns
 pub mod Everything

@@ -8,8 +8,8 @@ use Rattle.lard_bound.specs.Units.{Whole, tellers, whole_of}
 use Rattle.lard_cluster.specs.declared.machine.Machine.{Machine}
 use Rattle.lard_cluster.specs.Bounds.{IsNumber}
 use Rattle.lard_cluster.specs.Machine.{IsReached, node_at}
-use Rattle.lard_cluster_acks.specs.Acks.{OpenActs, StationActs}
-use Rattle.lard_cluster_acks.proofs.Runs.{connections-ack}
+pub use Rattle.lard_cluster_acks.specs.Acks.{OpenActs, StationActs, story_at}
+pub use Rattle.lard_cluster_acks.proofs.Runs.{connections-ack}
 use Rattle.lard_cluster_bytes.specs.Agreement.{ConnAgrees, IsOpen}
 use Rattle.lard_cluster_bytes.proofs.Runs.{states-truthful}
 use Rattle.lard_cluster_homes.proofs.Runs.{connections-have-one-home}

@@ -67,18 +67,19 @@ seat-stay p told n e b s seat = go p.front.row refl where
   go None is = absurd (let bad : Unborn ≡ Here told n e b s = sym (seat-row p None is) ∙ seat in cc)
   go (Some row) is = at row.stage (sym (seat-row p (Some row) is) ∙ seat)
 
+-- where a node has the connection, it has its stay
+pub stay-there : (files : FilesAt) (c n e : ℕ) (b : ControlBlock) (p : NodePart) → NodeRowKeeps AnyNode files c n p p.row → p.row ≡ Some (record { stage = back.Here b; epoch = record { 0 = e } }) → (s : Stay) × (p.stay ≡ Some s)
+stay-there files c n e b p kept row = go p.stay refl (subst (NodeRowKeeps AnyNode files c n p) row kept) where
+  go : (o : Option Stay) → p.stay ≡ o → HereKeeps AnyNode files c e n p o → (s : Stay) × (p.stay ≡ Some s)
+  go None is h = absurd h
+  go (Some s) is h = (s, is)
+
 -- so the Ask that it has out is the next one, or the last that was answered
 module _ (N : ℕ → Type 0) (files : FilesAt) (x : Conn) (agreed : Agreed N files x) where
-  stay-there : (n e : ℕ) (b : ControlBlock) → (x.part.nodes n).row ≡ Some (record { stage = back.Here b; epoch = record { 0 = e } }) → (s : Stay) × ((x.part.nodes n).stay ≡ Some s)
-  stay-there n e b row = go (x.part.nodes n).stay refl (subst (NodeRowKeeps AnyNode files x.c n (x.part.nodes n)) row (agreed.kept.nodes n)) where
-    go : (o : Option Stay) → (x.part.nodes n).stay ≡ o → HereKeeps AnyNode files x.c e n (x.part.nodes n) o → (s : Stay) × ((x.part.nodes n).stay ≡ Some s)
-    go None is h = absurd h
-    go (Some s) is h = (s, is)
-
   pub asks-given : (told : Bool) (n e : ℕ) (b : ControlBlock) (s : Staying) → seat_of x.part ≡ Here told n e b s → is_some (find (is_under kind.Ask 0) s.kept) ≡ true → IsAsked files s x.part.front.rest
   asks-given told n e b s seat out =
       let h = seat-stay x.part told n e b s seat in
-      let stay = stay-there n e b h.0 in
+      let stay = stay-there files x.c n e b (x.part.nodes n) (agreed.kept.nodes n) h.0 in
       let q = x.part.nodes n in
       let mine : IsAsked files (record { stay = stay.0; kept = q.kept; fetches = q.fetches }) x.part.front.rest =
       (let a = asks-agree N files x n e b stay.0 (record { row = h.0; stay = stay.1 }) agreed (subst (λ (y : Staying). is_some (find (is_under kind.Ask 0) y.kept) ≡ true) h.1 out) in

@@ -2,21 +2,14 @@
 use Rattle.std.proofs.Common.{◌≡◌, ◌⊎◌, ◌≤◌, ◌<◌, ◌^◌, ◌+◌, ◌==◌, not, ℕ, Bool, true, false, List, [], length, Option, Some, None, inl, inr, ⊎_elim, refl, sym, ap, ◌∙◌, subst, arith}
 use Rattle.std.proofs.lemmas.Bool.{and_parts, cond_both}
 use Rattle.lard_answers.specs.Answers.{FilesAt}
-use Rattle.lard_base.specs.declared.config.Config.{Config}
-use Rattle.lard_base.specs.declared.limits.TheConstants.{MAX_STREAM_BYTES}
 use Rattle.lard_base.specs.declared.place.Reason.TheVariants as reason
 use Rattle.lard_bound.specs.Seats.{Gone, Held, Here, Offered, Over, Seat, Unborn, Waiting, seat_away, seat_decided, seat_in, seat_of, seat_there}
 use Rattle.lard_bound.specs.Units.{Whole, taken}
 use Rattle.lard_client.specs.declared.phase.Phase.TheVariants as phase
-use Rattle.lard_cluster.specs.declared.machine.Machine.{Machine}
-use Rattle.lard_cluster.specs.Machine.{IsReached}
-use Rattle.lard_cluster_acks.specs.Acks.{BackActs, FrontActs, FrontStageActs, OpenActs, StationActs, bounds_of, story_at}
-use Rattle.lard_cluster_acks.proofs.Runs.{connections-ack}
-use Rattle.lard_cluster_bytes.specs.Agreement.{BackAgrees, ConnAgrees, HoldsIt, IsOffering, IsOpen, NodeAgrees, RowAgrees, SeatAgrees, StageAgrees, StayAgrees}
+use Rattle.lard_cluster_acks.specs.Acks.{BackActs, FrontActs, FrontStageActs, OpenActs, bounds_of, story_at}
+use Rattle.lard_cluster_bytes.specs.Agreement.{BackAgrees, HoldsIt, IsOffering, IsOpen, NodeAgrees, RowAgrees, SeatAgrees, StageAgrees, StayAgrees}
 use Rattle.lard_cluster_places.specs.Places.{IsDecided, IsLeft, IsPast}
-use Rattle.lard_cluster_bytes.proofs.Runs.{states-truthful}
-use Rattle.lard_cluster_view.specs.Carry.{tale_at}
-use Rattle.lard_cluster_view.specs.View.{Conn, conn}
+use Rattle.lard_cluster_view.specs.View.{Conn}
 use Rattle.lard_endpoint.specs.Control.{ControlBlock}
 use Rattle.lard_endpoint.specs.declared.control.moving.Final.{Final}
 use Rattle.lard_front_rules.specs.Front.{rest_of}
@@ -26,8 +19,6 @@ use Rattle.lard_handoff_back.specs.declared.row.BackRow.{BackRow}
 use Rattle.lard_handoff_front.specs.declared.row.FrontConn.{FrontConn}
 use Rattle.lard_handoff_front.specs.declared.row.FrontConn.TheVariants as stage
 use Rattle.lard_handoff_front.specs.declared.row.FrontRow.{FrontRow}
-use Rattle.lard_files.specs.Files.{file_at}
-use Rattle.lard_known.proofs.Aborts.{aborted-over, each-aborted}
 use Rattle.lard_known.proofs.Counting.{one-most, taken-same}
 use Rattle.lard_laws_bytes.specs.Truthful.{Talk}
 use Rattle.lard_node_rules.specs.declared.stay.Stay.{Stay}
@@ -172,21 +163,3 @@ module _ (files : FilesAt) (x : Conn) (st : Station) (k : Talk) (pend : List Ver
       go : (r : Option FrontRow) → x.part.front.row ≡ r → Tells (seat_of x.part)
       go None at = subst Tells (sym (seat-none x.part at)) (λ known. tt)
       go (Some row) at = subst Tells (sym (seat-at x.part row row.stage at refl)) (by-stage row at row.stage refl)
-
--- ---- of each connection that the schedule did not touch, in every state that events lead to
-
-module _ (config : Config) (files : List (List ℕ × List ℕ)) (small : config.stream ≤ MAX_STREAM_BYTES) (m : Machine) (reached : IsReached config files m) (q : ℕ) (free : (tale_at (conn m q)).touched ≡ false) (st : Station) (at : (conn m q).part.station ≡ Some st) where
-  abbrev y : Conn
-  y = conn m q
-
-  pub acts-of : OpenActs y st
-  acts-of = subst (StationActs y) at (connections-ack config files small m reached q free)
-
-  pub open-of : (k : Talk) × (pend : List Verdict) × IsOpen (file_at files) y k pend st
-  open-of = let truth = states-truthful config files small m reached q free in (truth.talk, truth.pend, subst (ConnAgrees (file_at files) y truth.talk truth.pend) at truth.agrees)
-
-  -- no client is open that reset what the front end closed
-  pub no-peer : (row : FrontRow) (last : Final) → y.part.front.row ≡ Some row → row.stage ≡ stage.Closed last → st.client.phase ≡ phase.Open → last.reason ≡ reason.Peer → ⊥
-  no-peer row last here is open_ why =
-      let o = open-of in
-      aborted-over y st at (each-aborted config files m reached q free) (peer-aborted (file_at files) y st o.0 o.1 o.2 acts-of row last here is why) open_

@@ -24,7 +24,7 @@ use Rattle.lard_handoff_front.specs.declared.row.FrontRow.{FrontRow}
 use Rattle.lard_node_rules.specs.Stay.{NodeEnv}
 use Rattle.lard_progress.proofs.Away.{by-ending}
 use Rattle.lard_progress.proofs.Ends.{IsSaid, heard-ahead, heard-window, speaks-said, timer-said}
-use Rattle.lard_progress.proofs.Fronts.{Carries, FitsAt, Keeps, held-less, over-less, waiting-less}
+use Rattle.lard_progress.proofs.Fronts.{Carries, FitsAt, Keeps, held-less, over-less}
 use Rattle.lard_progress.proofs.Less.{Lasting}
 use Rattle.lard_progress.proofs.Reading.{Further, IsSame, reads-further}
 use Rattle.lard_progress.proofs.Turns.{awaited-same, reset-passed, window-on}
@@ -112,16 +112,6 @@ module _ (k : Whole) (K : ℕ) (files : FilesAt) (p : Part) (st : Station) (b : 
       held-less k K files p st b count held acked (rests f row rest stage.Held (ending.Here e w.count)) e w.count (seat-held f row rest e w.count) (keeps env d w e came h none (speaks-said serve.c w.block)) (fit e w.count refl))
       (λ last fit. over-less k K files p st b count held acked (rests f row rest stage.Held (ending.Over last)) last (seat-over f row rest stage.Held last))
       fits
-
-  -- or it is to be placed: it goes to the line
-  pub waits-lasts : (env : NodeEnv) (serve : ServeEnv) (f : FrontPart) (row : FrontRow) (rest : FrontRest) (d : ControlBlock) → Came d → 1 ≤ k.requests
-      → let w = (reads serve (record { service = serving d count []; target = None })).service in To (rests f row rest stage.Waiting (rested (speaks serve.c w.block).1 w.count))
-  waits-lasts env serve f row rest d came some =
-      let w = (reads serve (record { service = serving d count []; target = None })).service in
-      let h = (reads-further serve (serving d count [])).0 in
-      by-rest serve.c w.block w.count (λ (o : Ending). To (rests f row rest stage.Waiting o))
-      (let e = (speaks serve.c w.block).1 in waiting-less k K files p st b count held acked (rests f row rest stage.Waiting (ending.Here e w.count)) e w.count (seat-waits f row rest e w.count) (carries env d w e came h (speaks-said serve.c w.block)) some)
-      (λ last. over-less k K files p st b count held acked (rests f row rest stage.Waiting (ending.Over last)) last (seat-over f row rest stage.Waiting last))
 
   -- a segment
   came-by : (env : NodeEnv) (said : Said) (ph : Phase) → x.phase ≡ ph → IsWarmWord x said ph → (ph ≡ phase.Reset → ⊥) → Came (on_segment b said).1

@@ -1,5 +1,5 @@
 -- A connection begins, waits, goes to a node, and comes back: in each of these steps a unit goes.
-use Rattle.std.proofs.Common.{◌≡◌, ◌<◌, ◌≤◌, ◌+◌, ◌-◌, ◌*◌, ◌==◌, ℕ, zero, suc, Bool, true, false, cond, List, [], Some, None, refl, sym, ap, ◌∙◌, subst, arith}
+use Rattle.std.proofs.Common.{◌≡◌, ◌<◌, ◌≤◌, ◌+◌, ◌*◌, ◌==◌, ℕ, zero, suc, Bool, true, false, cond, List, [], Some, None, refl, sym, ap, ◌∙◌, subst, arith}
 use Rattle.std.proofs.lemmas.Bool.{eqb-true}
 use Rattle.std.proofs.lemmas.Bool.Decides.{nat_tests}
 use Rattle.lard_answers.specs.Answers.{FilesAt}
@@ -38,9 +38,6 @@ stale-one x b = go (b.send.wnd == x.wnd) where
 pub flag-one : (t : Bool) → one_if_not t ≤ 1
 flag-one true = omega arith
 flag-one false = omega arith
-
-count-down : (n c m : ℕ) → c ≤ m → 4 * (n - m) ≤ 4 * (n - c)
-count-down n c m e = omega arith
 
 module _ (k : Whole) (K : ℕ) (files : FilesAt) (p : Part) (st : Station) where
   abbrev x : ClientBlock

@@ -1,28 +1,20 @@
 -- An acknowledgement that tells nothing new comes to an endpoint that said all that it may: where the stay goes on without a unit, and
 -- at the front end where nothing is read, nothing is sent.
-use Rattle.std.proofs.Common.{◌≡◌, nat_lt, ℕ, true, false, List, [], ◌++◌, Option, Some, None, ap, ◌∙◌}
+use Rattle.std.proofs.Common.{◌≡◌, ℕ, false, List, [], Option, Some, None, ap, ◌∙◌}
 use Rattle.std.proofs.lemmas.Bool.{cond-false}
-use Rattle.lard_arrival.specs.Arrival.{is_acceptable}
 use Rattle.lard_base.specs.declared.place.Place.{Place}
-use Rattle.lard_bound.specs.Chains.{is_plain}
-use Rattle.lard_endpoint.specs.Arriving.{on_segment}
-use Rattle.lard_endpoint.specs.Control.{ControlBlock, rcv_nxt, rcv_wnd}
+use Rattle.lard_endpoint.specs.Control.{ControlBlock}
 use Rattle.lard_endpoint.specs.Leaving.{emitted}
 use Rattle.lard_endpoint.specs.Moving.{end_reason, final_of, may_end}
-use Rattle.lard_node_rules.specs.declared.stay.Stay.{Stay}
-use Rattle.lard_node_rules.specs.Node.{NodePart, asked_sent, ended_sent, rests, wants_sent, work_of}
-use Rattle.lard_node_rules.specs.Stay.{NodeEnv, Work}
-use Rattle.lard_progress.proofs.Silence.{IsLike, IsSilent, plain-silent, still-silent}
-use Rattle.lard_progress.proofs.Stays.{Idle, IsAlike}
+use Rattle.lard_progress.proofs.Silence.{IsLike, IsSilent, still-silent}
+use Rattle.lard_progress.proofs.Stays.{IsAlike}
 use Rattle.lard_rules.specs.declared.places.Ending.{Ending}
 use Rattle.lard_rules.specs.declared.places.Ending.TheVariants as ending
 use Rattle.lard_rules.specs.declared.places.Turn.{Turn}
 use Rattle.lard_rules.specs.Serving.{ServeEnv, Service, cut_off, rested, settled, spoken}
 use Rattle.lard_rules.specs.Speaking.{speaks}
 use Rattle.lard_rules.proofs.Saying.{speaks-done}
-use Rattle.lard_segment.specs.Segment.{Said}
 use Rattle.lard_send.specs.Send.{Sending}
-use Rattle.lard_seq.specs.Seq.{seq_offset}
 
 like-of : (s t : Sending) → t ≡ s → IsLike s t
 like-of s t e = record { una = ap (λ (z : Sending). z.una) e; nxt = ap (λ (z : Sending). z.nxt) e; total = ap (λ (z : Sending). z.total) e; finished = ap (λ (z : Sending). z.finished) e; wnd = ap (λ (z : Sending). z.wnd) e; mss = ap (λ (z : Sending). z.mss) e }
@@ -40,19 +32,3 @@ says-nothing env w over none stays =
       ap (λ (r : Ending × Turn). r.0) s ∙ ap (λ (d : ControlBlock). rested d w.count) block ∙ cond-false (may_end w.block) (ending.Over (final_of w.block (end_reason w.block))) (ending.Here w.block w.count) stays,
       ap (λ (r : Ending × Turn). r.1.segments) s ∙ ap (λ (r : List (Place × List ℕ) × ControlBlock). r.0) quiet,
     )
-
--- At a node: the segment is plain, acknowledges nothing that was not sent, and leaves what is acknowledged and the window as they are;
--- and the stay goes on without a unit. Nothing goes out.
-pub still-forward : (env : NodeEnv) (p : NodePart) (b : ControlBlock) (stay : Stay) (s : Said) (w : Work) → IsSilent b → is_plain s ≡ true → is_acceptable (rcv_nxt b) (rcv_wnd b) s ≡ true
-    → nat_lt b.send.nxt (seq_offset s.ack b.send.iss) ≡ false → (on_segment b s).1.send.una ≡ b.send.una → (on_segment b s).1.send.wnd ≡ b.send.wnd
-    → Idle (work_of (on_segment b s).1 stay) w → may_end w.service.block ≡ false
-    → ((rests env p [] w).1.segments ≡ []) × ((rests env p [] w).1.messages ≡ [])
-still-forward env p b stay s w silent plain fits known una wnd idle stays =
-    let d = (on_segment b s).1 in
-    let still = (plain-silent b s silent plain fits known una wnd).0 in
-    let none = alike-none d w.service.block still idle.block in
-    let said = says-nothing env.serve w.service idle.over none stays in
-    let asks : asked_sent env w.asked ≡ [] = ap (asked_sent env) idle.asked in
-    let wants : wants_sent env w.wants ≡ [] = ap (wants_sent env) idle.wants in
-    let ends : ended_sent env w.service.over (settled env.serve w.service).0 ≡ [] = ap (ended_sent env w.service.over) said.0 in
-    (said.1, λ i. (([] ++ asks i) ++ wants i) ++ ends i)

@@ -1,10 +1,7 @@
 //! A source and a sink that move one byte at a time, a source that fails on its way, and one that gives a line at a time and
 //! looks, before the last, at how much a sink has taken.
 
-ghost use Rattle.std.specs.Prelude.{ℕ, ◌<◌, length, None, IfOk};
-ghost use Rattle.std.specs.Io.{ReadsAtMost, WritesAtMost};
-ghost use Rattle.std.specs.Io.KnownBytes.{ReadConsumes, WriteAppends};
-ghost use Rattle.lard_base.specs.Causes.{HasCause};
+ghost use Rattle.std.specs.Prelude.{None};
 
 use lard_base::{Failed, Sink, Source};
 use std::cell::Cell;

@@ -1,4 +1,5 @@
 pub mod Draining
+pub mod Endpoints
 pub mod Halves
 pub mod Loops
 pub mod Packets
@@ -10,3 +11,4 @@ pub mod Serving
 pub mod Sides
 pub mod Sound
 pub mod Totals
+pub mod Wide

@@ -19,7 +19,7 @@ use Rattle.lard_seq.specs.Seq.{one_if}
 abbrev always : Ready → Bool
 always r = true
 
-one_if-most : (b : Bool) → one_if b ≤ 1
+pub one_if-most : (b : Bool) → one_if b ≤ 1
 one_if-most true = omega arith
 one_if-most false = omega arith
 

@@ -1,3 +1,4 @@
 pub use Rattle.lard_settling.specs.Events
 pub use Rattle.lard_settling.specs.Settling
-pub use Rattle.lard_settle_bound.specs.Enough
+pub use Rattle.lard_cluster_world.specs.Enough
+pub use Rattle.lard_cluster_world.specs.Lawful

@@ -12,5 +12,6 @@ mod steps;
 #[cfg(test)]
 mod tests;
 
+pub use lard_cluster_world::World;
 pub use lard_settling::Settled;
 pub use settles::settle;

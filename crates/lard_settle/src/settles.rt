@@ -2,7 +2,7 @@
 
 ghost use Rattle.std.specs.Prelude.{◌≡◌, false, Ok, IfOk, OnOk};
 ghost use Rattle.lard_agenda.specs.Agenda.{IsAgendaOf};
-ghost use Rattle.lard_settle_bound.specs.Enough.{EndsWithEnough};
+ghost use Rattle.lard_cluster_world.specs.Enough.{EndsWithEnough, RestsWithEnough};
 ghost use Rattle.lard_settling.specs.Settling.{Does, Settles, all_inner, answer, closed_by, rounds_from, settled, settled_from, takes};
 
 use crate::left::left;
@@ -46,6 +46,7 @@ fn settle_from(
     requires usable { world.old.spoiled ≡ false }
     requires agenda { IsAgendaOf agenda.old world.old.machine.journal }
     ensures settled { Settles (settled_from world.old.machine rounds) world.new.machine result }
+    ensures rests { OnOk result (RestsWithEnough world.new.machine) }
     ensures usable { OnOk result (world.new.spoiled ≡ false) }
     ensures agenda { IsAgendaOf agenda.new world.new.machine.journal }
 {
@@ -75,6 +76,7 @@ fn do_and_close(
     requires usable { world.old.spoiled ≡ false }
     requires agenda { IsAgendaOf agenda.old world.old.machine.journal }
     ensures settled { Settles (closed_by (rounds_from rounds 0 world.old.machine)) world.new.machine result }
+    ensures rests { OnOk result (RestsWithEnough world.new.machine) }
     ensures usable { OnOk result (world.new.spoiled ≡ false) }
     ensures agenda { IsAgendaOf agenda.new world.new.machine.journal }
 {
@@ -92,6 +94,7 @@ fn close(
     requires usable { world.old.spoiled ≡ false }
     requires agenda { IsAgendaOf agenda.old world.old.machine.journal }
     ensures settled { Settles (closed_by (Ok (world.old.machine, done))) world.new.machine result }
+    ensures rests { OnOk result (RestsWithEnough world.new.machine) }
     ensures usable { OnOk result (world.new.spoiled ≡ false) }
     ensures agenda { IsAgendaOf agenda.new world.new.machine.journal }
 {

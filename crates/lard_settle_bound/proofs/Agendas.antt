@@ -1,8 +1,9 @@
 -- What an agenda lists is the same of a journal and of the one with its settles written out; and its packets are all that are on their
 -- way, each once.
-use Rattle.std.proofs.Common.{◌≡◌, ℕ, Bool, true, false, ◌==◌, ◌&&◌, List, [], ◌∷◌, map, filter, Option, Some, None, is_some, refl, sym, ap, ◌∙◌, subst, cond, arith}
+use Rattle.std.proofs.Common.{◌≡◌, ℕ, zero, suc, ◌+◌, Bool, true, false, ◌==◌, ◌&&◌, List, [], ◌∷◌, ◌++◌, map, filter, Option, Some, None, is_some, refl, sym, ap, ◌∙◌, subst, cond, arith}
 use Rattle.std.proofs.lemmas.Bool.{true≢false}
 use Rattle.std.proofs.lemmas.Bool.Decides.{nat_tests}
+use Rattle.std.proofs.lemmas.List.Sums.{fold-append}
 use Rattle.std.specs.FinMap.{FinMap, empty, entries, entries_sorted, get, get-entries, values}
 use Rattle.std.specs.FinMap.Entries.{below_all, find, is_sorted}
 use Rattle.std.specs.List.{fold}
@@ -20,8 +21,9 @@ use Rattle.lard_course.specs.Game.{seats_due}
 use Rattle.lard_dispatch.specs.Books.{Dispatcher}
 use Rattle.lard_journal.specs.declared.rec.Rec.{Rec}
 use Rattle.lard_rounds.proofs.Listing.{AreApart, IsBut}
-use Rattle.lard_settling.specs.Left.{jobs_at}
+use Rattle.lard_settling.specs.Left.{jobs_at, jobs_from}
 use Rattle.lard_settling.specs.Settling.{is_own, is_quiet, jobs_left}
+use Rattle.lard_settling.specs.Steps.{closing, settle_closed}
 use Rattle.lard_settling.specs.Written.{IsWrittenOut}
 use Rattle.lard_settling.proofs.Folds.{TakesSteps, fold-written}
 
@@ -84,6 +86,23 @@ running-fold (r ∷ J) a = running-fold J (noted_by a r)
 running-is : (J : List Rec) → (agenda_of J).running ≡ fold running_step empty J
 unfolding agenda_of
 running-is J = running-fold J nothing
+
+-- the closing record of a settle changes nothing of it
+closing-runs : (J : List Rec) (done more : ℕ) → (agenda_of (J ++ closing done more ∷ [])).running ≡ (agenda_of J).running
+closing-runs J done more = running-is (J ++ closing done more ∷ []) ∙ fold-append running_step empty J (closing done more ∷ []) ∙ one more ∙ sym (running-is J) where
+  one : (more : ℕ) → fold running_step (fold running_step empty J) (closing done more ∷ []) ≡ fold running_step empty J
+  one zero = refl
+  one (suc more) = refl
+
+closing-jobs : (m : Machine) (done left count n : ℕ) → jobs_from (settle_closed m done left) n count ≡ jobs_from m n count
+closing-jobs m done left zero n = refl
+closing-jobs m done left (suc count) n = ap (λ i. jobs_at m n + i) (closing-jobs m done left count (n + 1))
+
+pub closing-quiet : (m : Machine) (done left : ℕ) → is_quiet (settle_closed m done left) ≡ is_quiet m
+closing-quiet m done left =
+    let runs = closing-runs m.journal done left in
+    let jobs = closing-jobs m done left m.config.nodes 1 in
+    λ i. no_seats (map (λ r. (r.place, r.c)) (free_of m.front.dispatch (values (runs i)))) && jobs i == 0
 
 module _ (config : Config) (files : List (List ℕ × List ℕ)) (m : Machine) (w : IsWrittenOut config files m) where
   abbrev p : Machine

@@ -1,12 +1,12 @@
 -- A settle with as many rounds as its journal's bound leaves nothing, where the schedule put no packet on the way in a client's name and each
 -- client wrote little.
-use Rattle.std.proofs.Common.{◌≡◌, ◌≤◌, ℕ, List, Ok}
+use Rattle.std.proofs.Common.{◌≡◌, ◌≤◌, ℕ, List, Ok, ap, ◌∙◌}
 use Rattle.std.specs.Prelude.{All}
 use Rattle.lard_base.specs.Config.{config_check}
 use Rattle.lard_base.proofs.Usable.{usable}
 use Rattle.lard_base.specs.declared.config.Config.{Config}
 use Rattle.lard_base.specs.declared.event.Event.{Event}
-use Rattle.lard_bound.specs.Bound.{settling_bound}
+use Rattle.lard_bound.specs.Bound.{IsOrdinary, settling_bound}
 use Rattle.lard_cluster.specs.declared.machine.Machine.{Machine}
 use Rattle.lard_cluster.specs.Machine.{start}
 use Rattle.lard_cluster_records.specs.Records.{IsFile, IsGiven}
@@ -16,17 +16,17 @@ use Rattle.lard_cluster_view.specs.View.{conn}
 use Rattle.lard_course.proofs.Uniting.{Known}
 use Rattle.lard_files.specs.Files.{file_at}
 use Rattle.lard_history.proofs.Each.{Each}
-use Rattle.lard_settle_bound.specs.Enough.{IsOrdinary}
+use Rattle.lard_known.proofs.Everything.{IsSet, is-set}
 use Rattle.lard_settle_bound.proofs.Beside.{Is}
 use Rattle.lard_settle_bound.proofs.Givens.{rules-given}
-use Rattle.lard_settle_bound.proofs.Granted.{goes-gone, start-gone}
+use Rattle.lard_settle_bound.proofs.Granted.{IsGone, goes-gone, settle-gone, start-gone}
 use Rattle.lard_settle_bound.proofs.Rested.{events, free-tale, holds, rested}
 use Rattle.lard_settle_bound.proofs.Settled.{EndsQuiet}
 use Rattle.lard_settle_bound.proofs.KnownTimers.{timers-known}
 use Rattle.lard_settle_bound.proofs.Sums.{wholes}
 use Rattle.lard_settle_bound.proofs.Within.{IsWithin}
 use Rattle.lard_settling.specs.declared.settled.Settled.{Settled}
-use Rattle.lard_settling.specs.Events.{Goes}
+use Rattle.lard_settling.specs.Events.{Goes, event_step, settled_to}
 use Rattle.lard_settling.specs.Settling.{settled}
 
 module _ (config : Config) (files : List (List ℕ × List ℕ)) (checked : config_check config ≡ Ok tt) (are : All IsFile files) where
@@ -40,12 +40,27 @@ module _ (config : Config) (files : List (List ℕ × List ℕ)) (checked : conf
 
   -- of a state whose journal can be written out
   pub ends : (m : Machine) (w : Is config files m) → Each IsGiven w.reached.0 → IsOrdinary m.journal → (rounds : ℕ) → settling_bound (file_at files) m.journal ≤ rounds
-      → (n : Machine) (s : Settled) → settled m rounds ≡ Ok (n, s) → EndsQuiet s
+      → (n : Machine) (s : Settled) → settled m rounds ≡ Ok (n, s) → EndsQuiet n s
   ends m w given ordinary = rested config files checked are m (known m) w given ordinary
 
   -- and of one that events lead to, settles among them
   pub enough : (before : List Event) (m : Machine) → Each IsGiven before → Goes (start config files) before m → IsOrdinary m.journal → (rounds : ℕ) → settling_bound (file_at files) m.journal ≤ rounds
-      → (n : Machine) (s : Settled) → settled m rounds ≡ Ok (n, s) → EndsQuiet s
+      → (n : Machine) (s : Settled) → settled m rounds ≡ Ok (n, s) → EndsQuiet n s
   enough before m given goes =
       let gone = goes-gone config files (events config files checked are m) before (start config files) m (start-gone config files (events config files checked are m)) given goes in
       ends m gone.is gone.given
+
+  -- such events lead from the start to numbers and files that are its own
+  module _ (m : Machine) (es : List Event) (given : Each IsGiven es) (goes : Goes (start config files) es m) (rounds : ℕ) (n : Machine) (s : Settled) (is : settled m rounds ≡ Ok (n, s)) where
+    gone : IsGone config files (events config files checked are m) n
+    unfolding event_step
+    gone =
+        let given-all = events config files checked are m in
+        let here = goes-gone config files given-all es (start config files) m (start-gone config files given-all) given goes in
+        settle-gone config files given-all m n rounds here (ap settled_to is)
+
+    pub kept-numbers : IsSet config files n
+    kept-numbers =
+        let w = gone.is in
+        let plain = is-set config files w.plain w.reached in
+        record { config_is = ap (λ (k : Machine). k.config) w.same ∙ plain.config_is; files_are = ap (λ (k : Machine). k.files) w.same ∙ plain.files_are }

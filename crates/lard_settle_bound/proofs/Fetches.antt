@@ -1,5 +1,5 @@
 -- What Fetches and jobs ask for can be told, and goes where it is awaited: what the laws of connections say of it, in words of seats.
-use Rattle.std.proofs.Common.{◌≡◌, ◌≢◌, ◌≤◌, ℕ, true, false, List, Option, Some, None, Ok, refl, sym, subst}
+use Rattle.std.proofs.Common.{◌≡◌, ◌≢◌, ◌≤◌, ℕ, true, false, List, Some, Ok, refl, sym, subst}
 use Rattle.std.specs.List.{find}
 use Rattle.lard_base.specs.Config.{config_check}
 use Rattle.lard_base.specs.declared.config.Config.{Config}
@@ -7,8 +7,6 @@ use Rattle.lard_base.specs.declared.place.TimerKind.TheVariants as kind
 use Rattle.lard_bound.specs.Seats.{Staying, seat_of}
 use Rattle.lard_cluster.specs.declared.machine.Machine.{Machine}
 use Rattle.lard_cluster.specs.Machine.{IsReached, node_at}
-use Rattle.lard_cluster_kept.specs.Kept.{HereKeeps, NodeRowKeeps}
-use Rattle.lard_cluster_kept.specs.Laws.{AnyNode}
 use Rattle.lard_cluster_kept.proofs.Runs.{connections-are-kept}
 use Rattle.lard_cluster_origins.proofs.Fetches.{FetchesAreTold, fetches-are-told}
 use Rattle.lard_cluster_records.proofs.Holding.{Holds}
@@ -17,14 +15,11 @@ use Rattle.lard_cluster_view.specs.Carry.{tale_at}
 use Rattle.lard_cluster_view.specs.View.{conn, part_of}
 use Rattle.lard_course.proofs.Fetching.{Fetches, IsHome}
 use Rattle.lard_disk.specs.declared.disk.Job.{Job}
-use Rattle.lard_endpoint.specs.Control.{ControlBlock}
 use Rattle.lard_files.specs.Files.{file_at}
-use Rattle.lard_known.proofs.Staying.{seat-stay}
-use Rattle.lard_handoff_back.specs.declared.row.BackConn.TheVariants as back
+use Rattle.lard_known.proofs.Staying.{seat-stay, stay-there}
 use Rattle.lard_history.specs.Own.{Has}
 use Rattle.lard_lateral.specs.Lateral.{is_from}
 use Rattle.lard_node_rules.specs.declared.node.NodeState.{NodeState}
-use Rattle.lard_node_rules.specs.declared.stay.Stay.{Stay}
 use Rattle.lard_resend.specs.Kept.{is_under}
 
 -- the connection's row at the node that has it, and its stay
@@ -36,13 +31,6 @@ module _ (config : Config) (files : List (List ℕ × List ℕ)) (checked : conf
   told : FetchesAreTold m
   told = fetches-are-told config files checked m reached holds named same untouched
 
-  -- where a connection is Here, its node has a stay
-  stay-there : (q n e : ℕ) (b : ControlBlock) → ((conn m q).part.nodes n).row ≡ Some (record { stage = back.Here b; epoch = record { 0 = e } }) → (s : Stay) × (((conn m q).part.nodes n).stay ≡ Some s)
-  stay-there q n e b row = go ((conn m q).part.nodes n).stay refl (subst (NodeRowKeeps AnyNode (file_at files) (conn m q).c n ((conn m q).part.nodes n)) row ((connections-are-kept config files m reached q).nodes n)) where
-    go : (o : Option Stay) → ((conn m q).part.nodes n).stay ≡ o → HereKeeps AnyNode (file_at files) (conn m q).c e n ((conn m q).part.nodes n) o → (s : Stay) × (((conn m q).part.nodes n).stay ≡ Some s)
-    go None is h = absurd h
-    go (Some s) is h = (s, is)
-
   at-home : (q h e from r : ℕ) → IsHome (seat_of (part_of m q)) h e from r → IsHome (seat_of (conn m q).part) h e from r
   at-home q h e from r = subst (λ p. IsHome (seat_of p) h e from r) (sym (conn-part m q))
 
@@ -50,7 +38,7 @@ module _ (config : Config) (files : List (List ℕ × List ℕ)) (checked : conf
   goals q h e from r home =
       let it : IsHome (seat_of (conn m q).part) h e from r = at-home q h e from r home in
       let here = seat-stay (conn m q).part it.told h e it.block it.staying it.seat in
-      let stay = stay-there q h e it.block here.0 in
+      let stay = stay-there (file_at files) (conn m q).c h e it.block ((conn m q).part.nodes h) ((connections-are-kept config files m reached q).nodes h) here.0 in
       let goal = told.goals q h e from r it.block stay.0 (record { row = here.0; stay = stay.1 }) (subst (λ (s : Staying). is_from from e (find (is_under kind.Fetch r) s.fetches) ≡ true) here.1 it.wanted) in
       ((λ bad. goal.0 (sym bad)), goal.1.0, goal.1.1)
 

@@ -66,7 +66,7 @@ module _ (config : Config) (files : List (List ℕ × List ℕ)) (events : AreGi
     firings = λ m h. firings-inner m;
   }
 
-  settle-gone : (m n : Machine) (rounds : ℕ) → IsGone m → event_step m (event.Settle rounds) ≡ Ok n → IsGone n
+  pub settle-gone : (m n : Machine) (rounds : ℕ) → IsGone m → event_step m (event.Settle rounds) ≡ Ok n → IsGone n
   settle-gone m n rounds h is =
       subst (SettleLands IsGone IsInner rounds (kept-gone rounds) m rounds) is (settle-lands IsGone IsInner rounds (kept-gone rounds) m rounds (omega arith) (λ k begun. begun-gone m k rounds h begun))
 

@@ -11,8 +11,6 @@ use Rattle.lard_client.specs.declared.phase.Phase.TheVariants as phase
 use Rattle.lard_cluster.specs.declared.machine.Machine.{Machine}
 use Rattle.lard_cluster.specs.Bounds.{IsNumber}
 use Rattle.lard_cluster.specs.Machine.{IsReached}
-use Rattle.lard_cluster_acks.specs.Acks.{OpenActs, StationActs, story_at}
-use Rattle.lard_cluster_acks.proofs.Runs.{connections-ack}
 use Rattle.lard_cluster_bytes.specs.Agreement.{ConnAgrees, IsOpen}
 use Rattle.lard_cluster_bytes.proofs.Runs.{states-truthful}
 use Rattle.lard_cluster_records.proofs.Holding.{Holds}
@@ -26,7 +24,7 @@ use Rattle.lard_endpoint.specs.Control.{ControlBlock}
 use Rattle.lard_files.specs.Files.{file_at}
 use Rattle.lard_handoff_front.specs.declared.row.FrontConn.TheVariants as stage
 use Rattle.lard_known.proofs.Aborts.{AbortedIsOver, each-aborted}
-use Rattle.lard_known.proofs.Runs.{number-of}
+use Rattle.lard_known.proofs.Runs.{OpenActs, StationActs, connections-ack, number-of, story_at}
 use Rattle.lard_known.proofs.Timed.{Speaking, SpeaksAt, client-low, held-acks, here-acks, irs-is, iss-small, peer-aborted, seat-speaks, took-few, unborn-none}
 use Rattle.lard_progress.proofs.AnswersClientGiven.{EndTells, SeatTells}
 use Rattle.lard_progress.proofs.Leading.{AllGiven}

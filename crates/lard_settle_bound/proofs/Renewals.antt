@@ -20,6 +20,7 @@ use Rattle.lard_cluster_kept.proofs.Runs.{connections-are-kept}
 use Rattle.lard_cluster_places.specs.Places.{IsThere, Owning, Owns, Sits, StageSits, owning}
 use Rattle.lard_cluster_places.proofs.Runs.{each-placed}
 use Rattle.lard_cluster_places.proofs.Turns.{IsPlaced}
+use Rattle.lard_cluster_places.proofs.WithNode.{with-node}
 use Rattle.lard_cluster_records.proofs.Holding.{Holds, NodeHolds}
 use Rattle.lard_cluster_records.proofs.Letters.{IsLetter}
 use Rattle.lard_cluster_records.proofs.Named.{AreNamed, IsNamed, verdict-named}
@@ -27,7 +28,6 @@ use Rattle.lard_cluster_records.proofs.Nodes as records
 use Rattle.lard_cluster_records.proofs.Nodes.{BothKeep, IsEarly, NodeKeeps}
 use Rattle.lard_cluster_records.proofs.Serving.{count-few}
 use Rattle.lard_cluster_records.proofs.Turns.{AreHeld}
-use Rattle.lard_cluster_tags.proofs.Agree.{with-node}
 use Rattle.lard_cluster_view.specs.Carry.{tale_at}
 use Rattle.lard_cluster_view.specs.View.{Conn, Part, conn, kept_at, part_of}
 use Rattle.lard_course.proofs.Renewing.{BackKept, IsAsk, IsFetched, IsTold, IsWithNode, Known, Left, OfferKept, Renews, RowKept, StageKept, StayKept}

@@ -6,7 +6,7 @@ use Rattle.lard_base.proofs.Usable.{usable}
 use Rattle.lard_base.specs.declared.config.Config.{Config}
 use Rattle.lard_base.specs.declared.event.Event.{Event}
 use Rattle.lard_base.specs.declared.event.Event.TheVariants as event
-use Rattle.lard_bound.specs.Bound.{settling_bound}
+use Rattle.lard_bound.specs.Bound.{IsOrdinary, settling_bound}
 use Rattle.lard_bound.specs.Progress.{IfCame, IsWarm, came_in}
 use Rattle.lard_bound.specs.Units.{tellers, whole_of}
 use Rattle.lard_bound.specs.Seats.{seat_of}
@@ -43,7 +43,6 @@ use Rattle.lard_progress.proofs.Given.{AreInner, IsInnerSeen}
 use Rattle.lard_progress.proofs.Most.{IsModest}
 use Rattle.lard_progress.proofs.Leading.{Comes}
 use Rattle.lard_rules.specs.declared.places.Station.{Station}
-use Rattle.lard_settle_bound.specs.Enough.{IsOrdinary}
 use Rattle.lard_settle_bound.proofs.Beside.{Is}
 use Rattle.lard_settle_bound.proofs.Fetches.{fetches}
 use Rattle.lard_settle_bound.proofs.Listed.{listed-always}
@@ -245,5 +244,5 @@ module _ (config : Config) (files : List (List ℕ × List ℕ)) (checked : conf
     }
 
     -- so an ordinary settle with enough rounds ends with nothing left
-    pub rested : (w : Is config files m) → Each IsGiven w.reached.0 → IsOrdinary m.journal → (rounds : ℕ) → settling_bound (file_at files) m.journal ≤ rounds → (n : Machine) (s : Settled) → settled m rounds ≡ Ok (n, s) → EndsQuiet s
+    pub rested : (w : Is config files m) → Each IsGiven w.reached.0 → IsOrdinary m.journal → (rounds : ℕ) → settling_bound (file_at files) m.journal ≤ rounds → (n : Machine) (s : Settled) → settled m rounds ≡ Ok (n, s) → EndsQuiet n s
     rested w given ordinary rounds paid n s is = within-quiet config files m w rounds events (settles-within w rounds) given ordinary paid n s is

@@ -10,7 +10,7 @@ use Rattle.lard_course.specs.Game.{game}
 use Rattle.lard_files.specs.Files.{file_at}
 use Rattle.lard_rounds.proofs.Ripening.{ripe-rests}
 use Rattle.lard_rounds.specs.Rounds.{Owes, Round, Rounds}
-use Rattle.lard_settle_bound.proofs.Agendas.{same-quiet}
+use Rattle.lard_settle_bound.proofs.Agendas.{closing-quiet, same-quiet}
 use Rattle.lard_settle_bound.proofs.Beside.{Beside, Is, all-beside}
 use Rattle.lard_settle_bound.proofs.Rounds.{rounds-are}
 use Rattle.lard_settle_bound.proofs.Sums.{AreModest, units-few, wholes}
@@ -22,9 +22,9 @@ use Rattle.lard_settling.specs.Settling.{Stop, all_inner, answer, closed_by, is_
 use Rattle.lard_settling.specs.Steps.{settle_begun}
 use Rattle.lard_settling.proofs.Written.{written}
 
--- nothing was left, after some rounds
-abbrev pub EndsQuiet : Settled → Type 0
-EndsQuiet s = (done : ℕ) × (s ≡ Quiet done)
+-- nothing was left, after some rounds, and that is the answer
+abbrev pub EndsQuiet : Machine → Settled → Type 0
+EndsQuiet n s = (is_quiet n ≡ true) × (done : ℕ) × (s ≡ Quiet done)
 
 module _ (config : Config) (files : List (List ℕ × List ℕ)) (m : Machine) (w : Is config files m) (rounds : ℕ) where
   -- what each client wrote before the settle
@@ -56,20 +56,22 @@ module _ (config : Config) (files : List (List ℕ × List ℕ)) (m : Machine) (
     two-more : (r : ℕ) × (suc (suc r) ≡ rounds)
     two-more = let a = paid in (rounds - 2, omega (arith, a))
 
-    rounds-quiet : (t n : Machine) (v : Is config files t) (done : ℕ) → Begun v.plain → rounds_from rounds 0 t ≡ Ok (n, done) → left n ≡ 0
+    rounds-quiet : (t n : Machine) (v : Is config files t) (done : ℕ) → Begun v.plain → rounds_from rounds 0 t ≡ Ok (n, done) → is_quiet n ≡ true
     rounds-quiet t n v done begun is =
         let on = rounds-are config files all Good rounds 0 t v n done is in
         let two = two-more in
         let quiet : is_quiet on.0.plain ≡ true = comes-quiet two.0 two.1 v.plain on.0.plain begun (subst (λ (r : ℕ). Rounds (game all Good) r v.plain on.0.plain) (sym two.1) on.1) in
-        quiet-left n (same-quiet config files n on.0 ∙ quiet)
+        same-quiet config files n on.0 ∙ quiet
 
     abbrev Closes : Result (Machine × Settled) Stop → Type 0
-    Closes (Ok (n, s)) = EndsQuiet s
+    Closes (Ok (n, s)) = EndsQuiet n s
     Closes (Err stop) = Unit {0}
 
     closed-quiet : (t : Machine) (v : Is config files t) → Begun v.plain → (x : Result (Machine × ℕ) Stop) → rounds_from rounds 0 t ≡ x → Closes (closed_by x)
     closed-quiet t v begun (Err stop) is = tt
-    closed-quiet t v begun (Ok (n, done)) is = (done, ap (answer done) (rounds-quiet t n v done begun is))
+    closed-quiet t v begun (Ok (n, done)) is =
+        let quiet = rounds-quiet t n v done begun is in
+        (closing-quiet n done (left n) ∙ quiet, done, ap (answer done) (quiet-left n quiet))
 
     from-quiet : (n : Machine) (v : Is config files n) → settle_begun m rounds ≡ Ok n → Closes (settled_from n rounds)
     from-quiet n v began = go (all_inner n (takes n)) refl where
@@ -86,5 +88,5 @@ module _ (config : Config) (files : List (List ℕ × List ℕ)) (m : Machine) (
       go (Err fault) is = tt
       go (Ok n) is = from-quiet n ((written config files).settle m n rounds w is) is
 
-    pub settled-quiet : (n : Machine) (s : Settled) → settled m rounds ≡ Ok (n, s) → EndsQuiet s
+    pub settled-quiet : (n : Machine) (s : Settled) → settled m rounds ≡ Ok (n, s) → EndsQuiet n s
     settled-quiet n s is = subst Closes is settle-quiet

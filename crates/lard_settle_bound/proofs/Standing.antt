@@ -9,7 +9,7 @@ use Rattle.lard_base.specs.declared.config.Config.{Config}
 use Rattle.lard_base.specs.declared.event.Event.{Event}
 use Rattle.lard_base.specs.declared.event.Event.TheVariants as event
 use Rattle.lard_block.specs.Blocks.{blocks}
-use Rattle.lard_bound.specs.Bound.{bytes_of, opener_step, openers, requests_of, settling_bound, total_of}
+use Rattle.lard_bound.specs.Bound.{IsOrdinary, bytes_of, opener_step, openers, requests_of, settling_bound, total_of}
 use Rattle.lard_cluster.specs.declared.fault.StepFault.{StepFault}
 use Rattle.lard_cluster.specs.declared.machine.Machine.{Machine}
 use Rattle.lard_cluster.specs.Machine.{start}
@@ -21,22 +21,23 @@ use Rattle.lard_history.specs.Journal.{is_touched, touched_step, wrote, wrote_st
 use Rattle.lard_history.specs.Laws.{EachMay}
 use Rattle.lard_journal.specs.declared.rec.Rec.{Rec}
 use Rattle.lard_journal.specs.declared.rec.Rec.TheVariants as rec
+use Rattle.lard_settle_bound.proofs.Agendas.{closing-quiet}
 use Rattle.lard_settle_bound.proofs.Beside.{Is, err-ok, inner-plain, ok-same}
 use Rattle.lard_settle_bound.proofs.Settled.{EndsQuiet}
 use Rattle.lard_settle_bound.proofs.Telling.{PassesOver, inner-over, openers-over, touched-over, wrote-over}
 use Rattle.lard_settle_bound.proofs.Within.{opener-steps, touched-steps, wrote-steps}
-use Rattle.lard_settle_bound.specs.Enough.{IsOrdinary, MayLeave}
+use Rattle.lard_settle_bound.specs.Enough.{MayLeave}
 use Rattle.lard_settle_laws.proofs.Events.{begun-is, either-kind, plain-done, plain-rule}
 use Rattle.lard_settle_laws.proofs.Firing.{IsInner, deliver-inner, disk-inner, firings-inner, inner-rule, take-inner}
 use Rattle.lard_settle_laws.proofs.Given.{InnerRows, StepRows, inner-rows, step-rows}
-use Rattle.lard_settle_laws.proofs.Inside.{InnerKept, IsClosed, SettleEnds, settle-ends}
+use Rattle.lard_settle_laws.proofs.Inside.{InnerKept, IsClosed, SettleEnds, quiet-left, settle-ends}
 use Rattle.lard_settling.proofs.Folds.{TakesSteps, fold-written}
 use Rattle.lard_settling.proofs.Plain.{AreUnmarked, is_mark}
 use Rattle.lard_settling.proofs.Written.{written}
 use Rattle.lard_settling.specs.declared.settled.Settled.{Settled}
 use Rattle.lard_settling.specs.declared.settled.Settled.TheVariants.{Quiet}
 use Rattle.lard_settling.specs.Events.{Goes, LeadsTo, MayCome, event_step, settled_to}
-use Rattle.lard_settling.specs.Settling.{Stop, all_inner, answer, closed_by, left, rounds_from, settled, settled_from, takes}
+use Rattle.lard_settling.specs.Settling.{Stop, all_inner, answer, closed_by, is_quiet, left, rounds_from, settled, settled_from, takes}
 use Rattle.lard_settling.specs.Steps.{closing, inner_step, settle_begun, settle_closed}
 use Rattle.lard_settling.specs.Written.{is_settle}
 
@@ -117,6 +118,13 @@ settled-closing m rounds n s = go (settle_begun m rounds) where
   go (Err fault) is = absurd (err-ok (m, fault) (n, s) is)
   go (Ok k) is = from-closing k rounds n s is
 
+-- where nothing is left behind it, it says so
+pub says-quiet : (m : Machine) (rounds : ℕ) (n : Machine) (s : Settled) → settled m rounds ≡ Ok (n, s) → is_quiet n ≡ true → (done : ℕ) × (s ≡ Quiet done)
+says-quiet m rounds n s is quiet =
+    let c : Closing n s = settled-closing m rounds n s is in
+    let before : is_quiet c.at ≡ true = sym (closing-quiet c.at c.done (left c.at)) ∙ sym (ap is_quiet c.is) ∙ quiet in
+    (c.done, c.says ∙ ap (answer c.done) (quiet-left c.at before))
+
 -- an event that is a settle is done where the settle is
 event-settled : (m : Machine) (rounds : ℕ) (n : Machine) → event_step m (event.Settle rounds) ≡ Ok n → (s : Settled) × (settled m rounds ≡ Ok (n, s))
 unfolding event_step
@@ -130,9 +138,9 @@ quiet-none done zero other h = refl
 quiet-none done (suc left) other h = cc
 
 -- one that ends quiet is closed by no record of what is left
-not-left : (n k : Machine) (s : Settled) (done more : ℕ) → Closing n s → EndsQuiet s → n ≡ settle_closed k done (suc more) → ⊥
+not-left : (n k : Machine) (s : Settled) (done more : ℕ) → Closing n s → EndsQuiet n s → n ≡ settle_closed k done (suc more) → ⊥
 not-left n k s done more c quiet is =
-    let none : left c.at ≡ 0 = quiet-none c.done (left c.at) quiet.0 (sym c.says ∙ quiet.1) in
+    let none : left c.at ≡ 0 = quiet-none c.done (left c.at) quiet.1 (sym c.says ∙ quiet.2) in
     let one : last_of n.journal ≡ Some (rec.Settled c.done) = ap (λ (j : Machine). last_of j.journal) c.is ∙ last-is c.at.journal (closing c.done (left c.at)) ∙ ap (λ i. Some (closing c.done i)) none in
     let other : last_of n.journal ≡ Some (rec.Unsettled done (suc more)) = ap (λ (j : Machine). last_of j.journal) is ∙ last-is k.journal (rec.Unsettled done (suc more)) in
     let no : Some (rec.Settled c.done) ≡ Some (rec.Unsettled done (suc more)) = sym one ∙ other in
@@ -142,7 +150,7 @@ not-left n k s done more c quiet is =
 
 module _ (config : Config) (files : List (List ℕ × List ℕ))
     (enough : (before : List Event) (m : Machine) → Each IsGiven before → Goes (start config files) before m → IsOrdinary m.journal → (rounds : ℕ) → settling_bound (file_at files) m.journal ≤ rounds
-    → (n : Machine) (s : Settled) → settled m rounds ≡ Ok (n, s) → EndsQuiet s) where
+    → (n : Machine) (s : Settled) → settled m rounds ≡ Ok (n, s) → EndsQuiet n s) where
   abbrev May : List Rec → Rec → Type 0
   May = MayLeave (file_at files)
 
@@ -222,7 +230,7 @@ module _ (config : Config) (files : List (List ℕ × List ℕ))
     test : (b : Bool) (more : ℕ) → nat_le (settling_bound (file_at files) m.journal) rounds ≡ b → left c.last ≡ suc more → IsOrdinary c.last.journal → c.done < settling_bound (file_at files) c.last.journal
     test true more paid some ordinary =
         let s = event-settled m rounds n is in
-        let quiet : EndsQuiet s.0 = enough run.before m run.given run.goes (ordinary-same (file_at files) m.journal c.last.journal c.holds.same ordinary) rounds (leb-true _ _ paid) n s.0 s.1 in
+        let quiet : EndsQuiet n s.0 = enough run.before m run.given run.goes (ordinary-same (file_at files) m.journal c.last.journal c.holds.same ordinary) rounds (leb-true _ _ paid) n s.0 s.1 in
         absurd (not-left n c.last s.0 c.done more (settled-closing m rounds n s.0 s.1) quiet (c.is ∙ ap (settle_closed c.last c.done) some))
     test false more few some ordinary =
         let less : rounds < settling_bound (file_at files) m.journal = leb-false _ _ few in

@@ -5,12 +5,12 @@ use Rattle.std.proofs.lemmas.List.Sums.{fold-append}
 use Rattle.std.specs.List.{fold, list_all}
 use Rattle.lard_base.specs.declared.event.Event.{Event}
 use Rattle.lard_base.specs.declared.event.Event.TheVariants as event
-use Rattle.lard_bound.specs.Bound.{opener_step, openers}
+use Rattle.lard_bound.specs.Bound.{opener_step}
 use Rattle.lard_cluster.specs.declared.machine.Machine.{Machine}
 use Rattle.lard_cluster.specs.Machine.{machine_step}
 use Rattle.lard_cluster_view.specs.View.{IsViewed}
 use Rattle.lard_cluster_view.proofs.After.{IsAfter, step-after}
-use Rattle.lard_history.specs.Journal.{touched_step, wrote, wrote_step}
+use Rattle.lard_history.specs.Journal.{touched_step, wrote_step}
 use Rattle.lard_history.specs.Laws.{AreOwn, IsStep, is_own}
 use Rattle.lard_journal.specs.declared.rec.Rec.{Rec}
 use Rattle.lard_journal.specs.declared.rec.Rec.TheVariants as rec
@@ -69,9 +69,3 @@ touched-over c = record { events = λ a i e. refl; comes = λ a k. refl; others 
   others : (a : Bool) (r : Rec) → not (is_own r) ≡ true → touched_step c a r ≡ a
   others a (rec.Injected d) h = cc
   others a _ h = refl
-
-pub inner-wrote : (m n : Machine) (e : Event) → IsViewed m → IsInner e → machine_step m e ≡ Ok n → (c : ℕ) → wrote n.journal c ≡ wrote m.journal c
-inner-wrote m n e view inner is c = inner-over (wrote_step c) (wrote-over c) [] m n e view inner is
-
-pub inner-openers : (m n : Machine) (e : Event) → IsViewed m → IsInner e → machine_step m e ≡ Ok n → openers n.journal ≡ openers m.journal
-inner-openers m n e view inner is = inner-over opener_step openers-over [] m n e view inner is

@@ -8,7 +8,7 @@ use Rattle.lard_agenda.specs.Agenda.{agenda_of, holders}
 use Rattle.lard_base.specs.declared.config.Config.{Config}
 use Rattle.lard_base.specs.declared.event.Event.{Event}
 use Rattle.lard_base.specs.declared.event.Event.TheVariants as event
-use Rattle.lard_bound.specs.Bound.{opener_step, openers, settling_bound}
+use Rattle.lard_bound.specs.Bound.{IsOrdinary, opener_step, openers, settling_bound}
 use Rattle.lard_bound.specs.Seats.{seat_of}
 use Rattle.lard_bound.specs.Units.{Whole, tellers}
 use Rattle.lard_cluster.specs.declared.machine.Machine.{Machine}
@@ -35,7 +35,6 @@ use Rattle.lard_settle_bound.proofs.Sums.{wholes}
 use Rattle.lard_settle_bound.proofs.Telling.{PassesOver, inner-over, openers-over, touched-over, wrote-over}
 use Rattle.lard_settle_bound.proofs.Warming.{IsRounds, OfAll, Warming, first-round, rounds-rule, second-round}
 use Rattle.lard_settle_bound.proofs.Wording.{First, IsCalmConn, Second, second-first}
-use Rattle.lard_settle_bound.specs.Enough.{IsOrdinary}
 use Rattle.lard_settle_laws.proofs.Events.{begun-is}
 use Rattle.lard_settle_laws.proofs.Firing.{IsInner}
 use Rattle.lard_settling.specs.declared.settled.Settled.{Settled}
@@ -224,5 +223,5 @@ module _ (config : Config) (files : List (List ℕ × List ℕ)) where
       }
 
       -- so a settle with enough rounds ends with nothing left
-      pub within-quiet : settling_bound (file_at files) m.journal ≤ rounds → (n : Machine) (s : Settled) → settled m rounds ≡ Ok (n, s) → EndsQuiet s
+      pub within-quiet : settling_bound (file_at files) m.journal ≤ rounds → (n : Machine) (s : Settled) → settled m rounds ≡ Ok (n, s) → EndsQuiet n s
       within-quiet paid n s is = settled-quiet config files m w rounds (IsWithin m.journal) (λ p. IsWithin m.journal p × OfAll First p) Good settles-by paid n s is

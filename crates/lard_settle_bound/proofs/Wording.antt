@@ -6,12 +6,12 @@ use Rattle.lard_base.specs.declared.place.Place.{Place}
 use Rattle.lard_base.specs.declared.place.Place.TheVariants.{Client, Front, Node}
 use Rattle.lard_bound.specs.Progress.{IfCame, came_in}
 use Rattle.lard_client.specs.Control.{ClientBlock}
-use Rattle.lard_cluster_bytes.proofs.FrontMoves.{kinds-same}
 use Rattle.lard_cluster_bytes.proofs.Messages.{forwards-read}
+use Rattle.lard_cluster_places.proofs.Heads.{kinds-same}
 use Rattle.lard_cluster_view.specs.Carry.{MayMove}
 use Rattle.lard_cluster_view.specs.View.{ClientRules, Conn, FrontRules, Move, Setting, Was, client_does, event_seen, front_admits, front_does, grown, letter, letters_of, packet_seen}
 use Rattle.lard_front_rules.specs.Front as front
-use Rattle.lard_front_rules.specs.Front.{FrontPart, ask_of, front_asked, front_ended, front_gets, front_taken, front_timer, message}
+use Rattle.lard_front_rules.specs.Front.{ask_of, front_asked, front_ended, front_gets, front_taken, front_timer, message}
 use Rattle.lard_history.proofs.Each.{Each}
 use Rattle.lard_history.specs.Own.{Came, Has, Letter, Row, Seen}
 use Rattle.lard_journal.specs.declared.rec.Rec.TheVariants as rec

@@ -8,7 +8,7 @@ use Rattle.lard_cluster.specs.Machine.{start}
 use Rattle.lard_cluster_records.specs.Records.{IsFile, IsGiven}
 use Rattle.lard_files.specs.Files.{file_at}
 use Rattle.lard_history.specs.Laws.{EachMay}
-use Rattle.lard_settle_bound.specs.Enough.{EndsWithEnough, MayLeave}
+use Rattle.lard_settle_bound.specs.Enough.{EndsWithEnough, MayLeave, RestsWithEnough}
 use Rattle.lard_settling.specs.declared.settled.Settled.{Settled}
 use Rattle.lard_settling.specs.Events.{LeadsTo}
 use Rattle.lard_settling.specs.Settling.{settled}
@@ -17,6 +17,10 @@ use Rattle.lard_settling.specs.Settling.{settled}
 -- lead to, settles among them: where the schedule put no packet on the way in a client's name, and each client wrote fewer than 16,383 bytes.
 abbrev pub SettlesEndQuiet : Type 0
 SettlesEndQuiet = (m : Machine) (rounds : ℕ) (n : Machine) (s : Settled) → settled m rounds ≡ Ok (n, s) → EndsWithEnough m rounds s
+
+-- And where such a settle has ended nothing is left, whatever it answered: in each state with numbers that pass their check.
+abbrev pub SettlesRest : Type 0
+SettlesRest = (n : Machine) → config_check n.config ≡ Ok tt → RestsWithEnough n
 
 -- So in the journal of each run: an `unsettled` stands only where that is not so, or behind fewer rounds than the bound.
 abbrev pub RunsSettle : Type 0

@@ -5,12 +5,13 @@
 //! What the rules rest on there holds of each connection that the schedule did not touch (`lard_known` and its like). It has no code.
 #![tactic(auto)]
 
-ghost use Rattle.lard_settle_bound.specs.Laws.{RunsSettle, SettlesEndQuiet};
+ghost use Rattle.lard_settle_bound.specs.Laws.{RunsSettle, SettlesEndQuiet, SettlesRest};
 
 /// A settle with as many rounds as the bound of its journal ends with nothing left to do, where no packet was put on the way in a client's
-/// name and each client wrote fewer than 16,383 bytes. So a journal tells that something was left only where that is not so, or where the
+/// name and each client wrote fewer than 16,383 bytes: no job waits then, and no timer runs but those that are stalled. So a journal tells that something was left only where that is not so, or where the
 /// settle did fewer rounds.
 pub fn enough_rounds_settle()
     ensures settles { SettlesEndQuiet }
+    ensures rests { SettlesRest }
     ensures runs { RunsSettle }
 {}

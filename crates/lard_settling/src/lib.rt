@@ -2,7 +2,7 @@
 //! its settles written out, which is that of a run without any.
 //!
 //! It stands above the cluster's machine, the view of one connection, and what a journal leaves to do. It has no code:
-//! `lard_cluster_world` does the steps that it defines, and `lard_settle` the rounds.
+//! `lard_stepping` does the steps that it defines, and `lard_settle` the rounds.
 #![tactic(auto)]
 
 mod settled;

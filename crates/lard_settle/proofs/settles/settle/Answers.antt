@@ -29,3 +29,4 @@ returns-clause-enough c =
     settled-enough c.args.world.now.machine c.args.rounds c.settle_from.new.world.machine c.settle_from.result
     (subst (λ (x : Result (Machine × Settled) Stop). Settles x c.settle_from.new.world.machine c.settle_from.result)
     (sym (begun-on c.args.world.now.machine c.args.rounds c.begin_settle.new.self.machine c.in_ok-begin_settle.ensures.step)) c.settle_from.ensures.settled)
+    c.settle_from.ensures.rests

@@ -1,0 +1,5 @@
+pub mod Delivered
+pub mod Kept
+pub mod Lent
+pub mod Numbered
+pub mod Sound

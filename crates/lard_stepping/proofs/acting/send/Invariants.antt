@@ -1,0 +1,14 @@
+use Rattle.std.proofs.Common.{◌≡◌, ◌+◌, ◌-◌, ◌^◌, ◌<◌, ◌++◌, length}
+use Rattle.std.specs.Vec.Iter.{into_iter_items}
+use Rattle.lard_machine.specs.Machine.{packets_of, sent_records}
+use Rattle.lard_rules.specs.Speaking.{AreShort}
+use Rattle.lard_stepping.proofs.acting.send.Given as goal
+
+-- what was sent and what is left to send are all
+abbrev pub invariant-loop-to : goal.invariant-loop-to
+invariant-loop-to l = record {
+  net : l.net ++ packets_of l.from (into_iter_items l.to-iterator) ≡ l.fn.net ++ packets_of l.from l.fn.segments;
+  recs : l.recs ++ sent_records (length l.net + 1) l.from (into_iter_items l.to-iterator) ≡ l.fn.recs ++ sent_records (length l.fn.net + 1) l.from l.fn.segments;
+  short : AreShort (into_iter_items l.to-iterator);
+  room : length l.net + length (into_iter_items l.to-iterator) < 2 ^ 32 - 1;
+}

@@ -1,0 +1,72 @@
+//! One step: no limit was reached, and the event has its rule.
+
+ghost use Rattle.std.specs.Prelude.{◌≡◌, OnOk};
+ghost use Rattle.lard_cluster.specs.Bounds.{HasRule};
+ghost use Rattle.lard_cluster.specs.Machine.{Steps, happens, limit_reached, machine_step};
+ghost use Rattle.lard_stepping.specs.Sound.{HasRoom, IsSet, IsSound};
+
+use crate::{disks, packets, stations};
+use lard_base::Event;
+use lard_cluster::{Machine, StepFault};
+use lard_machine::{What, first_limit};
+use std::alloc::Global;
+
+/// Does the step of an event. After a fault everything is as it was; if memory ran out, only the journal is.
+#[tactic(auto, unfolding(lard_cluster::specs::Machine::machine_step))]
+pub fn step(machine: &mut Machine, alloc: Global, event: Event) -> Result<(), StepFault>
+    requires ruled { HasRule event }
+    requires sound { IsSound machine.old }
+    requires set { IsSet machine.old.config }
+    ensures step { Steps (machine_step machine.old event) machine.old machine.new result }
+    ensures sound { OnOk result (IsSound machine.new) }
+{
+    if let Some(what) = limit_reached(machine) {
+        return Err(StepFault::Limit(what));
+    }
+    happen(machine, alloc, event)
+}
+
+/// The first limit that was reached.
+pub fn limit_reached(machine: &Machine) -> Option<What>
+    ensures { result ≡ limit_reached machine.entry.now }
+{
+    first_limit(
+        machine.net.sent(),
+        machine.net.bytes(),
+        machine.journal.len(),
+        machine.answered,
+    )
+}
+
+/// Follows the rule of the event.
+fn happen(machine: &mut Machine, alloc: Global, event: Event) -> Result<(), StepFault>
+    requires ruled { HasRule event }
+    requires room { HasRoom machine.old }
+    requires sound { IsSound machine.old }
+    requires set { IsSet machine.old.config }
+    ensures step { Steps (happens machine.old event) machine.old machine.new result }
+    ensures sound { OnOk result (IsSound machine.new) }
+{
+    match event {
+        Event::Open {
+            c,
+            isn,
+            iss,
+            wnd,
+            mss,
+        } => return stations::open(machine, alloc, c, isn, iss, wnd, mss),
+        Event::Get { c, path } => return stations::write_request(machine, alloc, c, path),
+        Event::Write { c, bytes } => return stations::write_bytes(machine, alloc, c, bytes),
+        Event::Shut(c) => return stations::shut(machine, alloc, c),
+        Event::Abort(c) => return stations::abort(machine, alloc, c),
+        Event::Hold(c) => return stations::hold(machine, alloc, c),
+        Event::Take(c) => return stations::take(machine, alloc, c),
+        Event::Inject { c, bytes } => return stations::inject(machine, alloc, c, bytes),
+        Event::Deliver(k) => return packets::deliver(machine, alloc, k),
+        Event::Lose(k) => return packets::lose(machine, alloc, k),
+        Event::Timer { place, c } => return packets::fire(machine, alloc, place, c),
+        Event::Disk { n, j } => return disks::complete(machine, alloc, n, j),
+        Event::Clock(ms) => return disks::tick(machine, alloc, ms),
+        Event::Settle(_) => unreachable!(),
+    }
+}
