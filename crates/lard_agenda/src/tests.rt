@@ -1,9 +1,10 @@
 //! Each call with ample memory, where nobody waits.
 
 use super::*;
-use lard_base::{Bytes, Config, ConnId, Event, Items, NoMemory, NodeId, Place, TimerKind};
+use lard_base::{Config, ConnId, Event, Items, NoMemory, NodeId, Place, TimerKind};
 use lard_dispatch::Dispatch;
 use lard_journal::{Rec, Recs};
+use lard_shared::Shared;
 use std::alloc::Global;
 use std::process::Abort;
 use std::test::Fail;
@@ -25,7 +26,7 @@ fn packets_and_holders(alloc: Global, c: ConnId, other: ConnId) -> Result<Recs, 
             k,
             from: Place::Client(c),
             to: Place::Front,
-            bytes: Bytes::from_slice(alloc, b"x")?,
+            bytes: Shared::from_slice(alloc, b"x")?,
         })?;
     }
     recs.push(Rec::Got(1))?;

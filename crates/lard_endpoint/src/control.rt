@@ -16,11 +16,12 @@ use lard_recv::RecvHalf;
 use lard_segment::Segment;
 use lard_send::SendHalf;
 use lard_seq::Seq;
+use lard_shared::Shared;
 use std::alloc::Global;
 use std::marker::Model;
 
 /// The cluster's end of a connection. There is one of each, so it cannot be cloned, and it is not let go: `end`, `kill`
-/// and `freeze` spend it. Only `listen`, `adopt` and `queue` take memory.
+/// and `freeze` spend it. Only `listen`, `adopt`, `queue` and `queue_shared` take memory.
 pub struct Endpoint {
     /// The peer's bytes: what came, what is awaited, and the window.
     recv: RecvHalf,
@@ -84,6 +85,16 @@ impl Endpoint {
         ensures err { OnErr result (self.new ≡ self.old) }
     {
         self.send.queue(bytes)
+    }
+
+    /// Queues bytes as `queue` does, without a copy of them.
+    pub fn queue_shared(&mut self, bytes: Shared) -> Result<(), NoMemory>
+        requires unfinished { self.old.send.finished ≡ false }
+        requires fits { self.old.send.total + length bytes ≤ MAX_STREAM_BYTES }
+        ensures ok { OnOk result (self.new ≡ queueing self.old bytes) }
+        ensures err { OnErr result (self.new ≡ self.old) }
+    {
+        self.send.queue_shared(bytes)
     }
 
     /// Lets the FIN follow the queued bytes. No more are queued then.

@@ -1,20 +1,21 @@
 //! The map from paths to bytes.
 
-ghost use Rattle.std.specs.Prelude.{◌≡◌, ◌≢◌, ℕ, ◌<◌, ◌≤◌, ◌^◌, List, [], ◌∷◌, ◌++◌, length, OnOk, OnErr, IfSome, option_copied};
+ghost use Rattle.std.specs.Prelude.{◌≡◌, ◌≢◌, ℕ, ◌<◌, ◌≤◌, ◌^◌, List, [], ◌∷◌, ◌++◌, length, IfOk, OnOk, OnErr, IfSome, option_copied};
 ghost use Rattle.lard_files.specs.Files.{file_at, add_check, Answers, IsContent, IsPath, first_fault as first_fault_of};
 
 use crate::fault::FileFault;
 use indexmap::IndexMap;
+use lard_base::NoMemory;
 use lard_base::limits::{MAX_ALL_FILES_BYTES, MAX_FILE_BYTES, MAX_FILES, MAX_PATH_BYTES};
-use lard_base::{Bytes, NoMemory};
+use lard_shared::Shared;
 use std::alloc::Global;
 use std::marker::Model;
 
 /// Files by their paths, in the order in which they were added. Each path has 1 to 1,024 bytes, and each file at most
-/// 2^20.
+/// 2^20, which are held once however many share them.
 #[derive(Drop)]
 pub struct Files {
-    files: IndexMap<Vec<u8>, Bytes>,
+    files: IndexMap<Vec<u8>, Shared>,
     bytes: u64,
 }
 
@@ -73,6 +74,18 @@ impl Files {
         }
     }
 
+    /// The bytes of the file with this path for one owner more, without a copy of them. `None` exactly where `get` answers
+    /// `None`.
+    pub fn share(&self, path: &[u8]) -> Result<Option<Shared>, NoMemory>
+        ensures file { IfOk result (λ share. share ≡ file_at self.now path.now) }
+        ensures short { IfOk result (λ share. IfSome share IsContent) }
+    {
+        let Some(bytes) = self.files.get(path) else {
+            return Ok(None);
+        };
+        Ok(Some(bytes.share()?))
+    }
+
     /// Whether a file of so many bytes may be added under this path, or the first fault that speaks against it.
     fn check(&self, path: &[u8], len: u64) -> Result<(), FileFault>
         ensures { result ≡ add_check self.now path.now len }
@@ -94,7 +107,7 @@ impl Files {
     {
         let alloc = *self.files.allocator();
         let key = Vec::from_slice(alloc, path)?;
-        let value = Bytes::from_slice(alloc, bytes)?;
+        let value = Shared::from_slice(alloc, bytes)?;
         self.files.insert(key, value)?;
         self.bytes += bytes.len() as u64;
         Ok(())

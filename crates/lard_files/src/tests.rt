@@ -1,6 +1,7 @@
 //! Each call once, with ample memory, beside what the rules give.
 
 use super::*;
+use lard_shared::Shared;
 use std::alloc::{AllocError, Global};
 use std::test::Fail;
 
@@ -26,6 +27,39 @@ fn files_are_found_by_their_paths(rt: HostRuntime) {
     ] {
         assert_eq!(rt; files.get(path), want, "at {path:?}");
     }
+}
+
+/// The bytes that such a share has.
+fn bytes_of_share(share: &Option<Shared>) -> Option<&[u8]> {
+    match share {
+        Some(bytes) => Some(bytes.as_slice()),
+        None => None,
+    }
+}
+
+#[test]
+fn files_are_shared(rt: HostRuntime) -> Result<(), Fail> {
+    let mut files = Files::new(rt.alloc());
+    assert_eq!(rt; files.add(b"/a", b"hello"), Ok(()));
+    assert_eq!(rt; files.add(b"/b", b""), Ok(()));
+    for (path, want) in [
+        (b"/a".as_slice(), Some(b"hello".as_slice())),
+        (b"/a".as_slice(), Some(b"hello".as_slice())),
+        (b"/b".as_slice(), Some(b"".as_slice())),
+        (b"/z".as_slice(), None),
+        (b"".as_slice(), None),
+    ] {
+        let share = files.share(path)?;
+        assert_eq!(rt; bytes_of_share(&share), want, "at {path:?}");
+    }
+    match files.share(b"/a")? {
+        Some(share) if share.len() == 5 => {
+            let part = share.part(1, 3)?;
+            assert_eq!(rt; part.as_slice(), b"\x65\x6c\x6c".as_slice());
+        }
+        _ => assert!(rt; false, "has five bytes"),
+    }
+    Ok(())
 }
 
 #[test]

@@ -7,7 +7,7 @@ ghost use Rattle.lard_base.specs.Spelling.{spaced, place_word, event_words};
 ghost use Rattle.lard_journal.specs.Text.{BeginsWith};
 
 use crate::text::{connection, hex, number, path, place, word};
-use lard_base::{Bytes, ConnId, Event, NoMemory, Path, Place};
+use lard_base::{ConnId, Event, NoMemory, Path, Place};
 
 /// Appends an event's words, each behind a space.
 pub fn event(out: &mut Vec<u8>, event: &Event) -> Result<(), NoMemory>
@@ -26,7 +26,7 @@ pub fn event(out: &mut Vec<u8>, event: &Event) -> Result<(), NoMemory>
             offered(out, *c, *isn, *iss, u32::from(*wnd), u32::from(*mss))
         }
         Event::Get { c, path } => get(out, *c, path),
-        Event::Write { c, bytes } => of_bytes(out, b"write", *c, bytes),
+        Event::Write { c, bytes } => of_bytes(out, b"write", *c, bytes.as_slice()),
         Event::Shut(c) => of_connection(out, b"shut", *c),
         Event::Abort(c) => of_connection(out, b"abort", *c),
         Event::Hold(c) => of_connection(out, b"hold", *c),
@@ -37,7 +37,7 @@ pub fn event(out: &mut Vec<u8>, event: &Event) -> Result<(), NoMemory>
         Event::Disk { n, j } => disk(out, *n, *j),
         Event::Clock(ms) => of_number(out, b"clock", *ms),
         Event::Settle(rounds) => of_number(out, b"settle", *rounds),
-        Event::Inject { c, bytes } => of_bytes(out, b"inject", *c, bytes),
+        Event::Inject { c, bytes } => of_bytes(out, b"inject", *c, bytes.as_slice()),
     }
 }
 
@@ -108,7 +108,7 @@ fn of_number(out: &mut Vec<u8>, name: &[u8], n: u32) -> Result<(), NoMemory>
     number(out, n)
 }
 
-fn of_bytes(out: &mut Vec<u8>, name: &[u8], c: ConnId, bytes: &Bytes) -> Result<(), NoMemory>
+fn of_bytes(out: &mut Vec<u8>, name: &[u8], c: ConnId, bytes: &[u8]) -> Result<(), NoMemory>
     ensures ok { OnOk result (out.new.items ≡ fold spaced out.old.items
         (name.now ∷ decimal c ∷ encode_lower bytes.now ∷ [])) }
     ensures err { OnErr result (BeginsWith out.old.items out.new.items) }

@@ -63,11 +63,11 @@ fn words(out: &mut Vec<u8>, rec: &Rec) -> Result<(), NoMemory>
             wnd,
             mss,
         } => opened(out, *c, *isn, *iss, *wnd, *mss),
-        Rec::Wrote { c, bytes } => of_bytes(out, b"wrote", *c, bytes),
-        Rec::Sent { k, from, to, bytes } => sent(out, *k, *from, *to, bytes),
+        Rec::Wrote { c, bytes } => of_bytes(out, b"wrote", *c, bytes.as_slice()),
+        Rec::Sent { k, from, to, bytes } => sent(out, *k, *from, *to, bytes.as_slice()),
         Rec::Got(k) => of_number(out, b"got", *k),
         Rec::Lost(k) => of_number(out, b"lost", *k),
-        Rec::Accepted { c, bytes } => of_bytes(out, b"accepted", *c, bytes),
+        Rec::Accepted { c, bytes } => of_bytes(out, b"accepted", *c, bytes.as_slice()),
         Rec::Eof(c) => of_connection(out, b"eof", *c),
         Rec::Took { place, c, epoch } => of_owner(out, b"took", *place, *c, *epoch),
         Rec::Gave { place, c, epoch } => of_owner(out, b"gave", *place, *c, *epoch),
@@ -159,7 +159,7 @@ fn opened(
 }
 
 /// A packet on its way.
-fn sent(out: &mut Vec<u8>, k: u32, from: Place, to: Place, packet: &Bytes) -> Result<(), NoMemory>
+fn sent(out: &mut Vec<u8>, k: u32, from: Place, to: Place, packet: &[u8]) -> Result<(), NoMemory>
     ensures ok { OnOk result (out.new.items ≡ with_words out.old.items
         (codes "sent" ∷ decimal k ∷ place_word from ∷ place_word to ∷ encode_lower packet.now ∷ [])) }
     ensures err { OnErr result (BeginsWith out.old.items out.new.items) }
@@ -278,7 +278,7 @@ fn of_number<I: Integer>(out: &mut Vec<u8>, name: &[u8], n: I) -> Result<(), NoM
 }
 
 /// Bytes that a client wrote or accepted.
-fn of_bytes(out: &mut Vec<u8>, name: &[u8], c: ConnId, stream: &Bytes) -> Result<(), NoMemory>
+fn of_bytes(out: &mut Vec<u8>, name: &[u8], c: ConnId, stream: &[u8]) -> Result<(), NoMemory>
     ensures ok { OnOk result (out.new.items ≡ with_words out.old.items
         (name.now ∷ decimal c ∷ encode_lower stream.now ∷ [])) }
     ensures err { OnErr result (BeginsWith out.old.items out.new.items) }

@@ -1,6 +1,7 @@
 //! What happens in a run, as records.
 
 use lard_base::{Bytes, ConnId, Epoch, Event, Items, Millis, NodeId, Path, Place, TimerKind, Via};
+use lard_shared::Shared;
 
 /// Records, in order.
 pub type Recs = Items<Rec>;
@@ -35,7 +36,7 @@ pub enum Rec {
         k: u32,
         from: Place,
         to: Place,
-        bytes: Bytes,
+        bytes: Shared,
     },
     /// The packet with this number was delivered.
     Got(u32),
@@ -44,7 +45,7 @@ pub enum Rec {
     /// New bytes in order at the client, at least one.
     Accepted {
         c: ConnId,
-        bytes: Bytes,
+        bytes: Shared,
     },
     /// The client took the end of its stream.
     Eof(ConnId),

@@ -5,6 +5,7 @@ use lard_base::{
     Bytes, Config, ConnId, Epoch, Event, Items, Millis, NoMemory, NodeId, Path, Place, TimerKind,
     Via,
 };
+use lard_shared::Shared;
 use std::alloc::Global;
 use std::process::Abort;
 use std::test::Fail;
@@ -196,7 +197,7 @@ fn records_of_bytes(rt: HostRuntime) -> Result<(), Fail> {
         },
         "wrote 16384 47455420ff000a\n",
     )?;
-    let packet = bytes(alloc, &[1, 10, 0, 255])?;
+    let packet = Shared::from_slice(alloc, &[1, 10, 0, 255])?;
     reads(
         &rt,
         alloc,
@@ -208,7 +209,7 @@ fn records_of_bytes(rt: HostRuntime) -> Result<(), Fail> {
         },
         "sent 9 front n2 010a00ff\n",
     )?;
-    let text = bytes(alloc, b"HTTP/1.1")?;
+    let text = Shared::from_slice(alloc, b"HTTP/1.1")?;
     reads(
         &rt,
         alloc,

@@ -7,7 +7,7 @@ ghost use Rattle.lard_journal.specs.Report.{node_word, choice_word, via_word, ki
 ghost use Rattle.lard_journal.specs.Text.{BeginsWith};
 
 use itoa::{Buffer, Integer};
-use lard_base::{Bytes, ConnId, NoMemory, NodeId, Path, Place, TimerKind, Via};
+use lard_base::{ConnId, NoMemory, NodeId, Path, Place, TimerKind, Via};
 
 /// Appends bytes as they are.
 pub fn bytes(out: &mut Vec<u8>, bytes: &[u8]) -> Result<(), NoMemory>
@@ -121,7 +121,7 @@ pub fn path(out: &mut Vec<u8>, path: &Path) -> Result<(), NoMemory>
 }
 
 /// Appends bytes in lower case hexadecimal.
-pub fn hex(out: &mut Vec<u8>, bytes: &Bytes) -> Result<(), NoMemory>
+pub fn hex(out: &mut Vec<u8>, bytes: &[u8]) -> Result<(), NoMemory>
     ensures ok { OnOk result (out.new.items ≡ spaced out.old.items (encode_lower bytes.now)) }
     ensures err { OnErr result (BeginsWith out.old.items out.new.items) }
 {
@@ -135,6 +135,6 @@ pub fn hex(out: &mut Vec<u8>, bytes: &Bytes) -> Result<(), NoMemory>
         return Err(NoMemory);
     };
     out.resize(end, 0)?;
-    hex::encode_to_slice(bytes.as_slice(), &mut out[start..]).unwrap();
+    hex::encode_to_slice(bytes, &mut out[start..]).unwrap();
     Ok(())
 }

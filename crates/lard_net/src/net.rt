@@ -5,6 +5,7 @@ ghost use Rattle.std.specs.Option.{option_copied, option_map};
 ghost use Rattle.lard_net.specs.Net.{IsSized, bytes_in, lent_packet, lose_at, packet_at};
 
 use lard_base::{Bytes, NoMemory, Place};
+use lard_shared::{Pages, Shared};
 use std::alloc::Global;
 use std::marker::Model;
 
@@ -14,17 +15,17 @@ pub struct Packet<'a> {
     pub from: Place,
     pub to: Place,
     /// At most 1,520 bytes where one of the places is a client, and else at most 2^21.
-    pub bytes: &'a [u8],
+    pub bytes: &'a Shared,
     /// It arrives no more.
     pub lost: bool,
 }
 
-/// A packet as it is kept.
+/// A packet as it is kept, whose bytes lie on a page.
 #[derive(Debug, Drop)]
 struct Kept {
     from: Place,
     to: Place,
-    bytes: Bytes,
+    bytes: Shared,
     lost: bool,
 }
 
@@ -32,6 +33,7 @@ struct Kept {
 #[derive(Debug, Drop)]
 pub struct Net {
     packets: Vec<Kept>,
+    pages: Pages,
     bytes: u64,
 }
 
@@ -54,6 +56,7 @@ impl Net {
     {
         Net {
             packets: Vec::new(alloc),
+            pages: Pages::new(alloc),
             bytes: 0,
         }
     }
@@ -68,6 +71,7 @@ impl Net {
         ensures err { OnErr result (self.new ≡ self.old) }
     {
         let len = bytes.len() as u64;
+        let bytes = self.pages.keep(bytes.as_slice())?;
         self.packets.push(Kept {
             from,
             to,
@@ -90,7 +94,7 @@ impl Net {
         Some(Packet {
             from: kept.from,
             to: kept.to,
-            bytes: kept.bytes.as_slice(),
+            bytes: &kept.bytes,
             lost: kept.lost,
         })
     }

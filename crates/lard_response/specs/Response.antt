@@ -53,3 +53,8 @@ IsClosing _ close = close ≡ true
 abbrev pub HasItsBody : Code → List ℕ → Type 0
 HasItsBody Ok body = Unit {0}
 HasItsBody _ body = body ≡ []
+
+-- so only its head tells of one
+abbrev pub HasItsLength : Code → ℕ → Type 0
+HasItsLength Ok len = Unit {0}
+HasItsLength _ len = len ≡ 0

@@ -1,7 +1,7 @@
-//! The bytes of one response, written to one buffer.
+//! The bytes of one response, written to one buffer, or of its head alone.
 
 ghost use Rattle.std.specs.Prelude.{◌≡◌, ◌↔◌, ◌++◌, IsTrue, IfOk, OnOk};
-ghost use Rattle.lard_response.specs.Response.{status_line, length_line, close_line, response, response_body, IsClosing, HasItsBody};
+ghost use Rattle.lard_response.specs.Response.{status_line, length_line, close_line, response, response_body, response_head, IsClosing, HasItsBody, HasItsLength};
 
 use itoa::Buffer;
 use lard_base::{Bytes, NoMemory};
@@ -23,8 +23,20 @@ pub fn may_write(code: Code, body: &[u8], close: bool) -> bool
     }
 }
 
-/// The response with this body, of which the answer to HEAD has the length alone (RFC 9110, 9.3.2). Where `close`, it
-/// says that the connection closes behind it (RFC 9112, 9.6).
+/// The head of a response, up to and with its empty line: `n` bytes of a body follow, where it is not the answer to HEAD.
+/// Where `close`, it says that the connection closes behind it (RFC 9112, 9.6).
+pub fn head(alloc: Global, code: Code, n: u64, close: bool) -> Result<Bytes, NoMemory>
+    requires length { HasItsLength code n }
+    requires close { IsClosing code close }
+    ensures { IfOk result (λ bytes. bytes ≡ response_head code n close) }
+{
+    let mut bytes = Vec::with_capacity(alloc, HEAD_BYTES)?;
+    push_head(&mut bytes, code, n, close)?;
+    Ok(Bytes::from_vec(bytes))
+}
+
+/// The response with this body, of which the answer to HEAD has the length alone (RFC 9110, 9.3.2): its head, as `head`
+/// gives it, and the body.
 #[tactic(auto, unfolding(crate::specs::Response::response))]
 pub fn write(
     alloc: Global,
@@ -39,12 +51,20 @@ pub fn write(
 {
     let sent = sent_of(body, head);
     let mut bytes = Vec::with_capacity(alloc, HEAD_BYTES + sent.len())?;
-    bytes.extend_from_slice(status_of(code))?;
-    push_length(&mut bytes, body.len())?;
-    bytes.extend_from_slice(close_of(close))?;
-    bytes.extend_from_slice(b"\r\n")?;
+    push_head(&mut bytes, code, body.len() as u64, close)?;
     bytes.extend_from_slice(sent)?;
     Ok(Bytes::from_vec(bytes))
+}
+
+/// Adds the head of a response with `n` bytes of a body.
+fn push_head(bytes: &mut Vec<u8>, code: Code, n: u64, close: bool) -> Result<(), AllocError>
+    ensures { OnOk result (bytes.new.items ≡ bytes.old.items ++ response_head code n close) }
+{
+    bytes.extend_from_slice(status_of(code))?;
+    push_length(bytes, n)?;
+    bytes.extend_from_slice(close_of(close))?;
+    bytes.extend_from_slice(b"\r\n")?;
+    Ok(())
 }
 
 /// The status line of a code (RFC 9112, 4).
@@ -62,7 +82,7 @@ fn status_of(code: Code) -> &'static [u8]
 }
 
 /// Adds the line that gives a length (RFC 9110, 8.6).
-fn push_length(bytes: &mut Vec<u8>, len: usize) -> Result<(), AllocError>
+fn push_length(bytes: &mut Vec<u8>, len: u64) -> Result<(), AllocError>
     ensures { OnOk result (bytes.new.items ≡ bytes.old.items ++ length_line len) }
 {
     let mut digits = Buffer::new();

@@ -1,7 +1,7 @@
 //! The bytes of a response (RFC 9112, 4; RFC 9110, 15).
 //!
 //! It stands behind `lard_request`: what was judged, and the file that was found for it, are written by `write` as one
-//! response, whose bytes are then queued on the connection.
+//! response. `head` gives its bytes up to the body, which is then queued on the connection behind them.
 #![tactic(auto)]
 
 mod bytes;
@@ -9,4 +9,4 @@ pub mod laws;
 #[cfg(test)]
 mod tests;
 
-pub use bytes::{may_write, write};
+pub use bytes::{head, may_write, write};

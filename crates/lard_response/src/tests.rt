@@ -1,9 +1,31 @@
 //! Responses beside their bytes, as RFC 9112 writes them.
 
 use super::*;
+use lard_base::{Bytes, NoMemory};
 use lard_request::Code;
+use std::alloc::Global;
 use std::test::Fail;
 
+/// The head of a response, where one of this code may tell of so many bytes, and close or not.
+fn head_of(alloc: Global, code: Code, n: u64, close: bool) -> Result<Option<Bytes>, NoMemory> {
+    match code {
+        Code::Ok => Ok(Some(head(alloc, code, n, close)?)),
+        Code::NotFound => {
+            if n > 0 {
+                return Ok(None);
+            }
+            Ok(Some(head(alloc, code, n, close)?))
+        }
+        _ => {
+            if n > 0 || !close {
+                return Ok(None);
+            }
+            Ok(Some(head(alloc, code, n, close)?))
+        }
+    }
+}
+
+/// Each response, beside its head with the body behind it.
 #[test]
 fn responses_are_written(rt: HostRuntime) -> Result<(), Fail> {
     for (code, body, head, close, want) in [
@@ -77,6 +99,42 @@ fn responses_are_written(rt: HostRuntime) -> Result<(), Fail> {
         } else {
             assert!(rt; false, "may be written");
         }
+        if let Some(first) = head_of(rt.alloc(), code, body.len() as u64, close)? {
+            let mut bytes = Vec::from_slice(rt.alloc(), first.as_slice())?;
+            if !head {
+                bytes.extend_from_slice(body)?;
+            }
+            assert_eq!(rt; bytes.as_slice(), want);
+        } else {
+            assert!(rt; false, "has a head");
+        }
+    }
+    Ok(())
+}
+
+#[test]
+fn heads_have_their_lengths(rt: HostRuntime) -> Result<(), Fail> {
+    for (code, n, close, want) in [
+        (Code::Ok, 5u64, false, 38usize),
+        (Code::Ok, 0, false, 38),
+        (Code::Ok, 1_048_576, true, 63),
+        (Code::Ok, u64::MAX, true, 76),
+        (Code::NotFound, 0, false, 45),
+        (Code::FieldsTooLarge, 0, true, 86),
+    ] {
+        if let Some(first) = head_of(rt.alloc(), code, n, close)? {
+            assert_eq!(rt; first.len(), want, "at {code:?} with {n}");
+        } else {
+            assert!(rt; false, "has a head");
+        }
+    }
+    for (code, n, close) in [
+        (Code::NotFound, 1u64, false),
+        (Code::NotFound, 1, true),
+        (Code::BadRequest, 0, false),
+        (Code::BadRequest, 1, true),
+    ] {
+        assert!(rt; head_of(rt.alloc(), code, n, close)?.is_none());
     }
     Ok(())
 }

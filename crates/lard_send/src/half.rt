@@ -10,6 +10,7 @@ use crate::rest::Rest;
 use lard_base::limits::{MAX_SEGMENT_DATA, MAX_STREAM_BYTES};
 use lard_base::{EndpointParts, NoMemory};
 use lard_seq::Seq;
+use lard_shared::Shared;
 use std::alloc::Global;
 use std::marker::Model;
 
@@ -24,7 +25,7 @@ pub enum Ack {
     Beyond,
 }
 
-/// The symbols of this side, as far as they are not acknowledged. Only `queue` takes memory.
+/// The symbols of this side, as far as they are not acknowledged. Only `queue` and `queue_shared` take memory.
 #[derive(Drop)]
 pub struct SendHalf {
     /// The sequence number of the SYN, ISS.
@@ -150,6 +151,19 @@ impl SendHalf {
     {
         self.rest.push(bytes)?;
         self.total += bytes.len() as u32;
+        Ok(())
+    }
+
+    /// Queues bytes as `queue` does, without a copy of them.
+    pub fn queue_shared(&mut self, bytes: Shared) -> Result<(), NoMemory>
+        requires unfinished { self.old.finished ≡ false }
+        requires fits { self.old.total + length bytes ≤ MAX_STREAM_BYTES }
+        ensures ok { OnOk result (self.new ≡ queued_too self.old bytes) }
+        ensures err { OnErr result (self.new ≡ self.old) }
+    {
+        let count = bytes.len() as u32;
+        self.rest.push_shared(bytes)?;
+        self.total += count;
         Ok(())
     }
 
@@ -345,9 +359,15 @@ impl SendHalf {
         requires room { len ≤ length buf.old }
         ensures { buf.new ≡ take len (drop (at - acknowledged_bytes self.now) self.now.rest) ++ drop len buf.old }
     {
-        let bytes = self.rest.as_slice();
-        let from = at as usize - (self.total as usize - bytes.len());
-        buf[..len as usize].copy_from_slice(&bytes[from..from + len as usize]);
+        self.rest
+            .gather(at - self.acknowledged_bytes(), &mut buf[..len as usize]);
+    }
+
+    /// How many queued bytes are acknowledged.
+    fn acknowledged_bytes(&self) -> u32
+        ensures { result ≡ acknowledged_bytes self.now }
+    {
+        self.una.saturating_sub(1).min(self.total)
     }
 
     /// Lets the FIN follow the queued bytes. No more are queued then.

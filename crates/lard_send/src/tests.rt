@@ -1,8 +1,11 @@
 //! Each call once, with ample memory, beside what the rules give.
 
 use super::*;
+use lard_base::limits::MAX_STREAM_BYTES;
 use lard_base::{Bytes, EndpointParts};
 use lard_seq::Seq;
+use lard_shared::Shared;
+use std::alloc::Global;
 use std::test::Fail;
 
 const ISS: u32 = 0xffff_fffe;
@@ -71,14 +74,90 @@ fn bytes_are_written_until_they_are_acknowledged(rt: HostRuntime) -> Result<(), 
     assert_eq!(rt; half.ack(Seq(44), Seq(8), 6), Ack::New(2));
     half.queue(b"ef")?;
     assert_eq!(rt; half.next(), piece(44, 2, false, true));
-    let mut buf = [b'-'; 4];
-    half.fill(43, 3, &mut buf);
-    assert_eq!(rt; buf.as_slice(), b"def-".as_slice());
+    assert_eq!(rt; &bytes_at(&half, 43, 3)?, b"def-");
     assert_eq!(rt; (half.una(), half.nxt(), half.total()), (43, 47, 46));
     assert_eq!(rt; (half.wl1(), half.wl2()), (Seq(8), Seq(44)));
     let mut client = SendHalf::make(rt.alloc(), Seq(1), Seq(0), 9, 536);
     client.peer(Seq(5), 20);
     assert_eq!(rt; (client.mss(), client.finished()), (20, false));
     assert_eq!(rt; (client.iss(), client.irs()), (Seq(1), Seq(5)));
+    Ok(())
+}
+
+const FILE_BYTES: usize = 1 << 20;
+
+const PARTS: usize = 1000;
+
+const HALVES: usize = 64;
+
+/// A file that begins with these bytes.
+fn file(alloc: Global, len: usize, begin: &[u8]) -> Result<Shared, Fail> {
+    let mut bytes = Vec::from_slice(alloc, begin)?;
+    bytes.resize(len, b'x')?;
+    Ok(Shared::from_slice(alloc, &bytes)?)
+}
+
+/// Gives a half these bytes, where it has room for them.
+fn give(half: &mut SendHalf, bytes: Shared) -> Result<(), Fail> {
+    let room = (MAX_STREAM_BYTES - half.total()) as usize;
+    if half.finished() || room < bytes.len() {
+        return Err(Fail::new("there is no room"));
+    }
+    half.queue_shared(bytes)?;
+    Ok(())
+}
+
+/// A half that was given the whole file so often.
+fn loaded(alloc: Global, file: &Shared, times: usize) -> Result<SendHalf, Fail> {
+    let mut half = SendHalf::make(alloc, Seq(ISS), Seq(7), 9, 3);
+    for _ in 0..times {
+        give(&mut half, file.share()?.part(0, file.len())?)?;
+    }
+    Ok(half)
+}
+
+/// Up to four bytes that a half has at a place, in front of what a buffer held.
+fn bytes_at(half: &SendHalf, at: u32, len: u32) -> Result<[u8; 4], Fail> {
+    let mut buf = [b'-'; 4];
+    let total = half.total();
+    if 4 < len || at < half.una().saturating_sub(1) || total < len || total - len < at {
+        return Err(Fail::new("they are not there"));
+    }
+    half.fill(at, len, &mut buf);
+    Ok(buf)
+}
+
+#[test]
+fn shared_bytes_stand_where_copies_do(rt: HostRuntime) -> Result<(), Fail> {
+    let alloc = rt.alloc();
+    let mut half = SendHalf::make(alloc, Seq(ISS), Seq(7), 9, 3);
+    half.queue(b"ab")?;
+    give(&mut half, Shared::from_slice(alloc, b"cde")?)?;
+    give(&mut half, Shared::from_slice(alloc, b"fg")?)?;
+    assert_eq!(rt; &bytes_at(&half, 1, 4)?, b"bcde");
+    assert_eq!(rt; half.next(), Some(Piece::syn()));
+    assert_eq!(rt; half.ack(Seq(0xffff_ffff), Seq(8), 9), Ack::New(1));
+    assert_eq!(rt; half.next(), piece(0, 3, false, false));
+    assert_eq!(rt; half.ack(Seq(2), Seq(8), 9), Ack::New(3));
+    assert_eq!(rt; &bytes_at(&half, 3, 4)?, b"defg");
+    Ok(())
+}
+
+/// All halves together were given 67,108,864,000 bytes, which are one file's.
+#[test]
+fn one_file_is_held_once(rt: HostRuntime) -> Result<(), Fail> {
+    let alloc = rt.alloc();
+    let file = file(alloc, FILE_BYTES, b"file")?;
+    let mut halves = Vec::new(alloc);
+    for _ in 0..HALVES {
+        halves.push(loaded(alloc, &file, PARTS)?)?;
+    }
+    for half in &halves {
+        assert_eq!(rt; half.total() as usize, PARTS * FILE_BYTES);
+        assert_eq!(rt;
+            &bytes_at(half, half.total() - FILE_BYTES as u32, 4)?,
+            b"file"
+        );
+    }
     Ok(())
 }

@@ -1,7 +1,8 @@
--- The length of a response: at least a byte, and at most its body and a head.
-use Rattle.std.proofs.Common.{◌≡◌, ℕ, ◌≤◌, ◌^◌, List, ◌++◌, Bool, true, false, length, ap, arith, lit≤, length-append}
+-- The length of a response: at least a byte, and at most its body and a head. How its parts are queued.
+use Rattle.std.proofs.Common.{◌≡◌, ℕ, ◌+◌, ◌≤◌, ◌^◌, List, ◌++◌, Bool, true, false, length, ap, ◌∙◌, append_assoc, arith, lit≤, length-append}
 use Rattle.std.specs.Prelude.{codes, decimal}
 use Rattle.std.proofs.lemmas.Fmt.{length-decimal-le}
+use Rattle.lard_endpoint.specs.Control.{ControlBlock, queueing}
 use Rattle.lard_request.specs.declared.verdict.Code.{Code}
 use Rattle.lard_request.specs.declared.verdict.Code.TheVariants.{Ok, BadRequest, NotFound, TooLarge, FieldsTooLarge, NotImplemented}
 use Rattle.lard_response.specs.Response.{number, reason, status_line, length_line, close_line, response, response_body}
@@ -60,3 +61,11 @@ response_fits code body head close bytes e h =
     let f = length-append status line in
     let size = ap length e in
     (omega (arith, s.0), omega (arith, s.1, length-most (length body) h, close-most close, content-most body head))
+
+-- what is queued in two parts is queued as one
+pub queued_behind : (b : ControlBlock) (head body : List ℕ) → queueing (queueing b head) body ≡ queueing b (head ++ body)
+queued_behind b head body =
+    let with = λ (rest : List ℕ) (n : ℕ). record b { send = record b.send { rest = rest; total = n } } in
+    let count : b.send.total + length head + length body ≡ b.send.total + length (head ++ body) = omega (arith, length-append head body) in
+    ap (λ rest. with rest (b.send.total + length head + length body)) (append_assoc b.send.rest head body)
+    ∙ ap (with (b.send.rest ++ (head ++ body))) count

@@ -1,5 +1,5 @@
 -- What the code has in hand while it serves a connection, as the rules have it.
-use Rattle.std.specs.Prelude.{◌+◌, ◌≤◌}
+use Rattle.std.specs.Prelude.{ℕ, ◌+◌, ◌≤◌, List, [], Option, Some, None}
 use Rattle.lard_endpoint.specs.Control.{ControlBlock}
 use Rattle.lard_files.specs.Files.{file_at}
 use Rattle.lard_rules.specs.Serving.{ServeEnv, Service}
@@ -18,3 +18,8 @@ service_of b w = record { block = b; count = w.count; notes = w.notes; answered 
 pub record IsCounted (b : ControlBlock) (w : Served) : Type 0 where
   pub responses : w.count ≤ b.send.total + b.recv.got
   pub bytes : w.answered ≤ b.send.total
+
+-- the content that stands behind a head; nothing where none does
+abbrev pub content_of : Option (List ℕ) → List ℕ
+content_of None = []
+content_of (Some body) = body

@@ -1,21 +1,20 @@
 //! How a place answers the requests of a connection.
 
-ghost use Rattle.std.specs.Prelude.{◌≡◌, ◌+◌, ◌-◌, ◌^◌, ◌≤◌, ◌<◌, false, [], ◌∷◌, ◌++◌, length, IfOk, IfSome, IsTrue, OnOk, Some, true, if◌then◌else◌};
-ghost use Rattle.std.specs.Option.{option_copied};
-ghost use Rattle.lard_answers.specs.Answers.{answer, answer_code, found};
+ghost use Rattle.std.specs.Prelude.{◌≡◌, ◌+◌, ◌-◌, ◌^◌, ◌≤◌, ◌<◌, false, [], ◌∷◌, ◌++◌, IsTrue, OnOk, Some, if◌then◌else◌};
+ghost use Rattle.lard_answers.specs.Answers.{answer_code};
 ghost use Rattle.lard_base.specs.declared.limits.TheConstants.{MAX_STREAM_BYTES};
-ghost use Rattle.lard_files.specs.Files.{IsContent, file_at};
+ghost use Rattle.lard_files.specs.Files.{file_at};
 ghost use Rattle.lard_endpoint.specs.Control.{finishing};
 ghost use Rattle.lard_rules.specs.Serving.{answered, closed_behind, may_read};
-ghost use Rattle.lard_response.specs.Response.{number, response};
+ghost use Rattle.lard_response.specs.Response.{number};
 ghost use Rattle.lard_serving.specs.Serving.{IsCounted, env_seen, service_of};
 
-use lard_base::{Bytes, ConnId, NoMemory, Place, Via};
+use crate::outgoing::Outgoing;
+use lard_base::{ConnId, NoMemory, Place, Via};
 use lard_endpoint::Endpoint;
 use lard_files::Files;
 use lard_journal::{Rec, Recs};
 use lard_request::{Code, Verdict};
-use lard_response::write;
 use std::alloc::Global;
 
 /// What serving rests on beside a connection's state.
@@ -92,13 +91,13 @@ pub fn answer(
     ensures counted { OnOk result (IsCounted endpoint.new service.new) }
 {
     let code = code_of(env.files, verdict);
-    let bytes = response(alloc, env.files, verdict)?;
-    let length = bytes.len() as u32;
+    let outgoing = Outgoing::new(alloc, env.files, verdict)?;
+    let length = outgoing.len();
     let total = endpoint.total() + length;
     if env.stream < total {
         return pass_over(env, service, total);
     }
-    endpoint.queue(bytes.as_slice())?;
+    outgoing.queue(endpoint)?;
     close_behind(endpoint, verdict);
     note(env, service, code, length, via)
 }
@@ -181,39 +180,4 @@ fn number(code: Code) -> u16
         Code::FieldsTooLarge => 431,
         Code::NotImplemented => 501,
     }
-}
-
-/// The response to a verdict: at least one byte, and at most the longest file and a head.
-fn response(alloc: Global, files: &Files, verdict: &Verdict) -> Result<Bytes, NoMemory>
-    ensures response { IfOk result (λ bytes. bytes ≡ answer (file_at files.now) verdict.now) }
-    ensures size { IfOk result (λ bytes. (1 ≤ length bytes) × (length bytes ≤ 2 ^ 27)) }
-{
-    match verdict {
-        Verdict::Serve { path, head, close } => {
-            return found(alloc, files.get(path.as_slice()), *head, *close);
-        }
-        Verdict::Fault(code) => return fault(alloc, *code),
-    }
-}
-
-/// The response to a request for a path that names this file, or none.
-#[tactic(auto, using(crate::proofs::Responses::response_fits))]
-fn found(alloc: Global, body: Option<&[u8]>, head: bool, close: bool) -> Result<Bytes, NoMemory>
-    requires { IfSome body (λ bytes. IsContent bytes.now) }
-    ensures response { IfOk result (λ bytes. bytes ≡ found (option_copied body.entry) head close) }
-    ensures size { IfOk result (λ bytes. (1 ≤ length bytes) × (length bytes ≤ 2 ^ 27)) }
-{
-    match body {
-        None => return write(alloc, Code::NotFound, b"", head, close),
-        Some(body) => return write(alloc, Code::Ok, body, head, close),
-    }
-}
-
-/// The response to a fault, behind which the connection closes.
-#[tactic(auto, using(crate::proofs::Responses::response_fits))]
-fn fault(alloc: Global, code: Code) -> Result<Bytes, NoMemory>
-    ensures response { IfOk result (λ bytes. bytes ≡ response code [] false true) }
-    ensures size { IfOk result (λ bytes. (1 ≤ length bytes) × (length bytes ≤ 2 ^ 27)) }
-{
-    write(alloc, code, b"", false, true)
 }

@@ -2,11 +2,12 @@
 //! ends the connection at the stream limit.
 //!
 //! It stands above the endpoint and the answering of requests, and follows the rules of `lard_rules`. The front end calls it
-//! for each connection that it holds.
+//! for each connection that it holds. A file's bytes are not copied into a response: `outgoing` queues them behind its head.
 #![tactic(auto)]
 
 pub mod answering;
 pub mod ending;
+pub mod outgoing;
 pub mod speaking;
 pub mod turns;
 

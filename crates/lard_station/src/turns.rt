@@ -1,6 +1,6 @@
 //! The rules of a client's place, each over one client.
 
-ghost use Rattle.std.specs.Prelude.{◌≡◌, ◌+◌, ◌^◌, ◌≤◌, ◌++◌, [], length, IfOk, IfSome, OnOk};
+ghost use Rattle.std.specs.Prelude.{◌≡◌, ◌+◌, ◌-◌, ◌^◌, ◌≤◌, ◌++◌, [], length, drop, IfOk, IfSome, OnOk};
 ghost use Rattle.lard_base.specs.declared.limits.TheConstants.{MAX_SEGMENT_BYTES, MAX_STREAM_BYTES};
 ghost use Rattle.lard_client.specs.Control.{written_len};
 ghost use Rattle.lard_client.specs.Leaving.{IsHeld, IsWritable};
@@ -17,6 +17,7 @@ use lard_journal::{Rec, Recs};
 use lard_rules::Turn;
 use lard_segment::{Dir, Ready, decode};
 use lard_serving::silent;
+use lard_shared::Shared;
 use std::alloc::Global;
 
 /// The client notes this, and sends these packets and then what it may.
@@ -154,26 +155,37 @@ pub fn receive(
     alloc: Global,
     c: ConnId,
     client: &mut Client,
-    bytes: &[u8],
+    bytes: &Shared,
 ) -> Result<Turn, NoMemory>
     requires { length bytes.now ≤ MAX_SEGMENT_BYTES }
     ensures turn { IfOk result (λ turn. (client.new, turn) ≡ client_gets client.old (decoded bytes.now c Dir.ToClient)) }
     ensures fits { IfOk result IsTurn }
 {
-    match decode(bytes, c, Dir::ToClient) {
+    match decode(bytes.as_slice(), c, Dir::ToClient) {
         Ok(segment) => {
             let heard = client.arrive(&segment);
-            return answer(alloc, client, segment.payload, heard);
+            let payload = data_in(bytes, segment.payload)?;
+            return answer(alloc, client, &payload, heard);
         }
         Err(_) => return Ok(silent(alloc)),
     }
+}
+
+/// The data of a packet's segment, which is the last of the packet, without a copy of it.
+fn data_in(packet: &Shared, data: &[u8]) -> Result<Shared, NoMemory>
+    requires within { length data.now ≤ length packet.now }
+    requires last { drop (length packet.now - length data.now) packet.now ≡ data.now }
+    ensures { IfOk result (λ part. part ≡ data.now) }
+{
+    let len = data.len();
+    packet.part(packet.len() - len, len)
 }
 
 /// What the client says of what it heard of a segment with this data.
 fn answer(
     alloc: Global,
     client: &mut Client,
-    payload: &[u8],
+    payload: &Shared,
     heard: Heard,
 ) -> Result<Turn, NoMemory>
     requires part { heard.from + heard.len ≤ length payload.now }
@@ -183,19 +195,18 @@ fn answer(
     ensures fits { IfOk result IsTurn }
 {
     let mut notes = Recs::new(alloc);
-    note_accepted(alloc, &mut notes, client.number(), heard, payload)?;
+    note_accepted(&mut notes, client.number(), heard, payload)?;
     note_eof(&mut notes, client.number(), heard)?;
     let before = packets_of(alloc, client, heard.reply)?;
     speaking(alloc, notes, before, client)
 }
 
-/// Notes what was accepted of a segment's data.
+/// Notes what was accepted of a segment's data, as a part of it.
 fn note_accepted(
-    alloc: Global,
     notes: &mut Recs,
     c: ConnId,
     heard: Heard,
-    payload: &[u8],
+    payload: &Shared,
 ) -> Result<(), NoMemory>
     requires part { heard.from + heard.len ≤ length payload.now }
     ensures { OnOk result (notes.new ≡ notes.old ++ accepted_note c heard payload.now) }
@@ -203,8 +214,7 @@ fn note_accepted(
     if heard.len == 0 {
         return Ok(());
     }
-    let from = heard.from as usize;
-    let bytes = Bytes::from_slice(alloc, &payload[from..from + heard.len as usize])?;
+    let bytes = payload.part(heard.from as usize, heard.len as usize)?;
     notes.push(Rec::Accepted { c, bytes })
 }
 

@@ -1,8 +1,9 @@
 //! The lines of two short journals, counted by hand.
 
 use super::*;
-use lard_base::{Bytes, ConnId, Place, Via};
+use lard_base::{ConnId, Place, Via};
 use lard_journal::Rec;
+use lard_shared::Shared;
 use std::alloc::Global;
 use std::test::Fail;
 
@@ -14,7 +15,7 @@ fn journal(alloc: Global) -> Result<Vec<Rec>, Fail> {
         k: 1,
         from: Place::Front,
         to: Place::Client(c),
-        bytes: Bytes::from_vec(Vec::from_slice(alloc, b"ab")?),
+        bytes: Shared::from_slice(alloc, b"ab")?,
     })?;
     recs.push(Rec::Served {
         place: Place::Front,
@@ -26,11 +27,11 @@ fn journal(alloc: Global) -> Result<Vec<Rec>, Fail> {
     })?;
     recs.push(Rec::Accepted {
         c,
-        bytes: Bytes::from_vec(Vec::from_slice(alloc, b"HTTP")?),
+        bytes: Shared::from_slice(alloc, b"HTTP")?,
     })?;
     recs.push(Rec::Accepted {
         c,
-        bytes: Bytes::from_vec(Vec::from_slice(alloc, b"/")?),
+        bytes: Shared::from_slice(alloc, b"/")?,
     })?;
     Ok(recs)
 }

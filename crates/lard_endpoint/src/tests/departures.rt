@@ -5,8 +5,9 @@ use crate::tests::words::Said::{Ack, Data, Fin, Push, PushFin, Rst, SynAck};
 use crate::tests::words::Step::{
     Again, Clear, Comes, Finishes, Idle, Queues, Rests, Sends, SendsBytes, Unread,
 };
-use crate::tests::words::{Step, W, X, ended, established};
+use crate::tests::words::{Step, W, X, done, ended, established, is_queued_shared, listening};
 use lard_base::Reason;
+use lard_shared::Shared;
 use std::test::Fail;
 
 const WINDOWS: &[(&str, u16, Option<u16>, &[Step])] = &[
@@ -133,6 +134,29 @@ fn numbers_begin_again(rt: HostRuntime) -> Result<(), Fail> {
     ];
     let last = Some((Reason::Closed, 6, 4));
     assert_eq!(rt; ended(rt.alloc(), ISN, ISS, &steps)?, (steps.len(), last));
+    Ok(())
+}
+
+/// Bytes that have more owners leave as copies do, here in one segment with such.
+#[test]
+fn shared_bytes_leave_as_copies_do(rt: HostRuntime) -> Result<(), Fail> {
+    let body = Shared::from_slice(rt.alloc(), b"a body.")?;
+    let mut endpoint = listening(rt.alloc(), 1000, 5000, W, None)?;
+    let opening = [
+        Sends(SynAck(5000, 1001), 16_384),
+        Comes(Ack(1001, 5001), W, Fine),
+        Queues(b"head, "),
+    ];
+    let opened = done(&mut endpoint, &opening);
+    let queued = is_queued_shared(&mut endpoint, body);
+    let steps = [
+        Sends(Push(5001, 1001, b"head, a body."), 16_384),
+        Comes(Ack(1001, 5014), W, Fine),
+        Clear(true),
+    ];
+    let came = done(&mut endpoint, &steps);
+    endpoint.kill();
+    assert_eq!(rt; (opened, queued, came), (3, true, 3));
     Ok(())
 }
 

@@ -6,6 +6,7 @@ use crate::{Arrival, Endpoint};
 use lard_base::{NoMemory, Reason};
 use lard_segment::{Flags, Ready, Segment};
 use lard_seq::Seq;
+use lard_shared::Shared;
 use std::alloc::Global;
 
 /// A window, and as many bytes as a whole receive window has.
@@ -157,6 +158,14 @@ fn is_queued(endpoint: &mut Endpoint, bytes: &[u8]) -> bool {
         return false;
     }
     endpoint.queue(bytes).is_ok()
+}
+
+pub fn is_queued_shared(endpoint: &mut Endpoint, bytes: Shared) -> bool {
+    let total = endpoint.total() as usize;
+    if endpoint.finished() || bytes.len() > 100_000 || total > 100_000 {
+        return false;
+    }
+    endpoint.queue_shared(bytes).is_ok()
 }
 
 fn is_consumed(endpoint: &mut Endpoint, n: usize) -> bool {

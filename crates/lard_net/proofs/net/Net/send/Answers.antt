@@ -1,5 +1,5 @@
 -- The sum of all bytes fits, and the packet goes last.
-use Rattle.std.proofs.Common.{◌≡◌, ◌<◌, ◌≤◌, ◌+◌, ◌-◌, ◌*◌, ◌^◌, ◌++◌, ◌∷◌, [], false, arith, length, List, sym, ap, subst, ◌∙◌}
+use Rattle.std.proofs.Common.{◌≡◌, ◌<◌, ◌≤◌, ◌+◌, ◌-◌, ◌*◌, ◌^◌, ◌++◌, ◌∷◌, [], false, arith, length, ℕ, List, sym, ap, subst, ◌∙◌}
 use Rattle.std.proofs.lemmas.List.{length-append, map-append}
 use Rattle.std.proofs.lemmas.Grind.{common_steps}
 use Rattle.lard_net.specs.Net.{Packet, AreSized, bytes_in, packet_of, shown}
@@ -16,7 +16,10 @@ pub invariant_of-self-2 : goal.invariant_of-self-2
 invariant_of-self-2 c =
     let ps : List Packet = shown c.self.inside.packets.items in
     let p : Packet = record { from = c.args.from; to = c.args.to; bytes = c.args.bytes; lost = false } in
-    let new : shown c.push.new.self.items ≡ ps ++ p ∷ [] = ap shown c.in_ok-push.ensures.items ∙ map-append packet_of c.self.inside.packets.items (record { from = c.args.from; to = c.args.to; bytes = c.args.bytes; lost = false } ∷ []) in
+    let kept : c.in_ok-bytes.bytes ≡ c.args.bytes = c.in_ok-bytes.ensures ∙ c.as_slice.ensures in
+    let new : shown c.push.new.self.items ≡ ps ++ p ∷ [] =
+    ap shown c.in_ok-push.ensures.items ∙ map-append packet_of c.self.inside.packets.items (record { from = c.args.from; to = c.args.to; bytes = c.in_ok-bytes.bytes; lost = false } ∷ [])
+    ∙ ap (λ (bytes : List ℕ). ps ++ record { from = c.args.from; to = c.args.to; bytes = bytes; lost = false } ∷ []) kept in
     let room : length ps < 2 ^ 32 - 1 = subst (λ (qs : List Packet). length qs < 2 ^ 32 - 1) (sym c.self.view_is) c.requires.room in
     let count = length-append ps (p ∷ []) in
     let all = bytes_pushed ps p in
