@@ -172,12 +172,12 @@ pub fn receive(
 }
 
 /// The data of a packet's segment, which is the last of the packet, without a copy of it.
-fn data_in(packet: &Shared, data: &[u8]) -> Result<Shared, NoMemory>
-    requires within { length data.now ≤ length packet.now }
-    requires last { drop (length packet.now - length data.now) packet.now ≡ data.now }
-    ensures { IfOk result (λ part. part ≡ data.now) }
+fn data_in(packet: &Shared, payload: &[u8]) -> Result<Shared, NoMemory>
+    requires within { length payload.now ≤ length packet.now }
+    requires last { drop (length packet.now - length payload.now) packet.now ≡ payload.now }
+    ensures { IfOk result (λ part. part ≡ payload.now) }
 {
-    let len = data.len();
+    let len = payload.len();
     packet.part(packet.len() - len, len)
 }
 

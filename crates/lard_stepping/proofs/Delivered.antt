@@ -1,6 +1,5 @@
 -- A packet comes to its place with the bytes that it shares.
 use Rattle.std.proofs.Common.{◌≡◌, ℕ, List, Bool, false, cond, Some, Ok, Err, sym, ap, ◌∙◌}
-use Rattle.lard_base.specs.declared.place.Place.{Place}
 use Rattle.lard_cluster.specs.declared.fault.StepFault.TheVariants.{WasLost}
 use Rattle.lard_cluster.specs.declared.machine.Machine.{Machine}
 use Rattle.lard_cluster.specs.Machine.{delivered, to_place}

@@ -160,6 +160,7 @@ fn is_queued(endpoint: &mut Endpoint, bytes: &[u8]) -> bool {
     endpoint.queue(bytes).is_ok()
 }
 
+/// Queues bytes that have other owners, where there is room for them.
 pub fn is_queued_shared(endpoint: &mut Endpoint, bytes: Shared) -> bool {
     let total = endpoint.total() as usize;
     if endpoint.finished() || bytes.len() > 100_000 || total > 100_000 {
