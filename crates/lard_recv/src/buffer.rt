@@ -1,32 +1,33 @@
 //! The room for the bytes that came and are not read yet, taken once.
 
-ghost use Rattle.std.specs.Prelude.{◌≡◌, ◌+◌, ◌≤◌, [], ◌++◌, length, take, drop, IfOk};
+ghost use Rattle.std.specs.Prelude.{◌≡◌, ◌+◌, ◌≤◌, [], ◌++◌, length, drop, IfOk, vec_capacity};
 
 use lard_base::NoMemory;
 use lard_base::limits::RECEIVE_WINDOW;
 use std::alloc::Global;
 use std::marker::Model;
 
-/// Up to 16,384 bytes, seen as the list of them.
+/// The bytes that a buffer has room for.
+const ROOM: usize = RECEIVE_WINDOW as usize;
+
+/// Up to 16,384 bytes, seen as the list of them. What was never written of its memory costs none.
 #[derive(Drop)]
 pub struct Buffer {
-    /// The memory, of 16,384 bytes, which is taken once.
+    /// Bytes that were read, and behind them those of the list. The memory, for 16,384 bytes, is taken once.
     bytes: Vec<u8>,
-    /// Where the bytes of the list begin in it.
+    /// How many were read.
     start: usize,
-    /// How many they are. They lie together.
-    len: usize,
 }
 
 impl Model for Buffer {
-    ghost use Rattle.std.specs.Prelude.{◌≡◌, ℕ, ◌+◌, ◌≤◌, List, length, take, drop};
+    ghost use Rattle.std.specs.Prelude.{ℕ, ◌≤◌, List, length, drop, vec_capacity};
     ghost use Rattle.lard_base.specs.declared.limits.TheConstants.{RECEIVE_WINDOW};
 
     ghost Value = { List ℕ };
 
-    ghost view = { λ b. take b.len (drop b.start b.bytes.items) };
+    ghost view = { λ b. drop b.start b.bytes.items };
 
-    ghost invariant = { λ b. (length b.bytes.items ≡ RECEIVE_WINDOW) × (b.start + b.len ≤ RECEIVE_WINDOW) };
+    ghost invariant = { λ b. (b.start ≤ length b.bytes.items) × (length b.bytes.items ≤ RECEIVE_WINDOW) × (RECEIVE_WINDOW ≤ vec_capacity b.bytes) };
 }
 
 impl Buffer {
@@ -34,12 +35,8 @@ impl Buffer {
     pub fn new(alloc: Global) -> Result<Buffer, NoMemory>
         ensures { IfOk result (λ buffer. buffer ≡ []) }
     {
-        let bytes = vec![in alloc; 0; RECEIVE_WINDOW as usize]?;
-        Ok(Buffer {
-            bytes,
-            start: 0,
-            len: 0,
-        })
+        let bytes = Vec::with_capacity(alloc, ROOM)?;
+        Ok(Buffer { bytes, start: 0 })
     }
 
     /// The bytes, lent.
@@ -47,7 +44,7 @@ impl Buffer {
         ensures value { result.now ≡ self.now }
         ensures bound { length self.now ≤ RECEIVE_WINDOW }
     {
-        &self.bytes.as_slice()[self.start..self.start + self.len]
+        &self.bytes.as_slice()[self.start..]
     }
 
     /// Adds bytes at the end, for which there is room.
@@ -55,41 +52,40 @@ impl Buffer {
         requires { length self.old + length more.now ≤ RECEIVE_WINDOW }
         ensures { self.new ≡ self.old ++ more.now }
     {
-        self.start = make_room(&mut self.bytes, self.start, self.len, more.len());
-        let end = self.start + self.len;
-        self.bytes[end..end + more.len()].copy_from_slice(more);
-        self.len += more.len();
+        if more.len() > ROOM - self.bytes.len() {
+            cut_front(&mut self.bytes, self.start);
+            self.start = 0;
+        }
+        self.bytes.extend_from_slice(more).unwrap();
     }
 
-    /// Drops the first `n` bytes, without moving the others.
+    /// Drops the first `n` bytes, without moving the others. Where none are left, the next ones stand at the front again.
     pub fn consume(&mut self, n: usize)
         requires { n ≤ length self.old }
         ensures { self.new ≡ drop n self.old }
     {
         self.start += n;
-        self.len -= n;
+        if self.start == self.bytes.len() {
+            self.clear();
+        }
     }
 
     /// Drops all bytes.
     pub fn clear(&mut self)
         ensures { self.new ≡ [] }
     {
+        self.bytes.clear();
         self.start = 0;
-        self.len = 0;
     }
 }
 
-/// Where the bytes begin once `more` fit behind them. They are moved to the front only where these do not fit yet.
-fn make_room(bytes: &mut Vec<u8>, start: usize, len: usize, more: usize) -> usize
-    requires within { start + len ≤ length bytes.old.items }
-    requires fits { len + more ≤ length bytes.old.items }
-    ensures same { take len (drop result bytes.new.items) ≡ take len (drop start bytes.old.items) }
-    ensures room { result + len + more ≤ length bytes.new.items }
-    ensures size { length bytes.new.items ≡ length bytes.old.items }
+/// Takes out the first `n` bytes. The others move to the front, in the memory that is there.
+fn cut_front(bytes: &mut Vec<u8>, n: usize)
+    requires { n ≤ length bytes.old.items }
+    ensures rest { bytes.new.items ≡ drop n bytes.old.items }
+    ensures room { vec_capacity bytes.new ≡ vec_capacity bytes.old }
 {
-    if more <= bytes.len() - start - len {
-        return start;
-    }
-    bytes.copy_within(start..start + len, 0);
-    0
+    let len = bytes.len() - n;
+    bytes.copy_within(n.., 0);
+    bytes.truncate(len);
 }
