@@ -1,10 +1,10 @@
 -- A connection that ended is complete: what its last numbers are of had answered all, and its client took all of that.
 use Rattle.std.proofs.Common.{◌≡◌, ◌≤◌, ◌+◌, ℕ, Bool, true, false, cond, List, [], ◌∷◌, ◌++◌, map, length, take, append-nil, arith, Some, refl, sym, ap, ◌∙◌, subst}
 use Rattle.std.proofs.lemmas.Bool.{both_ways}
-use Rattle.std.proofs.lemmas.List.{length-append}
+use Rattle.std.proofs.lemmas.List.{length-append, length-map}
 use Rattle.std.proofs.Math.Seq.{take-length}
 use Rattle.std.specs.List.{concat}
-use Rattle.lard_answers.specs.Answers.{FilesAt, answer, answer_bytes, verdicts}
+use Rattle.lard_answers.specs.Answers.{FilesAt, IsPrefix, answer, answer_bytes, answers, verdicts}
 use Rattle.lard_answers.proofs.Growing.{answers-are}
 use Rattle.lard_base.specs.declared.place.Reason.{Reason}
 use Rattle.lard_base.specs.declared.place.Reason.TheVariants as reason
@@ -26,6 +26,7 @@ use Rattle.lard_laws_bytes.proofs.Prefix.{said-front}
 use Rattle.lard_laws_quiet.proofs.Acked.{Acks, taken_by}
 use Rattle.lard_laws_quiet.proofs.Complete.{both-closed, closed-taken}
 use Rattle.lard_request.specs.declared.verdict.Verdict.{Verdict}
+use Rattle.lard_rules.proofs.Serving.{answer-some}
 use Rattle.lard_rules.specs.declared.places.Ending.TheVariants as ending
 use Rattle.lard_rules.specs.declared.places.Station.{Station}
 use Rattle.lard_seq.specs.Seq.{one_if}
@@ -37,6 +38,18 @@ whole-front xs ys rest e le = e ∙ ap (λ l. xs ++ l) (none rest (omega (arith,
   none : (l : List ℕ) → length l ≡ 0 → l ≡ []
   none [] h = refl
   none (a ∷ l) h = absurd (omega (arith, h))
+
+-- verdicts that are answered by no more bytes than their front are that front
+none-more : (files : FilesAt) (vs more : List Verdict) → length (concat (map (answer files) (vs ++ more))) ≤ length (concat (map (answer files) vs)) → more ≡ []
+none-more files [] [] le = refl
+none-more files [] (v ∷ more) le =
+    let some = answer-some files v in
+    let sum : length (answer files v ++ concat (map (answer files) more)) ≡ length (answer files v) + length (concat (map (answer files) more)) = length-append (answer files v) (concat (map (answer files) more)) in
+    absurd (omega (arith, some, sum, le))
+none-more files (v ∷ vs) more le =
+    let all : length (answer files v ++ concat (map (answer files) (vs ++ more))) ≡ length (answer files v) + length (concat (map (answer files) (vs ++ more))) = length-append (answer files v) (concat (map (answer files) (vs ++ more))) in
+    let some : length (answer files v ++ concat (map (answer files) vs)) ≡ length (answer files v) + length (concat (map (answer files) vs)) = length-append (answer files v) (concat (map (answer files) vs)) in
+    none-more files vs more (omega (arith, all, some, le))
 
 -- one that took a stream's bytes and one symbol more, and accepted no more bytes than those, took its end
 took-end : (known end : Bool) (accepted bytes : ℕ) → 2 + bytes ≤ cond known (1 + accepted + one_if end) 0 → accepted ≤ bytes → (end ≡ true) × (bytes ≡ accepted)
@@ -98,8 +111,18 @@ module _ (files : FilesAt) (x : Conn) (truth : IsTruthful files x) (acts : AcksW
         let within = o.client.accepts.within in
         sym (whole-front l.out.bytes (answer_bytes files l.w.bytes) front.0 front.1 (omega (arith, ap length all-said, took.1, within)))
 
+    -- so each verdict was answered
+    all-served : verdicts l.w.bytes ≡ l.vs
+    all-served =
+        let front : IsPrefix l.vs (verdicts l.w.bytes) = subst (λ (q : List ℕ). IsPrefix l.vs (verdicts q)) (append-nil l.w.bytes) (o.says.fronts []) in
+        let same : concat (map (answer files) (l.vs ++ front.0)) ≡ concat (map (answer files) l.vs) =
+        ap (λ (us : List Verdict). concat (map (answer files) us)) (sym front.1) ∙ ap concat (sym (answers-are files l.w.bytes)) ∙ sym said-all ∙ o.says.spoken in
+        front.1 ∙ ap (λ (us : List Verdict). l.vs ++ us) (none-more files l.vs front.0 (let sizes = ap (λ (xs : List ℕ). length xs) same in omega (arith, sizes))) ∙ append-nil l.vs
+
     both-done : IsDone files x
     both-done = record {
+      responses = o.tale.served ∙ ap (λ (us : List Verdict). length us) (sym all-served) ∙ sym (length-map (verdicts l.w.bytes) (answer files))
+          ∙ ap (λ (all : List (List ℕ)). length all) (sym (answers-are files l.w.bytes)) ∙ ap (λ (bytes : List ℕ). length (answers files bytes)) (sym o.tale.wrote);
       all = o.tale.accepted_is ∙ ap (λ (n : ℕ). take n l.out.bytes) (o.client.accepts.final took.0).0 ∙ take-length l.out.bytes ∙ said-all ∙ ap (answer_bytes files) (sym o.tale.wrote);
       ends = λ e. r.ended took.0;
       shut = λ e. r.ended took.0;

@@ -1,7 +1,7 @@
 -- A connection that a place has, and both of whose ends rest, is complete.
-use Rattle.std.proofs.Common.{◌≡◌, ◌&&◌, not, ℕ, Bool, true, false, List, [], map, Some, ⊎_elim, refl, sym, ap, ◌∙◌, subst, None}
+use Rattle.std.proofs.Common.{◌≡◌, ◌&&◌, not, ℕ, Bool, true, false, List, [], length, map, Some, ⊎_elim, refl, sym, ap, ◌∙◌, subst, None}
 use Rattle.std.proofs.lemmas.Bool.{both_ways}
-use Rattle.lard_answers.specs.Answers.{FilesAt, answer_bytes, closes_any, verdicts}
+use Rattle.lard_answers.specs.Answers.{FilesAt, answer_bytes, answers, closes_any, verdicts}
 use Rattle.lard_base.specs.declared.config.Config.{Config}
 use Rattle.lard_cluster.specs.declared.machine.Machine.{Machine}
 use Rattle.lard_cluster_acks.specs.Acks.{AcksWhatWasTaken, BackActs, BackStageActs, EndActs, FrontActs, FrontStageActs, OpenActs, StationActs, bounds_of, story_at}
@@ -28,14 +28,14 @@ use Rattle.lard_handoff_back.specs.declared.row.BackConn.TheVariants as back
 use Rattle.lard_handoff_front.specs.declared.row.FrontConn.TheVariants as stage
 use Rattle.lard_history.specs.Journal.{Tale, is_touched, was_reset}
 use Rattle.lard_history.proofs.Lifting.{tale-own}
-use Rattle.lard_history.proofs.Tales.{accepted-tale, touched-tale, wrote-tale}
+use Rattle.lard_history.proofs.Tales.{accepted-tale, served-tale, touched-tale, wrote-tale}
 use Rattle.lard_journal.specs.declared.rec.Rec.{Rec}
 use Rattle.lard_laws_bytes.specs.Agreement.{Agrees, HasStopped}
 use Rattle.lard_laws_bytes.specs.Agreement as one
 use Rattle.lard_laws_bytes.specs.Truthful.{Talk}
 use Rattle.lard_laws_quiet.specs.Quiet.{IsComplete, has_aborted}
 use Rattle.lard_laws_quiet.proofs.Acked.{ClientHolds, FrontHolds, heard_of, taken_by}
-use Rattle.lard_laws_quiet.proofs.Complete.{accepted-all, closes-ended, shut-ended}
+use Rattle.lard_laws_quiet.proofs.Complete.{accepted-all, closes-ended, served-all, shut-ended}
 use Rattle.lard_laws_quiet.proofs.Holding.{ConnHolds}
 use Rattle.lard_laws_quiet.proofs.Story.{Story, aborted-story, ended-story, reset-story, shut-story}
 use Rattle.lard_request.specs.declared.verdict.Verdict.{Verdict}
@@ -62,6 +62,7 @@ stopped-held w out vs b count h stopped = record {
 
 -- what is so of it, in terms of its own story and tale
 pub record IsDone (files : FilesAt) (x : Conn) : Type 0 where
+  pub responses : (tale_at x).served ≡ length (answers files (tale_at x).wrote)
   pub all : (tale_at x).accepted ≡ answer_bytes files (tale_at x).wrote
   pub ends : closes_any (verdicts (tale_at x).wrote) ≡ true → (story_at x).ended ≡ true
   pub shut : (story_at x).shut ≡ true → (story_at x).ended ≡ true
@@ -85,6 +86,7 @@ module _ (files : FilesAt) (x : Conn) (truth : IsTruthful files x) (acts : AcksW
   -- where it is, as a front end that has it or knows nothing of it would say
   seat-done : (f : Seat) → one.FrontAgrees l.w l.out l.vs (tale_at x).was_reset f → r.heard ≡ heard_of s.client.send.iss f → FrontHolds s.iss (taken_by s.client) (story_at x).aborted f → front_armed f ≡ false → IsDone files x
   seat-done f front heard holds_at quiet = record {
+    responses = served-all files x.c l.w l.out l.vs s f t y agrees holds told not_aborted not_reset rests.quiet quiet;
     all = accepted-all files x.c l.w l.out l.vs s f t y agrees holds told not_aborted not_reset rests.quiet quiet;
     ends = closes-ended files x.c l.w l.out l.vs s f t y agrees holds told not_aborted not_reset rests.quiet quiet;
     shut = shut-ended files x.c l.w l.out l.vs s f t y agrees holds told not_aborted not_reset rests.quiet quiet;
@@ -203,6 +205,7 @@ module _ (config : Config) (files : List (List ℕ × List ℕ)) (m : Machine) (
   complete d =
       let wrote_is = wrote-tale J c ∙ ap (λ (u : Tale). u.wrote) (tale-own J c) in
       record {
+        responses = served-tale J c ∙ ap (λ (u : Tale). u.served) (tale-own J c) ∙ d.responses ∙ ap (λ (bytes : List ℕ). length (answers (file_at files) bytes)) (sym wrote_is);
         all = accepted-tale J c ∙ ap (λ (u : Tale). u.accepted) (tale-own J c) ∙ d.all ∙ ap (answer_bytes (file_at files)) (sym wrote_is);
         ends = λ e. ended-story J c ∙ d.ends (ap (λ (l : List ℕ). closes_any (verdicts l)) (sym wrote_is) ∙ e);
         shut = λ e. ended-story J c ∙ d.shut (sym (shut-story J c) ∙ e);

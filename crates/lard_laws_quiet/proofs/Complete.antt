@@ -1,9 +1,10 @@
 -- A connection of which no timer runs is complete.
 use Rattle.std.proofs.Common.{◌≡◌, ◌≢◌, ◌≤◌, ◌+◌, ◌^◌, ℕ, Bool, true, false, cond, not, ◌&&◌, List, map, length, take, arith, refl, ap, ◌∙◌, sym, subst}
 use Rattle.std.proofs.lemmas.Bool.{and_parts, both_ways, eqb-true}
+use Rattle.std.proofs.lemmas.List.{length-map}
 use Rattle.std.proofs.Math.Seq.{take-length}
 use Rattle.std.specs.List.{concat}
-use Rattle.lard_answers.specs.Answers.{FilesAt, answer, answer_bytes, closes_any, verdicts}
+use Rattle.lard_answers.specs.Answers.{FilesAt, answer, answer_bytes, answers, closes_any, verdicts}
 use Rattle.lard_answers.proofs.Growing.{answers-are}
 use Rattle.lard_base.specs.declared.place.Reason.{Reason}
 use Rattle.lard_base.specs.declared.place.Reason.TheVariants as reason
@@ -219,6 +220,16 @@ module _ (files : FilesAt) (c : ℕ) (w out : Stream) (vs : List Verdict) (x : S
 
   pub is-done : Done
   is-done = front_done f refl
+
+  -- as many were served as there are answers to what it wrote
+  pub served-all : t.served ≡ length (answers files t.wrote)
+  served-all =
+      let done : Done = is-done in
+      a.tale.served
+      ∙ ap (λ (us : List Verdict). length us) (sym done.answered)
+      ∙ sym (length-map (verdicts w.bytes) (answer files))
+      ∙ ap (λ (all : List (List ℕ)). length all) (sym (answers-are files w.bytes))
+      ∙ ap (λ (bytes : List ℕ). length (answers files bytes)) (sym a.tale.wrote)
 
   -- what it accepted are the answers to what it wrote
   pub accepted-all : t.accepted ≡ answer_bytes files t.wrote

@@ -1,9 +1,9 @@
 -- So it is in every state that events lead to, and at the end of each step.
-use Rattle.std.proofs.Common.{◌≡◌, ℕ, ◌≤◌, List, false, Option, Some, None, refl, sym, ap, ◌∙◌, subst}
+use Rattle.std.proofs.Common.{◌≡◌, ℕ, ◌≤◌, List, length, false, Option, Some, None, refl, sym, ap, ◌∙◌, subst}
 use Rattle.std.proofs.lemmas.Bool.{both_ways}
 use Rattle.std.specs.FinMap as table
 use Rattle.std.specs.Prelude.{IsSome}
-use Rattle.lard_answers.specs.Answers.{FilesAt, answer_bytes, closes_any, verdicts}
+use Rattle.lard_answers.specs.Answers.{FilesAt, answer_bytes, answers, closes_any, verdicts}
 use Rattle.lard_base.specs.declared.config.Config.{Config}
 use Rattle.lard_base.specs.declared.limits.TheConstants.{MAX_STREAM_BYTES}
 use Rattle.lard_base.specs.declared.place.Place.TheVariants.{Front, Client}
@@ -13,13 +13,13 @@ use Rattle.lard_files.specs.Files.{file_at}
 use Rattle.lard_history.specs.Journal.{Tale, is_touched, numbers_of, was_reset}
 use Rattle.lard_history.specs.Own.{own, tale_of}
 use Rattle.lard_history.proofs.Lifting.{tale-own}
-use Rattle.lard_history.proofs.Tales.{accepted-tale, numbers-tale, touched-tale, wrote-tale}
+use Rattle.lard_history.proofs.Tales.{accepted-tale, numbers-tale, served-tale, touched-tale, wrote-tale}
 use Rattle.lard_journal.specs.declared.rec.Rec.{Rec}
 use Rattle.lard_laws_bytes.specs.Truthful.{ConnAgrees, IsTruthfulAt}
 use Rattle.lard_laws_bytes.proofs.Reached.{states-truthful}
 use Rattle.lard_laws_quiet.specs.Prompt.{AnswersPromptly, JournalsArePrompt}
 use Rattle.lard_laws_quiet.specs.Quiet.{IsQuiet, IsComplete, JournalsAreComplete, QuietIsComplete, has_aborted}
-use Rattle.lard_laws_quiet.proofs.Complete.{accepted-all, closes-ended, shut-ended}
+use Rattle.lard_laws_quiet.proofs.Complete.{accepted-all, closes-ended, served-all, shut-ended}
 use Rattle.lard_laws_quiet.proofs.EachRule.{acks-law}
 use Rattle.lard_laws_quiet.proofs.Holding.{AcksWhatWasTaken, ConnTells}
 use Rattle.lard_laws_quiet.proofs.Prompt.{one-prompt}
@@ -65,6 +65,7 @@ module _ (files : FilesAt) (m : Machine) (c : ℕ) (kept : RunsAsKept m c) where
         let front : front_armed f ≡ false = sym kept.front ∙ quiet Front Tcp in
         let wrote_is = wrote-tale J c ∙ ap (λ (u : Tale). u.wrote) (tale-own J c) in
         record {
+          responses = served-tale J c ∙ ap (λ (u : Tale). u.served) (tale-own J c) ∙ served-all files c w out vs x f t y agree.0 tells told a b client front ∙ ap (λ (bytes : List ℕ). length (answers files bytes)) (sym wrote_is);
           all = accepted-tale J c ∙ ap (λ (u : Tale). u.accepted) (tale-own J c) ∙ accepted-all files c w out vs x f t y agree.0 tells told a b client front ∙ ap (answer_bytes files) (sym wrote_is);
           ends = λ e. ended-story J c ∙ closes-ended files c w out vs x f t y agree.0 tells told a b client front (ap (λ (l : List ℕ). closes_any (verdicts l)) (sym wrote_is) ∙ e);
           shut = λ e. ended-story J c ∙ shut-ended files c w out vs x f t y agree.0 tells told a b client front (sym (shut-story J c) ∙ e);

@@ -1,13 +1,13 @@
 -- When a connection is quiet, and when it is complete, in words of the journal.
-use Rattle.std.specs.Prelude.{◌≡◌, ℕ, ◌≤◌, Bool, true, false, ◌||◌, List, nat_eq, IsSome}
+use Rattle.std.specs.Prelude.{◌≡◌, ℕ, ◌≤◌, Bool, true, false, ◌||◌, List, length, nat_eq, IsSome}
 use Rattle.std.specs.List.{fold}
-use Rattle.lard_answers.specs.Answers.{FilesAt, answer_bytes, closes_any, verdicts}
+use Rattle.lard_answers.specs.Answers.{FilesAt, answer_bytes, answers, closes_any, verdicts}
 use Rattle.lard_base.specs.declared.config.Config.{Config}
 use Rattle.lard_base.specs.declared.limits.TheConstants.{MAX_STREAM_BYTES}
 use Rattle.lard_base.specs.declared.place.Place.{Place}
 use Rattle.lard_base.specs.declared.place.TimerKind.{TimerKind}
 use Rattle.lard_files.specs.Files.{file_at}
-use Rattle.lard_history.specs.Journal.{accepted, event_shuts, is_running, is_touched, numbers_of, was_reset, wrote}
+use Rattle.lard_history.specs.Journal.{accepted, event_shuts, is_running, is_touched, numbers_of, served, was_reset, wrote}
 use Rattle.lard_history.specs.Steps.{AtEachEnd}
 use Rattle.lard_journal.specs.declared.rec.Rec.{Rec}
 use Rattle.lard_journal.specs.declared.rec.Rec.TheVariants as rec
@@ -49,9 +49,10 @@ has_ended J c = fold (ended_step c) false J
 
 -- ---- the law
 
--- Client c accepted all responses to what it wrote, and took the end of its stream where the last of them closes, or
+-- Client c was served and accepted all responses to what it wrote, and took the end of its stream where the last of them closes, or
 -- where the schedule closed its own side.
 pub record IsComplete (files : FilesAt) (J : List Rec) (c : ℕ) : Type 0 where
+  pub responses : served J c ≡ length (answers files (wrote J c))
   pub all : accepted J c ≡ answer_bytes files (wrote J c)
   pub ends : closes_any (verdicts (wrote J c)) ≡ true → has_ended J c ≡ true
   pub shut : was_shut J c ≡ true → has_ended J c ≡ true
