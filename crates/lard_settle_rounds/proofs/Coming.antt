@@ -1,5 +1,5 @@
 -- What the inner steps of a settle come to, in words of its journal: done, or to one that is not.
-use Rattle.std.proofs.Common.{◌≡◌, ◌≢◌, ◌⊎◌, inl, inr, ◌≤◌, ◌<◌, ℕ, zero, suc, ◌+◌, ◌==◌, Bool, true, false, cond, List, [], ◌∷◌, ◌++◌, length, replicate, Result, Ok, Err, refl, sym, ap, ◌∙◌, subst, arith}
+use Rattle.std.proofs.Common.{◌≡◌, ◌≢◌, ◌⊎◌, inl, inr, ◌≤◌, ℕ, zero, suc, ◌+◌, ◌==◌, Bool, true, false, cond, List, [], ◌∷◌, length, replicate, Result, Ok, Err, refl, sym, ap, ◌∙◌, subst, arith}
 use Rattle.std.specs.List.{AllByRecursion}
 use Rattle.lard_base.specs.Config.{config_check}
 use Rattle.lard_base.specs.declared.config.Config.{Config}
@@ -10,13 +10,13 @@ use Rattle.lard_cluster.specs.declared.machine.Machine.{Machine}
 use Rattle.lard_history.proofs.Each.{Each}
 use Rattle.lard_journal.specs.declared.rec.Rec.{Rec}
 use Rattle.lard_journal.specs.declared.rec.Rec.TheVariants as rec
-use Rattle.lard_settle_laws.proofs.Firing.{IsInner, deliver-inner, disk-inner, firings-inner, inner-rule, take-inner}
+use Rattle.lard_settle_laws.proofs.Firing.{IsInner, deliver-inner, disk-inner, firings-inner, inner-rule}
 use Rattle.lard_settle_laws.proofs.Given.{InnerRows, inner-rows}
 use Rattle.lard_settle_laws.proofs.Inside.{quiet-left}
 use Rattle.lard_settle_rounds.proofs.Left.{left-quiet}
-use Rattle.lard_settle_rounds.proofs.Told.{firings-same, jobs-same, left-same, nodes-are, takes-same}
+use Rattle.lard_settle_rounds.proofs.Told.{firings-same, jobs-same, left-same, nodes-are}
 use Rattle.lard_settle_rounds.specs.Rounds.{AreBegun, AreRounds, Completes, Fires, IsRound, IsTold, SomeCompletes, SomeFire, SomeOfRound, SomeSteps, Steps}
-use Rattle.lard_settle_rounds.specs.ToDo.{completions_in, deliveries_in, firings_in, jobs_in, left_in}
+use Rattle.lard_settle_rounds.specs.ToDo.{completions_in, deliveries_in, firings_in, left_in}
 use Rattle.lard_settling.proofs.Plain.{AreUnmarked, is_mark}
 use Rattle.lard_settling.proofs.Written.{written}
 use Rattle.lard_settling.specs.Left.{jobs_at}

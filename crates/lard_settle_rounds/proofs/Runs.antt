@@ -1,12 +1,12 @@
 -- Each settle of a run takes rounds: a step adds records that begin none, and a settle adds its own.
-use Rattle.std.proofs.Common.{◌≡◌, ◌≢◌, ◌⊎◌, inl, inr, ◌≤◌, ◌<◌, ℕ, ◌+◌, Bool, true, false, List, [], ◌∷◌, ◌++◌, Result, Ok, Err, refl, sym, ap, ◌∙◌, subst, append_assoc, append-nil, arith}
+use Rattle.std.proofs.Common.{◌≡◌, ◌⊎◌, inl, inr, ℕ, ◌+◌, false, List, [], ◌∷◌, ◌++◌, Result, Ok, Err, refl, sym, ap, ◌∙◌, subst, append_assoc, append-nil, arith}
 use Rattle.lard_base.specs.Config.{config_check}
 use Rattle.lard_base.specs.declared.config.Config.{Config}
 use Rattle.lard_base.specs.declared.event.Event.{Event}
 use Rattle.lard_base.specs.declared.event.Event.TheVariants as event
 use Rattle.lard_cluster.specs.declared.fault.StepFault.{StepFault}
 use Rattle.lard_cluster.specs.declared.machine.Machine.{Machine}
-use Rattle.lard_cluster.specs.Machine.{passed, start}
+use Rattle.lard_cluster.specs.Machine.{start}
 use Rattle.lard_journal.specs.declared.rec.Rec.{Rec}
 use Rattle.lard_journal.specs.declared.rec.Rec.TheVariants as rec
 use Rattle.lard_settle_laws.proofs.Events.{begun-is, either-kind, plain-done, plain-rule}
@@ -16,9 +16,8 @@ use Rattle.lard_settle_rounds.proofs.Coming.{Come, RoundsCome, all-come, rounds-
 use Rattle.lard_settle_rounds.proofs.Records.{AreClosed, Grows, begun-grows, closed-closed, closed-stand, none-closed, none-take, unmarked-none, whole-grows}
 use Rattle.lard_settle_rounds.proofs.Told.{left-same, takes-same}
 use Rattle.lard_settle_rounds.specs.Laws.{RunsTakeRounds}
-use Rattle.lard_settle_rounds.specs.Rounds.{AreRounds, IsBegun, IsWhole, SettlesTakeRounds, StandsAt, StandsBehind, Steps}
-use Rattle.lard_settle_rounds.specs.ToDo.{left_in, takes_in}
-use Rattle.lard_settling.proofs.Plain.{AreUnmarked}
+use Rattle.lard_settle_rounds.specs.Rounds.{IsBegun, IsWhole, SettlesTakeRounds, Steps}
+use Rattle.lard_settle_rounds.specs.ToDo.{takes_in}
 use Rattle.lard_settling.proofs.Written.{written}
 use Rattle.lard_settling.specs.declared.settled.Settled.{Settled}
 use Rattle.lard_settling.specs.Events.{Goes, MayCome, event_step, settled_to}

@@ -1,10 +1,9 @@
 -- What a settle has to do in a state is what its journal leaves to be done.
-use Rattle.std.proofs.Common.{◌≡◌, ◌≢◌, ◌≤◌, ℕ, zero, suc, ◌+◌, ◌-◌, ◌==◌, ◌||◌, ◌<◌, not, Bool, true, false, cond, List, [], ◌∷◌, filter, length, map, Option, Some, None, Ok, refl, sym, ap, ◌∙◌, subst, arith}
+use Rattle.std.proofs.Common.{◌≡◌, ◌≤◌, ℕ, zero, suc, ◌+◌, ◌==◌, ◌||◌, not, Bool, false, cond, List, [], ◌∷◌, filter, length, map, Option, Some, None, Ok, refl, sym, ap, ◌∙◌, subst, arith}
 use Rattle.std.proofs.lemmas.Bool.Decides.{nat_tests}
 use Rattle.std.specs.FinMap as table
 use Rattle.std.specs.FinMap.{values}
-use Rattle.std.specs.List.{fold, list_any}
-use Rattle.std.specs.Prelude.{slice_get}
+use Rattle.std.specs.List.{list_any}
 use Rattle.lard_agenda.specs.Agenda.{agenda_of, firing, kinds_in, stalled_at}
 use Rattle.lard_agenda.specs.declared.kinds.Running.{Running}
 use Rattle.lard_base.specs.Config.{config_check}
@@ -12,7 +11,6 @@ use Rattle.lard_base.specs.declared.config.Config.{Config}
 use Rattle.lard_base.specs.declared.event.Event.TheVariants as event
 use Rattle.lard_base.specs.declared.place.Place.{Place}
 use Rattle.lard_base.specs.declared.place.Place.TheVariants as place
-use Rattle.lard_client.specs.Control.{ClientBlock}
 use Rattle.lard_cluster.specs.declared.machine.Machine.{Machine}
 use Rattle.lard_cluster.specs.Machine.{is_no_node, node_at}
 use Rattle.lard_cluster_clients.proofs.Tables.{client_at, clients-folded}
@@ -31,11 +29,11 @@ use Rattle.lard_laws_steps.specs.Clients.{client_of}
 use Rattle.lard_node_rules.specs.declared.node.NodeState.{NodeState}
 use Rattle.lard_rules.specs.declared.places.Station.{Station}
 use Rattle.lard_settle_laws.proofs.Few.{config-is}
-use Rattle.lard_settle_rounds.specs.ToDo.{all_jobs, completions_in, firing_in, firings_in, holds_in, is_holder_now, is_stalled_at, jobs_in, left_in, seats_of, takes_in}
+use Rattle.lard_settle_rounds.specs.ToDo.{all_jobs, firing_in, firings_in, holds_in, is_holder_now, is_stalled_at, jobs_in, left_in, seats_of, takes_in}
 use Rattle.lard_settling.proofs.Folds.{TakesSteps, fold-written}
 use Rattle.lard_settling.specs.Left.{holds_there, is_holder, jobs_at, jobs_from, jobs_of}
-use Rattle.lard_settling.specs.Settling.{completions, firings, is_own, left, takes}
-use Rattle.lard_settling.specs.Written.{IsWrittenOut, written_out}
+use Rattle.lard_settling.specs.Settling.{firings, is_own, left, takes}
+use Rattle.lard_settling.specs.Written.{IsWrittenOut}
 
 -- ---- lists
 
@@ -49,15 +47,15 @@ numbers-wait [] c = refl
 numbers-wait (w ∷ ws) c = ap (λ (b : Bool). (w.c == c) || b) (numbers-wait ws c)
 
 -- a timer is stalled by the line that is kept, as by the numbers of those in it
-stalled-same : (p : Place) (ws : List Waiting) (c : ℕ) → stalled_at p ws c ≡ is_stalled_at p (map (λ (w : Waiting). w.c) ws) c
+pub stalled-same : (p : Place) (ws : List Waiting) (c : ℕ) → stalled_at p ws c ≡ is_stalled_at p (map (λ (w : Waiting). w.c) ws) c
 stalled-same place.Front ws c = refl
 stalled-same (place.Node n) ws c = refl
 stalled-same (place.Client d) ws c = numbers-wait ws c
 
-line-steps : TakesSteps line_step
+pub line-steps : TakesSteps line_step
 line-steps = record { events = λ a i k e. refl; inner = λ a i e. refl; settles = λ a i rounds. refl; settled = λ a rounds. refl; unsettled = λ a rounds left. refl }
 
-jobs-steps : (n : ℕ) → TakesSteps (jobs_step n)
+pub jobs-steps : (n : ℕ) → TakesSteps (jobs_step n)
 jobs-steps n = record { events = λ a i k e. refl; inner = λ a i e. refl; settles = λ a i rounds. refl; settled = λ a rounds. refl; unsettled = λ a rounds left. refl }
 
 -- ---- a state
@@ -83,7 +81,7 @@ module _ (config : Config) (files : List (List ℕ × List ℕ)) (checked : conf
 
   -- ---- timers
 
-  line-same : map (λ (x : Waiting). x.c) m.front.dispatch.books.line ≡ line m.journal
+  pub line-same : map (λ (x : Waiting). x.c) m.front.dispatch.books.line ≡ line m.journal
   line-same =
       let plain : map (λ (x : Waiting). x.c) w.plain.front.dispatch.books.line ≡ line w.plain.journal = line-kept config files checked w.plain w.reached in
       let told : line w.plain.journal ≡ line m.journal = ap line w.journal ∙ ap (λ (l : Line). l.waits) (fold-written line_step line-steps nobody 0 m.journal) in
