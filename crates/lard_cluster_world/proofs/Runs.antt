@@ -1,5 +1,5 @@
 -- A step leads from run to run.
-use Rattle.std.proofs.Common.{◌≡◌, ◌+◌, ◌-◌, ℕ, Bool, List, [], ◌∷◌, ◌++◌, true, false, cond, length, nat_lt, Option, Some, None, Result, Ok, Err, OnOk, refl, sym, ap, ◌∙◌, subst, append-nil}
+use Rattle.std.proofs.Common.{◌≡◌, ◌+◌, ◌-◌, ℕ, Bool, List, [], ◌∷◌, ◌++◌, true, false, cond, length, nat_lt, Option, Some, None, Result, Ok, Err, OnErr, OnOk, refl, sym, ap, ◌∙◌, subst, append-nil}
 use Rattle.std.proofs.lemmas.Bool.{both_ways}
 use Rattle.std.specs.FinMap as table
 use Rattle.std.specs.Prelude.{is_err, slice_set}
@@ -292,3 +292,9 @@ closed-run m rounds left r = record { reached = (written m.config m.files).close
 pub closed-rests : {E : Type 0} (old new : Machine) (rounds left : ℕ) (result : Result (Unit {0}) E) → IsRun old → OnOk result (new ≡ settle_closed old rounds left) → OnOk result (RestsWithEnough new)
 closed-rests old new rounds left (Ok done) run is = subst RestsWithEnough (sym is) (settles-rest (settle_closed old rounds left) run.set.usable)
 closed-rests old new rounds left (Err fault) run is = tt
+
+-- closed or not, its journal obeys the laws
+pub closed-lawful : {E : Type 0} (old new : Machine) (rounds left : ℕ) (result : Result (Unit {0}) E) → IsRun old → OnOk result (new ≡ settle_closed old rounds left) → OnErr result (new.journal ≡ old.journal)
+    → IsLawful old.config (file_at old.files) (written_out new.journal)
+closed-lawful old new rounds left (Ok done) run is same = subst (λ (m : Machine). IsLawful old.config (file_at old.files) (written_out m.journal)) (sym is) (run-lawful (settle_closed old rounds left) (closed-run old rounds left run))
+closed-lawful old new rounds left (Err fault) run is same = subst (λ (J : List Rec). IsLawful old.config (file_at old.files) (written_out J)) (sym same) (run-lawful old run)

@@ -10,6 +10,7 @@ ghost use Rattle.lard_files.specs.Files.{file_at};
 ghost use Rattle.lard_node_rules.specs.NodePlace.{no_stays};
 ghost use Rattle.lard_settle_bound.specs.Enough.{RestsWithEnough};
 ghost use Rattle.lard_settling.specs.Left.{is_holder, jobs_at};
+ghost use Rattle.lard_settling.specs.Settling as settling_of;
 ghost use Rattle.lard_settling.specs.Steps.{inner_step, settle_begun, settle_closed};
 ghost use Rattle.lard_settling.specs.Written.{written_out};
 
@@ -121,14 +122,16 @@ impl World {
         done
     }
 
-    /// Ends a settle by its closing record: so many rounds were done, and so many timers and jobs are left. Without memory the world
-    /// is spoiled, and its journal is as it was. Where the settle that ends so was begun with as many rounds as the bound of its journal,
+    /// Ends a settle by its closing record: so many rounds were done, and so many timers and jobs are left, which are as many as the
+    /// agenda of the journal tells. Without memory the world is spoiled, and its journal is as it was. Where the settle that ends so was begun with as many rounds as the bound of its journal,
     /// no job waits and no timer runs but those that are stalled, where no packet was put on the way in a client's name and each client
     /// wrote fewer than 16,383 bytes.
     pub fn end_settle(&mut self, alloc: Global, rounds: u32, left: u64) -> Result<(), NoMemory>
         requires usable { self.old.spoiled ≡ false }
+        requires true_count { left ≡ settling_of.left self.old.machine }
         ensures ok { OnOk result (self.new.machine ≡ settle_closed self.old.machine rounds left) }
         ensures usable { OnOk result (self.new.spoiled ≡ false) }
+        ensures lawful { IsLawful self.old.machine.config (file_at self.old.machine.files) (written_out self.new.machine.journal) }
         ensures enough { OnOk result (RestsWithEnough self.new.machine) }
         ensures err { OnErr result (self.new.machine.journal ≡ self.old.machine.journal) }
         ensures spoiled { OnErr result (self.new.spoiled ≡ true) }

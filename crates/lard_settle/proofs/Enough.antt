@@ -1,5 +1,5 @@
 -- With enough rounds a settle answers that nothing is left, since its world rests.
-use Rattle.std.proofs.Common.{◌≡◌, ℕ, IfOk, OnOk, Result, Ok, Err}
+use Rattle.std.proofs.Common.{ℕ, IfOk, OnOk, Result, Ok, Err}
 use Rattle.lard_cluster.specs.declared.fault.StepFault.{StepFault}
 use Rattle.lard_cluster.specs.declared.machine.Machine.{Machine}
 pub use Rattle.lard_cluster_world.proofs.Law.{runs-settle, settles-end-quiet}

@@ -3,7 +3,7 @@
 ghost use Rattle.std.specs.Prelude.{◌≡◌, false, Ok, IfOk, OnOk};
 ghost use Rattle.lard_agenda.specs.Agenda.{IsAgendaOf};
 ghost use Rattle.lard_cluster_world.specs.Enough.{EndsWithEnough, RestsWithEnough};
-ghost use Rattle.lard_settling.specs.Settling.{Does, Settles, all_inner, answer, closed_by, rounds_from, settled, settled_from, takes};
+ghost use Rattle.lard_settling.specs.Settling.{Does, IsFrontOf, Settles, all_inner, answer, closed_by, rounds_from, settled, settled_from, takes};
 
 use crate::left::left;
 use crate::lists::takes;
@@ -18,7 +18,7 @@ use std::alloc::Global;
 /// Settles: first each client that holds takes; then rounds of inner steps, at most so many, until no timer runs but those that are
 /// stalled and no job waits. Where a limit is reached inside, the world is as the steps before have left it. If memory ran out, its
 /// journal is a front of what it would have been. With as many rounds as the bound of the journal nothing is left, where no packet was
-/// put on the way in a client's name and each client wrote fewer than 16,383 bytes.
+/// put on the way in a client's name and each client wrote fewer than 16,383 bytes. However it ends, no record is taken back.
 pub fn settle(
     world: &mut World,
     agenda: &mut Agenda,
@@ -28,6 +28,7 @@ pub fn settle(
     requires usable { world.old.spoiled ≡ false }
     requires agenda { IsAgendaOf agenda.old world.old.machine.journal }
     ensures settled { Settles (settled world.old.machine rounds) world.new.machine result }
+    ensures grows { IsFrontOf world.old.machine.journal world.new.machine.journal }
     ensures enough { IfOk result (λ s. EndsWithEnough world.old.machine rounds s) }
     ensures usable { OnOk result (world.new.spoiled ≡ false) }
     ensures agenda { IsAgendaOf agenda.new world.new.machine.journal }
@@ -46,6 +47,7 @@ fn settle_from(
     requires usable { world.old.spoiled ≡ false }
     requires agenda { IsAgendaOf agenda.old world.old.machine.journal }
     ensures settled { Settles (settled_from world.old.machine rounds) world.new.machine result }
+    ensures grows { IsFrontOf world.old.machine.journal world.new.machine.journal }
     ensures rests { OnOk result (RestsWithEnough world.new.machine) }
     ensures usable { OnOk result (world.new.spoiled ≡ false) }
     ensures agenda { IsAgendaOf agenda.new world.new.machine.journal }
@@ -59,6 +61,7 @@ fn take_all(world: &mut World, agenda: &mut Agenda, alloc: Global) -> Result<(),
     requires usable { world.old.spoiled ≡ false }
     requires agenda { IsAgendaOf agenda.old world.old.machine.journal }
     ensures does { Does (all_inner world.old.machine (takes world.old.machine)) world.new.machine result }
+    ensures grows { IsFrontOf world.old.machine.journal world.new.machine.journal }
     ensures usable { OnOk result (world.new.spoiled ≡ false) }
     ensures agenda { IsAgendaOf agenda.new world.new.machine.journal }
 {
@@ -76,6 +79,7 @@ fn do_and_close(
     requires usable { world.old.spoiled ≡ false }
     requires agenda { IsAgendaOf agenda.old world.old.machine.journal }
     ensures settled { Settles (closed_by (rounds_from rounds 0 world.old.machine)) world.new.machine result }
+    ensures grows { IsFrontOf world.old.machine.journal world.new.machine.journal }
     ensures rests { OnOk result (RestsWithEnough world.new.machine) }
     ensures usable { OnOk result (world.new.spoiled ≡ false) }
     ensures agenda { IsAgendaOf agenda.new world.new.machine.journal }
@@ -94,6 +98,7 @@ fn close(
     requires usable { world.old.spoiled ≡ false }
     requires agenda { IsAgendaOf agenda.old world.old.machine.journal }
     ensures settled { Settles (closed_by (Ok (world.old.machine, done))) world.new.machine result }
+    ensures grows { IsFrontOf world.old.machine.journal world.new.machine.journal }
     ensures rests { OnOk result (RestsWithEnough world.new.machine) }
     ensures usable { OnOk result (world.new.spoiled ≡ false) }
     ensures agenda { IsAgendaOf agenda.new world.new.machine.journal }

@@ -6,6 +6,7 @@ use Rattle.lard_settling.specs.declared.settled.Settled.{Settled}
 use Rattle.lard_settling.specs.Settling.{Settles, Stop}
 use Rattle.lard_settle.proofs.Going.{agenda-on, begun-front, begun-on, begun-stops}
 use Rattle.lard_settle.proofs.Enough.{settled-enough}
+use Rattle.lard_settle.proofs.Growth.{front-over}
 use Rattle.lard_settle.proofs.settles.settle.Goals as goal
 
 pub returns-in_err-begin_settle-clause-settled : goal.returns-in_err-begin_settle-clause-settled
@@ -23,6 +24,12 @@ pub returns-clause-settled : goal.returns-clause-settled
 returns-clause-settled c =
     subst (λ (x : Result (Machine × Settled) Stop). Settles x c.settle_from.new.world.machine c.settle_from.result)
     (sym (begun-on c.args.world.now.machine c.args.rounds c.begin_settle.new.self.machine c.in_ok-begin_settle.ensures.step)) c.settle_from.ensures.settled
+
+pub returns-clause-grows : goal.returns-clause-grows
+returns-clause-grows c =
+    let old = c.args.world.now.machine in
+    let new = c.begin_settle.new.self.machine in
+    front-over old.journal new.journal c.settle_from.new.world.machine.journal (begun-front old c.args.rounds new c.in_ok-begin_settle.ensures.step) c.settle_from.ensures.grows
 
 pub returns-clause-enough : goal.returns-clause-enough
 returns-clause-enough c =
