@@ -11,16 +11,16 @@ use Rattle.lard_machine.specs.declared.fault.What.{What}
 use Rattle.lard_machine.specs.declared.fault.What.TheVariants as what
 use Rattle.lard_settling.specs.Events.{event_step, settled_to, stepped_from}
 use Rattle.lard_settling.specs.Settling.{Stop, settled}
-use Rattle.lard_settle_laws.proofs.Whole.{settles-stop}
+use Rattle.lard_settle_quiet.proofs.Whole.{settles-stop}
 use Rattle.lard_settling.specs.Steps.{settle_begun}
 use Rattle.lard_settling.specs.Written.{IsWrittenOut, is_settle}
 use Rattle.lard_app.specs.declared.status.Why.{Why}
 use Rattle.lard_app.specs.declared.status.Why.TheVariants as why
 use Rattle.lard_app.specs.Causes.{HasReached, IsUntimely, IsWithinLimits, MayNotCome, Reaches, WritesTooMuch}
-use Rattle.lard_settle_laws.proofs.Events.{either-kind, plain-step}
+use Rattle.lard_settle_quiet.proofs.Events.{either-kind, plain-step}
 use Rattle.lard_app.proofs.Events.{begun-not, plain-stopped}
 use Rattle.lard_app.proofs.Failures.{IsFault, fault-step, limit_found, limit_there, limit-step, step-fault}
-use Rattle.lard_settle_laws.proofs.Firing.{IsInner}
+use Rattle.lard_settle_quiet.proofs.Firing.{IsInner}
 use Rattle.lard_app.proofs.Reached.{Told, written-told}
 use Rattle.lard_app.proofs.Written.{StepNotDone, fault-inner, inner-fault, settle-stop}
 
@@ -28,7 +28,7 @@ use Rattle.lard_app.proofs.Written.{StepNotDone, fault-inner, inner-fault, settl
 
 -- the event's own limit, or one before the step
 abbrev pub ReachesBefore : Machine → Event → What → Type 0
-ReachesBefore m e w = HasReached m.journal w ⊎ (IsWithinLimits m.journal × (w ≡ what.Stream) × WritesTooMuch m e)
+ReachesBefore m e w = HasReached m.journal w ⊎ (IsWithinLimits m.journal × (w ≡ what.Stream) × WritesTooMuch m.config.stream m.journal e)
 
 -- of an event that is no settle
 plain-reaches : (m : Machine) (e : Event) (w : What) → is_settle e ≡ false → (Reaches m e w → ReachesBefore m e w) × (ReachesBefore m e w → Reaches m e w)
@@ -85,7 +85,7 @@ unreached m e r = go (either-kind e) where
   go (inr s) = (subst (λ (d : Event). Reaches m d what.Input) s.1 r).3
 
 -- no client writes in an inner step
-inner-writes : (m : Machine) (d : Event) → IsInner d → ¬ (WritesTooMuch m d)
+inner-writes : (m : Machine) (d : Event) → IsInner d → ¬ (WritesTooMuch m.config.stream m.journal d)
 inner-writes m (event.Take c) h w = w
 inner-writes m (event.Deliver k) h w = w
 inner-writes m (event.Disk n j) h w = w

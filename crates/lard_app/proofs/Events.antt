@@ -17,8 +17,8 @@ use Rattle.lard_settling.specs.Settling.{Stop, completions, deliveries, firings,
 use Rattle.lard_settling.specs.Steps.{as_inner, inner_given, inner_step, settle_begun, settle_closed}
 use Rattle.lard_settling.specs.Written.{is_settle}
 use Rattle.lard_app.specs.Replay.{came}
-use Rattle.lard_settle_laws.proofs.Events.{begun-is, either-kind, plain-step}
-use Rattle.lard_settle_laws.proofs.Inside.{KeptInside, SettleLands, settle-lands}
+use Rattle.lard_settle_quiet.proofs.Events.{begun-is, either-kind, plain-step}
+use Rattle.lard_settle_quiet.proofs.Inside.{KeptInside, SettleLands, settle-lands}
 
 -- ---- a journal that goes on
 

@@ -9,6 +9,7 @@ use Rattle.lard_base.specs.declared.event.Event.TheVariants as event
 use Rattle.lard_base.specs.declared.place.Place.{Place}
 use Rattle.lard_base.specs.declared.place.Place.TheVariants.{Front, Node, Client}
 use Rattle.lard_client.specs.Control.{ClientBlock, written_len}
+use Rattle.lard_cluster_clients.proofs.Tables.{client_at}
 use Rattle.lard_cluster.specs.Machine.{client_does, client_goes_on, completes, delivered, disk_at, happens, is_no_job, is_no_node, limit_reached, lost, machine_step, node_acts, node_at, node_gave, node_setting, opened, passed, timer, to_place, unless_limit, wrote}
 use Rattle.lard_cluster.specs.declared.fault.StepFault.{StepFault}
 use Rattle.lard_cluster.specs.declared.fault.StepFault.TheVariants as fault
@@ -27,7 +28,7 @@ use Rattle.lard_rules.specs.declared.places.Station.{Station}
 use Rattle.lard_rules.specs.declared.places.Turn.{Turn}
 use Rattle.lard_net.specs.Net.{Packet, bytes_in, lose_at, packet_at}
 use Rattle.lard_app.specs.declared.status.Why.TheVariants as why
-use Rattle.lard_app.specs.Causes.{HasReached, IsOfClient, IsOfDisk, IsOfNode, IsOfPacket, IsUntimely, IsWithinLimits, Opens, WritesTooMuch}
+use Rattle.lard_app.specs.Causes.{HasReached, IsOfClient, IsOfDisk, IsOfNode, IsOfPacket, IsUntimely, IsWithinLimits, Opens, WouldPass, WritesTooMuch}
 use Rattle.lard_app.proofs.Numbers.{found_limit, limit-reached, none-reached, reached-limit, within-none}
 use Rattle.lard_app.proofs.Reached.{Told}
 
@@ -92,7 +93,7 @@ IsFault m e (fault.NoClient c) = IsUntimely m e (why.NoClient c)
 IsFault m e (fault.Used c) = IsUntimely m e (why.Used c)
 IsFault m e (fault.NoNode n nodes) = IsUntimely m e (why.NoNode n nodes)
 IsFault m e (fault.NoJob n j len) = IsUntimely m e (why.NoJob n j len)
-IsFault m e (fault.Limit w) = (w ≡ Stream) × WritesTooMuch m e
+IsFault m e (fault.Limit w) = (w ≡ Stream) × WritesTooMuch m.config.stream m.journal e
 IsFault m e fault.NoMemory = ⊥
 
 err_is : {A E : Type 0} (x y : E) → ◌≡◌ {A = Result A E} (Err x) (Err y) → x ≡ y
@@ -135,13 +136,13 @@ module _ (m : Machine) (t : Told m) where
   opened-fault c isn iss wnd mss f None at is = cc
   opened-fault c isn iss wnd mss f (Some x) at is = fault_is (event.Open c isn iss wnd mss) (fault.Used c) f (refl, t.opened c x at) is
 
-  wrote-fault : (e : Event) (c : ℕ) (bytes : List ℕ) (f : StepFault) (o : Option Station) → IsOfClient e c → ((x : Station) → table.get m.clients c ≡ Some x → m.config.stream < written_len x.client bytes → WritesTooMuch m e)
+  wrote-fault : (e : Event) (c : ℕ) (bytes : List ℕ) (f : StepFault) (o : Option Station) → IsOfClient e c → (WouldPass m.config.stream m.journal c bytes → WritesTooMuch m.config.stream m.journal e)
       → table.get m.clients c ≡ o → wrote m e c bytes o ≡ Err f → IsFault m e f
   unfolding wrote
   wrote-fault e c bytes f None of much at is = no_client e c f of at is
   wrote-fault e c bytes f (Some x) of much at is = go (nat_lt m.config.stream (written_len x.client bytes)) refl is where
     go : (b : Bool) → nat_lt m.config.stream (written_len x.client bytes) ≡ b → cond {A = Result Machine StepFault} b (Err (fault.Limit Stream)) (Ok (client_goes_on m e [] c x (client_writes x.client bytes))) ≡ Err f → IsFault m e f
-    go true l h = fault_is e (fault.Limit Stream) f (refl, much x at (passes_limit m.config.stream (written_len x.client bytes) l)) h
+    go true l h = fault_is e (fault.Limit Stream) f (refl, much (x.client, t.clients c ∙ ap client_at at, passes_limit m.config.stream (written_len x.client bytes) l)) h
     go false l h = cc
 
   does-fault : (e : Event) (own : List Rec) (c : ℕ) (rule : ClientBlock → ClientBlock × Turn) (f : StepFault) (o : Option Station) → IsOfClient e c → table.get m.clients c ≡ o → client_does m e own c rule o ≡ Err f → IsFault m e f
@@ -198,8 +199,8 @@ module _ (m : Machine) (t : Told m) where
 
   happens-fault : (e : Event) (f : StepFault) → happens m e ≡ Err f → IsFault m e f
   happens-fault (event.Open c isn iss wnd mss) f is = opened-fault c isn iss wnd mss f (table.get m.clients c) refl is
-  happens-fault (event.Get c path) f is = wrote-fault (event.Get c path) c (request path) f (table.get m.clients c) refl (λ x at much. (x, at, much)) refl is
-  happens-fault (event.Write c bytes) f is = wrote-fault (event.Write c bytes) c bytes f (table.get m.clients c) refl (λ x at much. (x, at, much)) refl is
+  happens-fault (event.Get c path) f is = wrote-fault (event.Get c path) c (request path) f (table.get m.clients c) refl (λ much. much) refl is
+  happens-fault (event.Write c bytes) f is = wrote-fault (event.Write c bytes) c bytes f (table.get m.clients c) refl (λ much. much) refl is
   happens-fault (event.Shut c) f is = does-fault (event.Shut c) [] c client_shuts f (table.get m.clients c) refl refl is
   happens-fault (event.Abort c) f is = does-fault (event.Abort c) [] c client_aborts f (table.get m.clients c) refl refl is
   happens-fault (event.Hold c) f is = does-fault (event.Hold c) [] c client_holds f (table.get m.clients c) refl refl is
@@ -298,9 +299,19 @@ module _ (m : Machine) (t : Told m) where
       ap (wrote m e c bytes) at
       ∙ ap (λ b. cond {A = Result Machine StepFault} b (Err (fault.Limit Stream)) (Ok (client_goes_on m e [] c x (client_writes x.client bytes)))) (past_limit m.config.stream (written_len x.client bytes) much)
 
-  fault-stream : (e : Event) → WritesTooMuch m e → happens m e ≡ Err (fault.Limit Stream)
-  fault-stream (event.Get c path) h = wrote-much (event.Get c path) c (request path) h.0 h.1 h.2
-  fault-stream (event.Write c bytes) h = wrote-much (event.Write c bytes) c bytes h.0 h.1 h.2
+  -- the client that the journal tells is that of the machine
+  wrote-past : (e : Event) (c : ℕ) (bytes : List ℕ) → WouldPass m.config.stream m.journal c bytes → wrote m e c bytes (table.get m.clients c) ≡ Err (fault.Limit Stream)
+  wrote-past e c bytes h = go (table.get m.clients c) refl where
+    go : (o : Option Station) → table.get m.clients c ≡ o → wrote m e c bytes (table.get m.clients c) ≡ Err (fault.Limit Stream)
+    go None at = let no : Some h.0 ≡ None = sym h.1 ∙ t.clients c ∙ ap client_at at in cc
+    go (Some x) at =
+        let is : Some h.0 ≡ Some x.client = sym h.1 ∙ t.clients c ∙ ap client_at at in
+        let same : h.0 ≡ x.client = cc in
+        wrote-much e c bytes x at (subst (λ (k : ClientBlock). m.config.stream < written_len k bytes) same h.2)
+
+  fault-stream : (e : Event) → WritesTooMuch m.config.stream m.journal e → happens m e ≡ Err (fault.Limit Stream)
+  fault-stream (event.Get c path) h = wrote-past (event.Get c path) c (request path) h
+  fault-stream (event.Write c bytes) h = wrote-past (event.Write c bytes) c bytes h
   fault-stream _ h = absurd h
 
   ap_node : (e : Event) (n nodes : ℕ) → IsUntimely m e (why.NoNode n nodes) → happens m e ≡ Err (fault.NoNode n nodes)

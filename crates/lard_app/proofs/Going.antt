@@ -3,7 +3,7 @@ use Rattle.std.proofs.Common.{◌≡◌, ◌≢◌, ◌⊎◌, inl, inr, ℕ, �
 use Rattle.std.proofs.KnownBytes.{Appends-trans, Appends-nil}
 use Rattle.std.specs.Io.KnownBytes.{Appends, IsAtEnd}
 use Rattle.std.proofs.lemmas.Bool.Decides.{nat_tests}
-use Rattle.std.proofs.lemmas.List.{drop-append-le, length-take-le, take-append-le}
+use Rattle.std.proofs.lemmas.List.{drop-append-le, length-take-le, take-append-drop, take-append-le}
 use Rattle.std.proofs.lemmas.List.Quantifiers.{position-Some}
 use Rattle.std.specs.List.{position}
 use Rattle.std.specs.Prelude.{nat_lt}
@@ -21,8 +21,8 @@ use Rattle.lard_app.specs.declared.status.Status.{Status}
 use Rattle.lard_app.specs.declared.status.Status.TheVariants.{Done, Usage, Refused, ReadFault, WriteFault, NoMemory, Limit}
 use Rattle.lard_app.specs.declared.status.Why.TheVariants.{Syntax}
 use Rattle.lard_app.specs.Replay.{begin, ended_at, ending, gain, event_listed, halted, is_past, judged, passed, replayed, report_of, whole, IsSound, Passes, Progress}
-use Rattle.lard_app.specs.Run.{Completes, Ended, IsDecided}
-use Rattle.lard_app.proofs.Growth.{begins, halted-grown, passed-grown, BeginsWith}
+use Rattle.lard_app.specs.Run.{Completes, Ended, EndsInLine, IsDecided, IsTold}
+use Rattle.lard_app.proofs.Growth.{halted-grown, passed-grown}
 use Rattle.lard_app.proofs.Halting.{halted_by}
 use Rattle.lard_app.proofs.Keeping.{Keeps, begin-keeps, passed-keeps}
 use Rattle.lard_app.proofs.Passing.{passed-read, passed_by}
@@ -48,6 +48,10 @@ leads_whole s t (line ∷ next ∷ lines) part parts l =
     let step : replayed s (line ∷ next ∷ (lines ++ part ∷ parts)) ≡ replayed l.0 (next ∷ (lines ++ part ∷ parts)) = rw (l.1, replayed) refl in
     step ∙ leads_whole l.0 t (next ∷ lines) part parts l.2
 
+nothing : (xs : List ℕ) → length xs ≡ 0 → xs ≡ []
+nothing [] none = refl
+nothing (x ∷ xs) none = absurd (omega (arith, none))
+
 -- The state after the lines of a text that are passed, with the rest of it. Whatever comes behind the text comes behind
 -- the rest.
 pub record Going (text rest : List ℕ) (s : Progress) (old now : Option (List ℕ)) : Type 0 where
@@ -56,8 +60,14 @@ pub record Going (text rest : List ℕ) (s : Progress) (old now : Option (List �
   pub read : s.read + length rest ≡ length text
   pub lines : List (List ℕ)
   pub leads : Leads begin lines s
-  pub are : (more : List ℕ) → lines_of (text ++ more) ≡ lines ++ lines_of (rest ++ more)
+  pub passed_text : List ℕ
+  pub cut : text ≡ passed_text ++ rest
+  pub are : (more : List ℕ) → lines_of (passed_text ++ more) ≡ lines ++ lines_of more
   pub written : Appends old now (report_of s)
+
+-- the lines of the whole text are those that were passed, and those of the rest, whatever comes behind
+lines-of-all : (text rest : List ℕ) (s : Progress) (old now : Option (List ℕ)) (g : Going text rest s old now) (more : List ℕ) → lines_of (text ++ more) ≡ g.lines ++ lines_of (rest ++ more)
+lines-of-all text rest s old now g more = ap (λ (xs : List ℕ). lines_of (xs ++ more)) g.cut ∙ ap lines_of (append_assoc g.passed_text rest more) ∙ g.are (rest ++ more)
 
 pub going_first : (s : Progress) (old : Option (List ℕ)) → s ≡ begin → Going [] [] s old old
 going_first s old e = record {
@@ -66,6 +76,8 @@ going_first s old e = record {
   read = subst (λ t. t.read + 0 ≡ 0) (sym e) (omega arith);
   lines = [];
   leads = sym e;
+  passed_text = [];
+  cut = refl;
   are = λ more. refl;
   written = subst (λ t. Appends old old (report_of t)) (sym e) (Appends-nil old);
 }
@@ -78,7 +90,9 @@ going_more text rest taken s old now g = record {
   read = omega (arith, g.read, length-append rest taken, length-append text taken);
   lines = g.lines;
   leads = g.leads;
-  are = λ more. ap lines_of (append_assoc text taken more) ∙ g.are (taken ++ more) ∙ ap (λ xs. g.lines ++ lines_of xs) (sym (append_assoc rest taken more));
+  passed_text = g.passed_text;
+  cut = ap (λ xs. xs ++ taken) g.cut ∙ append_assoc g.passed_text rest taken;
+  are = g.are;
   written = g.written;
 }
 
@@ -133,19 +147,46 @@ past_limit s rest more none l small = alone (position is_feed (rest ++ more)) re
         let same : halted s (take at (rest ++ more)) ≡ s = past_leaves s (take at (rest ++ more)) long in
         ap (replayed s) (split_at is_feed (rest ++ more) at e ∙ ap (λ ls. take at (rest ++ more) ∷ ls) f.2) ∙ step ∙ ap (λ (t : Progress). (t, Limit (s.lines + 1) Input)) same
 
+-- How a run ends over a text that it tells of, of what was read; a front of that text's report was written.
+pub record EndsSo (status : Status) (read : List ℕ) (left old new : Option (List ℕ)) : Type 0 where
+  pub text : List ℕ
+  pub told : IsTold status read text
+  pub wrote : WrotePrefix old new (report_of (whole text).0)
+  pub ended : Ended status text left old new
+
+-- the whole report was
+whole-front : (text : List ℕ) (old new : Option (List ℕ)) → Appends old new (report_of (whole text).0) → WrotePrefix old new (report_of (whole text).0)
+whole-front text old new h = record { front = report_of (whole text).0; rest = []; is = append-nil (report_of (whole text).0); written = h }
+
 module _ (text rest : List ℕ) (s : Progress) (old now : Option (List ℕ)) (g : Going text rest s old now) where
   -- what the rest gives, with whatever comes behind it
   goes_on : (more : List ℕ) → whole (text ++ more) ≡ replayed s (lines_of (rest ++ more))
   unfolding whole
   goes_on more = go (first_part is_feed (rest ++ more)) where
     go : (part : List ℕ) × (parts : List (List ℕ)) × (lines_of (rest ++ more) ≡ part ∷ parts) → replayed begin (lines_of (text ++ more)) ≡ replayed s (lines_of (rest ++ more))
-    go f = ap (replayed begin) (g.are more ∙ ap (λ ls. g.lines ++ ls) f.2) ∙ leads_whole begin s g.lines f.0 f.1 g.leads ∙ ap (replayed s) (sym f.2)
+    go f = ap (replayed begin) (lines-of-all text rest s old now g more ∙ ap (λ ls. g.lines ++ ls) f.2) ∙ leads_whole begin s g.lines f.0 f.1 g.leads ∙ ap (replayed s) (sym f.2)
 
   as_read : (p : Progress × Status) → ((more : List ℕ) → whole (text ++ more) ≡ p) → whole text ≡ p
   as_read p e = ap whole (sym (append-nil text)) ∙ e []
 
   decided : (p : Progress × Status) → ((more : List ℕ) → whole (text ++ more) ≡ p) → (more : List ℕ) → whole (text ++ more) ≡ whole text
   decided p e more = e more ∙ sym (as_read p e)
+
+  passed-lines : lines_of g.passed_text ≡ g.lines ++ [] ∷ []
+  passed-lines = ap lines_of (sym (append-nil g.passed_text)) ∙ g.are []
+
+  passed-report : report_of (whole g.passed_text).0 ≡ report_of s
+  unfolding whole
+  passed-report = ap (λ (p : Progress × Status). report_of p.0) (ap (replayed begin) passed-lines ∙ leads_whole begin s g.lines [] [] g.leads)
+
+  -- memory ran out behind the lines that were passed
+  pub going_starved : (left : Option (List ℕ)) → EndsSo NoMemory text left old now
+  going_starved left = record {
+    text = g.passed_text;
+    told = (rest, g.cut);
+    wrote = whole-front g.passed_text old now (subst (Appends old now) (sym passed-report) g.written);
+    ended = inr (record { lines = g.lines; are = passed-lines; state = s; leads = g.leads; written = g.written });
+  }
 
   -- ---- the rest has a whole line
   module _ (at : ℕ) (is : position is_feed rest ≡ Some at) where
@@ -173,6 +214,71 @@ module _ (text rest : List ℕ) (s : Progress) (old now : Option (List ℕ)) (g 
           let step : replayed s (take at rest ∷ f.0 ∷ f.1) ≡ (halted s (take at rest), status) = rw (e, replayed) refl in
           goes_on more ∙ ap (replayed s) (one_line more ∙ ap (λ ls. take at rest ∷ ls) f.2) ∙ step
 
+    -- ---- the text through this line
+
+    abbrev through : List ℕ
+    through = g.passed_text ++ take (at + 1) rest
+
+    -- the line with its feed
+    abbrev fed : List ℕ
+    fed = take (at + 1) rest
+
+    fed-length : length fed ≡ at + 1
+    fed-length = length-take-le (at + 1) rest within
+
+    fed-parts : fed ++ drop (at + 1) rest ≡ rest
+    fed-parts = take-append-drop (at + 1) rest
+
+    fed-found : position is_feed fed ≡ Some at
+    fed-found = go (position is_feed fed) refl where
+      all : position is_feed (fed ++ drop (at + 1) rest) ≡ Some at
+      all = ap (position is_feed) fed-parts ∙ is
+
+      go : (o : Option ℕ) → position is_feed fed ≡ o → position is_feed fed ≡ Some at
+      go None none = let le = none_until is_feed fed (drop (at + 1) rest) at none all in absurd (omega (arith, le, fed-length))
+      go (Some i) found = found ∙ sym (found_before is_feed fed (drop (at + 1) rest) i found) ∙ all
+
+    fed-line : take at fed ≡ take at rest
+    fed-line = sym (take-append-le at fed (drop (at + 1) rest) (omega (arith, fed-length))) ∙ ap (take at) fed-parts
+
+    fed-rest : drop (at + 1) fed ≡ []
+    fed-rest = let none = length-drop (at + 1) fed in nothing (drop (at + 1) fed) (omega (arith, none, fed-length))
+
+    -- it is that line whatever comes behind it
+    lines-through : (more : List ℕ) → lines_of (through ++ more) ≡ (g.lines ++ take at rest ∷ []) ++ lines_of more
+    lines-through more =
+        let cut : lines_of (fed ++ more) ≡ take at (fed ++ more) ∷ lines_of (drop (at + 1) (fed ++ more)) = split_at is_feed (fed ++ more) at (found_before is_feed fed more at fed-found) in
+        let line : take at (fed ++ more) ≡ take at rest = take-append-le at fed more (omega (arith, fed-length)) ∙ fed-line in
+        let behind : drop (at + 1) (fed ++ more) ≡ more = drop-append-le (at + 1) fed more (omega (arith, fed-length)) ∙ ap (λ xs. xs ++ more) fed-rest in
+        ap lines_of (append_assoc g.passed_text fed more) ∙ g.are (fed ++ more)
+        ∙ ap (λ ls. g.lines ++ ls) (cut ∙ ap (λ l. l ∷ lines_of (drop (at + 1) (fed ++ more))) line ∙ ap (λ xs. take at rest ∷ lines_of xs) behind)
+        ∙ sym (append_assoc g.lines (take at rest ∷ []) (lines_of more))
+
+    -- it is a front of what was read
+    through-front : (behind : List ℕ) × (text ≡ through ++ behind)
+    through-front = (
+      drop (at + 1) rest,
+      g.cut ∙ ap (λ xs. g.passed_text ++ xs) (sym (take-append-drop (at + 1) rest)) ∙ sym (append_assoc g.passed_text (take (at + 1) rest) (drop (at + 1) rest)),
+    )
+
+    through-lines : lines_of through ≡ g.lines ++ take at rest ∷ [] ∷ []
+    through-lines = ap lines_of (sym (append-nil through)) ∙ lines-through [] ∙ append_assoc g.lines (take at rest ∷ []) ([] ∷ [])
+
+    -- its report is that of the lines before and what this line adds, passed or not
+    through-report : report_of (whole through).0 ≡ report_of s ++ gain s (take at rest)
+    unfolding whole
+    through-report = ap (λ (p : Progress × Status). report_of p.0) (ap (replayed begin) through-lines ∙ leads_whole begin s g.lines (take at rest) ([] ∷ []) g.leads) ∙ go (passed s (take at rest)) refl where
+      go : (r : Result Progress Status) → passed s (take at rest) ≡ r → report_of (replayed s (take at rest ∷ [] ∷ [])).0 ≡ report_of s ++ gain s (take at rest)
+      go (Err status) e = rw (e, replayed) (halted-grown s (take at rest) status e)
+      go (Ok t) e = rw (e, replayed) (passed-grown s t (take at rest) g.keeps.listed e)
+
+    -- a front of what came of it was written
+    through-written : (next : Option (List ℕ)) → WrotePrefix now next (gain s (take at rest)) → WrotePrefix old next (report_of (whole through).0)
+    through-written next f = front_on old now next (report_of s) (gain s (take at rest)) [] (report_of (whole through).0) g.written f (through-report ∙ sym (append-nil _))
+
+    in-line : (next : Option (List ℕ)) → WrotePrefix now next (gain s (take at rest)) → EndsInLine through old next
+    in-line next f = record { lines = g.lines; line = take at rest; are = through-lines; state = s; leads = g.leads; between = now; written = g.written; front = f }
+
     pub going_on : (t : Progress) (next : Option (List ℕ)) → (passed s (take at rest) ≡ Ok t) × Appends now next (gain s (take at rest)) → Going text (drop (at + 1) rest) t old next
     going_on t next h = record {
       events = g.events ++ event_listed (judged s.reader (take at rest));
@@ -183,28 +289,11 @@ module _ (text rest : List ℕ) (s : Progress) (old now : Option (List ℕ)) (g 
           omega (arith, within, line, read, g.read, length-drop (at + 1) rest);
       lines = g.lines ++ take at rest ∷ [];
       leads = leads_on begin s t g.lines (take at rest) g.leads h.0;
-      are = λ more. g.are more ∙ ap (λ ls. g.lines ++ ls) (one_line more) ∙ sym (append_assoc g.lines (take at rest ∷ []) (lines_of (drop (at + 1) rest ++ more)));
+      passed_text = through;
+      cut = g.cut ∙ ap (λ xs. g.passed_text ++ xs) (sym (take-append-drop (at + 1) rest)) ∙ sym (append_assoc g.passed_text (take (at + 1) rest) (drop (at + 1) rest));
+      are = lines-through;
       written = subst (Appends old next) (sym (passed-grown s t (take at rest) g.keeps.listed h.0)) (Appends-trans old now next _ _ g.written h.1);
     }
-
-    -- the whole report begins with what was written and what the line adds
-    whole_begins : (zs : List ℕ) × (report_of (whole text).0 ≡ (report_of s ++ gain s (take at rest)) ++ zs)
-    whole_begins = go (passed s (take at rest)) refl where
-      go : (r : Result Progress Status) → passed s (take at rest) ≡ r → (zs : List ℕ) × (report_of (whole text).0 ≡ (report_of s ++ gain s (take at rest)) ++ zs)
-      go (Err status) e = (
-        [],
-        ap (λ (p : Progress × Status). report_of p.0) (as_read (halted s (take at rest), status) (when_refused status e)) ∙ halted-grown s (take at rest) status e ∙ sym (append-nil _),
-      )
-      go (Ok t) e =
-          let keeps = passed-keeps s t (take at rest) g.events g.keeps e in
-          let from : BeginsWith t (lines_of (drop (at + 1) rest ++ [])) (report_of t) = begins t (lines_of (drop (at + 1) rest ++ [])) (g.events ++ event_listed (judged s.reader (take at rest))) keeps in (
-            from.more,
-            ap (λ (p : Progress × Status). report_of p.0) (ap whole (sym (append-nil text)) ∙ when_passed t e []) ∙ from.is
-                ∙ ap (λ xs. xs ++ from.more) (passed-grown s t (take at rest) g.keeps.listed e),
-          )
-
-    stops_within : (next : Option (List ℕ)) → WrotePrefix now next (gain s (take at rest)) → WrotePrefix old next (report_of (whole text).0)
-    stops_within next f = let w = whole_begins in front_on old now next (report_of s) (gain s (take at rest)) w.0 (report_of (whole text).0) g.written f w.1
 
     refused_here : (status : Status) (left next : Option (List ℕ)) → passed s (take at rest) ≡ Err status → Appends now next (gain s (take at rest)) → IsDecided text left × Completes status text old next
     refused_here status left next e h = (
@@ -213,14 +302,14 @@ module _ (text rest : List ℕ) (s : Progress) (old now : Option (List ℕ)) (g 
           (subst (Appends old next) (sym (halted-grown s (take at rest) status e)) (Appends-trans old now next (report_of s) (gain s (take at rest)) g.written h)),
     )
 
-    pub going_stop : (e : Status) (t : Progress) (left next : Option (List ℕ)) → Passes (passed s (take at rest)) (gain s (take at rest)) now next t (Err e) → Ended e text left old next
+    pub going_stop : (e : Status) (t : Progress) (left next : Option (List ℕ)) → Passes (passed s (take at rest)) (gain s (take at rest)) now next t (Err e) → EndsSo e text left old next
     going_stop Done t left next h = absurd h
     going_stop Usage t left next h = absurd h
     going_stop ReadFault t left next h = absurd h
-    going_stop (Refused line why) t left next h = refused_here (Refused line why) left next h.0 h.1
-    going_stop (Limit line what) t left next h = refused_here (Limit line what) left next h.0 h.1
-    going_stop WriteFault t left next h = stops_within next h
-    going_stop NoMemory t left next h = stops_within next h
+    going_stop (Refused line why) t left next h = let e = refused_here (Refused line why) left next h.0 h.1 in record { text = text; told = refl; wrote = whole-front text old next e.1.written; ended = e }
+    going_stop (Limit line what) t left next h = let e = refused_here (Limit line what) left next h.0 h.1 in record { text = text; told = refl; wrote = whole-front text old next e.1.written; ended = e }
+    going_stop WriteFault t left next h = record { text = through; told = through-front; wrote = through-written next h; ended = in-line next h }
+    going_stop NoMemory t left next h = record { text = through; told = through-front; wrote = through-written next h; ended = inl (in-line next h) }
 
   -- ---- the rest has no line feed
   module _ (none : position is_feed rest ≡ None) where
@@ -232,21 +321,19 @@ module _ (text rest : List ℕ) (s : Progress) (old now : Option (List ℕ)) (g 
     written_so_far = subst (Appends old now) (sym (ap (λ (p : Progress × Status). report_of p.0) at_end)) g.written
 
     -- the source failed
-    pub going_failed : (left : Option (List ℕ)) → length text ≤ MAX_INPUT_BYTES → Ended ReadFault text left old now
-    going_failed left small = (
-      small,
-      (
-        g.lines,
-        rest,
-        ap lines_of (sym (append-nil text)) ∙ g.are [] ∙ ap (λ xs. g.lines ++ lines_of xs) (append-nil rest) ∙ ap (λ ls. g.lines ++ ls) (split_alone is_feed rest none),
-        subst (λ (p : Progress × Status). Leads begin g.lines p.0) (sym at_end) g.leads,
-      ),
-      written_so_far,
-    )
-
-    -- memory ran out
-    pub going_starved : (left : Option (List ℕ)) → Ended NoMemory text left old now
-    going_starved left = record { front = report_of (whole text).0; rest = []; is = append-nil (report_of (whole text).0); written = written_so_far }
+    pub going_failed : (left : Option (List ℕ)) → length text ≤ MAX_INPUT_BYTES → EndsSo ReadFault text left old now
+    going_failed left small = record { text = text; told = refl; wrote = whole-front text old now written_so_far; ended = failed } where
+      failed : Ended ReadFault text left old now
+      failed = (
+        small,
+        (
+          g.lines,
+          rest,
+          ap lines_of (sym (append-nil text)) ∙ lines-of-all text rest s old now g [] ∙ ap (λ xs. g.lines ++ lines_of xs) (append-nil rest) ∙ ap (λ ls. g.lines ++ ls) (split_alone is_feed rest none),
+          subst (λ (p : Progress × Status). Leads begin g.lines p.0) (sym at_end) g.leads,
+        ),
+        written_so_far,
+      )
 
     -- ---- it ends the text, or has more bytes than an input may have
 
@@ -270,22 +357,25 @@ module _ (text rest : List ℕ) (s : Progress) (old now : Option (List ℕ)) (g 
     at_its_end left (inr full) small = absurd (omega (arith, full, small))
 
     module _ (left : Option (List ℕ)) (how : IsAtEnd left ⊎ (length text ≡ MAX_INPUT_BYTES + 1)) where
-      -- nothing follows the last line feed
-      empty_end : (stage : Stage) → s.reader.stage ≡ stage → rest ≡ [] → Ended (ended_at s.lines stage) text left old now
-      empty_end Start e f = (final left how, completed (Refused (s.lines + 1) Syntax) (ap (ending s) f ∙ ap (ended_at s.lines) e))
-      empty_end Settings e f = (final left how, completed (Refused (s.lines + 1) Syntax) (ap (ending s) f ∙ ap (ended_at s.lines) e))
-      empty_end Files e f = (final left how, completed (Refused (s.lines + 1) Syntax) (ap (ending s) f ∙ ap (ended_at s.lines) e))
-      empty_end Running e f = (at_its_end left how (short f), short f, completed Done (ap (ending s) f ∙ ap (ended_at s.lines) e))
+      ends-here : (status : Status) → IsTold status text text → Ended status text left old now → EndsSo status text left old now
+      ends-here status told e = record { text = text; told = told; wrote = whole-front text old now written_so_far; ended = e }
 
-      pub going_end : (status : Status) → status ≡ ending s rest → Ended status text left old now
+      -- nothing follows the last line feed
+      empty_end : (stage : Stage) → s.reader.stage ≡ stage → rest ≡ [] → EndsSo (ended_at s.lines stage) text left old now
+      empty_end Start e f = ends-here (Refused (s.lines + 1) Syntax) refl (final left how, completed (Refused (s.lines + 1) Syntax) (ap (ending s) f ∙ ap (ended_at s.lines) e))
+      empty_end Settings e f = ends-here (Refused (s.lines + 1) Syntax) refl (final left how, completed (Refused (s.lines + 1) Syntax) (ap (ending s) f ∙ ap (ended_at s.lines) e))
+      empty_end Files e f = ends-here (Refused (s.lines + 1) Syntax) refl (final left how, completed (Refused (s.lines + 1) Syntax) (ap (ending s) f ∙ ap (ended_at s.lines) e))
+      empty_end Running e f = ends-here Done refl (at_its_end left how (short f), short f, completed Done (ap (ending s) f ∙ ap (ended_at s.lines) e))
+
+      pub going_end : (status : Status) → status ≡ ending s rest → EndsSo status text left old now
       going_end status e = go rest refl where
-        go : (r : List ℕ) → rest ≡ r → Ended status text left old now
-        go [] f = subst (λ t. Ended t text left old now) (sym (e ∙ ap (ending s) f)) (empty_end s.reader.stage refl f)
+        go : (r : List ℕ) → rest ≡ r → EndsSo status text left old now
+        go [] f = subst (λ t. EndsSo t text left old now) (sym (e ∙ ap (ending s) f)) (empty_end s.reader.stage refl f)
         go (b ∷ bs) f = past (nat_lt MAX_INPUT_BYTES (s.read + length (b ∷ bs))) refl where
-          past : (t : Bool) → nat_lt MAX_INPUT_BYTES (s.read + length (b ∷ bs)) ≡ t → Ended status text left old now
+          past : (t : Bool) → nat_lt MAX_INPUT_BYTES (s.read + length (b ∷ bs)) ≡ t → EndsSo status text left old now
           past true h =
               let is : ending s rest ≡ Limit (s.lines + 1) Input = ap (ending s) f ∙ ap (λ u. cond u (Limit (s.lines + 1) Input) (Refused (s.lines + 1) Syntax)) h in
-              subst (λ t. Ended t text left old now) (sym (e ∙ is)) (final left how, completed (Limit (s.lines + 1) Input) is)
+              subst (λ t. EndsSo t text left old now) (sym (e ∙ is)) (ends-here (Limit (s.lines + 1) Input) refl (final left how, completed (Limit (s.lines + 1) Input) is))
           past false h =
               let is : ending s rest ≡ Refused (s.lines + 1) Syntax = ap (ending s) f ∙ ap (λ u. cond u (Limit (s.lines + 1) Input) (Refused (s.lines + 1) Syntax)) h in
-              subst (λ t. Ended t text left old now) (sym (e ∙ is)) (final left how, completed (Refused (s.lines + 1) Syntax) is)
+              subst (λ t. EndsSo t text left old now) (sym (e ∙ is)) (ends-here (Refused (s.lines + 1) Syntax) refl (final left how, completed (Refused (s.lines + 1) Syntax) is))

@@ -35,14 +35,14 @@ use Rattle.lard_settling.proofs.Plain.{AreUnmarked, is_mark}
 use Rattle.lard_settling.proofs.Written.{written}
 use Rattle.lard_app.specs.Replay.{came}
 use Rattle.lard_app.specs.Happened.{step_of, step_told, steps_told}
-use Rattle.lard_settle_laws.proofs.Events.{begun-is, either-kind, plain-rule, plain-step}
-use Rattle.lard_settle_laws.proofs.Few.{config-is, few-left}
-use Rattle.lard_settle_laws.proofs.Firing.{IsInner, OfTimer, each-filter, each-map, each-parts, entries-each, firings-each, firings-inner}
-use Rattle.lard_settle_laws.proofs.Given.{begun-few, InnerRows, StepRows, inner-rows, step-rows}
-use Rattle.lard_settle_laws.proofs.Inside.{KeptInside, SettleLands, settle-lands}
+use Rattle.lard_settle_quiet.proofs.Events.{begun-is, either-kind, plain-rule, plain-step}
+use Rattle.lard_settle_quiet.proofs.Few.{config-is, few-left}
+use Rattle.lard_settle_quiet.proofs.Firing.{IsInner, OfTimer, each-filter, each-map, each-parts, entries-each, firings-each, firings-inner}
+use Rattle.lard_settle_quiet.proofs.Given.{begun-few, InnerRows, StepRows, inner-rows, step-rows}
+use Rattle.lard_settle_quiet.proofs.Inside.{KeptInside, SettleLands, settle-lands}
 use Rattle.lard_app.proofs.Reached.{Told, written-told}
 use Rattle.lard_app.proofs.Telling.{plain-events}
-use Rattle.lard_settle_laws.proofs.Firing.{inner-rule}
+use Rattle.lard_settle_quiet.proofs.Firing.{inner-rule}
 
 -- ---- what a record of a step or a settle was given
 

@@ -1,5 +1,5 @@
 -- The report of a replay grows by what each line adds.
-use Rattle.std.proofs.Common.{◌≡◌, ℕ, List, [], ◌∷◌, ◌++◌, length, drop, Bool, true, false, cond, Option, Some, None, Result, Ok, Err, refl, sym, ap, ◌∙◌, subst, append_assoc, append-nil}
+use Rattle.std.proofs.Common.{◌≡◌, ℕ, List, [], ◌++◌, length, drop, Bool, true, false, cond, Option, Some, None, Result, Ok, Err, refl, sym, ap, ◌∙◌, subst, append-nil}
 use Rattle.std.specs.List.{flat_map}
 use Rattle.lard_base.specs.Config.{config_check, range_check}
 use Rattle.lard_base.specs.declared.config.ConfigFault.{ConfigFault}
@@ -23,8 +23,7 @@ use Rattle.lard_settling.specs.Events.{event_step}
 use Rattle.lard_settling.specs.Settling.{Stop}
 use Rattle.lard_app.specs.declared.status.Status.{Status}
 use Rattle.lard_app.specs.declared.status.Why.{Why}
-use Rattle.lard_app.specs.Replay.{Progress, begun, came, config_set, counted, event_gain, event_listed, filed, followed, found, gain, halted, go_gain, is_past, item_gain, item_taken, judged, judged_gain, machine_behind, moved, passed, replayed, report_at, report_of, sizes, taken}
-use Rattle.lard_app.proofs.Keeping.{Keeps, passed-keeps}
+use Rattle.lard_app.specs.Replay.{Progress, begun, came, config_set, counted, event_gain, filed, followed, found, gain, halted, go_gain, is_past, item_gain, item_taken, judged, judged_gain, machine_behind, moved, passed, report_at, report_of, sizes, taken}
 use Rattle.lard_app.proofs.Passing.{judged_by, ok_is, passed-took, passed_by, took-fits, took-gain}
 use Rattle.lard_app.proofs.Steps.{Grows, event-grows}
 use Rattle.lard_app.proofs.Events.{event-came, event-goes}
@@ -112,24 +111,3 @@ halted-grown s line status e = go (is_past s line) (item_of s.reader line) refl 
       ∙ item-halted (counted s line) x status (line_spelled s.reader line x i).1 (ap (item_taken (counted s line)) (sym (judged_by s.reader line (Some x) i)) ∙ sym (passed_by s line false p) ∙ e)
       ∙ ap (λ (j : Result Item Why). report_of s ++ judged_gain (counted s line) j) (sym (judged_by s.reader line (Some x) i))
       ∙ ap (λ b. report_of s ++ cond b [] (judged_gain (counted s line) (judged s.reader line))) (sym p)
-
--- ---- the report of a state is a front of that of a replay from there on
-
--- the report of the end begins with a text
-pub record BeginsWith (s : Progress) (lines : List (List ℕ)) (text : List ℕ) : Type 0 where
-  pub more : List ℕ
-  pub is : report_of (replayed s lines).0 ≡ text ++ more
-
-pub begins : (s : Progress) (lines : List (List ℕ)) (es : List Event) → Keeps s es → BeginsWith s lines (report_of s)
-begins s [] es k = record { more = []; is = sym (append-nil (report_of s)) }
-begins s (last ∷ []) es k = record { more = []; is = sym (append-nil (report_of s)) }
-begins s (line ∷ next ∷ more) es k = go (passed s line) refl (λ t ds j. begins t (next ∷ more) ds j) where
-  go : (r : Result Progress Status) → passed s line ≡ r → ((t : Progress) (ds : List Event) → Keeps t ds → BeginsWith t (next ∷ more) (report_of t))
-      → BeginsWith s (line ∷ next ∷ more) (report_of s)
-  go (Err status) e later = record { more = gain s line; is = rw (e, replayed) (halted-grown s line status e) }
-  go (Ok t) e later =
-      let rest = later t (es ++ event_listed (judged s.reader line)) (passed-keeps s t line es k e) in
-      record {
-        more = gain s line ++ rest.more;
-        is = rw (e, replayed) (rest.is ∙ ap (λ xs. xs ++ rest.more) (passed-grown s t line k.listed e) ∙ append_assoc (report_of s) (gain s line) rest.more);
-      }

@@ -17,9 +17,11 @@ use Rattle.lard_history.proofs.Each.{Each}
 use Rattle.lard_journal.specs.Range.{IsNumber}
 use Rattle.lard_laws_records.proofs.Bytes.{each-all}
 use Rattle.lard_settling.specs.Events.{LeadsTo}
-use Rattle.lard_settle_laws.proofs.Order.{in-order}
+use Rattle.lard_settle_quiet.proofs.Order.{in-order}
 use Rattle.lard_settle.proofs.Enough.{runs-settle}
-use Rattle.lard_settle_rounds.proofs.Runs.{take-rounds}
+use Rattle.lard_settle_quiet.proofs.Runs.{runs-are-done}
+use Rattle.lard_settle_quiet.proofs.Same.{tells-the-same}
+use Rattle.lard_settle_quiet.proofs.Rounding.{take-rounds}
 use Rattle.lard_settling.specs.Written.{IsWrittenOut, written_out}
 use Rattle.lard_app.specs.Happened.{Happened}
 use Rattle.lard_app.proofs.Granted.{IsGrantedBy, granted-events, leads-granted}
@@ -36,6 +38,8 @@ module _ (config : Config) (files : List (List ℕ × List ℕ)) (checked : conf
     settles = in-order config files es m leads;
     rounds = take-rounds config files es m checked leads;
     enough = runs-settle config files checked (each-all IsFile files are) es m (each-all IsGiven es given) leads;
+    done = runs-are-done config files es m checked leads;
+    same = tells-the-same config (file_at files) m.journal;
     messages = subst (EachMay MayTalk []) w.journal
         (packets-decode config files w.reached.0 w.plain checked (each-all IsFile files are) (each-all IsGiven w.reached.0 (granted-events config files checked nodes are m granted)) w.reached.1);
   } where

@@ -94,9 +94,12 @@ tells_all tells text also same =
 
 pub ran : ReportsTellAll → (status : Status) (left left_now old new : Option (List ℕ)) → Reads status left left_now old new → Ran status left left_now old new
 ran tells status left left_now old new r = record {
-  text = r.text;
+  read = r.read;
   consumed = r.consumed;
   bounded = r.bounded;
+  text = r.text;
+  told = r.told;
+  wrote = r.wrote;
   ended = r.ended;
   causes = caused r.text;
   config = config_of r.text;

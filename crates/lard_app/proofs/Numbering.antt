@@ -15,11 +15,11 @@ use Rattle.lard_settling.proofs.Plain.{AreUnmarked, is_mark}
 use Rattle.lard_settling.proofs.Written.{written}
 use Rattle.lard_app.specs.Replay.{came}
 use Rattle.lard_app.specs.Happened.{event_told, events_told, numbered_from}
-use Rattle.lard_settle_laws.proofs.Events.{begun-is, either-kind, plain-done, plain-rule}
-use Rattle.lard_settle_laws.proofs.Firing.{IsInner}
-use Rattle.lard_settle_laws.proofs.Given.{InnerRows, StepRows, inner-rows, step-rows}
-use Rattle.lard_settle_laws.proofs.Inside.{KeptInside, SettleLands, settle-lands}
-use Rattle.lard_settle_laws.proofs.Firing.{inner-rule}
+use Rattle.lard_settle_quiet.proofs.Events.{begun-is, either-kind, plain-done, plain-rule}
+use Rattle.lard_settle_quiet.proofs.Firing.{IsInner}
+use Rattle.lard_settle_quiet.proofs.Given.{InnerRows, StepRows, inner-rows, step-rows}
+use Rattle.lard_settle_quiet.proofs.Inside.{KeptInside, SettleLands, settle-lands}
+use Rattle.lard_settle_quiet.proofs.Firing.{inner-rule}
 use Rattle.lard_app.proofs.Written.{event-written, kept-inside}
 
 -- ---- journals

@@ -11,7 +11,7 @@ use Rattle.lard_generate_bound.proofs.Reaching.{reach-the-bound, settles-last}
 use Rattle.lard_history.proofs.Each.{Each}
 use Rattle.lard_laws_records.proofs.Bytes.{each-all}
 use Rattle.lard_settle.proofs.Enough.{settles-end-quiet}
-use Rattle.lard_settle_laws.proofs.Firing.{each-parts}
+use Rattle.lard_settle_quiet.proofs.Firing.{each-parts}
 use Rattle.lard_settling.specs.declared.settled.Settled.{Settled}
 use Rattle.lard_settling.specs.declared.settled.Settled.TheVariants.{Quiet}
 use Rattle.lard_settling.specs.Events.{Goes, MayCome, event_step, settled_to}

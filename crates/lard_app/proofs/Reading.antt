@@ -1,11 +1,11 @@
 -- What is read of a source, a piece after another, and how a run over it ends.
 use Rattle.std.proofs.Common.{◌≡◌, ◌⊎◌, inl, inr, ℕ, ◌+◌, ◌≤◌, List, [], ◌∷◌, ◌++◌, length, take, drop, Bool, true, false, cond, Option, Some, None, Result, Ok, Err, refl, sym, ap, ◌∙◌, subst, arith, length-append}
-use Rattle.std.proofs.KnownBytes.{Consumes-nil, Consumes-trans}
+use Rattle.std.proofs.KnownBytes.{Appends-nil, Consumes-nil, Consumes-trans}
 use Rattle.std.specs.Io.KnownBytes.{Appends, Consumes, IsAtEnd}
 use Rattle.std.specs.List.{position}
 use Rattle.std.specs.Prelude.{nat_lt}
 use Rattle.lard_base.specs.declared.limits.TheConstants.{MAX_INPUT_BYTES}
-use Rattle.lard_base.specs.Outside.{TakesIn}
+use Rattle.lard_base.specs.Outside.{TakesIn, WrotePrefix}
 use Rattle.lard_lines.specs.Lines.{Held, is_feed}
 use Rattle.lard_machine.specs.declared.fault.What.TheVariants.{Input}
 use Rattle.lard_schedule.specs.declared.reader.Stage.{Stage}
@@ -13,9 +13,9 @@ use Rattle.lard_schedule.specs.declared.reader.Stage.TheVariants.{Start, Setting
 use Rattle.lard_app.specs.declared.status.Status.{Status}
 use Rattle.lard_app.specs.declared.status.Status.TheVariants.{Done, Usage, Refused, ReadFault, WriteFault, NoMemory, Limit}
 use Rattle.lard_app.specs.declared.status.Why.TheVariants.{Syntax}
-use Rattle.lard_app.specs.Replay.{begin, ended_at, ending, gain, passed, EndsCount, Passes, Progress}
-use Rattle.lard_app.specs.Run.{Ended, Reads}
-use Rattle.lard_app.proofs.Going.{Going, going_end, going_failed, going_first, going_more, going_on, going_starved, going_stop}
+use Rattle.lard_app.specs.Replay.{begin, ended_at, ending, gain, passed, report_of, whole, EndsCount, Passes, Progress}
+use Rattle.lard_app.specs.Run.{Reads}
+use Rattle.lard_app.proofs.Going.{EndsSo, Going, going_end, going_failed, going_first, going_more, going_on, going_starved, going_stop}
 
 -- ---- what is read of a source
 
@@ -53,13 +53,17 @@ module _ (left left_now old now : Option (List ℕ)) (held : Held) (s : Progress
     going = going_on r.text held.rest s old now r.going at is t new h;
   })
 
-  ended_as : (status : Status) (new : Option (List ℕ)) → Ended status r.text left_now old new → Reads status left left_now old new
-  ended_as status new e = record { text = r.text; consumed = r.consumed; bounded = subst (λ n. n ≤ MAX_INPUT_BYTES + 1) (sym r.count) r.bound; ended = e }
+  ended_as : (status : Status) (new : Option (List ℕ)) → EndsSo status r.text left_now old new → Reads status left left_now old new
+  ended_as status new e = record { read = r.text; consumed = r.consumed; bounded = subst (λ n. n ≤ MAX_INPUT_BYTES + 1) (sym r.count) r.bound; text = e.text; told = e.told; wrote = e.wrote; ended = e.ended }
 
   -- a line ends the run
   pub reading_stop : (at : ℕ) (status : Status) (t : Progress) (new : Option (List ℕ)) → position is_feed held.rest ≡ Some at → Passes (passed s (take at held.rest)) (gain s (take at held.rest)) now new t (Err status)
       → Reads status left left_now old new
   reading_stop at status t new is h = ended_as status new (going_stop r.text held.rest s old now r.going at is status t left_now new h)
+
+  -- memory runs out
+  pub reading_starved : Reads NoMemory left left_now old now
+  reading_starved = ended_as NoMemory now (going_starved r.text held.rest s old now r.going left_now)
 
   module _ (none : position is_feed held.rest ≡ None) where
     -- the input ends
@@ -73,9 +77,22 @@ module _ (left left_now old now : Option (List ℕ)) (held : Held) (s : Progress
     pub reading_failed : held.read ≤ MAX_INPUT_BYTES → Reads ReadFault left left_now old now
     reading_failed small = ended_as ReadFault now (going_failed r.text held.rest s old now r.going none left_now (subst (λ n. n ≤ MAX_INPUT_BYTES) (sym r.count) small))
 
-    -- memory runs out
-    pub reading_starved : Reads NoMemory left left_now old now
-    reading_starved = ended_as NoMemory now (going_starved r.text held.rest s old now r.going none left_now)
+
+none-wrote : (old : Option (List ℕ)) → WrotePrefix old old (report_of (whole []).0)
+unfolding whole
+none-wrote old = record { front = []; rest = []; is = refl; written = Appends-nil old }
+
+-- memory ran out before anything was read
+pub reads-nothing : (left old : Option (List ℕ)) → Reads NoMemory left left old old
+reads-nothing left old = record {
+  read = [];
+  consumed = Consumes-nil left;
+  bounded = omega arith;
+  text = [];
+  told = ([], refl);
+  wrote = none-wrote old;
+  ended = inr (record { lines = []; are = refl; state = begin; leads = refl; written = Appends-nil old });
+}
 
 -- no line ends a run by a fault of reading, nor does the text's end
 pub stop_no_read : (given : Result Progress Status) (text : List ℕ) (old new : Option (List ℕ)) (t : Progress) (status : Status) → Passes given text old new t (Err status) → ¬ (status ≡ ReadFault)

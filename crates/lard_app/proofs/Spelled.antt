@@ -17,7 +17,7 @@ use Rattle.lard_app.specs.declared.status.Status.{Status}
 use Rattle.lard_app.specs.declared.status.Status.TheVariants.{Done, Usage, Refused, ReadFault, WriteFault, NoMemory, Limit}
 use Rattle.lard_app.specs.declared.status.Why.{Why}
 use Rattle.lard_app.specs.Generate.{EndsLeft, EndsPlay, Generated, Gives, Prints, begins, first_line, large, run_of}
-use Rattle.lard_settle_laws.proofs.Firing.{each-parts}
+use Rattle.lard_settle_quiet.proofs.Firing.{each-parts}
 use Rattle.lard_app.proofs.Happened.{happened}
 use Rattle.lard_app.proofs.Fit.{IsFit}
 use Rattle.lard_app.proofs.Played.{Front, caused, front, played-done}

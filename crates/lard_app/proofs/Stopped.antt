@@ -22,7 +22,7 @@ use Rattle.lard_app.specs.declared.status.Status.TheVariants.{Done, Usage, Refus
 use Rattle.lard_app.specs.Generate.{Happens}
 use Rattle.lard_app.specs.Replay.{Passes, Progress, Writes, came, ended_by, event_gain}
 use Rattle.lard_app.specs.Seen.{Does, Stops, rounds_of}
-use Rattle.lard_settle_laws.proofs.Events.{plain-step}
+use Rattle.lard_settle_quiet.proofs.Events.{plain-step}
 use Rattle.lard_app.proofs.Steps.{Grows, event-grows, grows-longer, step-grows}
 
 -- ---- kinds of events

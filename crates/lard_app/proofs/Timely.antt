@@ -47,7 +47,7 @@ use Rattle.lard_app.specs.declared.status.Why.{Why}
 use Rattle.lard_app.specs.declared.status.Why.TheVariants as why
 use Rattle.lard_app.specs.Causes.{MayNotCome}
 use Rattle.lard_app.specs.Generate.{begins, large}
-use Rattle.lard_settle_laws.proofs.Events.{plain-done}
+use Rattle.lard_settle_quiet.proofs.Events.{plain-done}
 use Rattle.lard_app.proofs.Failures.{some_there}
 use Rattle.lard_app.proofs.Fit.{IsFit, next-fit}
 use Rattle.lard_app.proofs.Reached.{Told, written-told}

@@ -13,9 +13,9 @@ use Rattle.lard_settling.specs.Steps.{inner_given, inner_step, settle_begun}
 use Rattle.lard_settling.specs.Written.{AreWrittenOut, IsWrittenOut, is_settle}
 use Rattle.lard_settling.proofs.Written.{written}
 use Rattle.lard_app.specs.Replay.{came}
-use Rattle.lard_settle_laws.proofs.Events.{either-kind, plain-rule, plain-step}
-use Rattle.lard_settle_laws.proofs.Firing.{IsInner, deliver-inner, disk-inner, firings-inner, inner-rule, take-inner}
-use Rattle.lard_settle_laws.proofs.Inside.{KeptInside, SettleLands, settle-lands}
+use Rattle.lard_settle_quiet.proofs.Events.{either-kind, plain-rule, plain-step}
+use Rattle.lard_settle_quiet.proofs.Firing.{IsInner, deliver-inner, disk-inner, firings-inner, inner-rule, take-inner}
+use Rattle.lard_settle_quiet.proofs.Inside.{KeptInside, SettleLands, settle-lands}
 
 -- ---- the faults of inner steps
 

@@ -1,7 +1,6 @@
 -- Why a replay ends as it does, in words of the text's lines, and of the journal before the line that ends it.
 -- The numbers of all limits and ranges are written out here, apart from the rules that use them.
 use Rattle.std.specs.Prelude.{◌≡◌, ◌≢◌, ◌⊎◌, ℕ, ◌+◌, ◌-◌, ◌*◌, ◌^◌, ◌<◌, ◌≤◌, true, List, [], ◌∷◌, ◌++◌, length, Option, Some, None, IsSome, Ok, Err}
-use Rattle.std.specs.FinMap as table
 use Rattle.lard_base.specs.declared.config.Config.{Config}
 use Rattle.lard_base.specs.declared.config.ConfigFault.{ConfigFault}
 use Rattle.lard_base.specs.declared.config.ConfigFault.TheVariants.{Range, LowHigh, NoRoom}
@@ -11,7 +10,7 @@ use Rattle.lard_base.specs.declared.event.Event.{Event}
 use Rattle.lard_base.specs.declared.event.Event.TheVariants as event
 use Rattle.lard_base.specs.declared.place.Place.{Place}
 use Rattle.lard_base.specs.declared.place.Place.TheVariants.{Front, Node, Client}
-use Rattle.lard_client.specs.Control.{written_len}
+use Rattle.lard_client.specs.Control.{ClientBlock, written_len}
 use Rattle.lard_cluster.specs.declared.fault.StepFault.{StepFault}
 use Rattle.lard_cluster.specs.declared.machine.Machine.{Machine}
 use Rattle.lard_cluster_stores.specs.Stores.{jobs}
@@ -19,16 +18,18 @@ use Rattle.lard_files.specs.Files.{file_at, total}
 use Rattle.lard_files.specs.declared.fault.FileFault.{FileFault}
 use Rattle.lard_files.specs.declared.fault.FileFault.TheVariants as file_fault
 use Rattle.lard_history.specs.Journal.{answered_bytes, is_lost, numbers_of, packet_bytes, request, sent_count}
+use Rattle.lard_history.specs.Own.{own}
 use Rattle.lard_journal.specs.declared.rec.Rec.{Rec}
+use Rattle.lard_laws_steps.specs.Clients.{client_of}
 use Rattle.lard_machine.specs.declared.fault.What.{What}
 use Rattle.lard_machine.specs.declared.fault.What.TheVariants as what
-use Rattle.lard_rules.specs.declared.places.Station.{Station}
 use Rattle.lard_schedule.specs.declared.item.Item.{Item}
 use Rattle.lard_schedule.specs.declared.item.Item.TheVariants as item
 use Rattle.lard_schedule.specs.declared.reader.Stage.TheVariants.{Running}
 use Rattle.lard_schedule.specs.Laws.{IsLineOf, MayStand}
 use Rattle.lard_schedule.specs.Reader.{HasRange}
 use Rattle.lard_settling.specs.Events.{event_step}
+use Rattle.lard_settling.specs.Written.{written_out}
 use Rattle.lard_app.specs.declared.status.Status.{Status}
 use Rattle.lard_app.specs.declared.status.Status.TheVariants.{Done, Refused, Limit}
 use Rattle.lard_app.specs.declared.status.Why.{Why}
@@ -115,14 +116,14 @@ abbrev pub Opens : Event → ℕ → Type 0
 Opens (event.Open d isn iss wnd mss) c = d ≡ c
 Opens _ c = ⊥
 
--- client c would have written more than the stream limit allows
-abbrev pub WouldPass : Machine → ℕ → List ℕ → Type 0
-WouldPass m c bytes = (x : Station) × (table.get m.clients c ≡ Some x) × (m.config.stream < written_len x.client bytes)
+-- client c would have written more than `stream` bytes: by its table, which counts inner steps as events
+abbrev pub WouldPass : ℕ → List Rec → ℕ → List ℕ → Type 0
+WouldPass stream J c bytes = (x : ClientBlock) × (client_of c (own c (written_out J)) ≡ Some x) × (stream < written_len x bytes)
 
-abbrev pub WritesTooMuch : Machine → Event → Type 0
-WritesTooMuch m (event.Get c path) = WouldPass m c (request path)
-WritesTooMuch m (event.Write c bytes) = WouldPass m c bytes
-WritesTooMuch m _ = ⊥
+abbrev pub WritesTooMuch : ℕ → List Rec → Event → Type 0
+WritesTooMuch stream J (event.Get c path) = WouldPass stream J c (request path)
+WritesTooMuch stream J (event.Write c bytes) = WouldPass stream J c bytes
+WritesTooMuch stream J _ = ⊥
 
 -- a timer of node n, or a job of its disk; the client of a timer opened before
 abbrev pub IsNumbered : Place → ℕ → Type 0
@@ -160,7 +161,7 @@ StopsIn m rounds n f = event_step m (event.Settle rounds) ≡ Err (n, f)
 -- done: its event, or one inside.
 abbrev pub Reaches : Machine → Event → What → Type 0
 Reaches m (event.Settle rounds) w = (n : Machine) × (f : StepFault) × StopsIn m rounds n f × HasReached n.journal w
-Reaches m e w = HasReached m.journal w ⊎ (IsWithinLimits m.journal × (w ≡ what.Stream) × WritesTooMuch m e)
+Reaches m e w = HasReached m.journal w ⊎ (IsWithinLimits m.journal × (w ≡ what.Stream) × WritesTooMuch m.config.stream m.journal e)
 
 -- The event may not come now. A settle always may, and its inner steps are refused for no other cause than a limit.
 abbrev pub MayNotCome : Machine → Event → Why → Type 0

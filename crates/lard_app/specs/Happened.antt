@@ -13,7 +13,9 @@ use Rattle.lard_history.specs.Laws.{EachMay, Follows}
 use Rattle.lard_journal.specs.declared.rec.Rec.{Rec}
 use Rattle.lard_journal.specs.declared.rec.Rec.TheVariants as rec
 use Rattle.lard_settle.specs.Enough.{MayLeave}
-use Rattle.lard_settle_rounds.specs.Rounds.{SettlesTakeRounds}
+use Rattle.lard_settle_quiet.specs.Done.{MaySettle}
+use Rattle.lard_settle_quiet.specs.Same.{TellsTheSame}
+use Rattle.lard_settle_quiet.specs.Rounds.{SettlesTakeRounds}
 use Rattle.lard_settling.specs.Events.{LeadsTo}
 use Rattle.lard_settling.specs.Order.{SettlesInOrder}
 use Rattle.lard_settling.specs.Written.{is_settle, written_out}
@@ -64,6 +66,12 @@ pub record Happened (config : Config) (files : List (List ℕ × List ℕ)) (eve
   -- A settle leaves something only where a packet was put on the way in a client's name, or a client wrote 16,383 bytes or more, or where
   -- it did fewer rounds than the bound of the journal.
   pub enough : EachMay (MayLeave (file_at files)) [] journal
+  -- Where a settle tells that nothing is left, each connection that opened is quiet but for timers that are stalled, and complete, or in the
+  -- line at a full room, unless its client aborted it, the stream limit reset it, or the schedule touched it.
+  pub done : EachMay (MaySettle config (file_at files)) [] journal
+  -- Who owns a connection and in which epoch, who is admitted, the loads, and what was written, served and accepted, with all else that is
+  -- counted of a journal, is the same of it with its settles written out.
+  pub same : TellsTheSame config (file_at files) journal (written_out journal)
   -- the laws that it obeys with its settles written out, each a field of their record
   pub laws : IsLawful config (file_at files) (written_out journal)
   -- machines of the cluster talk in messages

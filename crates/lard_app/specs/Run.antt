@@ -13,7 +13,7 @@ use Rattle.lard_app.specs.Causes.{Ends, Leads}
 use Rattle.lard_app.specs.Happened.{Happened}
 use Rattle.lard_app.specs.declared.status.Status.{Status}
 use Rattle.lard_app.specs.declared.status.Status.TheVariants.{Done, Usage, Refused, ReadFault, WriteFault, NoMemory, Limit}
-use Rattle.lard_app.specs.Replay.{Progress, begin, begun_by, config_of, events_of, files_of, halted, journal_of, passed, report_of, sizes, whole}
+use Rattle.lard_app.specs.Replay.{Progress, begin, begun_by, config_of, events_of, files_of, gain, halted, journal_of, passed, report_of, sizes, whole}
 
 -- ---- how a run ends over the text that it read
 
@@ -30,22 +30,51 @@ IsDecided text left = IsAtEnd left ⊎ ((more : List ℕ) → whole (text ++ mor
 abbrev pub HasPassed : List ℕ → Type 0
 HasPassed text = (lines : List (List ℕ)) × (last : List ℕ) × (lines_of text ≡ lines ++ last ∷ []) × Leads begin lines (whole text).0
 
--- A fault of reading comes behind lines that were all passed, and leaves their report. A fault of writing and running out
--- of memory leave a prefix of the report.
+-- The text is lines that were passed, with their whole report written, and one more, which was taken: of what came of it a front was
+-- written.
+pub record EndsInLine (text : List ℕ) (old new : Option (List ℕ)) : Type 0 where
+  pub lines : List (List ℕ)
+  pub line : List ℕ
+  pub are : lines_of text ≡ lines ++ line ∷ [] ∷ []
+  pub state : Progress
+  pub leads : Leads begin lines state
+  pub between : Option (List ℕ)
+  pub written : Appends old between (report_of state)
+  pub front : WrotePrefix between new (gain state line)
+
+-- the text is lines that were passed, with their whole report written
+pub record EndsBehindLines (text : List ℕ) (old new : Option (List ℕ)) : Type 0 where
+  pub lines : List (List ℕ)
+  pub are : lines_of text ≡ lines ++ [] ∷ []
+  pub state : Progress
+  pub leads : Leads begin lines state
+  pub written : Appends old new (report_of state)
+
+-- A fault of reading comes behind lines that were all passed, and leaves their report. A fault of writing comes in a line, and memory runs
+-- out in a line or behind one: the text is the lines that were taken by then.
 abbrev pub Ended : Status → List ℕ → Option (List ℕ) → Option (List ℕ) → Option (List ℕ) → Type 0
 Ended Done text left old new = IsAtEnd left × (length text ≤ MAX_INPUT_BYTES) × Completes Done text old new
 Ended (Refused line why) text left old new = IsDecided text left × Completes (Refused line why) text old new
 Ended (Limit line what) text left old new = IsDecided text left × Completes (Limit line what) text old new
 Ended ReadFault text left old new = (length text ≤ MAX_INPUT_BYTES) × HasPassed text × Appends old new (report_of (whole text).0)
-Ended WriteFault text left old new = WrotePrefix old new (report_of (whole text).0)
-Ended NoMemory text left old new = WrotePrefix old new (report_of (whole text).0)
+Ended WriteFault text left old new = EndsInLine text old new
+Ended NoMemory text left old new = EndsInLine text old new ⊎ EndsBehindLines text old new
 Ended Usage text left old new = ⊥
 
--- the text that was read, and how the run ended over it
+-- The run tells of all that was read; or, where a write failed or memory ran out, of a front of it.
+abbrev pub IsTold : Status → List ℕ → List ℕ → Type 0
+IsTold WriteFault read text = (behind : List ℕ) × (read ≡ text ++ behind)
+IsTold NoMemory read text = (behind : List ℕ) × (read ≡ text ++ behind)
+IsTold _ read text = read ≡ text
+
+-- what was read, the text of it that the run tells of, and how the run ended over that
 pub record Reads (status : Status) (left left_now old new : Option (List ℕ)) : Type 0 where
+  pub read : List ℕ
+  pub consumed : Consumes left left_now read
+  pub bounded : length read ≤ MAX_INPUT_BYTES + 1
   pub text : List ℕ
-  pub consumed : Consumes left left_now text
-  pub bounded : length text ≤ MAX_INPUT_BYTES + 1
+  pub told : IsTold status read text
+  pub wrote : WrotePrefix old new (report_of (whole text).0)
   pub ended : Ended status text left_now old new
 
 -- ---- what a text stands for
@@ -76,16 +105,22 @@ pub record Passed (text : List ℕ) (config : Config) (files : List (List ℕ ×
 
 -- ---- the whole of a run
 
--- All that a run says: the text that was read, what it stands for, how the run ended over it, and the journal with its laws.
+-- All that a run says: what was read, the text of it that the run tells of, what that stands for, how the run ended over it, and the
+-- journal with its laws.
 pub record Ran (status : Status) (left left_now old new : Option (List ℕ)) : Type 0 where
-  -- the bytes that were read, at most 2^26 + 1, and what was written of their report
+  -- the bytes that were read, at most 2^26 + 1
+  pub read : List ℕ
+  pub consumed : Consumes left left_now read
+  pub bounded : length read ≤ MAX_INPUT_BYTES + 1
+  -- All of them are the text; or, where a write failed or memory ran out, the lines that were taken by then. Of its report a front was
+  -- written, and which one the status says.
   pub text : List ℕ
-  pub consumed : Consumes left left_now text
-  pub bounded : length text ≤ MAX_INPUT_BYTES + 1
+  pub told : IsTold status read text
+  pub wrote : WrotePrefix old new (report_of (whole text).0)
   pub ended : Ended status text left_now old new
-  -- its replay ends with a status exactly where a line, or the text's end, gives its cause
+  -- the text's replay ends with a status exactly where a line, or the text's end, gives its cause
   pub causes : (other : Status) → ((whole text).1 ≡ other) ↔ Ends (lines_of text) other
-  -- what the lines that were passed stand for, with a settle in which the run ended, and the journal of the replay
+  -- what its lines that were passed stand for, with a settle in which its replay ends, and the journal of the replay
   pub config : Config
   pub files : List (List ℕ × List ℕ)
   pub events : List Event

@@ -52,6 +52,6 @@ returns-in-Err-Failed-clause-reads g c = reading_failed _ _ _ _ c.find_line.new.
   more = reading_more _ _ _ _ _ _ _ _ c.loop-len.invariant.reading c.find_line.ensures.taken c.find_line.ensures.count c.find_line.ensures.bound
 
 pub returns-in-Err-NoMemory-clause-reads : goal.returns-in-Err-NoMemory-clause-reads
-returns-in-Err-NoMemory-clause-reads g c = reading_starved _ _ _ _ c.find_line.new.self (seen c.loop-len.replay) more c.in-Err-NoMemory.ensures.err where
+returns-in-Err-NoMemory-clause-reads g c = reading_starved _ _ _ _ c.find_line.new.self (seen c.loop-len.replay) more where
   more : Reading (g.S.Source.left c.args.source.now) (g.S.Source.left c.find_line.new.source) c.find_line.new.self (seen c.loop-len.replay) (g.K.Sink.written c.args.sink.now) (g.K.Sink.written c.loop-len.sink)
   more = reading_more _ _ _ _ _ _ _ _ c.loop-len.invariant.reading c.find_line.ensures.taken c.find_line.ensures.count c.find_line.ensures.bound
