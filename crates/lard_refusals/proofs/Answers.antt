@@ -1,5 +1,5 @@
 -- What is to be answered to a client that wrote nothing, and to one that asked for a file.
-use Rattle.std.proofs.Common.{◌≡◌, ℕ, false, List, [], ◌∷◌, length, map, None, Some, refl, ap, subst}
+use Rattle.std.proofs.Common.{◌≡◌, ℕ, false, List, [], ◌∷◌, map, None, Some, refl, ap, subst}
 use Rattle.std.specs.Prelude.{codes, slice_get}
 use Rattle.std.specs.List.{concat}
 use Rattle.lard_answers.specs.Answers.{answer, answer_bytes, answers, goods, goods_from, verdicts}

@@ -1,5 +1,5 @@
 -- How many of the numbers that a connection can have pass a test that some of them pass.
-use Rattle.std.proofs.Common.{◌≡◌, ◌⊎◌, ℕ, zero, suc, ◌+◌, ◌<◌, ◌≤◌, Bool, true, false, List, [], ◌∷◌, cond, count_by, refl, ap, ◌∙◌, ⊎_elim, arith}
+use Rattle.std.proofs.Common.{◌≡◌, ℕ, zero, suc, ◌+◌, ◌<◌, ◌≤◌, Bool, true, cond, count_by, ap, ◌∙◌, ⊎_elim, arith}
 use Rattle.std.proofs.lemmas.Bool.{cases_eq}
 use Rattle.std.proofs.lemmas.List.Sums.{sum_by-cons}
 use Rattle.std.specs.List.{range_with_len}
@@ -19,13 +19,13 @@ module _ (p : ℕ → Bool) where
   one-counts k a zero from below yes_ = absurd (omega arith)
   one-counts k a (suc many) from below yes_ =
       ⊎_elim here (λ (other : a ≡ k → ⊥). behind (one-counts k (a + 1) many (omega (arith, other)) (omega arith) yes_)) (cases_eq a k) where
-    here : a ≡ k → 1 ≤ count_by p (range_with_len a (suc many))
-    here e = let all = first-counts a many (ap p e ∙ yes_) in omega arith
+        here : a ≡ k → 1 ≤ count_by p (range_with_len a (suc many))
+        here e = let all = first-counts a many (ap p e ∙ yes_) in omega arith
 
-    behind : 1 ≤ count_by p (range_with_len (a + 1) many) → 1 ≤ count_by p (range_with_len a (suc many))
-    behind rest =
-        let step : count_by p (range_with_len a (suc many)) ≡ cond {A = ℕ} (p a) 1 0 + count_by p (range_with_len (a + 1) many) = sum_by-cons (λ (x : ℕ). cond {A = ℕ} (p x) 1 0) a (range_with_len (a + 1) many) in
-        omega arith
+        behind : 1 ≤ count_by p (range_with_len (a + 1) many) → 1 ≤ count_by p (range_with_len a (suc many))
+        behind rest =
+            let step : count_by p (range_with_len a (suc many)) ≡ cond {A = ℕ} (p a) 1 0 + count_by p (range_with_len (a + 1) many) = sum_by-cons (λ (x : ℕ). cond {A = ℕ} (p x) 1 0) a (range_with_len (a + 1) many) in
+            omega arith
 
   three-count : (many : ℕ) → 3 ≤ many → p 1 ≡ true → p 2 ≡ true → p 3 ≡ true → 3 ≤ count_by p (range_with_len 1 many)
   three-count zero many one two three = absurd (omega arith)

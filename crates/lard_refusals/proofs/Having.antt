@@ -1,5 +1,5 @@
 -- What is one of a list, in a list and its parts.
-use Rattle.std.proofs.Common.{◌≡◌, ◌⊎◌, List, [], ◌∷◌, ◌++◌, ⊎_elim, inl, inr, subst, sym}
+use Rattle.std.proofs.Common.{◌≡◌, List, [], ◌∷◌, ◌++◌, ⊎_elim, inl, inr, subst, sym}
 use Rattle.lard_history.specs.Own.{Has}
 
 module _ {A : Type 0} where

@@ -1,12 +1,11 @@
 -- What nodes bear before anything is assigned and behind one assignment, and which nodes are chosen then.
-use Rattle.std.proofs.Common.{◌≡◌, ℕ, ◌+◌, Bool, true, false, List, [], ◌∷◌, length, Option, Some, None, refl, sym, ap, ◌∙◌, arith}
+use Rattle.std.proofs.Common.{◌≡◌, ℕ, [], ◌∷◌, length, Option, Some, None, refl, ap, ◌∙◌, arith}
 use Rattle.std.specs.FinMap as map
 use Rattle.std.specs.FinMap.{get-empty}
 use Rattle.std.specs.Ordering.{nat_cmp}
 use Rattle.lard_base.specs.Members.{node_numbers}
 use Rattle.lard_base.specs.declared.ids.Millis.{Millis}
 use Rattle.lard_costs.specs.Later.{later_choice}
-use Rattle.lard_costs.specs.declared.later.LaterChoice.{LaterChoice}
 use Rattle.lard_loads.specs.Charges.{Connect}
 use Rattle.lard_loads.specs.Tally.{Standing, Tally, connected, home, home_of, load, open_shares, shared, shares_of, sharing, start}
 use Rattle.lard_loads.proofs.Charged.{all_charged}

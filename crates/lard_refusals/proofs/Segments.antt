@@ -1,5 +1,5 @@
 -- What the segments say.
-use Rattle.std.proofs.Common.{◌≡◌, ℕ, true, false, List, [], ◌∷◌, Option, Some, None, Result, Ok, Err, refl, sym, ◌∙◌}
+use Rattle.std.proofs.Common.{◌≡◌, true, false, [], ◌∷◌, Some, None, Result, Ok, Err, refl}
 use Rattle.std.specs.Prelude.{codes}
 use Rattle.lard_history.specs.Journal.{Numbers}
 use Rattle.lard_refusals.specs.Packets.{acknowledgement, acknowledges_three_bytes, client_acknowledgement, final_segment, reset_segment, two_bytes}

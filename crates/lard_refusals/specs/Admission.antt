@@ -2,7 +2,7 @@
 use Rattle.std.specs.Prelude.{List, [], ◌∷◌, ◌≤◌, None, Some, codes}
 use Rattle.lard_base.specs.Config.{room_of}
 use Rattle.lard_base.specs.declared.event.Event.TheVariants as event
-use Rattle.lard_base.specs.declared.place.Place.TheVariants.{Client, Front, Node}
+use Rattle.lard_base.specs.declared.place.Place.TheVariants.{Front, Node}
 use Rattle.lard_cluster_laws.specs.Lawful.{EachCounted, Throughout}
 use Rattle.lard_cluster_line.specs.Laws.{LineNeedsAFullRoom, MayPass, MayWait, MustRelease}
 use Rattle.lard_cluster_policy.specs.Laws.{ArePaired, MayAdmit, MayRelease, Nothing, last_of}

@@ -1,7 +1,7 @@
 -- Journals that break the laws of Asks and Tags, and of the order and the ways of later requests.
 use Rattle.std.specs.Prelude.{ℕ, List, [], ◌∷◌, None, Some, codes}
 use Rattle.lard_base.specs.declared.event.Event.TheVariants as event
-use Rattle.lard_base.specs.declared.place.Place.TheVariants.{Client, Front, Node}
+use Rattle.lard_base.specs.declared.place.Place.TheVariants.{Front, Node}
 use Rattle.lard_base.specs.declared.place.Via.TheVariants as via
 use Rattle.lard_cluster_asks.specs.Answers.{MustAnswer, MustEnd}
 use Rattle.lard_cluster_asks.specs.Sent.{MustAsk}
@@ -12,7 +12,7 @@ use Rattle.lard_history.specs.Steps.{EachStep, steps}
 use Rattle.lard_journal.specs.declared.rec.Rec.{Rec}
 use Rattle.lard_journal.specs.declared.rec.Rec.TheVariants as rec
 use Rattle.lard_refusals.specs.Packets.{ask_with_a_queue, first_ask, second_ask, tag}
-use Rattle.lard_refusals.specs.Refusals.{Law, gave, took}
+use Rattle.lard_refusals.specs.Refusals.{Law, gave}
 
 -- ---- Asks
 

@@ -1,7 +1,7 @@
 -- Journals that break the laws of what clients write and take, and of timers.
 use Rattle.std.specs.Prelude.{List, [], ◌∷◌, codes}
 use Rattle.lard_base.specs.declared.event.Event.TheVariants as event
-use Rattle.lard_base.specs.declared.place.Place.TheVariants.{Client, Front, Node}
+use Rattle.lard_base.specs.declared.place.Place.TheVariants.{Client, Front}
 use Rattle.lard_base.specs.declared.place.TimerKind.TheVariants.{Tcp}
 use Rattle.lard_history.specs.Laws.{WritesWhileOpen}
 use Rattle.lard_journal.specs.declared.rec.Rec.{Rec}

@@ -1,7 +1,7 @@
 -- Journals that break the laws of disks and caches, and of where contents come from.
 use Rattle.std.specs.Prelude.{List, [], ◌∷◌, None, Some, codes}
 use Rattle.lard_base.specs.declared.event.Event.TheVariants as event
-use Rattle.lard_base.specs.declared.place.Place.TheVariants.{Client, Front, Node}
+use Rattle.lard_base.specs.declared.place.Place.TheVariants.{Node}
 use Rattle.lard_base.specs.declared.place.Via.TheVariants as via
 use Rattle.lard_cluster_backing.specs.Jobs.{MustQueue}
 use Rattle.lard_cluster_backing.specs.Requests.{MayBeBacked, MayStart}

@@ -1,4 +1,4 @@
-use Rattle.std.proofs.Common.{ℕ, ◌≤◌, [], refl, arith}
+use Rattle.std.proofs.Common.{◌≤◌, [], refl, arith}
 use Rattle.lard_refusals.specs.Admission.{one_too_many}
 use Rattle.lard_refusals.proofs.admission.room_refuses.Goals as goal
 

@@ -1,4 +1,4 @@
-use Rattle.std.proofs.Common.{◌≡◌, ℕ, ◌+◌, List, [], ◌∷◌, true, false, None, Some, ap, subst, ⊎_elim, arith}
+use Rattle.std.proofs.Common.{◌≡◌, ℕ, ◌+◌, List, true, false, None, Some, ap, subst, ⊎_elim, arith}
 use Rattle.std.specs.Prelude.{slice_index}
 use Rattle.lard_history.specs.Own.{own}
 use Rattle.lard_message.specs.declared.message.Body.TheVariants as body
@@ -19,7 +19,7 @@ pub returns-clause-queue_overstated : goal.returns-clause-queue_overstated
 unfolding own
 returns-clause-queue_overstated c h =
     ⊎_elim (λ again. let e : None ≡ Some ask_with_a_queue = again.0 in cc)
-        (λ next. let n = next.0 in not-three n.0 n.1 n.2 n.4) (h.0.asks 1 1 2)
+    (λ next. let n = next.0 in not-three n.0 n.1 n.2 n.4) (h.0.asks 1 1 2)
 
 -- the last byte of the number says two
 not-two : (size : ℕ) (paths : List (List ℕ)) → second_ask ≡ message 1 2 (body.Ask 1 0 size paths) → ⊥
@@ -30,4 +30,4 @@ pub returns-clause-asks_from_two : goal.returns-clause-asks_from_two
 unfolding own
 returns-clause-asks_from_two c h =
     ⊎_elim (λ again. let e : None ≡ Some second_ask = again.0 in cc)
-        (λ next. let n = next.0 in not-two n.1 n.2 (subst (λ (k : ℕ). second_ask ≡ message 1 2 (body.Ask (k + 1) 0 n.1 n.2)) n.3 n.4)) (h.0.asks 1 1 2)
+    (λ next. let n = next.0 in not-two n.1 n.2 (subst (λ (k : ℕ). second_ask ≡ message 1 2 (body.Ask (k + 1) 0 n.1 n.2)) n.3 n.4)) (h.0.asks 1 1 2)

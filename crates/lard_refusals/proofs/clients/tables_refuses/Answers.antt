@@ -1,5 +1,5 @@
-use Rattle.std.proofs.Common.{◌≡◌, ℕ, List, [], ◌∷◌, true, false, length, ap, arith}
-use Rattle.lard_history.specs.Own.{Seen, own}
+use Rattle.std.proofs.Common.{◌≡◌, ℕ, true, false, length, ap, arith}
+use Rattle.lard_history.specs.Own.{own}
 use Rattle.lard_refusals.proofs.clients.tables_refuses.Goals as goal
 use Rattle.lard_rules.specs.Speaking.{client_emits}
 use Rattle.lard_segment.specs.Segment.{spelled}

@@ -23,8 +23,8 @@ changes-are i x rest (b ∷ d ∷ more) changes change cut none all =
     let second : d ≡ x = cc in
     let first : b ≡ begin i = cc in
     let tests : (not (is_change (begin i)) && (not (is_change x) && list_all (λ r. not (is_change r)) more)) ≡ true
-            = subst (λ (r : Rec). (not (is_change r) && (not (is_change x) && list_all (λ r. not (is_change r)) more)) ≡ true) first
-                (subst (λ (r : Rec). (not (is_change b) && (not (is_change r) && list_all (λ r. not (is_change r)) more)) ≡ true) second none) in
+    = subst (λ (r : Rec). (not (is_change r) && (not (is_change x) && list_all (λ r. not (is_change r)) more)) ≡ true) first
+    (subst (λ (r : Rec). (not (is_change b) && (not (is_change r) && list_all (λ r. not (is_change r)) more)) ≡ true) second none) in
     let e : false ≡ true = ap (λ (t : Bool). not t && list_all (λ r. not (is_change r)) more) (sym change) ∙ tests in
     absurd cc
 

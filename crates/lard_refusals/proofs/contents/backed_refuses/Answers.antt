@@ -1,4 +1,4 @@
-use Rattle.std.proofs.Common.{◌≡◌, ◌⊎◌, ℕ, List, [], ◌∷◌, None, Some, refl, ⊎_elim}
+use Rattle.std.proofs.Common.{◌≡◌, [], ◌∷◌, None, Some, refl, ⊎_elim}
 use Rattle.std.specs.Prelude.{codes}
 use Rattle.lard_base.specs.declared.place.Place.TheVariants.{Node}
 use Rattle.lard_history.specs.Journal.{request}
@@ -17,8 +17,8 @@ hit = rec.Hit 1 (codes "/a")
 not-there : Has hit (rec.Wrote 1 (request (codes "/a")) ∷ rec.AssignedFirst 1 1 (codes "/a") 1 (Some 1) None ∷ took (Node 1) 1 2 ∷ []) → ⊥
 not-there there =
     ⊎_elim (λ (e : rec.Wrote 1 (request (codes "/a")) ≡ hit). cc)
-        (⊎_elim (λ (e : rec.AssignedFirst 1 1 (codes "/a") 1 (Some 1) None ≡ hit). cc)
-            (⊎_elim (λ (e : took (Node 1) 1 2 ≡ hit). cc) (λ (none : ⊥). none))) there
+    (⊎_elim (λ (e : rec.AssignedFirst 1 1 (codes "/a") 1 (Some 1) None ≡ hit). cc)
+    (⊎_elim (λ (e : took (Node 1) 1 2 ≡ hit). cc) (λ (none : ⊥). none))) there
 
 pub returns-clause-cache_without_a_hit : goal.returns-clause-cache_without_a_hit
 returns-clause-cache_without_a_hit c h =

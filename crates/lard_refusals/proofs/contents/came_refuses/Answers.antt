@@ -1,8 +1,7 @@
-use Rattle.std.proofs.Common.{◌≡◌, ◌⊎◌, ℕ, List, [], ◌∷◌, ⊎_elim}
+use Rattle.std.proofs.Common.{◌≡◌, [], ◌∷◌, ⊎_elim}
 use Rattle.std.specs.Prelude.{codes}
 use Rattle.lard_base.specs.declared.place.Place.TheVariants.{Node}
 use Rattle.lard_history.specs.Own.{Came, Has, Row, Seen, own}
-use Rattle.lard_journal.specs.declared.rec.Rec.{Rec}
 use Rattle.lard_journal.specs.declared.rec.Rec.TheVariants as rec
 use Rattle.lard_refusals.specs.Refusals.{took}
 use Rattle.lard_refusals.proofs.Having.{of-later}
@@ -24,4 +23,4 @@ returns-clause-served_before_it_is_read c h =
     let read : Seen = Row (rec.Read 1 1 1 1 was.path) in
     let there : Has read (Row (took (Node 1) 1 2) ∷ Row (rec.Queued 1 1 1 1 (codes "/a")) ∷ []) = of-later _ _ saw.before saw.later saw.split saw.saw in
     ⊎_elim (λ (e : Row (took (Node 1) 1 2) ≡ read). cc)
-        (⊎_elim (λ (e : Row (rec.Queued 1 1 1 1 (codes "/a")) ≡ read). cc) (λ (none : ⊥). none)) there
+    (⊎_elim (λ (e : Row (rec.Queued 1 1 1 1 (codes "/a")) ≡ read). cc) (λ (none : ⊥). none)) there

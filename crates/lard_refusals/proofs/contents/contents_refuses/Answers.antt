@@ -1,4 +1,4 @@
-use Rattle.std.proofs.Common.{◌≡◌, ◌⊎◌, ℕ, List, [], ◌∷◌, refl, ⊎_elim}
+use Rattle.std.proofs.Common.{◌≡◌, ℕ, List, [], ◌∷◌, refl, ⊎_elim}
 use Rattle.std.specs.Prelude.{codes}
 use Rattle.lard_base.specs.declared.event.Event.TheVariants as event
 use Rattle.lard_base.specs.declared.place.Place.TheVariants.{Node}
@@ -16,12 +16,12 @@ step = rec.Event 1 (event.Timer (Node 1) 1) ∷ rec.Sent 1 (Node 1) (Node 2) con
 nothing-comes : (k : ℕ) → Has (rec.Got k) step → ⊥
 nothing-comes k there =
     ⊎_elim (λ (e : rec.Event 1 (event.Timer (Node 1) 1) ≡ rec.Got k). cc)
-        (⊎_elim (λ (e : rec.Sent 1 (Node 1) (Node 2) content ≡ rec.Got k). cc) (λ (none : ⊥). none)) there
+    (⊎_elim (λ (e : rec.Sent 1 (Node 1) (Node 2) content ≡ rec.Got k). cc) (λ (none : ⊥). none)) there
 
 nothing-is-read : (n m c r : ℕ) (path : List ℕ) → Has (rec.Read n m c r path) step → ⊥
 nothing-is-read n m c r path there =
     ⊎_elim (λ (e : rec.Event 1 (event.Timer (Node 1) 1) ≡ rec.Read n m c r path). cc)
-        (⊎_elim (λ (e : rec.Sent 1 (Node 1) (Node 2) content ≡ rec.Read n m c r path). cc) (λ (none : ⊥). none)) there
+    (⊎_elim (λ (e : rec.Sent 1 (Node 1) (Node 2) content ≡ rec.Read n m c r path). cc) (λ (none : ⊥). none)) there
 
 pub returns-clause-content_out_of_nothing : goal.returns-clause-content_out_of_nothing
 returns-clause-content_out_of_nothing c h =

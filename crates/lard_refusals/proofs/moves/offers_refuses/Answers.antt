@@ -1,4 +1,4 @@
-use Rattle.std.proofs.Common.{◌≡◌, ℕ, ◌+◌, ◌≤◌, List, [], ◌∷◌, Option, None, Some, refl, subst, ⊎_elim, arith}
+use Rattle.std.proofs.Common.{◌≡◌, ◌+◌, ◌≤◌, List, [], Option, None, Some, refl, subst, ⊎_elim, arith}
 use Rattle.std.specs.Prelude.{codes, drop}
 use Rattle.lard_block.specs.Blocks.{Piece}
 use Rattle.lard_cluster_offers.specs.Offers.{BeginsFrom}

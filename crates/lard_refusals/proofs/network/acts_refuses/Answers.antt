@@ -1,4 +1,4 @@
-use Rattle.std.proofs.Common.{ℕ, ◌≤◌, refl, arith}
+use Rattle.std.proofs.Common.{◌≤◌, refl, arith}
 use Rattle.lard_refusals.proofs.network.acts_refuses.Goals as goal
 
 pub returns-clause-fourth_of_three : goal.returns-clause-fourth_of_three

@@ -1,4 +1,4 @@
-use Rattle.std.proofs.Common.{◌≡◌, ℕ, ◌+◌, Some, arith}
+use Rattle.std.proofs.Common.{◌≡◌, ◌+◌, Some, arith}
 use Rattle.lard_base.specs.declared.event.Event.TheVariants as event
 use Rattle.lard_refusals.proofs.network.clock_refuses.Goals as goal
 

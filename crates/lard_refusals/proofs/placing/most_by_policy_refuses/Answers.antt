@@ -1,4 +1,4 @@
-use Rattle.std.proofs.Common.{ℕ, ◌≤◌, [], refl, arith}
+use Rattle.std.proofs.Common.{◌≤◌, [], refl, arith}
 use Rattle.lard_refusals.specs.Placing.{four_at_one_node}
 use Rattle.lard_refusals.proofs.placing.most_by_policy_refuses.Goals as goal
 

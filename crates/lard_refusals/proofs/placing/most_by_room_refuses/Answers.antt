@@ -1,4 +1,4 @@
-use Rattle.std.proofs.Common.{ℕ, ◌≤◌, [], refl, arith}
+use Rattle.std.proofs.Common.{◌≤◌, [], refl, arith}
 use Rattle.lard_refusals.specs.Placing.{three_at_one_node}
 use Rattle.lard_refusals.proofs.placing.most_by_room_refuses.Goals as goal
 

@@ -1,4 +1,4 @@
-use Rattle.std.proofs.Common.{◌≡◌, ℕ, zero, suc, ◌+◌, ◌≤◌, Bool, true, [], count_by, nat_le, refl, arith}
+use Rattle.std.proofs.Common.{◌≡◌, ℕ, zero, suc, ◌+◌, ◌≤◌, true, [], count_by, nat_le, refl, arith}
 use Rattle.std.proofs.lemmas.Bool.Decides.{nat_tests}
 use Rattle.lard_cluster_line.specs.Laws.{connections}
 use Rattle.lard_dispatch.specs.Loads.{is_at}
@@ -25,6 +25,6 @@ at-high n low high = let some = each n low high in grind (arith, nat_tests, some
 pub returns-clause-one_at_each_node : goal.returns-clause-one_at_each_node
 returns-clause-one_at_each_node c h =
     let busy : 3 ≤ count_by (λ (n : ℕ). nat_le 1 (connections one_at_each_node n)) (numbers 3)
-            = three-of-three (λ (n : ℕ). nat_le 1 (connections one_at_each_node n)) (at-high 1 (omega arith) (omega arith)) (at-high 2 (omega arith) (omega arith)) (at-high 3 (omega arith) (omega arith)) in
+    = three-of-three (λ (n : ℕ). nat_le 1 (connections one_at_each_node n)) (at-high 1 (omega arith) (omega arith)) (at-high 2 (omega arith) (omega arith)) (at-high 3 (omega arith) (omega arith)) in
     let few : count_by (λ (n : ℕ). nat_le 1 (connections one_at_each_node n)) (numbers 3) + 2 ≤ 3 = h one_at_each_node [] refl each in
     omega arith

@@ -1,4 +1,4 @@
-use Rattle.std.proofs.Common.{◌≡◌, ℕ, List, true, false, length, refl, sym, ap, ◌∙◌, ⊎_elim, arith}
+use Rattle.std.proofs.Common.{◌≡◌, ℕ, true, false, length, refl, ap, ◌∙◌, ⊎_elim, arith}
 use Rattle.lard_refusals.proofs.Answers.{its-bytes}
 use Rattle.lard_refusals.proofs.quiet.quiet_refuses.Goals as goal
 

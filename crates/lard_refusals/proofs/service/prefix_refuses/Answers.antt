@@ -1,4 +1,4 @@
-use Rattle.std.proofs.Common.{◌≡◌, ◌⊎◌, ℕ, ◌+◌, Bool, true, false, List, [], ◌∷◌, ◌++◌, cond, nat_eq, refl, sym, ap, subst, ◌∙◌, arith}
+use Rattle.std.proofs.Common.{◌≡◌, ℕ, Bool, true, false, List, [], ◌∷◌, ◌++◌, cond, nat_eq, refl, sym, ap, subst, ◌∙◌, arith}
 use Rattle.std.specs.Prelude.{codes, slice_index}
 use Rattle.lard_answers.specs.Answers.{IsPrefix, answer_bytes}
 use Rattle.lard_history.specs.Journal.{accepted, request, wrote}
@@ -48,7 +48,7 @@ each (x ∷ y ∷ []) later c cut =
     let first : asking ≡ x = cc in
     let second : accepting ≡ y = cc in
     subst (λ (r : Rec). IsPrefix (accepted (r ∷ y ∷ []) c) (answer_bytes two_files (wrote (r ∷ y ∷ []) c))) first
-        (subst (λ (r : Rec). IsPrefix (accepted (asking ∷ r ∷ []) c) (answer_bytes two_files (wrote (asking ∷ r ∷ []) c))) second (both c))
+    (subst (λ (r : Rec). IsPrefix (accepted (asking ∷ r ∷ []) c) (answer_bytes two_files (wrote (asking ∷ r ∷ []) c))) second (both c))
 each (x ∷ y ∷ z ∷ more) later c cut = absurd cc
 
 pub returns-clause-its_answer_accepted : goal.returns-clause-its_answer_accepted

@@ -2,7 +2,7 @@ use Rattle.std.proofs.Common.{◌≡◌, ℕ, ◌+◌, ◌%◌, ◌^◌, ◌≤�
 use Rattle.std.proofs.lemmas.Bool.{both_ways}
 use Rattle.lard_history.specs.Journal.{Numbers, said_fin}
 use Rattle.lard_refusals.specs.Packets.{final_segment}
-use Rattle.lard_refusals.proofs.Segments.{final-decodes, garbage-is-short, reset-decodes, reset_says, same-numbers, same-said, three-bytes-decode, three_bytes_say, two-bytes-decode, two_bytes_say}
+use Rattle.lard_refusals.proofs.Segments.{final-decodes, garbage-is-short, reset-decodes, reset_says, same-numbers, same-said, three-bytes-decode, three_bytes_say, two-bytes-decode}
 use Rattle.lard_refusals.proofs.service.tells_refuses.Goals as goal
 use Rattle.lard_segment.specs.declared.segment.Dir.TheVariants.{ToClient}
 use Rattle.lard_segment.specs.Segment.{Said, decoded}
@@ -22,7 +22,7 @@ returns-clause-bytes_of_no_response c h =
     let t = h.1.0 refl in
     let two : length t.said.payload ≡ 2 = ap (λ (s : Said). length s.payload) (same-said t.decodes two-bytes-decode) in
     ⊎_elim (λ (none : t.said.payload ≡ []). let zero : length t.said.payload ≡ 0 = ap length none in omega arith)
-        (λ part. let within : part.0 + length t.said.payload ≤ 0 = part.2.within in omega arith) t.carries
+    (λ part. let within : part.0 + length t.said.payload ≤ 0 = part.2.within in omega arith) t.carries
 
 pub returns-clause-acknowledged_before_it_is_written : goal.returns-clause-acknowledged_before_it_is_written
 returns-clause-acknowledged_before_it_is_written c h =
