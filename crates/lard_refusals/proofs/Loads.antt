@@ -68,3 +68,7 @@ pub share-is-open : open_shares (shared one_at_home 1 2 2) 1 ≡ 1
 share-is-open =
     ap (λ (o : Option Standing). open_shares (sharing one_at_home 1 2 2 o) 1) is-there
     ∙ ap (λ (o : Option Standing). length (shares_of o)) (get_inserted one_at_home.standings 1 (record at_home { shares = record { node = 2; units = 420 } ∷ [] }))
+
+-- before that no share was
+pub no-share-is-open : open_shares one_at_home 1 ≡ 0
+no-share-is-open = ap (λ (o : Option Standing). length (shares_of o)) is-there

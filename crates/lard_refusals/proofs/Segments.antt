@@ -2,7 +2,7 @@
 use Rattle.std.proofs.Common.{◌≡◌, true, false, [], ◌∷◌, Some, None, Result, Ok, Err, refl}
 use Rattle.std.specs.Prelude.{codes}
 use Rattle.lard_history.specs.Journal.{Numbers}
-use Rattle.lard_refusals.specs.Packets.{acknowledgement, acknowledges_three_bytes, client_acknowledgement, final_segment, reset_segment, two_bytes}
+use Rattle.lard_refusals.specs.Packets.{acknowledgement, acknowledges_three_bytes, client_acknowledgement, final_segment, reset_segment, two_bytes, two_bytes_from_the_end, two_bytes_from_zero}
 use Rattle.lard_segment.specs.declared.fault.SegFault.{SegFault}
 use Rattle.lard_segment.specs.declared.fault.SegFault.TheVariants as fault
 use Rattle.lard_segment.specs.declared.segment.Dir.TheVariants.{ToClient, ToCluster}
@@ -59,3 +59,17 @@ reset-decodes = refl
 pub client-decodes : decoded client_acknowledgement 1 ToCluster ≡ Ok (record { seq = 1001; ack = 5001; flags = ack_flags; wnd = 65535; mss = None; payload = [] })
 unfolding decoded
 client-decodes = refl
+
+abbrev pub from_zero_say : Said
+from_zero_say = record two_bytes_say { seq = 0 }
+
+abbrev pub from_the_end_say : Said
+from_the_end_say = record two_bytes_say { seq = 4294967295 }
+
+pub from-zero-decodes : decoded two_bytes_from_zero 1 ToClient ≡ Ok from_zero_say
+unfolding decoded
+from-zero-decodes = refl
+
+pub from-the-end-decodes : decoded two_bytes_from_the_end 1 ToClient ≡ Ok from_the_end_say
+unfolding decoded
+from-the-end-decodes = refl

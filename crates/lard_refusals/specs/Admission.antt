@@ -54,6 +54,10 @@ nodes config files J = ArePaired Nothing J
 abbrev pub admitted_to_no_node : List Rec
 admitted_to_no_node = rec.Admitted 1 ∷ rec.Event 1 (event.Shut 2) ∷ []
 
+-- One is chosen.
+abbrev pub admitted_to_a_node : List Rec
+admitted_to_a_node = rec.Admitted 1 ∷ rec.AssignedFirst 1 1 (codes "/a") 1 (Some 1) None ∷ []
+
 -- A node is chosen for a connection that is not admitted.
 abbrev pub assigned_and_not_admitted : List Rec
 assigned_and_not_admitted = rec.AssignedFirst 1 1 (codes "/a") 1 (Some 1) None ∷ []
@@ -82,6 +86,10 @@ taken_back config files J = EachStep (MustRelease config) [] (steps J)
 abbrev pub taken_and_not_released : List Rec
 taken_and_not_released = rec.Event 1 (event.Deliver 1) ∷ took Front 1 3 ∷ []
 
+-- It releases it.
+abbrev pub taken_and_released : List Rec
+taken_and_released = rec.Event 1 (event.Deliver 1) ∷ took Front 1 3 ∷ rec.Released 1 ∷ []
+
 -- ---- the line
 
 abbrev pub joins : Law
@@ -94,6 +102,10 @@ stranger_waits = took (Node 1) 1 1 ∷ rec.Waits 1 ∷ []
 -- One waits twice.
 abbrev pub waits_twice : List Rec
 waits_twice = took Front 1 1 ∷ rec.Waits 1 ∷ rec.Waits 1 ∷ []
+
+-- One waits.
+abbrev pub waits_once : List Rec
+waits_once = took Front 1 1 ∷ rec.Waits 1 ∷ []
 
 -- One waits that came back from a node.
 abbrev pub waits_once_more : List Rec

@@ -93,6 +93,10 @@ assigned_before_it_is_written = rec.AssignedFirst 1 1 (codes "/a") 1 (Some 1) No
 abbrev pub another_path_assigned : List Rec
 another_path_assigned = rec.Wrote 1 (request (codes "/a")) ∷ rec.AssignedFirst 1 1 (codes "/b") 1 (Some 1) None ∷ []
 
+-- That one is.
+abbrev pub its_path_assigned : List Rec
+its_path_assigned = rec.Wrote 1 (request (codes "/a")) ∷ rec.AssignedFirst 1 1 (codes "/a") 1 (Some 1) None ∷ []
+
 abbrev pub paths : Law
 paths config files J = AssignsAPrefix files J
 
@@ -113,3 +117,8 @@ served_and_not_assigned = rec.Wrote 1 (request (codes "/a")) ∷ rec.Served (Nod
 abbrev pub served_by_another_node : List Rec
 served_by_another_node =
     rec.Wrote 1 (request (codes "/a")) ∷ rec.AssignedFirst 1 1 (codes "/a") 2 (Some 2) None ∷ rec.Served (Node 1) 1 1 200 40 via.Cache ∷ []
+
+-- Node 2 does.
+abbrev pub served_by_its_node : List Rec
+served_by_its_node =
+    rec.Wrote 1 (request (codes "/a")) ∷ rec.AssignedFirst 1 1 (codes "/a") 2 (Some 2) None ∷ rec.Served (Node 2) 1 1 200 40 via.Cache ∷ []

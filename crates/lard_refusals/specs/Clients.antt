@@ -25,6 +25,10 @@ writes_when_shut = rec.Event 1 (event.Shut 1) ∷ rec.Wrote 1 (codes "x") ∷ []
 abbrev pub writes_when_aborted : List Rec
 writes_when_aborted = rec.Aborted 1 ∷ rec.Wrote 1 (codes "x") ∷ []
 
+-- One writes, and then closes its side.
+abbrev pub writes_and_shuts : List Rec
+writes_and_shuts = rec.Wrote 1 (codes "x") ∷ rec.Event 1 (event.Shut 1) ∷ []
+
 -- ---- what they take
 
 abbrev pub takers : Law
@@ -41,6 +45,10 @@ accepts_other_bytes = rec.Opened 1 1000 5000 65535 1460 ∷ rec.Sent 1 Front (Cl
 -- One accepts the same bytes again.
 abbrev pub accepts_twice : List Rec
 accepts_twice = rec.Opened 1 1000 5000 65535 1460 ∷ rec.Sent 1 Front (Client 1) two_bytes ∷ rec.Got 1 ∷ rec.Accepted 1 (codes "HT") ∷ rec.Got 1 ∷ rec.Accepted 1 (codes "HT") ∷ []
+
+-- One accepts what came.
+abbrev pub accepts_what_came : List Rec
+accepts_what_came = rec.Opened 1 1000 5000 65535 1460 ∷ rec.Sent 1 Front (Client 1) two_bytes ∷ rec.Got 1 ∷ rec.Accepted 1 (codes "HT") ∷ []
 
 -- One takes the end of its stream by a segment without FIN.
 abbrev pub ends_without_a_fin : List Rec

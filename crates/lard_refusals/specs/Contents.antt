@@ -55,6 +55,11 @@ abbrev pub another_job_is_read : List Rec
 another_job_is_read =
     rec.Event 1 (event.Timer (Node 1) 1) ∷ rec.Queued 1 1 1 1 (codes "/a") ∷ rec.Queued 1 1 1 2 (codes "/b") ∷ rec.Event 2 (event.Disk 1 1) ∷ rec.Read 1 1 1 2 (codes "/b") ∷ []
 
+-- The first is.
+abbrev pub oldest_job_is_read : List Rec
+oldest_job_is_read =
+    rec.Event 1 (event.Timer (Node 1) 1) ∷ rec.Queued 1 1 1 1 (codes "/a") ∷ rec.Queued 1 1 1 2 (codes "/b") ∷ rec.Event 2 (event.Disk 1 1) ∷ rec.Read 1 1 1 1 (codes "/a") ∷ []
+
 -- A job is read in a step in which no disk is done.
 abbrev pub read_in_another_step : List Rec
 read_in_another_step = rec.Event 1 (event.Timer (Node 1) 1) ∷ rec.Queued 1 1 1 1 (codes "/a") ∷ rec.Read 1 1 1 1 (codes "/a") ∷ []
@@ -71,6 +76,10 @@ remote_request_served_at_once = took (Node 1) 1 2 ∷ rec.Served (Node 1) 1 1 20
 -- A file is served from a disk that did not read it.
 abbrev pub served_before_it_is_read : List Rec
 served_before_it_is_read = took (Node 1) 1 2 ∷ rec.Queued 1 1 1 1 (codes "/a") ∷ rec.Served (Node 1) 1 1 200 40 via.Disk ∷ []
+
+-- It was read.
+abbrev pub served_once_it_is_read : List Rec
+served_once_it_is_read = took (Node 1) 1 2 ∷ rec.Read 1 1 1 1 (codes "/a") ∷ rec.Served (Node 1) 1 1 200 40 via.Disk ∷ []
 
 abbrev pub backed : Law
 backed config files J = EachMay (MayBeBacked files) [] J
@@ -89,6 +98,10 @@ starts config files J = EachMay (MayStart files) [] J
 abbrev pub job_before_it_is_told : List Rec
 job_before_it_is_told = rec.Queued 1 1 1 1 (codes "/a") ∷ []
 
+-- It queues one for the request with which it took the connection.
+abbrev pub job_once_it_is_told : List Rec
+job_once_it_is_told = rec.AssignedFirst 1 1 (codes "/a") 1 (Some 1) None ∷ took (Node 1) 1 2 ∷ rec.Queued 1 1 1 1 (codes "/a") ∷ []
+
 -- It reads one.
 abbrev pub read_before_it_is_told : List Rec
 read_before_it_is_told = rec.Read 1 1 1 1 (codes "/a") ∷ []
@@ -106,3 +119,7 @@ queues config files J = EachStep MustQueue [] (steps J)
 -- A node queues a job for another, and no Fetch came.
 abbrev pub job_for_another_unasked : List Rec
 job_for_another_unasked = rec.Event 1 (event.Timer (Node 1) 1) ∷ rec.Queued 1 2 1 1 (codes "/a") ∷ []
+
+-- It queues one of its own.
+abbrev pub job_of_its_own : List Rec
+job_of_its_own = rec.Event 1 (event.Timer (Node 1) 1) ∷ rec.Queued 1 1 1 1 (codes "/a") ∷ []

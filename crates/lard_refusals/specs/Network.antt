@@ -34,6 +34,10 @@ got_elsewhere = rec.Sent 1 (Client 1) Front syn ∷ rec.Event 1 (event.Shut 1) �
 abbrev pub lost_twice : List Rec
 lost_twice = rec.Sent 1 (Client 1) Front syn ∷ rec.Lost 1 ∷ rec.Lost 1 ∷ []
 
+-- A packet comes to its place.
+abbrev pub sent_and_got : List Rec
+sent_and_got = rec.Sent 1 (Client 1) Front syn ∷ rec.Event 1 (event.Deliver 1) ∷ rec.Got 1 ∷ []
+
 -- ---- places
 
 abbrev pub places : Law
@@ -46,6 +50,10 @@ acts_in_the_step_of_another = rec.Event 1 (event.Shut 1) ∷ took Front 1 1 ∷ 
 -- A node sends in a step of the clock, in which nobody acts.
 abbrev pub acts_in_a_step_of_nobody : List Rec
 acts_in_a_step_of_nobody = rec.Event 1 (event.Clock 5) ∷ rec.Hit 1 (codes "/a") ∷ []
+
+-- The front end takes a connection in a step of its own.
+abbrev pub acts_in_its_own_step : List Rec
+acts_in_its_own_step = rec.Event 1 (event.Timer Front 1) ∷ took Front 1 1 ∷ []
 
 abbrev pub acts : Law
 acts config files J = EachMay (MayBeThere config.nodes) [] J
@@ -66,6 +74,10 @@ clock config files J = KeepsTime J
 -- The clock moves by five milliseconds, and tells four.
 abbrev pub a_millisecond_lost : List Rec
 a_millisecond_lost = rec.Event 1 (event.Clock 5) ∷ rec.Clock (record { 0 = 4 }) ∷ []
+
+-- It tells five.
+abbrev pub five_milliseconds_told : List Rec
+five_milliseconds_told = rec.Event 1 (event.Clock 5) ∷ rec.Clock (record { 0 = 5 }) ∷ []
 
 -- A time is told in another step.
 abbrev pub time_of_its_own : List Rec

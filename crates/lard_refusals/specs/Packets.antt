@@ -24,6 +24,14 @@ acknowledges_three_bytes = 0 ∷ 80 ∷ 156 ∷ 64 ∷ 0 ∷ 0 ∷ 19 ∷ 137 �
 abbrev pub two_bytes : List ℕ
 two_bytes = 0 ∷ 80 ∷ 156 ∷ 64 ∷ 0 ∷ 0 ∷ 19 ∷ 137 ∷ 0 ∷ 0 ∷ 3 ∷ 233 ∷ 80 ∷ 24 ∷ 64 ∷ 0 ∷ 95 ∷ 113 ∷ 0 ∷ 0 ∷ 72 ∷ 84 ∷ []
 
+-- The same two bytes, where the first number of the cluster is 4,294,967,295: theirs is 0.
+abbrev pub two_bytes_from_zero : List ℕ
+two_bytes_from_zero = 0 ∷ 80 ∷ 156 ∷ 64 ∷ 0 ∷ 0 ∷ 0 ∷ 0 ∷ 0 ∷ 0 ∷ 3 ∷ 233 ∷ 80 ∷ 24 ∷ 64 ∷ 0 ∷ 114 ∷ 250 ∷ 0 ∷ 0 ∷ 72 ∷ 84 ∷ []
+
+-- With a number that is not counted modulo 2^32.
+abbrev pub two_bytes_from_the_end : List ℕ
+two_bytes_from_the_end = 0 ∷ 80 ∷ 156 ∷ 64 ∷ 255 ∷ 255 ∷ 255 ∷ 255 ∷ 0 ∷ 0 ∷ 3 ∷ 233 ∷ 80 ∷ 24 ∷ 64 ∷ 0 ∷ 114 ∷ 250 ∷ 0 ∷ 0 ∷ 72 ∷ 84 ∷ []
+
 -- The FIN of the cluster, directly behind its SYN.
 abbrev pub final_segment : List ℕ
 final_segment = 0 ∷ 80 ∷ 156 ∷ 64 ∷ 0 ∷ 0 ∷ 19 ∷ 137 ∷ 0 ∷ 0 ∷ 3 ∷ 233 ∷ 80 ∷ 17 ∷ 64 ∷ 0 ∷ 167 ∷ 206 ∷ 0 ∷ 0 ∷ []

@@ -75,6 +75,10 @@ batches config files J = EachMay (λ past r. MayShare (last_of past) (ledger con
 abbrev pub two_batches_open : List Rec
 two_batches_open = first_joining 1 1 ∷ later_at 2 2 ∷ rec.Event 1 (event.Shut 2) ∷ later_at 3 2 ∷ []
 
+-- A share is added to the batch.
+abbrev pub one_batch_open : List Rec
+one_batch_open = first_joining 1 1 ∷ later_at 2 2 ∷ later_at 3 2 ∷ []
+
 -- ---- loads and sets
 
 abbrev pub loads : Law

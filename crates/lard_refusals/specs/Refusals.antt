@@ -1,6 +1,7 @@
 -- What it is to refuse a journal, and the cluster and the files that all journals here are of.
-use Rattle.std.specs.Prelude.{ℕ, List, [], ◌∷◌, codes}
+use Rattle.std.specs.Prelude.{◌≡◌, ℕ, List, [], ◌∷◌, Ok, codes}
 use Rattle.lard_answers.specs.Answers.{FilesAt}
+use Rattle.lard_base.specs.Config.{config_check}
 use Rattle.lard_base.specs.declared.config.Config.{Config}
 use Rattle.lard_base.specs.declared.place.Place.{Place}
 use Rattle.lard_cluster_laws.specs.Lawful.{IsLawful}
@@ -21,6 +22,10 @@ IsLawOfAll law = (config : Config) (files : FilesAt) (J : List Rec) → IsLawful
 -- Three nodes, with room for two connections. A node's cache holds three bytes, and a connection may have a hundred.
 abbrev pub three_nodes : Config
 three_nodes = record { nodes = 3; low = 1; high = 1; age = 1000; idle = 1; over = 2; miss = 1; cache = 3; stream = 100 }
+
+-- Such numbers may be used.
+abbrev pub MayBeUsed : Type 0
+MayBeUsed = config_check three_nodes ≡ Ok tt
 
 -- Two files of two bytes each.
 abbrev pub two_files : FilesAt

@@ -8,7 +8,7 @@ use Rattle.lard_history.specs.Journal.{request}
 use Rattle.lard_history.specs.Laws.{AcceptsOnlyAnswers, EachMay, ResetsAtTheLimit, TellsTheTruth}
 use Rattle.lard_journal.specs.declared.rec.Rec.{Rec}
 use Rattle.lard_journal.specs.declared.rec.Rec.TheVariants as rec
-use Rattle.lard_refusals.specs.Packets.{acknowledges_three_bytes, final_segment, reset_segment, two_bytes}
+use Rattle.lard_refusals.specs.Packets.{acknowledges_three_bytes, final_segment, reset_segment, two_bytes, two_bytes_from_the_end, two_bytes_from_zero}
 use Rattle.lard_refusals.specs.Refusals.{Law, took}
 
 -- ---- what is told
@@ -24,9 +24,28 @@ no_segment = rec.Sent 1 Front (Client 1) (1 ∷ 2 ∷ 3 ∷ []) ∷ []
 abbrev pub reset_at_will : List Rec
 reset_at_will = rec.Opened 1 1000 5000 65535 1460 ∷ rec.Sent 1 Front (Client 1) reset_segment ∷ []
 
+-- It is reset behind a reset of the limit.
+abbrev pub reset_behind_the_limit : List Rec
+reset_behind_the_limit = rec.Opened 1 1000 5000 65535 1460 ∷ rec.Reset Front 1 120 ∷ rec.Sent 1 Front (Client 1) reset_segment ∷ []
+
 -- A client is sent bytes of a response that was not queued.
 abbrev pub bytes_of_no_response : List Rec
 bytes_of_no_response = rec.Opened 1 1000 5000 65535 1460 ∷ rec.Sent 1 Front (Client 1) two_bytes ∷ []
+
+-- It is sent bytes of one that was.
+abbrev pub bytes_of_a_response : List Rec
+bytes_of_a_response =
+    rec.Opened 1 1000 5000 65535 1460 ∷ rec.Wrote 1 (request (codes "/a")) ∷ rec.Served (Node 1) 1 1 200 40 via.Cache ∷ rec.Sent 1 (Node 1) (Client 1) two_bytes ∷ []
+
+-- The cluster's first number is the greatest that there is, and the number behind it does not wrap.
+abbrev pub number_does_not_wrap : List Rec
+number_does_not_wrap =
+    rec.Opened 1 1000 4294967295 65535 1460 ∷ rec.Wrote 1 (request (codes "/a")) ∷ rec.Served (Node 1) 1 1 200 40 via.Cache ∷ rec.Sent 1 (Node 1) (Client 1) two_bytes_from_the_end ∷ []
+
+-- It is 0.
+abbrev pub number_wraps : List Rec
+number_wraps =
+    rec.Opened 1 1000 4294967295 65535 1460 ∷ rec.Wrote 1 (request (codes "/a")) ∷ rec.Served (Node 1) 1 1 200 40 via.Cache ∷ rec.Sent 1 (Node 1) (Client 1) two_bytes_from_zero ∷ []
 
 -- A client wrote nothing, and three bytes are acknowledged.
 abbrev pub acknowledged_before_it_is_written : List Rec
@@ -52,6 +71,10 @@ answered_by_a_stranger = took (Node 1) 1 2 ∷ rec.Served (Node 2) 1 1 200 40 vi
 -- A response of another length than the answer has.
 abbrev pub response_of_another_length : List Rec
 response_of_another_length = took (Node 1) 1 2 ∷ rec.Wrote 1 (request (codes "/a")) ∷ rec.Served (Node 1) 1 1 200 41 via.Disk ∷ []
+
+-- It has the answer's.
+abbrev pub its_answer_served : List Rec
+its_answer_served = took (Node 1) 1 2 ∷ rec.Wrote 1 (request (codes "/a")) ∷ rec.Served (Node 1) 1 1 200 40 via.Disk ∷ []
 
 -- ---- what is accepted
 
@@ -109,6 +132,11 @@ abbrev pub file_answered_at_the_front_end : List Rec
 file_answered_at_the_front_end =
     rec.Wrote 1 (request (codes "/a")) ∷ rec.AssignedFirst 1 1 (codes "/a") 1 (Some 1) None ∷ rec.Served Front 1 1 200 40 via.Own ∷ []
 
+-- Its node does.
+abbrev pub file_answered_at_its_node : List Rec
+file_answered_at_its_node =
+    rec.Wrote 1 (request (codes "/a")) ∷ rec.AssignedFirst 1 1 (codes "/a") 1 (Some 1) None ∷ rec.Served (Node 1) 1 1 200 40 via.Cache ∷ []
+
 abbrev pub named : Law
 named config files J = EachMay (MayName files) [] J
 
@@ -120,6 +148,10 @@ second_request_assigned_first = rec.AssignedFirst 1 2 (codes "/a") 1 (Some 1) No
 abbrev pub assigned_first_again : List Rec
 assigned_first_again =
     rec.Wrote 1 (request (codes "/a")) ∷ rec.AssignedFirst 1 1 (codes "/a") 1 (Some 1) None ∷ rec.AssignedFirst 1 1 (codes "/a") 1 None None ∷ []
+
+-- It has one.
+abbrev pub assigned_first_once : List Rec
+assigned_first_once = rec.Wrote 1 (request (codes "/a")) ∷ rec.AssignedFirst 1 1 (codes "/a") 1 (Some 1) None ∷ []
 
 -- A job is queued for a request that was not written.
 abbrev pub job_for_no_request : List Rec

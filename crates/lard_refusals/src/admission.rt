@@ -1,6 +1,6 @@
 //! What the laws of the room, of releases and of the line refuse.
 
-ghost use Rattle.lard_refusals.specs.Admission.{admission, admitted_to_no_node, admitted_twice, another_is_released, assigned_and_not_admitted, batch_over_for_nothing, first_passes, joins, line, line_before_an_empty_room, nobody_follows, nodes, one_too_many, passes, released_once, released_twice, released_where_it_is, releases, room, second_passes_the_first, stranger_waits, taken_and_not_released, taken_back, third_waits, waits_beside_free_room, waits_once_more, waits_twice};
+ghost use Rattle.lard_refusals.specs.Admission.{admission, admitted_to_a_node, admitted_to_no_node, admitted_twice, another_is_released, assigned_and_not_admitted, batch_over_for_nothing, first_passes, joins, line, line_before_an_empty_room, nobody_follows, nodes, one_too_many, passes, released_once, released_twice, released_where_it_is, releases, room, second_passes_the_first, stranger_waits, taken_and_not_released, taken_and_released, taken_back, third_waits, waits_beside_free_room, waits_once, waits_once_more, waits_twice};
 ghost use Rattle.lard_refusals.specs.Refusals.{Allows, IsLawOfAll, Refuses};
 
 /// Who waits finds the room full, who is admitted finds room, and who is released is in.
@@ -26,6 +26,7 @@ pub fn nodes_refuses()
     ensures admitted_to_no_node { Refuses nodes admitted_to_no_node }
     ensures assigned_and_not_admitted { Refuses nodes assigned_and_not_admitted }
     ensures batch_over_for_nothing { Refuses nodes batch_over_for_nothing }
+    ensures admitted_to_a_node { Allows nodes admitted_to_a_node }
 {}
 
 /// A release stands directly behind the record that the front end took the connection.
@@ -33,12 +34,14 @@ pub fn releases_refuses()
     ensures law { IsLawOfAll releases }
     ensures released_where_it_is { Refuses releases released_where_it_is }
     ensures another_is_released { Refuses releases another_is_released }
+    ensures taken_and_released { Allows releases taken_and_released }
 {}
 
 /// And there it has to stand.
 pub fn taken_back_refuses()
     ensures law { IsLawOfAll taken_back }
     ensures taken_and_not_released { Refuses taken_back taken_and_not_released }
+    ensures taken_and_released { Allows taken_back taken_and_released }
 {}
 
 /// Who waits is owned by the front end, and waits once.
@@ -47,12 +50,14 @@ pub fn joins_refuses()
     ensures stranger_waits { Refuses joins stranger_waits }
     ensures waits_twice { Refuses joins waits_twice }
     ensures waits_once_more { Refuses joins waits_once_more }
+    ensures waits_once { Allows joins waits_once }
 {}
 
 /// Somebody is in the line only at a full room.
 pub fn line_refuses()
     ensures law { IsLawOfAll line }
     ensures line_before_an_empty_room { Refuses line line_before_an_empty_room }
+    ensures third_waits { Allows line third_waits }
 {}
 
 /// The first of the line is admitted first, and directly behind a release.

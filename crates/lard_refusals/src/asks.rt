@@ -1,7 +1,7 @@
 //! What the laws of Asks and Tags and of later requests refuse.
 
-ghost use Rattle.lard_refusals.specs.Asks.{another_path_assigned, answered_and_not_asked, ask_passed_over, asks, asks_for_nothing, asks_from_two, assigned_before_it_is_written, assigned_without_an_ask, batch_ends, batch_over_by_itself, batch_over_without_shares, job_behind_the_ask, paths, queue_overstated, repeated_ask_assigns_again, requests, served_and_not_assigned, served_by_another_node, sizes, tag_without_an_ask, tags, ways};
-ghost use Rattle.lard_refusals.specs.Refusals.{IsLawOfAll, Refuses};
+ghost use Rattle.lard_refusals.specs.Asks.{another_path_assigned, answered_and_not_asked, ask_passed_over, asks, asks_for_nothing, asks_from_two, assigned_before_it_is_written, assigned_without_an_ask, batch_ends, batch_over_by_itself, batch_over_without_shares, its_path_assigned, job_behind_the_ask, paths, queue_overstated, repeated_ask_assigns_again, requests, served_and_not_assigned, served_by_another_node, served_by_its_node, sizes, tag_without_an_ask, tags, ways};
+ghost use Rattle.lard_refusals.specs.Refusals.{Allows, IsLawOfAll, Refuses};
 
 /// An Ask is the last one again or the next one, and tells the queue.
 pub fn asks_refuses()
@@ -38,6 +38,7 @@ pub fn requests_refuses()
     ensures law { IsLawOfAll requests }
     ensures assigned_before_it_is_written { Refuses requests assigned_before_it_is_written }
     ensures another_path_assigned { Refuses requests another_path_assigned }
+    ensures its_path_assigned { Allows requests its_path_assigned }
 {}
 
 /// At each moment the paths that were assigned are the first of those that were asked for.
@@ -53,4 +54,5 @@ pub fn ways_refuses()
     ensures answered_and_not_asked { Refuses ways answered_and_not_asked }
     ensures served_and_not_assigned { Refuses ways served_and_not_assigned }
     ensures served_by_another_node { Refuses ways served_by_another_node }
+    ensures served_by_its_node { Allows ways served_by_its_node }
 {}

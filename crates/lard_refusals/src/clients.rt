@@ -1,13 +1,14 @@
 //! What the laws of what clients write and take, and of timers, refuse.
 
-ghost use Rattle.lard_refusals.specs.Clients.{accepts_other_bytes, accepts_out_of_nothing, accepts_twice, armed_too_early, armed_twice, cleared_and_never_armed, ends_without_a_fin, needless_packet, opens_in_silence, tables, takers, timers, writers, writes_before_it_opens, writes_when_aborted, writes_when_shut};
-ghost use Rattle.lard_refusals.specs.Refusals.{IsLawOfAll, Refuses};
+ghost use Rattle.lard_refusals.specs.Clients.{accepts_other_bytes, accepts_out_of_nothing, accepts_twice, accepts_what_came, armed_too_early, armed_twice, cleared_and_never_armed, ends_without_a_fin, needless_packet, opens_in_silence, tables, takers, timers, writers, writes_and_shuts, writes_before_it_opens, writes_when_aborted, writes_when_shut};
+ghost use Rattle.lard_refusals.specs.Refusals.{Allows, IsLawOfAll, Refuses};
 
 /// A client that closed its side writes nothing.
 pub fn writers_refuses()
     ensures law { IsLawOfAll writers }
     ensures writes_when_shut { Refuses writers writes_when_shut }
     ensures writes_when_aborted { Refuses writers writes_when_aborted }
+    ensures writes_and_shuts { Allows writers writes_and_shuts }
 {}
 
 /// A client takes what it got, in order.
@@ -17,6 +18,7 @@ pub fn takers_refuses()
     ensures accepts_other_bytes { Refuses takers accepts_other_bytes }
     ensures accepts_twice { Refuses takers accepts_twice }
     ensures ends_without_a_fin { Refuses takers ends_without_a_fin }
+    ensures accepts_what_came { Allows takers accepts_what_came }
 {}
 
 /// A client does what its table says, and no more.

@@ -1,6 +1,6 @@
 //! What the laws of the choice of nodes and of loads refuse.
 
-ghost use Rattle.lard_refusals.specs.Placing.{another_joins, assigned_first_twice, batches, choices, chosen_and_not_joined, few, four_at_one_node, joined_without_a_number, later_without_a_node, leaves_a_short_queue, loads, most_by_policy, most_by_room, never_all_busy, one_at_each_node, servers, share_of_nobody, stays_at_a_short_queue, three_at_one_node, threshold_above_high, threshold_at_high, tie_to_the_highest, tie_to_the_lowest, two_batches_open};
+ghost use Rattle.lard_refusals.specs.Placing.{another_joins, assigned_first_twice, batches, choices, chosen_and_not_joined, few, four_at_one_node, joined_without_a_number, later_without_a_node, leaves_a_short_queue, loads, most_by_policy, most_by_room, never_all_busy, one_at_each_node, one_batch_open, servers, share_of_nobody, stays_at_a_short_queue, three_at_one_node, threshold_above_high, threshold_at_high, tie_to_the_highest, tie_to_the_lowest, two_batches_open};
 ghost use Rattle.lard_refusals.specs.Refusals.{Allows, IsLawOfAll, Refuses};
 
 /// Each choice is that of the policy.
@@ -22,6 +22,7 @@ pub fn choices_refuses()
 pub fn batches_refuses()
     ensures law { IsLawOfAll batches }
     ensures two_batches_open { Refuses batches two_batches_open }
+    ensures one_batch_open { Allows batches one_batch_open }
 {}
 
 /// What nodes bear is what was charged.

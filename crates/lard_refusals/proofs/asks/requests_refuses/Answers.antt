@@ -15,3 +15,6 @@ returns-clause-another_path_assigned c h =
     let same : codes "/a" ≡ codes "/b" = cc in
     let letters : ◌≡◌ {A = ℕ} 97 98 = ap (λ (path : List ℕ). slice_index path 1) same in
     omega arith
+
+pub returns-clause-its_path_assigned : goal.returns-clause-its_path_assigned
+returns-clause-its_path_assigned c = (tt, ((λ untouched. ap (λ (all : List (List ℕ)). slice_get all 0) its-paths), tt))

@@ -8,6 +8,7 @@ use Rattle.lard_refusals.specs.Refusals.{two_files}
 use Rattle.lard_refusals.proofs.Requests.{nothing-asked, request-asks}
 use Rattle.lard_refusals.proofs.asks.ways_refuses.Goals as goal
 use Rattle.lard_request.specs.declared.verdict.Verdict.{Verdict}
+use Rattle.std.proofs.Common.{sym}
 
 -- what is told once the client wrote the request, with these assignments
 abbrev asked : List (List ℕ × ℕ) → Marks
@@ -34,3 +35,17 @@ returns-clause-served_by_another_node c h =
     let place : Node 1 ≡ Node goes.first.1 = goes.place_is in
     let one : 1 ≡ goes.first.1 = cc in
     omega arith
+
+pub returns-clause-served_by_its_node : goal.returns-clause-served_by_its_node
+returns-clause-served_by_its_node c = (
+  tt,
+  (
+    tt,
+    (
+      (λ untouched.
+          subst (λ (vs : List Verdict). AnswersBy two_files (asked ((codes "/a", 2) ∷ [])) (Node 2) via.Cache (slice_get vs 0)) (sym request-asks)
+          (record { first = (codes "/a", 2); first_is = refl; its = (codes "/a", 2); its_is = refl; path_is = refl; place_is = refl; comes = refl })),
+      tt,
+    ),
+  ),
+)

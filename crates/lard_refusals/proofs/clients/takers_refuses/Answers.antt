@@ -60,3 +60,34 @@ returns-clause-ends_without_a_fin c h =
     let says : g.said ≡ acknowledgement_says = got (letter acknowledgement ∷ []) acknowledgement acknowledgement_says g.number g.packet g.said refl acknowledgement-decodes g.last g.sent g.decodes in
     let e : true ≡ false = sym takes.1 ∙ ap (λ (s : Said). s.flags.fin) says in
     cc
+
+pub returns-clause-accepts_what_came : goal.returns-clause-accepts_what_came
+returns-clause-accepts_what_came c = (
+  tt,
+  (
+    tt,
+    (
+      tt,
+      (
+        (λ untouched. (
+          record {
+            number = 1;
+            last = refl;
+            packet = letter two_bytes;
+            sent = refl;
+            goal = refl;
+            said = two_bytes_say;
+            decodes = two-bytes-decode;
+            numbers = record { isn = 1000; iss = 5000 };
+            opened = refl;
+          },
+          0,
+          refl,
+          record { within = omega arith; same = refl },
+          omega arith,
+        )),
+        tt,
+      ),
+    ),
+  ),
+)

@@ -6,6 +6,7 @@ use Rattle.lard_journal.specs.declared.rec.Rec.TheVariants as rec
 use Rattle.lard_refusals.specs.Refusals.{took}
 use Rattle.lard_refusals.proofs.Having.{of-later}
 use Rattle.lard_refusals.proofs.contents.came_refuses.Goals as goal
+use Rattle.std.proofs.Common.{inl, refl}
 
 pub returns-clause-remote_request_served_at_once : goal.returns-clause-remote_request_served_at_once
 unfolding own
@@ -24,3 +25,20 @@ returns-clause-served_before_it_is_read c h =
     let there : Has read (Row (took (Node 1) 1 2) ∷ Row (rec.Queued 1 1 1 1 (codes "/a")) ∷ []) = of-later _ _ saw.before saw.later saw.split saw.saw in
     ⊎_elim (λ (e : Row (took (Node 1) 1 2) ≡ read). cc)
     (⊎_elim (λ (e : Row (rec.Queued 1 1 1 1 (codes "/a")) ≡ read). cc) (λ (none : ⊥). none)) there
+
+pub returns-clause-served_once_it_is_read : goal.returns-clause-served_once_it_is_read
+unfolding own
+returns-clause-served_once_it_is_read c = (
+  tt,
+  (
+    tt,
+    (
+      record {
+        epoch = 2;
+        path = codes "/a";
+        read = record { before = Row (took (Node 1) 1 2) ∷ []; later = Row (rec.Read 1 1 1 1 (codes "/a")) ∷ []; split = refl; took = inl refl; saw = inl refl };
+      },
+      tt,
+    ),
+  ),
+)

@@ -3,6 +3,7 @@ use Rattle.std.specs.Prelude.{codes}
 use Rattle.lard_cluster_stores.specs.Stores.{Waiting}
 use Rattle.lard_journal.specs.declared.rec.Rec.TheVariants as rec
 use Rattle.lard_refusals.proofs.contents.disks_refuses.Goals as goal
+use Rattle.std.proofs.Common.{refl}
 
 pub returns-clause-done_and_not_read : goal.returns-clause-done_and_not_read
 returns-clause-done_and_not_read c h =
@@ -24,3 +25,6 @@ returns-clause-another_job_is_read c h =
 
 pub returns-clause-read_in_another_step : goal.returns-clause-read_in_another_step
 returns-clause-read_in_another_step c h = let e : true ≡ false = h.0.1.0 in cc
+
+pub returns-clause-oldest_job_is_read : goal.returns-clause-oldest_job_is_read
+returns-clause-oldest_job_is_read c = ((refl, (refl, tt)), (((1, 1, 1, codes "/a"), [], refl, refl, tt), tt))

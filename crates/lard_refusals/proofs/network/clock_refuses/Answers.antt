@@ -1,6 +1,7 @@
 use Rattle.std.proofs.Common.{◌≡◌, ◌+◌, Some, arith}
 use Rattle.lard_base.specs.declared.event.Event.TheVariants as event
 use Rattle.lard_refusals.proofs.network.clock_refuses.Goals as goal
+use Rattle.std.proofs.Common.{refl}
 
 pub returns-clause-a_millisecond_lost : goal.returns-clause-a_millisecond_lost
 returns-clause-a_millisecond_lost c h =
@@ -12,3 +13,6 @@ returns-clause-a_millisecond_lost c h =
 
 pub returns-clause-time_of_its_own : goal.returns-clause-time_of_its_own
 returns-clause-time_of_its_own c h = let e : Some (event.Shut 1) ≡ Some (event.Clock h.1.0.0) = h.1.0.1 in cc
+
+pub returns-clause-five_milliseconds_told : goal.returns-clause-five_milliseconds_told
+returns-clause-five_milliseconds_told c = (tt, ((5, refl, refl), tt))

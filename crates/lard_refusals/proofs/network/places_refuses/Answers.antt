@@ -8,3 +8,6 @@ returns-clause-acts_in_the_step_of_another c h = let e : Some (Client 1) ≡ Som
 
 pub returns-clause-acts_in_a_step_of_nobody : goal.returns-clause-acts_in_a_step_of_nobody
 returns-clause-acts_in_a_step_of_nobody c h = let e : ◌≡◌ {A = Option Place} None (Some (Node 1)) = h.1.0 (Node 1) refl in cc
+
+pub returns-clause-acts_in_its_own_step : goal.returns-clause-acts_in_its_own_step
+returns-clause-acts_in_its_own_step c = ((λ p e. let none : ◌≡◌ {A = Option Place} None (Some p) = e in absurd cc), ((λ p e. e), tt))

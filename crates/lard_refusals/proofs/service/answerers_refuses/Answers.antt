@@ -7,6 +7,7 @@ use Rattle.lard_refusals.specs.Refusals.{two_files}
 use Rattle.lard_refusals.proofs.Requests.{nothing-asked, request-asks}
 use Rattle.lard_refusals.proofs.service.answerers_refuses.Goals as goal
 use Rattle.lard_request.specs.declared.verdict.Verdict.{Verdict}
+use Rattle.std.proofs.Common.{sym}
 
 pub returns-clause-node_answers_no_file : goal.returns-clause-node_answers_no_file
 returns-clause-node_answers_no_file c h =
@@ -18,3 +19,16 @@ returns-clause-file_answered_at_the_front_end c h =
     let its = subst (λ (vs : List Verdict). AnswersFrom (good_paths two_files (take 1 vs)) ((codes "/a", 1) ∷ []) Front) request-asks (h.1.1.0 refl) in
     let e : Front ≡ Node its.0.1 = its.2 in
     cc
+
+pub returns-clause-file_answered_at_its_node : goal.returns-clause-file_answered_at_its_node
+returns-clause-file_answered_at_its_node c = (
+  tt,
+  (
+    tt,
+    (
+      (λ untouched.
+          subst (λ (vs : List Verdict). AnswersFrom (good_paths two_files (take 1 vs)) ((codes "/a", 1) ∷ []) (Node 1)) (sym request-asks) ((codes "/a", 1), refl, refl)),
+      tt,
+    ),
+  ),
+)

@@ -6,6 +6,15 @@ use Rattle.lard_refusals.proofs.Segments.{final-decodes, garbage-is-short, reset
 use Rattle.lard_refusals.proofs.service.tells_refuses.Goals as goal
 use Rattle.lard_segment.specs.declared.segment.Dir.TheVariants.{ToClient}
 use Rattle.lard_segment.specs.Segment.{Said, decoded}
+use Rattle.std.proofs.Common.{Bool, List, Some, inl, inr, subst}
+use Rattle.std.specs.List.{concat}
+use Rattle.std.specs.Prelude.{codes, take}
+use Rattle.lard_answers.specs.Answers.{answers}
+use Rattle.lard_arrival.specs.Arrival.{IsPartAt}
+use Rattle.lard_history.specs.Journal.{request}
+use Rattle.lard_refusals.specs.Refusals.{two_files}
+use Rattle.lard_refusals.proofs.Answers.{one-answer}
+use Rattle.lard_refusals.proofs.Segments.{from-the-end-decodes, from-zero-decodes, from_the_end_say, from_zero_say, two_bytes_say}
 
 pub returns-clause-no_segment : goal.returns-clause-no_segment
 returns-clause-no_segment c h = garbage-is-short _ (h.0 refl).decodes
@@ -42,3 +51,96 @@ returns-clause-served_behind_the_end c h =
     let sent : said_fin (decoded final_segment 1 ToClient) ≡ true = ap said_fin final-decodes in
     let not_sent : said_fin (decoded final_segment 1 ToClient) ≡ false = h.1.1.0 refl in
     both_ways _ not_sent sent
+
+-- the two bytes are the first of the answer
+first-two : IsPartAt 0 (codes "HT") (concat (take 1 (answers two_files (request (codes "/a")))))
+first-two = subst (λ (all : List (List ℕ)). IsPartAt 0 (codes "HT") (concat (take 1 all))) (sym one-answer) (record { within = omega arith; same = refl })
+
+not-so : {A : Type 0} (b : Bool) → b ≡ false → b ≡ true → A
+not-so b e f = absurd (both_ways b e f)
+
+pub returns-clause-number_does_not_wrap : goal.returns-clause-number_does_not_wrap
+returns-clause-number_does_not_wrap c h =
+    let t = h.1.1.1.0 refl in
+    let says : t.said ≡ from_the_end_say = same-said t.decodes from-the-end-decodes in
+    let two : length t.said.payload ≡ 2 = ap (λ (s : Said). length s.payload) says in
+    let seq : t.said.seq ≡ 4294967295 = ap (λ (s : Said). s.seq) says in
+    let opened : Some (record { isn = 1000; iss = 4294967295 }) ≡ Some t.numbers = t.opened in
+    let numbers : record { isn = 1000; iss = 4294967295 } ≡ t.numbers = cc in
+    let first : t.numbers.iss ≡ 4294967295 = ap (λ (n : Numbers). n.iss) (sym numbers) in
+    ⊎_elim (λ (none : t.said.payload ≡ []). let zero : length t.said.payload ≡ 0 = ap length none in omega arith)
+    (λ part.
+    let k : ℕ = part.0 in
+    let within : k + length t.said.payload ≤ 40 = (subst (λ (all : List (List ℕ)). IsPartAt k t.said.payload (concat (take 1 all))) one-answer part.2).within in
+    let at : t.said.seq ≡ (t.numbers.iss + (1 + k)) % 2 ^ 32 = part.1 in
+    let wrapped : (4294967295 + (1 + k)) % 2 ^ 32 ≡ 4294967295 = ap (λ (n : ℕ). (n + (1 + k)) % 2 ^ 32) (sym first) ∙ sym at ∙ seq in
+    omega arith) t.carries
+
+pub returns-clause-reset_behind_the_limit : goal.returns-clause-reset_behind_the_limit
+returns-clause-reset_behind_the_limit c = (
+  tt,
+  (
+    tt,
+    (
+      (λ untouched. record {
+        said = reset_says;
+        decodes = reset-decodes;
+        numbers = record { isn = 1000; iss = 5000 };
+        opened = refl;
+        reset = λ e. refl;
+        carries = inl refl;
+        final = λ e. not-so false refl e;
+        acknowledges = λ e. not-so true e refl;
+      }),
+      tt,
+    ),
+  ),
+)
+
+pub returns-clause-bytes_of_a_response : goal.returns-clause-bytes_of_a_response
+returns-clause-bytes_of_a_response c = (
+  tt,
+  (
+    tt,
+    (
+      (λ untouched. refl),
+      (
+        (λ untouched. record {
+          said = two_bytes_say;
+          decodes = two-bytes-decode;
+          numbers = record { isn = 1000; iss = 5000 };
+          opened = refl;
+          reset = λ e. not-so false refl e;
+          carries = inr (0, refl, first-two);
+          final = λ e. not-so false refl e;
+          acknowledges = λ e. (1, refl, omega arith);
+        }),
+        tt,
+      ),
+    ),
+  ),
+)
+
+pub returns-clause-number_wraps : goal.returns-clause-number_wraps
+returns-clause-number_wraps c = (
+  tt,
+  (
+    tt,
+    (
+      (λ untouched. refl),
+      (
+        (λ untouched. record {
+          said = from_zero_say;
+          decodes = from-zero-decodes;
+          numbers = record { isn = 1000; iss = 4294967295 };
+          opened = refl;
+          reset = λ e. not-so false refl e;
+          carries = inr (0, refl, first-two);
+          final = λ e. not-so false refl e;
+          acknowledges = λ e. (1, refl, omega arith);
+        }),
+        tt,
+      ),
+    ),
+  ),
+)
