@@ -2,7 +2,7 @@
 use Rattle.std.proofs.Common.{◌≡◌, true, false, [], ◌∷◌, Some, None, Result, Ok, Err, refl}
 use Rattle.std.specs.Prelude.{codes}
 use Rattle.lard_history.specs.Journal.{Numbers}
-use Rattle.lard_refusals.specs.Packets.{acknowledgement, acknowledges_three_bytes, client_acknowledgement, final_segment, reset_segment, two_bytes, two_bytes_from_the_end, two_bytes_from_zero}
+use Rattle.lard_refusals.specs.Packets.{acknowledgement, acknowledges_three_bytes, client_acknowledgement, final_segment, reset_segment, two_bytes, two_bytes_from_the_end, two_bytes_from_zero, two_other_bytes}
 use Rattle.lard_segment.specs.declared.fault.SegFault.{SegFault}
 use Rattle.lard_segment.specs.declared.fault.SegFault.TheVariants as fault
 use Rattle.lard_segment.specs.declared.segment.Dir.TheVariants.{ToClient, ToCluster}
@@ -73,3 +73,10 @@ from-zero-decodes = refl
 pub from-the-end-decodes : decoded two_bytes_from_the_end 1 ToClient ≡ Ok from_the_end_say
 unfolding decoded
 from-the-end-decodes = refl
+
+abbrev pub other_bytes_say : Said
+other_bytes_say = record two_bytes_say { payload = codes "TT" }
+
+pub other-bytes-decode : decoded two_other_bytes 1 ToClient ≡ Ok other_bytes_say
+unfolding decoded
+other-bytes-decode = refl

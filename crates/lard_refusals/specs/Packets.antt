@@ -24,6 +24,10 @@ acknowledges_three_bytes = 0 ∷ 80 ∷ 156 ∷ 64 ∷ 0 ∷ 0 ∷ 19 ∷ 137 �
 abbrev pub two_bytes : List ℕ
 two_bytes = 0 ∷ 80 ∷ 156 ∷ 64 ∷ 0 ∷ 0 ∷ 19 ∷ 137 ∷ 0 ∷ 0 ∷ 3 ∷ 233 ∷ 80 ∷ 24 ∷ 64 ∷ 0 ∷ 95 ∷ 113 ∷ 0 ∷ 0 ∷ 72 ∷ 84 ∷ []
 
+-- Two bytes in their place that are not those, "TT".
+abbrev pub two_other_bytes : List ℕ
+two_other_bytes = 0 ∷ 80 ∷ 156 ∷ 64 ∷ 0 ∷ 0 ∷ 19 ∷ 137 ∷ 0 ∷ 0 ∷ 3 ∷ 233 ∷ 80 ∷ 24 ∷ 64 ∷ 0 ∷ 83 ∷ 113 ∷ 0 ∷ 0 ∷ 84 ∷ 84 ∷ []
+
 -- The same two bytes, where the first number of the cluster is 4,294,967,295: theirs is 0.
 abbrev pub two_bytes_from_zero : List ℕ
 two_bytes_from_zero = 0 ∷ 80 ∷ 156 ∷ 64 ∷ 0 ∷ 0 ∷ 0 ∷ 0 ∷ 0 ∷ 0 ∷ 3 ∷ 233 ∷ 80 ∷ 24 ∷ 64 ∷ 0 ∷ 114 ∷ 250 ∷ 0 ∷ 0 ∷ 72 ∷ 84 ∷ []

@@ -100,7 +100,7 @@ joined_without_a_number = first_joining 1 0 ∷ []
 abbrev pub most_by_room : Law
 most_by_room config files J = Throughout (IsWithinTheRoom config) config J
 
--- One node bears three connections, where there is room for two.
+-- One node bears three connections, where there is room for two, and `high` is one.
 abbrev pub three_at_one_node : List Rec
 three_at_one_node = first_joining 1 1 ∷ first_at 2 1 ∷ first_at 3 1 ∷ []
 

@@ -8,7 +8,7 @@ use Rattle.lard_history.specs.Journal.{request}
 use Rattle.lard_history.specs.Laws.{AcceptsOnlyAnswers, EachMay, ResetsAtTheLimit, TellsTheTruth}
 use Rattle.lard_journal.specs.declared.rec.Rec.{Rec}
 use Rattle.lard_journal.specs.declared.rec.Rec.TheVariants as rec
-use Rattle.lard_refusals.specs.Packets.{acknowledges_three_bytes, final_segment, reset_segment, two_bytes, two_bytes_from_the_end, two_bytes_from_zero}
+use Rattle.lard_refusals.specs.Packets.{acknowledges_three_bytes, final_segment, reset_segment, two_bytes, two_bytes_from_the_end, two_bytes_from_zero, two_other_bytes}
 use Rattle.lard_refusals.specs.Refusals.{Law, took}
 
 -- ---- what is told
@@ -36,6 +36,11 @@ bytes_of_no_response = rec.Opened 1 1000 5000 65535 1460 ∷ rec.Sent 1 Front (C
 abbrev pub bytes_of_a_response : List Rec
 bytes_of_a_response =
     rec.Opened 1 1000 5000 65535 1460 ∷ rec.Wrote 1 (request (codes "/a")) ∷ rec.Served (Node 1) 1 1 200 40 via.Cache ∷ rec.Sent 1 (Node 1) (Client 1) two_bytes ∷ []
+
+-- The bytes of its response begin one too late.
+abbrev pub bytes_begin_one_too_late : List Rec
+bytes_begin_one_too_late =
+    rec.Opened 1 1000 5000 65535 1460 ∷ rec.Wrote 1 (request (codes "/a")) ∷ rec.Served (Node 1) 1 1 200 40 via.Cache ∷ rec.Sent 1 (Node 1) (Client 1) two_other_bytes ∷ []
 
 -- The cluster's first number is the greatest that there is, and the number behind it does not wrap.
 abbrev pub number_does_not_wrap : List Rec

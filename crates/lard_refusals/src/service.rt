@@ -1,6 +1,6 @@
 //! What the laws of what clients are told, of responses and of resets refuse.
 
-ghost use Rattle.lard_refusals.specs.Service.{accepted_and_not_asked, acknowledged_before_it_is_written, another_answer_accepted, answered_by_a_stranger, answerers, assigned_first_again, assigned_first_once, bytes_of_a_response, bytes_of_no_response, file_answered_at_its_node, file_answered_at_the_front_end, its_answer_accepted, its_answer_served, job_for_no_request, malformed_request_is_answered, malformed_request_is_reset, named, no_segment, node_answers_no_file, number_does_not_wrap, number_wraps, prefix, reset_at_will, reset_behind_the_limit, resets, response_of_another_length, second_answer_first, second_request_assigned_first, served_behind_a_reset, served_behind_the_end, service, tells, third_response_passes_the_limit, third_response_resets};
+ghost use Rattle.lard_refusals.specs.Service.{accepted_and_not_asked, acknowledged_before_it_is_written, another_answer_accepted, answered_by_a_stranger, answerers, assigned_first_again, assigned_first_once, bytes_begin_one_too_late, bytes_of_a_response, bytes_of_no_response, file_answered_at_its_node, file_answered_at_the_front_end, its_answer_accepted, its_answer_served, job_for_no_request, malformed_request_is_answered, malformed_request_is_reset, named, no_segment, node_answers_no_file, number_does_not_wrap, number_wraps, prefix, reset_at_will, reset_behind_the_limit, resets, response_of_another_length, second_answer_first, second_request_assigned_first, served_behind_a_reset, served_behind_the_end, service, tells, third_response_passes_the_limit, third_response_resets};
 ghost use Rattle.lard_refusals.specs.Refusals.{Allows, IsLawOfAll, Refuses};
 
 /// A client is sent parts of its responses, its end, and no more is acknowledged than it wrote.
@@ -9,6 +9,7 @@ pub fn tells_refuses()
     ensures no_segment { Refuses tells no_segment }
     ensures reset_at_will { Refuses tells reset_at_will }
     ensures bytes_of_no_response { Refuses tells bytes_of_no_response }
+    ensures bytes_begin_one_too_late { Refuses tells bytes_begin_one_too_late }
     ensures acknowledged_before_it_is_written { Refuses tells acknowledged_before_it_is_written }
     ensures served_behind_the_end { Refuses tells served_behind_the_end }
     ensures number_does_not_wrap { Refuses tells number_does_not_wrap }

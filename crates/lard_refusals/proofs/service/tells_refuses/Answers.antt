@@ -2,18 +2,18 @@ use Rattle.std.proofs.Common.{◌≡◌, ℕ, ◌+◌, ◌%◌, ◌^◌, ◌≤�
 use Rattle.std.proofs.lemmas.Bool.{both_ways}
 use Rattle.lard_history.specs.Journal.{Numbers, said_fin}
 use Rattle.lard_refusals.specs.Packets.{final_segment}
-use Rattle.lard_refusals.proofs.Segments.{final-decodes, garbage-is-short, reset-decodes, reset_says, same-numbers, same-said, three-bytes-decode, three_bytes_say, two-bytes-decode}
+use Rattle.lard_refusals.proofs.Segments.{final-decodes, garbage-is-short, reset-decodes, reset_says, same-numbers, same-said, three-bytes-decode, three_bytes_say, two-bytes-decode, other-bytes-decode, other_bytes_say}
 use Rattle.lard_refusals.proofs.service.tells_refuses.Goals as goal
 use Rattle.lard_segment.specs.declared.segment.Dir.TheVariants.{ToClient}
 use Rattle.lard_segment.specs.Segment.{Said, decoded}
 use Rattle.std.proofs.Common.{Bool, List, Some, inl, inr, subst}
 use Rattle.std.specs.List.{concat}
-use Rattle.std.specs.Prelude.{codes, take}
+use Rattle.std.specs.Prelude.{codes, drop, slice_index, take}
 use Rattle.lard_answers.specs.Answers.{answers}
 use Rattle.lard_arrival.specs.Arrival.{IsPartAt}
 use Rattle.lard_history.specs.Journal.{request}
 use Rattle.lard_refusals.specs.Refusals.{two_files}
-use Rattle.lard_refusals.proofs.Answers.{one-answer}
+use Rattle.lard_refusals.proofs.Answers.{answer_a, one-answer}
 use Rattle.lard_refusals.proofs.Segments.{from-the-end-decodes, from-zero-decodes, from_the_end_say, from_zero_say, two_bytes_say}
 
 pub returns-clause-no_segment : goal.returns-clause-no_segment
@@ -144,3 +144,22 @@ returns-clause-number_wraps c = (
     ),
   ),
 )
+
+pub returns-clause-bytes_begin_one_too_late : goal.returns-clause-bytes_begin_one_too_late
+returns-clause-bytes_begin_one_too_late c h =
+    let t = h.1.1.1.0 refl in
+    let says : t.said ≡ other_bytes_say = same-said t.decodes other-bytes-decode in
+    let payload : t.said.payload ≡ codes "TT" = ap (λ (s : Said). s.payload) says in
+    let seq : t.said.seq ≡ 5001 = ap (λ (s : Said). s.seq) says in
+    let first : t.numbers.iss ≡ 5000 = ap (λ (n : Numbers). n.iss) (same-numbers t.numbers t.opened) in
+    ⊎_elim (λ (none : t.said.payload ≡ []). let no : codes "TT" ≡ [] = sym payload ∙ none in cc)
+    (λ part.
+    let k : ℕ = part.0 in
+    let stands : IsPartAt k (codes "TT") answer_a = subst (λ (bytes : List ℕ). IsPartAt k bytes answer_a) payload (subst (λ (all : List (List ℕ)). IsPartAt k t.said.payload (concat (take 1 all))) one-answer part.2) in
+    let within : k + 2 ≤ 40 = stands.within in
+    let at : t.said.seq ≡ (t.numbers.iss + (1 + k)) % 2 ^ 32 = part.1 in
+    let sum : (5000 + (1 + k)) % 2 ^ 32 ≡ 5001 = ap (λ (n : ℕ). (n + (1 + k)) % 2 ^ 32) (sym first) ∙ sym at ∙ seq in
+    let start : k ≡ 0 = omega arith in
+    let same : take 2 (drop 0 answer_a) ≡ codes "TT" = subst (λ (n : ℕ). take 2 (drop n answer_a) ≡ codes "TT") start stands.same in
+    let letters : ◌≡◌ {A = ℕ} 72 84 = ap (λ (bytes : List ℕ). slice_index bytes 0) same in
+    omega arith) t.carries
