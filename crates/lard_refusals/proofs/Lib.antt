@@ -1,7 +1,7 @@
-pub mod Answers
 pub mod Counting
 pub mod Having
 pub mod Loads
 pub mod Messages
 pub mod Requests
+pub mod Responses
 pub mod Segments

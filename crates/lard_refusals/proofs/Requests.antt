@@ -1,7 +1,7 @@
 -- What a client that wrote nothing asks for, and one that wrote a request.
 use Rattle.std.proofs.Common.{◌≡◌, [], ◌∷◌, false, refl}
-use Rattle.std.specs.Prelude.{codes}
 use Rattle.std.specs.Char.{encode_utf8}
+use Rattle.std.specs.Prelude.{codes}
 use Rattle.std.specs.Str.{chars, is_utf8}
 use Rattle.httparse.specs.Grammar.{is_token_byte, trim_ows}
 use Rattle.lard_answers.specs.Answers.{until_close, verdicts}

@@ -1,7 +1,7 @@
 use Rattle.std.proofs.Common.{◌≡◌, ℕ, List, [], ◌∷◌, ◌++◌, refl, sym, ap, ◌∙◌, arith}
 use Rattle.std.specs.Prelude.{codes, slice_index}
 use Rattle.lard_refusals.specs.Asks.{another_path_assigned, assigned_before_it_is_written}
-use Rattle.lard_refusals.proofs.Answers.{its-goods, no-goods}
+use Rattle.lard_refusals.proofs.Responses.{its-goods, no-goods}
 use Rattle.lard_refusals.proofs.asks.paths_refuses.Goals as goal
 
 pub returns-clause-assigned_before_it_is_written : goal.returns-clause-assigned_before_it_is_written

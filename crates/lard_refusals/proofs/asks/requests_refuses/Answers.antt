@@ -1,6 +1,6 @@
 use Rattle.std.proofs.Common.{◌≡◌, ℕ, List, None, Some, refl, sym, ap, ◌∙◌, arith}
 use Rattle.std.specs.Prelude.{codes, slice_get, slice_index}
-use Rattle.lard_refusals.proofs.Answers.{its-paths, no-paths}
+use Rattle.lard_refusals.proofs.Responses.{its-paths, no-paths}
 use Rattle.lard_refusals.proofs.asks.requests_refuses.Goals as goal
 
 pub returns-clause-assigned_before_it_is_written : goal.returns-clause-assigned_before_it_is_written

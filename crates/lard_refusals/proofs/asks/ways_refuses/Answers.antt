@@ -1,4 +1,4 @@
-use Rattle.std.proofs.Common.{◌≡◌, ℕ, List, [], ◌∷◌, None, Some, refl, ap, subst, arith}
+use Rattle.std.proofs.Common.{◌≡◌, ℕ, List, [], ◌∷◌, None, Some, refl, ap, subst, arith, sym}
 use Rattle.std.specs.Prelude.{codes, slice_get}
 use Rattle.lard_base.specs.declared.place.Place.TheVariants.{Front, Node}
 use Rattle.lard_base.specs.declared.place.Via.TheVariants as via
@@ -8,7 +8,6 @@ use Rattle.lard_refusals.specs.Refusals.{two_files}
 use Rattle.lard_refusals.proofs.Requests.{nothing-asked, request-asks}
 use Rattle.lard_refusals.proofs.asks.ways_refuses.Goals as goal
 use Rattle.lard_request.specs.declared.verdict.Verdict.{Verdict}
-use Rattle.std.proofs.Common.{sym}
 
 -- what is told once the client wrote the request, with these assignments
 abbrev asked : List (List ℕ × ℕ) → Marks

@@ -6,8 +6,8 @@ use Rattle.lard_history.specs.Own.{Has}
 use Rattle.lard_journal.specs.declared.rec.Rec.{Rec}
 use Rattle.lard_journal.specs.declared.rec.Rec.TheVariants as rec
 use Rattle.lard_refusals.specs.Refusals.{took}
-use Rattle.lard_refusals.proofs.Answers.{first-for-a}
 use Rattle.lard_refusals.proofs.Having.{of-later}
+use Rattle.lard_refusals.proofs.Responses.{first-for-a}
 use Rattle.lard_refusals.proofs.contents.backed_refuses.Goals as goal
 
 abbrev hit : Rec

@@ -1,4 +1,4 @@
-use Rattle.std.proofs.Common.{◌≡◌, [], ◌∷◌, ⊎_elim}
+use Rattle.std.proofs.Common.{◌≡◌, [], ◌∷◌, ⊎_elim, inl, refl}
 use Rattle.std.specs.Prelude.{codes}
 use Rattle.lard_base.specs.declared.place.Place.TheVariants.{Node}
 use Rattle.lard_history.specs.Own.{Came, Has, Row, Seen, own}
@@ -6,7 +6,6 @@ use Rattle.lard_journal.specs.declared.rec.Rec.TheVariants as rec
 use Rattle.lard_refusals.specs.Refusals.{took}
 use Rattle.lard_refusals.proofs.Having.{of-later}
 use Rattle.lard_refusals.proofs.contents.came_refuses.Goals as goal
-use Rattle.std.proofs.Common.{inl, refl}
 
 pub returns-clause-remote_request_served_at_once : goal.returns-clause-remote_request_served_at_once
 unfolding own

@@ -1,9 +1,8 @@
-use Rattle.std.proofs.Common.{◌≡◌, [], ◌∷◌, true, false, Some, ap, arith}
+use Rattle.std.proofs.Common.{◌≡◌, [], ◌∷◌, true, false, Some, ap, arith, refl}
 use Rattle.std.specs.Prelude.{codes}
 use Rattle.lard_cluster_stores.specs.Stores.{Waiting}
 use Rattle.lard_journal.specs.declared.rec.Rec.TheVariants as rec
 use Rattle.lard_refusals.proofs.contents.disks_refuses.Goals as goal
-use Rattle.std.proofs.Common.{refl}
 
 pub returns-clause-done_and_not_read : goal.returns-clause-done_and_not_read
 returns-clause-done_and_not_read c h =

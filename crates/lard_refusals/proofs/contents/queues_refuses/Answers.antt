@@ -1,11 +1,10 @@
-use Rattle.std.proofs.Common.{◌≡◌, ℕ, [], ◌∷◌, ⊎_elim, arith}
+use Rattle.std.proofs.Common.{◌≡◌, ℕ, [], ◌∷◌, ⊎_elim, arith, inl, refl}
 use Rattle.std.specs.Prelude.{codes}
 use Rattle.lard_base.specs.declared.event.Event.TheVariants as event
 use Rattle.lard_base.specs.declared.place.Place.TheVariants.{Node}
 use Rattle.lard_history.specs.Own.{Has}
 use Rattle.lard_journal.specs.declared.rec.Rec.TheVariants as rec
 use Rattle.lard_refusals.proofs.contents.queues_refuses.Goals as goal
-use Rattle.std.proofs.Common.{inl, refl}
 
 nothing-comes : (k : ℕ) → Has (rec.Got k) (rec.Event 1 (event.Timer (Node 1) 1) ∷ rec.Queued 1 2 1 1 (codes "/a") ∷ []) → ⊥
 nothing-comes k there =

@@ -1,11 +1,10 @@
-use Rattle.std.proofs.Common.{[], ◌∷◌, inl, refl}
-use Rattle.lard_refusals.proofs.Having.{of-later}
-use Rattle.lard_refusals.proofs.contents.starts_refuses.Goals as goal
-use Rattle.std.proofs.Common.{None, Some, inr}
+use Rattle.std.proofs.Common.{[], ◌∷◌, inl, refl, None, Some, inr}
 use Rattle.std.specs.Prelude.{codes}
 use Rattle.lard_base.specs.declared.place.Place.TheVariants.{Node}
 use Rattle.lard_journal.specs.declared.rec.Rec.TheVariants as rec
 use Rattle.lard_refusals.specs.Refusals.{took}
+use Rattle.lard_refusals.proofs.Having.{of-later}
+use Rattle.lard_refusals.proofs.contents.starts_refuses.Goals as goal
 
 -- what assigned the request would be among the records before, and there are none
 pub returns-clause-job_before_it_is_told : goal.returns-clause-job_before_it_is_told

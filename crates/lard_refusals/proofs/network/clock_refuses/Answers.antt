@@ -1,7 +1,6 @@
-use Rattle.std.proofs.Common.{◌≡◌, ◌+◌, Some, arith}
+use Rattle.std.proofs.Common.{◌≡◌, ◌+◌, Some, arith, refl}
 use Rattle.lard_base.specs.declared.event.Event.TheVariants as event
 use Rattle.lard_refusals.proofs.network.clock_refuses.Goals as goal
-use Rattle.std.proofs.Common.{refl}
 
 pub returns-clause-a_millisecond_lost : goal.returns-clause-a_millisecond_lost
 returns-clause-a_millisecond_lost c h =

@@ -4,8 +4,8 @@ use Rattle.std.specs.Ordering.{nat_cmp}
 use Rattle.lard_costs.specs.declared.later.LaterChoice.{LaterChoice}
 use Rattle.lard_costs.specs.Later.{later_choice}
 use Rattle.lard_loads.specs.Tally.{home, home_of, start}
-use Rattle.lard_policy.specs.First.{first_choice}
 use Rattle.lard_policy.specs.declared.first.FirstChoice.{FirstChoice}
+use Rattle.lard_policy.specs.First.{first_choice}
 use Rattle.lard_refusals.specs.Refusals.{three_nodes}
 use Rattle.lard_refusals.proofs.Loads.{first-of-none, its-home, later-stays, one_at_home, second-first, second-has-none}
 use Rattle.lard_refusals.proofs.placing.choices_refuses.Goals as goal

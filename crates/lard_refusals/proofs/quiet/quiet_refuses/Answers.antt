@@ -1,5 +1,5 @@
 use Rattle.std.proofs.Common.{◌≡◌, ℕ, true, false, length, refl, ap, ◌∙◌, ⊎_elim, arith}
-use Rattle.lard_refusals.proofs.Answers.{its-bytes}
+use Rattle.lard_refusals.proofs.Responses.{its-bytes}
 use Rattle.lard_refusals.proofs.quiet.quiet_refuses.Goals as goal
 
 pub returns-clause-shut_and_forgotten : goal.returns-clause-shut_and_forgotten

@@ -1,8 +1,7 @@
 use Rattle.std.proofs.Common.{◌≡◌, ℕ, List, [], ◌∷◌, refl, arith}
 use Rattle.std.specs.Prelude.{codes}
-use Rattle.lard_refusals.proofs.Answers.{for-nobody}
+use Rattle.lard_refusals.proofs.Responses.{for-nobody, first-for-a}
 use Rattle.lard_refusals.proofs.service.named_refuses.Goals as goal
-use Rattle.lard_refusals.proofs.Answers.{first-for-a}
 
 pub returns-clause-second_request_assigned_first : goal.returns-clause-second_request_assigned_first
 returns-clause-second_request_assigned_first c h = let e : ◌≡◌ {A = ℕ} 2 1 = (h.0 refl).1 in omega arith

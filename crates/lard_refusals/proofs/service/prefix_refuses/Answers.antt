@@ -6,7 +6,7 @@ use Rattle.lard_journal.specs.declared.rec.Rec.{Rec}
 use Rattle.lard_journal.specs.declared.rec.Rec.TheVariants as rec
 use Rattle.lard_refusals.specs.Refusals.{two_files}
 use Rattle.lard_refusals.specs.Service.{accepted_and_not_asked, another_answer_accepted}
-use Rattle.lard_refusals.proofs.Answers.{its-bytes, no-bytes}
+use Rattle.lard_refusals.proofs.Responses.{its-bytes, no-bytes}
 use Rattle.lard_refusals.proofs.service.prefix_refuses.Goals as goal
 
 pub returns-clause-accepted_and_not_asked : goal.returns-clause-accepted_and_not_asked

@@ -1,16 +1,14 @@
-use Rattle.std.proofs.Common.{◌≡◌, ℕ, List, Option, Some, length, refl, sym, ap, ◌∙◌, arith}
+use Rattle.std.proofs.Common.{◌≡◌, ℕ, List, Option, Some, length, refl, sym, ap, ◌∙◌, arith, [], ◌∷◌, None, false, subst}
 use Rattle.std.specs.Option.{option_map}
-use Rattle.std.specs.Prelude.{slice_get}
-use Rattle.lard_base.specs.declared.place.Place.TheVariants.{Node}
-use Rattle.lard_refusals.proofs.Answers.{one-answer}
-use Rattle.lard_refusals.proofs.service.service_refuses.Goals as goal
-use Rattle.std.proofs.Common.{[], ◌∷◌, None, false, subst}
-use Rattle.std.specs.Prelude.{codes}
+use Rattle.std.specs.Prelude.{slice_get, codes}
 use Rattle.lard_answers.specs.Answers.{answer_code}
+use Rattle.lard_base.specs.declared.place.Place.TheVariants.{Node}
 use Rattle.lard_base.specs.declared.place.Via.TheVariants as via
 use Rattle.lard_cluster_bytes.specs.Records.{ComesBy}
 use Rattle.lard_refusals.specs.Refusals.{two_files}
 use Rattle.lard_refusals.proofs.Requests.{request-asks}
+use Rattle.lard_refusals.proofs.Responses.{one-answer}
+use Rattle.lard_refusals.proofs.service.service_refuses.Goals as goal
 use Rattle.lard_request.specs.declared.verdict.Verdict.{Verdict}
 use Rattle.lard_request.specs.declared.verdict.Verdict.TheVariants.{Serve}
 

@@ -1,7 +1,8 @@
 -- What is to be answered to a client that wrote nothing, and to one that asked for a file.
 use Rattle.std.proofs.Common.{◌≡◌, ℕ, false, List, [], ◌∷◌, map, None, Some, refl, ap, subst}
-use Rattle.std.specs.Prelude.{codes, slice_get}
+use Rattle.std.specs.Fmt.{digits}
 use Rattle.std.specs.List.{concat}
+use Rattle.std.specs.Prelude.{codes, slice_get}
 use Rattle.lard_answers.specs.Answers.{answer, answer_bytes, answers, goods, goods_from, verdicts}
 use Rattle.lard_cluster_backing.specs.Requests.{IsFor}
 use Rattle.lard_cluster_ways.specs.Ways.{good_paths}
@@ -9,9 +10,8 @@ use Rattle.lard_history.specs.Journal.{request}
 use Rattle.lard_refusals.specs.Refusals.{two_files}
 use Rattle.lard_refusals.proofs.Requests.{nothing-asked, request-asks}
 use Rattle.lard_request.specs.declared.verdict.Verdict.{Verdict}
-use Rattle.lard_response.specs.Response.{response}
-use Rattle.std.specs.Fmt.{digits}
 use Rattle.lard_request.specs.declared.verdict.Verdict.TheVariants.{Serve}
+use Rattle.lard_response.specs.Response.{response}
 
 -- the answer to the request for /a
 abbrev pub answer_a : List ℕ
