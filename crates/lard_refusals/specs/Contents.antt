@@ -94,17 +94,17 @@ cache_without_a_hit =
 abbrev pub starts : Law
 starts config files J = EachMay (MayStart files) [] J
 
--- A node queues a job for a request of which nobody told it.
+-- A request was assigned to a node, which was not told of it and queues a job for it.
 abbrev pub job_before_it_is_told : List Rec
-job_before_it_is_told = rec.Queued 1 1 1 1 (codes "/a") ∷ []
+job_before_it_is_told = rec.AssignedFirst 1 1 (codes "/a") 1 (Some 1) None ∷ rec.Queued 1 1 1 1 (codes "/a") ∷ []
 
--- It queues one for the request with which it took the connection.
+-- A node queues one for the request with which it took the connection.
 abbrev pub job_once_it_is_told : List Rec
 job_once_it_is_told = rec.AssignedFirst 1 1 (codes "/a") 1 (Some 1) None ∷ took (Node 1) 1 2 ∷ rec.Queued 1 1 1 1 (codes "/a") ∷ []
 
--- It reads one.
-abbrev pub read_before_it_is_told : List Rec
-read_before_it_is_told = rec.Read 1 1 1 1 (codes "/a") ∷ []
+-- A node reads a file for a request that was not assigned.
+abbrev pub read_before_it_is_assigned : List Rec
+read_before_it_is_assigned = took (Node 1) 1 2 ∷ rec.Read 1 1 1 1 (codes "/a") ∷ []
 
 abbrev pub contents : Law
 contents config files J = EachStep (MustBring files) [] (steps J)

@@ -1,5 +1,5 @@
 -- Journals that break the laws of what is told to clients, of responses, and of resets.
-use Rattle.std.specs.Prelude.{List, [], ◌∷◌, None, Some, codes}
+use Rattle.std.specs.Prelude.{List, [], ◌∷◌, ◌++◌, None, Some, codes}
 use Rattle.lard_base.specs.declared.place.Place.TheVariants.{Client, Front, Node}
 use Rattle.lard_base.specs.declared.place.Via.TheVariants as via
 use Rattle.lard_cluster_backing.specs.Requests.{MayAnswer, MayName}
@@ -65,13 +65,13 @@ served_behind_the_end = rec.Opened 1 1000 5000 65535 1460 ∷ rec.Sent 1 Front (
 abbrev pub service : Law
 service config files J = ServesTheAnswers files J
 
--- The content of the second request came first, and its response is queued first.
+-- A client wrote two requests. The content of the second came first, and its response is queued first.
 abbrev pub second_answer_first : List Rec
-second_answer_first = took (Node 1) 1 2 ∷ rec.Served (Node 1) 1 2 200 40 via.Disk ∷ []
+second_answer_first = took (Node 1) 1 2 ∷ rec.Wrote 1 (request (codes "/a") ++ request (codes "/b")) ∷ rec.Served (Node 1) 1 2 200 40 via.Disk ∷ []
 
 -- A place answers that does not own the connection.
 abbrev pub answered_by_a_stranger : List Rec
-answered_by_a_stranger = took (Node 1) 1 2 ∷ rec.Served (Node 2) 1 1 200 40 via.Disk ∷ []
+answered_by_a_stranger = took (Node 1) 1 2 ∷ rec.Wrote 1 (request (codes "/a")) ∷ rec.Served (Node 2) 1 1 200 40 via.Disk ∷ []
 
 -- A response of another length than the answer has.
 abbrev pub response_of_another_length : List Rec
@@ -145,9 +145,9 @@ file_answered_at_its_node =
 abbrev pub named : Law
 named config files J = EachMay (MayName files) [] J
 
--- The first assignment is of the second request, and none was answered.
+-- A client wrote two requests, and the first assignment is of the second.
 abbrev pub second_request_assigned_first : List Rec
-second_request_assigned_first = rec.AssignedFirst 1 2 (codes "/a") 1 (Some 1) None ∷ []
+second_request_assigned_first = rec.Wrote 1 (request (codes "/a") ++ request (codes "/b")) ∷ rec.AssignedFirst 1 2 (codes "/b") 1 (Some 1) None ∷ []
 
 -- A connection has two first assignments.
 abbrev pub assigned_first_again : List Rec

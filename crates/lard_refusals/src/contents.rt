@@ -1,6 +1,6 @@
 //! What the laws of disks and caches and of contents refuse.
 
-ghost use Rattle.lard_refusals.specs.Contents.{another_job_is_read, backed, cache_without_a_hit, came, content_out_of_nothing, contents, disks, done_and_not_read, evicted_path_is_a_hit, hit_of_what_was_never_read, job_before_it_is_told, job_for_another_unasked, job_of_its_own, job_once_it_is_told, kept_path_is_a_hit, oldest_job_is_read, queued_though_cached, queues, read_before_it_is_told, read_in_another_step, remote_request_served_at_once, served_before_it_is_read, served_once_it_is_read, starts, stores};
+ghost use Rattle.lard_refusals.specs.Contents.{another_job_is_read, backed, cache_without_a_hit, came, content_out_of_nothing, contents, disks, done_and_not_read, evicted_path_is_a_hit, hit_of_what_was_never_read, job_before_it_is_told, job_for_another_unasked, job_of_its_own, job_once_it_is_told, kept_path_is_a_hit, oldest_job_is_read, queued_though_cached, queues, read_before_it_is_assigned, read_in_another_step, remote_request_served_at_once, served_before_it_is_read, served_once_it_is_read, starts, stores};
 ghost use Rattle.lard_refusals.specs.Refusals.{Allows, IsLawOfAll, Refuses};
 
 /// A hit is of what is cached, and a job of what is not.
@@ -39,7 +39,7 @@ pub fn backed_refuses()
 pub fn starts_refuses()
     ensures law { IsLawOfAll starts }
     ensures job_before_it_is_told { Refuses starts job_before_it_is_told }
-    ensures read_before_it_is_told { Refuses starts read_before_it_is_told }
+    ensures read_before_it_is_assigned { Refuses starts read_before_it_is_assigned }
     ensures job_once_it_is_told { Allows starts job_once_it_is_told }
 {}
 

@@ -4,7 +4,7 @@ use Rattle.lard_refusals.proofs.Responses.{for-nobody, first-for-a}
 use Rattle.lard_refusals.proofs.service.named_refuses.Goals as goal
 
 pub returns-clause-second_request_assigned_first : goal.returns-clause-second_request_assigned_first
-returns-clause-second_request_assigned_first c h = let e : ◌≡◌ {A = ℕ} 2 1 = (h.0 refl).1 in omega arith
+returns-clause-second_request_assigned_first c h = let e : ◌≡◌ {A = ℕ} 2 1 = (h.1.0 refl).1 in omega arith
 
 pub returns-clause-assigned_first_again : goal.returns-clause-assigned_first_again
 returns-clause-assigned_first_again c h = let e : ◌≡◌ {A = List (List ℕ × ℕ)} ((codes "/a", 1) ∷ []) [] = (h.1.1.0 refl).0 in cc

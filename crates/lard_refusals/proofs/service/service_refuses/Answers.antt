@@ -13,11 +13,11 @@ use Rattle.lard_request.specs.declared.verdict.Verdict.{Verdict}
 use Rattle.lard_request.specs.declared.verdict.Verdict.TheVariants.{Serve}
 
 pub returns-clause-second_answer_first : goal.returns-clause-second_answer_first
-returns-clause-second_answer_first c h = let e : ◌≡◌ {A = ℕ} 2 1 = (h.1.0 refl).1.0 in omega arith
+returns-clause-second_answer_first c h = let e : ◌≡◌ {A = ℕ} 2 1 = (h.1.1.0 refl).1.0 in omega arith
 
 pub returns-clause-answered_by_a_stranger : goal.returns-clause-answered_by_a_stranger
 returns-clause-answered_by_a_stranger c h =
-    let e : Some (Node 1) ≡ Some (Node 2) = (h.1.0 refl).0 in
+    let e : Some (Node 1) ≡ Some (Node 2) = (h.1.1.0 refl).0 in
     let same : ◌≡◌ {A = ℕ} 1 2 = cc in
     omega arith
 
