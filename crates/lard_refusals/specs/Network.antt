@@ -66,6 +66,10 @@ fourth_of_three = took (Node 4) 1 2 ∷ []
 abbrev pub node_without_a_number : List Rec
 node_without_a_number = took (Node 0) 1 2 ∷ []
 
+-- The third takes it.
+abbrev pub third_of_three : List Rec
+third_of_three = took (Node 3) 1 2 ∷ []
+
 -- ---- the clock
 
 abbrev pub clock : Law

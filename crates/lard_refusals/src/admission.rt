@@ -18,6 +18,7 @@ pub fn admission_refuses()
 pub fn room_refuses()
     ensures law { IsLawOfAll room }
     ensures one_too_many { Refuses room one_too_many }
+    ensures third_waits { Allows room third_waits }
 {}
 
 /// Directly behind an admission a node is chosen, and nowhere else.

@@ -46,6 +46,7 @@ pub fn paths_refuses()
     ensures law { IsLawOfAll paths }
     ensures assigned_before_it_is_written { Refuses paths assigned_before_it_is_written }
     ensures another_path_assigned { Refuses paths another_path_assigned }
+    ensures its_path_assigned { Allows paths its_path_assigned }
 {}
 
 /// A content comes from where its request was assigned.

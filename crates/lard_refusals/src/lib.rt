@@ -2,7 +2,7 @@
 //!
 //! A law that a slip made empty would refuse nothing, and all that is proved of it would stay proved. So each field of `IsLawful`
 //! has a function here, `FIELD_refuses`. Its clause `law` says that every lawful journal obeys what refuses them; each other clause
-//! names a journal that the law refuses, or one that it allows, which differs from a refused one by a record. It has no code, and
+//! names a journal that the law refuses, or one that it allows: a refused one, mended in a record or two. It has no code, and
 //! nothing stands on it.
 //!
 //! All journals are of one cluster (`three_nodes`) and of its two files. A journal is as short as shows its mistake, so it may

@@ -1,6 +1,6 @@
 //! What the laws of the network, of the places that act, and of the clock refuse.
 
-ghost use Rattle.lard_refusals.specs.Network.{a_millisecond_lost, acts, acts_in_a_step_of_nobody, acts_in_its_own_step, acts_in_the_step_of_another, clock, five_milliseconds_told, fourth_of_three, got_and_never_sent, got_elsewhere, got_though_lost, lost_twice, network, node_without_a_number, numbered_from_two, places, sent_and_got, time_of_its_own};
+ghost use Rattle.lard_refusals.specs.Network.{a_millisecond_lost, acts, acts_in_a_step_of_nobody, acts_in_its_own_step, acts_in_the_step_of_another, clock, five_milliseconds_told, fourth_of_three, got_and_never_sent, got_elsewhere, got_though_lost, lost_twice, network, node_without_a_number, numbered_from_two, places, sent_and_got, third_of_three, time_of_its_own};
 ghost use Rattle.lard_refusals.specs.Refusals.{Allows, IsLawOfAll, Refuses};
 
 /// Packets have numbers from 1, and come where they were sent, if they were not lost.
@@ -27,6 +27,7 @@ pub fn acts_refuses()
     ensures law { IsLawOfAll acts }
     ensures fourth_of_three { Refuses acts fourth_of_three }
     ensures node_without_a_number { Refuses acts node_without_a_number }
+    ensures third_of_three { Allows acts third_of_three }
 {}
 
 /// The time is what the clock was moved by.

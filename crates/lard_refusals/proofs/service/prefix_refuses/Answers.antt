@@ -1,4 +1,4 @@
-use Rattle.std.proofs.Common.{◌≡◌, ℕ, Bool, true, false, List, [], ◌∷◌, ◌++◌, cond, nat_eq, refl, sym, ap, subst, ◌∙◌, arith}
+use Rattle.std.proofs.Common.{◌≡◌, ℕ, Bool, true, false, List, [], ◌∷◌, ◌++◌, cond, nat_eq, refl, sym, ap, ◌∙◌, arith}
 use Rattle.std.specs.Prelude.{codes, slice_index}
 use Rattle.lard_answers.specs.Answers.{IsPrefix, answer_bytes}
 use Rattle.lard_history.specs.Journal.{accepted, request, wrote}
@@ -6,6 +6,7 @@ use Rattle.lard_journal.specs.declared.rec.Rec.{Rec}
 use Rattle.lard_journal.specs.declared.rec.Rec.TheVariants as rec
 use Rattle.lard_refusals.specs.Refusals.{two_files}
 use Rattle.lard_refusals.specs.Service.{accepted_and_not_asked, another_answer_accepted}
+use Rattle.lard_refusals.proofs.Moments.{at-every-moment}
 use Rattle.lard_refusals.proofs.Responses.{its-bytes, no-bytes}
 use Rattle.lard_refusals.proofs.service.prefix_refuses.Goals as goal
 
@@ -41,15 +42,6 @@ both c = go (nat_eq 1 c) where
   go true = front
   go false = nothing _
 
-each : (past later : List Rec) (c : ℕ) → asking ∷ accepting ∷ [] ≡ past ++ later → IsPrefix (accepted past c) (answer_bytes two_files (wrote past c))
-each [] later c cut = nothing _
-each (x ∷ []) later c cut = let is : asking ≡ x = cc in subst (λ (r : Rec). IsPrefix (accepted (r ∷ []) c) (answer_bytes two_files (wrote (r ∷ []) c))) is (nothing _)
-each (x ∷ y ∷ []) later c cut =
-    let first : asking ≡ x = cc in
-    let second : accepting ≡ y = cc in
-    subst (λ (r : Rec). IsPrefix (accepted (r ∷ y ∷ []) c) (answer_bytes two_files (wrote (r ∷ y ∷ []) c))) first
-    (subst (λ (r : Rec). IsPrefix (accepted (asking ∷ r ∷ []) c) (answer_bytes two_files (wrote (asking ∷ r ∷ []) c))) second (both c))
-each (x ∷ y ∷ z ∷ more) later c cut = absurd cc
-
 pub returns-clause-its_answer_accepted : goal.returns-clause-its_answer_accepted
-returns-clause-its_answer_accepted c past later q cut untouched = each past later q cut
+returns-clause-its_answer_accepted c past later q cut untouched =
+    at-every-moment (λ (past : List Rec). (c : ℕ) → IsPrefix (accepted past c) (answer_bytes two_files (wrote past c))) (asking ∷ accepting ∷ []) ((λ c. nothing _), ((λ c. nothing _), both)) past later cut q
