@@ -1,0 +1,74 @@
+-- What nodes bear before anything is assigned and behind one assignment, and which nodes are chosen then.
+use Rattle.std.proofs.Common.{◌≡◌, ℕ, [], ◌∷◌, length, Option, Some, None, refl, ap, ◌∙◌, arith}
+use Rattle.std.specs.FinMap.{get-empty}
+use Rattle.std.specs.FinMap as map
+use Rattle.std.specs.Ordering.{nat_cmp}
+use Rattle.lard_base.specs.declared.ids.Millis.{Millis}
+use Rattle.lard_base.specs.Members.{node_numbers}
+use Rattle.lard_costs.specs.Later.{later_choice}
+use Rattle.lard_loads.specs.Charges.{Connect}
+use Rattle.lard_loads.specs.Tally.{Standing, Tally, connected, home, home_of, load, open_shares, shared, shares_of, sharing, start}
+use Rattle.lard_loads.proofs.Charged.{all_charged}
+use Rattle.lard_policy.specs.declared.first.FirstChoice.{FirstChoice}
+use Rattle.lard_policy.specs.First.{first_choice, least_node}
+use Rattle.lard_refusals.specs.Refusals.{three_nodes}
+use Rattle.lard_table.proofs.Map.{get_inserted, get_other}
+
+-- ---- before anything
+
+pub no-load : (n : ℕ) → load (start 3) n ≡ 0
+no-load n = (all_charged 3 [] tt).loads n
+
+pub least-of-none : least_node (start 3) ≡ 1
+least-of-none = rw (no-load 1, no-load 2, no-load 3, no-load 2) refl
+
+-- a path without a set goes to the lowest number
+pub first-of-none : (now modified : Millis) → first_choice (start 3) 0 now modified three_nodes ≡ record { node = 1; add = Some 1; remove = None }
+unfolding first_choice
+first-of-none now modified = ap joining-least least-of-none where
+  joining-least : ℕ → FirstChoice
+  joining-least n = record { node = n; add = Some n; remove = None }
+
+-- a share of a connection that is not there changes nothing
+pub none-shares : shared (start 3) 1 2 2 ≡ start 3
+none-shares = ap (sharing (start 3) 1 2 2) (get-empty nat_cmp 1)
+
+-- ---- behind the assignment of connection 1 to node 1
+
+abbrev pub at_home : Standing
+at_home = record { home = 1; shares = [] }
+
+abbrev pub one_at_home : Tally
+one_at_home = connected (start 3) 1 1
+
+pub is-there : map.get one_at_home.standings 1 ≡ Some at_home
+is-there = get_inserted map.empty 1 at_home
+
+pub its-home : home one_at_home 1 ≡ Some 1
+its-home = ap home_of is-there
+
+pub second-has-none : home one_at_home 2 ≡ None
+second-has-none = ap home_of (get_other map.empty 1 2 at_home (λ (e : 2 ≡ 1). omega arith) ∙ get-empty nat_cmp 2)
+
+pub its-load : load one_at_home 1 ≡ 840
+its-load = (all_charged 3 (Connect 1 1 ∷ []) (((omega arith, omega arith), get-empty nat_cmp 1, omega arith, omega arith), tt)).loads 1
+
+-- its node is at `high`, and another request for its path goes there
+pub second-first : first_choice one_at_home 1 (record { 0 = 0 }) (record { 0 = 0 }) three_nodes ≡ record { node = 1; add = None; remove = None }
+unfolding first_choice node_numbers
+second-first = rw its-load refl
+
+-- so does a later one
+pub later-stays : later_choice one_at_home 1 1 0 three_nodes ≡ record { node = 1; add = None }
+unfolding later_choice
+later-stays = refl
+
+-- a share at node 2 is open
+pub share-is-open : open_shares (shared one_at_home 1 2 2) 1 ≡ 1
+share-is-open =
+    ap (λ (o : Option Standing). open_shares (sharing one_at_home 1 2 2 o) 1) is-there
+    ∙ ap (λ (o : Option Standing). length (shares_of o)) (get_inserted one_at_home.standings 1 (record at_home { shares = record { node = 2; units = 420 } ∷ [] }))
+
+-- before that no share was
+pub no-share-is-open : open_shares one_at_home 1 ≡ 0
+no-share-is-open = ap (λ (o : Option Standing). length (shares_of o)) is-there

@@ -1,0 +1,93 @@
+use Rattle.std.proofs.Common.{◌≡◌, ℕ, ◌+◌, ◌%◌, ◌^◌, ◌≤◌, true, false, List, [], ◌∷◌, None, Some, Ok, refl, sym, ap, subst, ◌∙◌, arith}
+use Rattle.std.specs.Prelude.{codes, drop, slice_index, take}
+use Rattle.lard_arrival.specs.Arrival.{IsPartAt}
+use Rattle.lard_base.specs.declared.place.Place.TheVariants.{Client, Front}
+use Rattle.lard_history.specs.Journal.{Numbers}
+use Rattle.lard_net.specs.Net.{Packet, packet_at}
+use Rattle.lard_refusals.specs.Packets.{acknowledgement, two_bytes}
+use Rattle.lard_refusals.proofs.Segments.{acknowledgement-decodes, acknowledgement_says, same-numbers, same-said, two-bytes-decode, two_bytes_say}
+use Rattle.lard_refusals.proofs.clients.takers_refuses.Goals as goal
+use Rattle.lard_segment.specs.declared.segment.Dir.TheVariants.{ToClient}
+use Rattle.lard_segment.specs.Segment.{Said, decoded}
+
+pub returns-clause-accepts_out_of_nothing : goal.returns-clause-accepts_out_of_nothing
+returns-clause-accepts_out_of_nothing c h = let e : None ≡ Some (h.1.0 refl).0.number = (h.1.0 refl).0.last in cc
+
+-- the first packet went from the front end to client 1, with these bytes
+abbrev letter : List ℕ → Packet
+letter bytes = record { from = Front; to = Client 1; bytes = bytes; lost = false }
+
+-- what the client got says what that packet says, where it was delivered last
+got : (net : List Packet) (bytes : List ℕ) (says : Said) (number : ℕ) (packet : Packet) (said : Said)
+    → packet_at net 1 ≡ Some (letter bytes) → decoded bytes 1 ToClient ≡ Ok says
+    → Some 1 ≡ Some number → packet_at net number ≡ Some packet → decoded packet.bytes 1 ToClient ≡ Ok said → said ≡ says
+got net bytes says number packet said there reads last sent decodes =
+    let one : 1 ≡ number = cc in
+    let first : packet_at net 1 ≡ Some packet = subst (λ (n : ℕ). packet_at net n ≡ Some packet) (sym one) sent in
+    let same : letter bytes ≡ packet = cc in
+    same-said (subst (λ (p : Packet). decoded p.bytes 1 ToClient ≡ Ok said) (sym same) decodes) reads
+
+pub returns-clause-accepts_other_bytes : goal.returns-clause-accepts_other_bytes
+returns-clause-accepts_other_bytes c h =
+    let takes = h.1.1.1.0 refl in
+    let g = takes.0 in
+    let from : ℕ = takes.1 in
+    let says : g.said ≡ two_bytes_say = got (letter two_bytes ∷ []) two_bytes two_bytes_say g.number g.packet g.said refl two-bytes-decode g.last g.sent g.decodes in
+    let part = subst (λ (s : Said). IsPartAt from (codes "HX") s.payload) says takes.3 in
+    let within : from + 2 ≤ 2 = part.within in
+    let start : from ≡ 0 = omega arith in
+    let same : take 2 (drop 0 (codes "HT")) ≡ codes "HX" = subst (λ (n : ℕ). take 2 (drop n (codes "HT")) ≡ codes "HX") start part.same in
+    let letters : ◌≡◌ {A = ℕ} 84 88 = ap (λ (bytes : List ℕ). slice_index bytes 1) same in
+    omega arith
+
+pub returns-clause-accepts_twice : goal.returns-clause-accepts_twice
+returns-clause-accepts_twice c h =
+    let takes = h.1.1.1.1.1.0 refl in
+    let g = takes.0 in
+    let from : ℕ = takes.1 in
+    let says : g.said ≡ two_bytes_say = got (letter two_bytes ∷ []) two_bytes two_bytes_say g.number g.packet g.said refl two-bytes-decode g.last g.sent g.decodes in
+    let within : from + 2 ≤ 2 = (subst (λ (s : Said). IsPartAt from (codes "HT") s.payload) says takes.3).within in
+    let first : g.numbers.iss ≡ 5000 = ap (λ (n : Numbers). n.iss) (same-numbers g.numbers g.opened) in
+    let seq : g.said.seq ≡ 5001 = ap (λ (s : Said). s.seq) says in
+    let next : (g.said.seq + from) % 2 ^ 32 ≡ (g.numbers.iss + 3) % 2 ^ 32 = takes.2 in
+    let plain : (5001 + from) % 2 ^ 32 ≡ 5003 = ap (λ (n : ℕ). (n + from) % 2 ^ 32) (sym seq) ∙ next ∙ ap (λ (n : ℕ). (n + 3) % 2 ^ 32) first in
+    omega arith
+
+pub returns-clause-ends_without_a_fin : goal.returns-clause-ends_without_a_fin
+returns-clause-ends_without_a_fin c h =
+    let takes = h.1.1.1.0 refl in
+    let g = takes.0 in
+    let says : g.said ≡ acknowledgement_says = got (letter acknowledgement ∷ []) acknowledgement acknowledgement_says g.number g.packet g.said refl acknowledgement-decodes g.last g.sent g.decodes in
+    let e : true ≡ false = sym takes.1 ∙ ap (λ (s : Said). s.flags.fin) says in
+    cc
+
+pub returns-clause-accepts_what_came : goal.returns-clause-accepts_what_came
+returns-clause-accepts_what_came c = (
+  tt,
+  (
+    tt,
+    (
+      tt,
+      (
+        (λ untouched. (
+          record {
+            number = 1;
+            last = refl;
+            packet = letter two_bytes;
+            sent = refl;
+            goal = refl;
+            said = two_bytes_say;
+            decodes = two-bytes-decode;
+            numbers = record { isn = 1000; iss = 5000 };
+            opened = refl;
+          },
+          0,
+          refl,
+          record { within = omega arith; same = refl },
+          omega arith,
+        )),
+        tt,
+      ),
+    ),
+  ),
+)

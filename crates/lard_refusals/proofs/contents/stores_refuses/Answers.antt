@@ -1,0 +1,5 @@
+use Rattle.std.proofs.Common.{refl}
+use Rattle.lard_refusals.proofs.contents.stores_refuses.Goals as goal
+
+pub returns-clause-kept_path_is_a_hit : goal.returns-clause-kept_path_is_a_hit
+returns-clause-kept_path_is_a_hit c = (refl, (refl, (tt, ((1, refl, refl), (tt, ((1, refl, refl), (refl, tt)))))))

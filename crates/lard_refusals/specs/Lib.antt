@@ -1,0 +1,12 @@
+pub mod Admission
+pub mod Asks
+pub mod Clients
+pub mod Contents
+pub mod Moves
+pub mod Network
+pub mod Owners
+pub mod Packets
+pub mod Placing
+pub mod Quiet
+pub mod Refusals
+pub mod Service

@@ -1,0 +1,72 @@
+-- Journals in which a connection moves as it may not, and in which an Offer carries what it should not.
+use Rattle.std.specs.Prelude.{List, [], ◌∷◌, None, Some, codes}
+use Rattle.lard_base.specs.declared.event.Event.TheVariants as event
+use Rattle.lard_base.specs.declared.place.Place.TheVariants.{Client, Front, Node}
+use Rattle.lard_cluster_motion.specs.Motion.{MustMove}
+use Rattle.lard_cluster_offers.specs.Offers.{CarryTheEndpoint}
+use Rattle.lard_history.specs.Journal.{request}
+use Rattle.lard_history.specs.Steps.{EachStep, steps}
+use Rattle.lard_journal.specs.declared.rec.Rec.{Rec}
+use Rattle.lard_journal.specs.declared.rec.Rec.TheVariants as rec
+use Rattle.lard_refusals.specs.Packets.{client_acknowledgement, offer, offer_without_bytes, syn}
+use Rattle.lard_refusals.specs.Refusals.{Law, gave, took}
+
+-- ---- motion
+
+abbrev pub motion : Law
+motion config files J = EachStep (MustMove config.nodes) [] (steps J)
+
+-- The front end takes a connection, and no SYN came.
+abbrev pub taken_without_a_syn : List Rec
+taken_without_a_syn = rec.Event 1 (event.Timer Front 1) ∷ took Front 1 1 ∷ []
+
+-- The front end gives a connection up for which no node was chosen.
+abbrev pub given_to_no_node : List Rec
+given_to_no_node = rec.Event 1 (event.Timer Front 1) ∷ gave Front 1 1 ∷ []
+
+-- A node was chosen, and no Offer goes to it.
+abbrev pub given_with_no_offer : List Rec
+given_with_no_offer = rec.Event 1 (event.Timer Front 1) ∷ rec.AssignedFirst 1 1 (codes "/a") 1 (Some 1) None ∷ gave Front 1 1 ∷ []
+
+-- A node takes a connection that was not offered to it.
+abbrev pub taken_without_an_offer : List Rec
+taken_without_an_offer = rec.Event 1 (event.Timer (Node 1) 1) ∷ took (Node 1) 1 2 ∷ []
+
+-- An Offer comes again, and the node takes the connection again.
+abbrev pub repeated_offer_adopted : List Rec
+repeated_offer_adopted =
+    rec.Event 1 (event.Timer Front 1) ∷ rec.Sent 1 Front (Node 1) offer ∷ rec.Event 2 (event.Deliver 1) ∷ rec.Got 1 ∷ took (Node 1) 1 2
+    ∷ rec.Event 3 (event.Deliver 1) ∷ rec.Got 1 ∷ took (Node 1) 1 2 ∷ []
+
+-- An Offer comes, and the node does not take the connection.
+abbrev pub offer_passed_over : List Rec
+offer_passed_over = rec.Event 1 (event.Timer Front 1) ∷ rec.Sent 1 Front (Node 1) offer ∷ rec.Event 2 (event.Deliver 1) ∷ rec.Got 1 ∷ []
+
+-- A node gives a connection up, and tells nobody.
+abbrev pub given_up_in_silence : List Rec
+given_up_in_silence = rec.Event 1 (event.Timer (Node 1) 1) ∷ gave (Node 1) 1 2 ∷ []
+
+-- The front end takes a connection again, and no Ended came.
+abbrev pub taken_back_with_no_end : List Rec
+taken_back_with_no_end =
+    rec.Event 1 (event.Open 1 1000 5000 65535 1460) ∷ rec.Sent 1 (Client 1) Front syn ∷ rec.Event 2 (event.Deliver 1) ∷ rec.Got 1 ∷ took Front 1 1
+    ∷ rec.Event 3 (event.Timer Front 1) ∷ took Front 1 3 ∷ []
+
+-- A segment of the client comes while the connection is away, and is not forwarded.
+abbrev pub segment_not_forwarded : List Rec
+segment_not_forwarded =
+    rec.Event 1 (event.Timer Front 1) ∷ rec.AssignedFirst 1 1 (codes "/a") 1 (Some 1) None ∷ gave Front 1 1 ∷ rec.Sent 1 Front (Node 1) offer
+    ∷ rec.Event 2 (event.Timer (Client 1) 1) ∷ rec.Sent 2 (Client 1) Front client_acknowledgement ∷ rec.Event 3 (event.Deliver 2) ∷ rec.Got 2 ∷ []
+
+-- ---- Offers
+
+abbrev pub offers : Law
+offers config files J = CarryTheEndpoint files J
+
+-- An Offer tells the first numbers of a connection that nobody opened.
+abbrev pub offer_of_nobody : List Rec
+offer_of_nobody = rec.Sent 1 Front (Node 1) offer ∷ []
+
+-- A client wrote a request, which came and was not read, and the Offer carries none of its bytes.
+abbrev pub unread_bytes_left_behind : List Rec
+unread_bytes_left_behind = rec.Opened 1 1000 5000 65535 1460 ∷ rec.Wrote 1 (request (codes "/a")) ∷ rec.Sent 1 Front (Node 1) offer_without_bytes ∷ []

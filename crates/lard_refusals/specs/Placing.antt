@@ -1,0 +1,122 @@
+-- Journals that break the laws of the choice of nodes, and of the loads that it counts.
+use Rattle.std.specs.Prelude.{ℕ, List, [], ◌∷◌, None, Some, codes}
+use Rattle.lard_base.specs.declared.event.Event.TheVariants as event
+use Rattle.lard_cluster_laws.specs.Lawful.{EachCounted, Throughout}
+use Rattle.lard_cluster_line.specs.Laws.{HasFewConnections, IsNearTheThresholds, IsNotBusy, IsWithinTheRoom}
+use Rattle.lard_cluster_policy.specs.Laws.{AreLoadsCharged, AreServersTold, MayAssign, MayShare, last_of}
+use Rattle.lard_cluster_policy.specs.Ledger.{ledger}
+use Rattle.lard_history.specs.Laws.{EachMay}
+use Rattle.lard_journal.specs.declared.rec.Rec.{Rec}
+use Rattle.lard_journal.specs.declared.rec.Rec.TheVariants as rec
+use Rattle.lard_refusals.specs.Refusals.{Law}
+
+-- ---- short words
+
+-- connection c is assigned to node n first, for /a, and node n joins the set of that path, or nobody does
+abbrev pub first_joining : ℕ → ℕ → Rec
+first_joining c n = rec.AssignedFirst c 1 (codes "/a") n (Some n) None
+
+abbrev pub first_at : ℕ → ℕ → Rec
+first_at c n = rec.AssignedFirst c 1 (codes "/a") n None None
+
+-- request r of connection 1, for /a, is assigned to node n, in a batch of two, where no job waits
+abbrev pub later_at : ℕ → ℕ → Rec
+later_at r n = rec.AssignedLater 1 r (codes "/a") n None 2 0
+
+-- ---- choices
+
+abbrev pub choices : Law
+choices config files J = EachCounted MayAssign config J
+
+-- Of three nodes without load the highest number is chosen.
+abbrev pub tie_to_the_highest : List Rec
+tie_to_the_highest = first_joining 1 3 ∷ []
+
+-- The lowest has to be.
+abbrev pub tie_to_the_lowest : List Rec
+tie_to_the_lowest = first_joining 1 1 ∷ []
+
+-- A node whose load is at `high` is left, as if it were above that.
+abbrev pub threshold_at_high : List Rec
+threshold_at_high = first_joining 1 1 ∷ first_joining 2 2 ∷ []
+
+-- It is not left at `high`.
+abbrev pub threshold_above_high : List Rec
+threshold_above_high = first_joining 1 1 ∷ first_at 2 1 ∷ []
+
+-- A node is chosen that is no member of the set and does not join it.
+abbrev pub chosen_and_not_joined : List Rec
+chosen_and_not_joined = first_at 1 1 ∷ []
+
+-- Another node joins the set than that which is chosen.
+abbrev pub another_joins : List Rec
+another_joins = rec.AssignedFirst 1 1 (codes "/a") 1 (Some 2) None ∷ []
+
+-- A connection that has a node is assigned first again.
+abbrev pub assigned_first_twice : List Rec
+assigned_first_twice = first_joining 1 1 ∷ first_at 1 1 ∷ []
+
+-- A later request leaves the connection's node, whose disk has no queue.
+abbrev pub leaves_a_short_queue : List Rec
+leaves_a_short_queue = first_joining 1 1 ∷ later_at 2 2 ∷ []
+
+-- It stays.
+abbrev pub stays_at_a_short_queue : List Rec
+stays_at_a_short_queue = first_joining 1 1 ∷ later_at 2 1 ∷ []
+
+-- A later request is assigned for a connection that has no node.
+abbrev pub later_without_a_node : List Rec
+later_without_a_node = later_at 2 1 ∷ []
+
+abbrev pub batches : Law
+batches config files J = EachMay (λ past r. MayShare (last_of past) (ledger config past) r) [] J
+
+-- A batch is begun while a share of the one before is open.
+abbrev pub two_batches_open : List Rec
+two_batches_open = first_joining 1 1 ∷ later_at 2 2 ∷ rec.Event 1 (event.Shut 2) ∷ later_at 3 2 ∷ []
+
+-- A share is added to the batch.
+abbrev pub one_batch_open : List Rec
+one_batch_open = first_joining 1 1 ∷ later_at 2 2 ∷ later_at 3 2 ∷ []
+
+-- ---- loads and sets
+
+abbrev pub loads : Law
+loads config files J = Throughout (AreLoadsCharged config) config J
+
+-- A share is charged for a connection that has no node, so that what is charged is more than what nodes bear.
+abbrev pub share_of_nobody : List Rec
+share_of_nobody = later_at 2 2 ∷ []
+
+abbrev pub servers : Law
+servers config files J = Throughout AreServersTold config J
+
+-- A node without a number joins a set, and would be taken for node 1.
+abbrev pub joined_without_a_number : List Rec
+joined_without_a_number = first_joining 1 0 ∷ []
+
+-- ---- how many
+
+abbrev pub most_by_room : Law
+most_by_room config files J = Throughout (IsWithinTheRoom config) config J
+
+-- One node bears three connections, where there is room for two, and `high` is one.
+abbrev pub three_at_one_node : List Rec
+three_at_one_node = first_joining 1 1 ∷ first_at 2 1 ∷ first_at 3 1 ∷ []
+
+abbrev pub most_by_policy : Law
+most_by_policy config files J = Throughout (IsNearTheThresholds config) config J
+
+-- One node bears four, and the greatest threshold is two.
+abbrev pub four_at_one_node : List Rec
+four_at_one_node = first_joining 1 1 ∷ first_at 2 1 ∷ first_at 3 1 ∷ first_at 4 1 ∷ []
+
+abbrev pub few : Law
+few config files J = Throughout (HasFewConnections config) config J
+
+abbrev pub never_all_busy : Law
+never_all_busy config files J = Throughout (IsNotBusy config) config J
+
+-- Each of the three nodes has a connection, and so has `high` of them.
+abbrev pub one_at_each_node : List Rec
+one_at_each_node = first_joining 1 1 ∷ first_joining 2 2 ∷ first_joining 3 3 ∷ []
