@@ -80,6 +80,50 @@ fn nodes_are_closed(rt: HostRuntime) -> Result<(), Fail> {
     Ok(())
 }
 
+/// The load of 512 connections, in 840ths: half of it is that of shares.
+const FULL: u32 = 430_080;
+
+/// As many connections as there may be, at 64 nodes in turn, each with eight shares at the next node.
+fn fill(loads: &mut Loads) -> Result<(), Fail>
+    requires { loads.old.nodes ≡ 64 }
+    ensures { loads.new.nodes ≡ 64 }
+{
+    for below in 0..ConnId::MAX {
+        let c = below + 1;
+        apply(loads, 64, Call::Connect(c, below % 64 + 1))?;
+        share_eight(loads, c)?;
+    }
+    Ok(())
+}
+
+fn share_eight(loads: &mut Loads, c: u32) -> Result<(), Fail>
+    requires { loads.old.nodes ≡ 64 }
+    ensures { loads.new.nodes ≡ 64 }
+{
+    for _ in 0..8 {
+        apply(loads, 64, Call::Share(c, c % 64 + 1, 8))?;
+    }
+    Ok(())
+}
+
+/// A million releases, each followed by a choice: the loads are kept as they run. A body that adds up all slots for a
+/// choice would go through a hundred thousand million of them, which no test has the time for.
+#[test]
+fn loads_run_on(rt: HostRuntime) -> Result<(), Fail> {
+    let mut loads = Loads::new(rt.alloc(), 64)?;
+    fill(&mut loads)?;
+    assert_eq!(rt; loads.admitted(), ConnId::MAX);
+    for n in 1..65 {
+        assert_eq!(rt; loads.of(node(n)?), FULL, "at {n}");
+    }
+    for _ in 0..1_000_000 {
+        apply(&mut loads, 64, Call::Release(1))?;
+        apply(&mut loads, 64, Call::Connect(1, 1))?;
+        assert_eq!(rt; loads.least().number(), 2);
+    }
+    Ok(())
+}
+
 /// Makes a call, where its conditions hold, on loads of so many nodes or more.
 #[tactic(auto, using(crate::proofs::Nodes::nodes_shared, crate::proofs::Nodes::nodes_ended))]
 fn apply(loads: &mut Loads, nodes: u32, call: Call) -> Result<(), Fail>

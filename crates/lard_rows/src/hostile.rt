@@ -1,6 +1,8 @@
 //! Rows over a source and a sink that fail, each of their calls in turn: how the run ends, and exactly what was written.
 
-use crate::moves::{CONTENT_IS_LOST, EIGHT_REQUESTS, ONE_CONNECTION_MOVES};
+use crate::later::{CONTENT_IS_LOST, EIGHT_REQUESTS};
+use crate::moves::ONE_CONNECTION_MOVES;
+use crate::rows::Row;
 use crate::tests::{broken, replayed, words_of};
 use lard_app::{Status, run};
 use lard_base::{Bytes, Calls, MemSink, MemSource, NoMemory};
@@ -8,10 +10,8 @@ use std::alloc::Global;
 use std::process::Abort;
 use std::test::Fail;
 
-/// Inputs that end well. Here their reports are what a run writes in which nothing fails.
-fn inputs() -> [&'static str; 3] {
-    [ONE_CONNECTION_MOVES.input, EIGHT_REQUESTS, CONTENT_IS_LOST]
-}
+/// Rows that end well. Their reports are what a run writes in which nothing fails.
+const WELL: [Row; 3] = [ONE_CONNECTION_MOVES, EIGHT_REQUESTS, CONTENT_IS_LOST];
 
 /// How many lines end in these bytes.
 fn lines_in(bytes: &[u8]) -> usize {
@@ -52,13 +52,6 @@ fn front_of(report: &[u8], events: Option<usize>) -> &[u8] {
     &report[..len.min(report.len())]
 }
 
-/// What a run writes in which nothing fails.
-fn whole(rt: &(impl Abort + AllocGlobal), input: &[u8]) -> Result<Bytes, NoMemory> {
-    let (status, report) = replayed(rt.alloc(), input, Calls::new(rt.alloc()))?;
-    assert_eq!(rt; status, Status::Done);
-    Ok(report)
-}
-
 /// Runs `replay` over an input, with a sink that is full behind so many bytes.
 fn cramped(alloc: Global, input: &[u8], room: usize) -> Result<(Status, Bytes), NoMemory> {
     let words = words_of(alloc, "replay")?;
@@ -70,15 +63,15 @@ fn cramped(alloc: Global, input: &[u8], room: usize) -> Result<(Status, Bytes), 
 
 /// The sink gets the heading in one call, and the records of each event in one. Each of them fails in turn: what came
 /// before it was written.
-fn check_calls(rt: &(impl Abort + AllocGlobal), input: &[u8]) -> Result<(), NoMemory> {
+fn check_calls(rt: &(impl Abort + AllocGlobal), row: &Row) -> Result<(), NoMemory> {
     let alloc = rt.alloc();
-    let report = whole(rt, input)?;
+    let (input, report) = (row.input.as_bytes(), row.report.as_bytes());
     let events = lines_in(input).saturating_sub(opening_of(input));
     for event in 0..=events {
         let mut failing = Calls::new(alloc);
         failing.push((event as u64).saturating_add(1))?;
         let (status, written) = replayed(alloc, input, failing)?;
-        let front = front_of(report.as_slice(), event.checked_sub(1));
+        let front = front_of(report, event.checked_sub(1));
         assert_eq!(rt; status, Status::WriteFault, "at {event} of {input:?}");
         assert_eq!(rt; written.as_slice(), front, "at {event} of {input:?}");
     }
@@ -86,19 +79,19 @@ fn check_calls(rt: &(impl Abort + AllocGlobal), input: &[u8]) -> Result<(), NoMe
     behind.push((events as u64).saturating_add(2))?;
     let (status, written) = replayed(alloc, input, behind)?;
     assert_eq!(rt; status, Status::Done);
-    assert_eq!(rt; written.as_slice(), report.as_slice());
+    assert_eq!(rt; written.as_slice(), report);
     Ok(())
 }
 
 /// The sink is full behind each byte in turn: those before it were written.
-fn check_rooms(rt: &(impl Abort + AllocGlobal), input: &[u8]) -> Result<(), NoMemory> {
-    let report = whole(rt, input)?;
-    for room in 0..report.as_slice().len() {
+fn check_rooms(rt: &(impl Abort + AllocGlobal), row: &Row) -> Result<(), NoMemory> {
+    let (input, report) = (row.input.as_bytes(), row.report.as_bytes());
+    for room in 0..report.len() {
         let (status, written) = cramped(rt.alloc(), input, room)?;
         assert_eq!(rt; status, Status::WriteFault, "at {room} of {input:?}");
         assert_eq!(rt;
             written.as_slice(),
-            &report.as_slice()[..room],
+            &report[..room],
             "at {room} of {input:?}"
         );
     }
@@ -107,13 +100,13 @@ fn check_rooms(rt: &(impl Abort + AllocGlobal), input: &[u8]) -> Result<(), NoMe
 
 /// The source gives a byte in each read, and each read fails in turn, the one that would tell its end too: what the lines
 /// before it lead to was written.
-fn check_reads(rt: &(impl Abort + AllocGlobal), input: &[u8]) -> Result<(), NoMemory> {
-    let report = whole(rt, input)?;
+fn check_reads(rt: &(impl Abort + AllocGlobal), row: &Row) -> Result<(), NoMemory> {
+    let (input, report) = (row.input.as_bytes(), row.report.as_bytes());
     let opening = opening_of(input);
     for at in 0..=input.len() {
         let (status, written) = broken(rt.alloc(), input, at)?;
         let events = lines_in(&input[..at]).checked_sub(opening);
-        let front = front_of(report.as_slice(), events);
+        let front = front_of(report, events);
         assert_eq!(rt; status, Status::ReadFault, "at {at} of {input:?}");
         assert_eq!(rt; written.as_slice(), front, "at {at} of {input:?}");
     }
@@ -122,22 +115,22 @@ fn check_reads(rt: &(impl Abort + AllocGlobal), input: &[u8]) -> Result<(), NoMe
 
 #[test]
 fn a_sink_that_fails_in_each_of_its_calls(rt: HostRuntime) -> Result<(), Fail> {
-    for input in &inputs() {
-        check_calls(&rt, input.as_bytes())?;
+    for row in &WELL {
+        check_calls(&rt, row)?;
     }
     Ok(())
 }
 
 #[test]
 fn a_sink_that_is_full_behind_each_byte(rt: HostRuntime) -> Result<(), Fail> {
-    check_rooms(&rt, ONE_CONNECTION_MOVES.input.as_bytes())?;
+    check_rooms(&rt, &ONE_CONNECTION_MOVES)?;
     Ok(())
 }
 
 #[test]
 fn a_source_that_fails_in_each_of_its_reads(rt: HostRuntime) -> Result<(), Fail> {
-    for input in &inputs() {
-        check_reads(&rt, input.as_bytes())?;
+    for row in &WELL {
+        check_reads(&rt, row)?;
     }
     Ok(())
 }

@@ -1,11 +1,15 @@
 //! Worked rows over `run`: an input, the status and the report that it must give.
 //!
-//! It stands above the whole path and calls `lard_app::run` alone, over the source and the sink in memory and over
-//! two that move one byte at a time.
+//! It stands above the whole path and calls `lard_app::run`, over the source and the sink in memory and over two that move
+//! one byte at a time. Beside that it has the one test of two leaves together: the files and the sending halves.
 #![tactic(auto)]
 
 #[cfg(test)]
+mod held_once;
+#[cfg(test)]
 mod hostile;
+pub mod later;
+pub mod limits;
 pub mod moves;
 pub mod report;
 pub mod rows;

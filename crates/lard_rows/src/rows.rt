@@ -1,7 +1,13 @@
 //! The worked rows: inputs with the status and the whole report that the rules give, worked out apart from the program.
 
-use crate::moves::ONE_CONNECTION_MOVES;
-use crate::settles::{SETTLED, SETTLED_LATER};
+use crate::later::{BATCH_SETTLES, CONTENT_IS_LOST, EIGHT_REQUESTS};
+use crate::limits::{
+    FIRST_RESPONSE_PAST_THE_LIMIT, FIVE_CLIENTS, LINE_SETTLES, RESPONSES_AT_THE_LIMIT,
+};
+use crate::moves::{
+    A_MOVED_CONNECTION_ENDS, EMPTY_FILE_AND_HEAD, FORWARD_BEFORE_ITS_OFFER, ONE_CONNECTION_MOVES,
+};
+use crate::settles::{MOVED_CONNECTION_SETTLES, NUMBERS_BEGIN_AGAIN, SETTLED, SETTLED_LATER};
 use lard_app::{FileFault, Status, What, Why};
 
 /// An input, how its run ends, and what it writes.
@@ -10,6 +16,12 @@ pub struct Row {
     pub input: &'static str,
     pub status: Status,
     pub report: &'static str,
+}
+
+/// An input that ends well, and what stands in its report: lists of lines, in this order, each list line by line.
+pub struct Told {
+    pub input: &'static str,
+    pub steps: &'static [&'static [&'static str]],
 }
 
 /// The heading alone.
@@ -475,106 +487,6 @@ file /a 00
     report: "",
 };
 
-/// A file of 3,000 bytes is asked for, with numbers near 2^32.
-pub const LARGE_FILE_ASKED: Row = Row {
-    input: "\
-lard 1
-fill /a 3000 78
-go
-open 1 4294967290 4294967290 65535 1460
-get 1 /a
-",
-    status: Status::Done,
-    report: "\
-report 1 nodes 2 low 25 high 65 age 20000 idle 25 over 130 miss 50 cache 1048576 stream 1073741824
-file /a 3000
-event 1 open 1 4294967290 4294967290 65535 1460
-opened 1 4294967290 4294967290 65535 1460
-sent 1 c1 front 9c400050fffffffa000000006002ffffe7980000020405b4
-armed c1 1 tcp
-event 2 get 1 /a
-wrote 1 474554202f6120485454502f312e310d0a486f73743a206c6172640d0a0d0a
-",
-};
-
-/// Files of 160 and 161 bytes, under a stream limit of 200.
-pub const TWO_FILES_ASKED: Row = Row {
-    input: "\
-lard 1
-stream 200
-fill /a 160 41
-fill /b 161 42
-go
-open 1 1 1 65535 1460
-get 1 /a
-open 2 1 1 65535 1460
-get 2 /b
-",
-    status: Status::Done,
-    report: "\
-report 1 nodes 2 low 25 high 65 age 20000 idle 25 over 130 miss 50 cache 1048576 stream 200
-file /a 160
-file /b 161
-event 1 open 1 1 1 65535 1460
-opened 1 1 1 65535 1460
-sent 1 c1 front 9c40005000000001000000006002ffffe7920000020405b4
-armed c1 1 tcp
-event 2 get 1 /a
-wrote 1 474554202f6120485454502f312e310d0a486f73743a206c6172640d0a0d0a
-event 3 open 2 1 1 65535 1460
-opened 2 1 1 65535 1460
-sent 2 c2 front 9c40005000000001000000006002ffffe7910000020405b4
-armed c2 2 tcp
-event 4 get 2 /b
-wrote 2 474554202f6220485454502f312e310d0a486f73743a206c6172640d0a0d0a
-",
-};
-
-/// Three requests in one write, and a fourth.
-pub const FOUR_REQUESTS_WRITTEN: Row = Row {
-    input: "\
-lard 1
-file /a 68656c6c6f
-go
-open 1 1000 5000 65535 1460
-write 1 474554202f6120485454502f312e310d0a486f73743a206c6172640d0a0d0a474554202f6120485454502f312e310d0a486f73743a206c6172640d0a0d0a474554202f6120485454502f312e310d0a486f73743a206c6172640d0a486f73743a20620d0a0d0a
-write 1 474554202f6120485454502f312e310d0a486f73743a206c6172640d0a0d0a
-",
-    status: Status::Done,
-    report: "\
-report 1 nodes 2 low 25 high 65 age 20000 idle 25 over 130 miss 50 cache 1048576 stream 1073741824
-file /a 5
-event 1 open 1 1000 5000 65535 1460
-opened 1 1000 5000 65535 1460
-sent 1 c1 front 9c400050000003e8000000006002ffffe3ab0000020405b4
-armed c1 1 tcp
-event 2 write 1 474554202f6120485454502f312e310d0a486f73743a206c6172640d0a0d0a474554202f6120485454502f312e310d0a486f73743a206c6172640d0a0d0a474554202f6120485454502f312e310d0a486f73743a206c6172640d0a486f73743a20620d0a0d0a
-wrote 1 474554202f6120485454502f312e310d0a486f73743a206c6172640d0a0d0a474554202f6120485454502f312e310d0a486f73743a206c6172640d0a0d0a474554202f6120485454502f312e310d0a486f73743a206c6172640d0a486f73743a20620d0a0d0a
-event 3 write 1 474554202f6120485454502f312e310d0a486f73743a206c6172640d0a0d0a
-wrote 1 474554202f6120485454502f312e310d0a486f73743a206c6172640d0a0d0a
-",
-};
-
-/// A request before its connection is established.
-pub const REQUEST_ON_ITS_WAY: Row = Row {
-    input: "\
-lard 1
-go
-open 1 1000 5000 65535 1460
-get 1 /x
-",
-    status: Status::Done,
-    report: "\
-report 1 nodes 2 low 25 high 65 age 20000 idle 25 over 130 miss 50 cache 1048576 stream 1073741824
-event 1 open 1 1000 5000 65535 1460
-opened 1 1000 5000 65535 1460
-sent 1 c1 front 9c400050000003e8000000006002ffffe3ab0000020405b4
-armed c1 1 tcp
-event 2 get 1 /x
-wrote 1 474554202f7820485454502f312e310d0a486f73743a206c6172640d0a0d0a
-",
-};
-
 /// Two packets that the client did not send, of which neither is a segment: one byte, and its request with a wrong last byte.
 pub const NO_SEGMENTS_INJECTED: Row = Row {
     input: "\
@@ -635,7 +547,7 @@ got 7
 };
 
 /// All rows.
-pub const ROWS: [Row; 22] = [
+pub const ROWS: [Row; 28] = [
     HEADING_ALONE,
     NO_INPUT,
     ONE_REQUEST,
@@ -650,12 +562,21 @@ pub const ROWS: [Row; 22] = [
     RESET_IS_DELIVERED,
     REQUEST_IN_PARTS,
     FILE_REPEATED,
-    LARGE_FILE_ASKED,
-    TWO_FILES_ASKED,
-    FOUR_REQUESTS_WRITTEN,
-    REQUEST_ON_ITS_WAY,
     NO_SEGMENTS_INJECTED,
     ONE_CONNECTION_MOVES,
+    A_MOVED_CONNECTION_ENDS,
+    FORWARD_BEFORE_ITS_OFFER,
+    FIRST_RESPONSE_PAST_THE_LIMIT,
+    EIGHT_REQUESTS,
+    CONTENT_IS_LOST,
     SETTLED,
     SETTLED_LATER,
+    NUMBERS_BEGIN_AGAIN,
+    RESPONSES_AT_THE_LIMIT,
+    BATCH_SETTLES,
+    LINE_SETTLES,
+    MOVED_CONNECTION_SETTLES,
 ];
+
+/// All rows of which parts of a report are told.
+pub const TOLD: [Told; 2] = [EMPTY_FILE_AND_HEAD, FIVE_CLIENTS];

@@ -1,8 +1,7 @@
 //! The rows: for each input the status and the report that the rules give, worked out by hand.
 
-use crate::moves::TOLD;
 use crate::report::{HEADING, PARTS};
-use crate::rows::ROWS;
+use crate::rows::{ROWS, TOLD};
 use crate::slow::{Counting, Drip, Trickle, Waiting};
 use lard_app::{FileFault, Status, What, Why, run};
 use lard_base::{Bytes, Calls, ConfigFault, Key, MemSink, MemSource, NoMemory};
@@ -34,16 +33,20 @@ deliver 3
 ";
 
 /// A request is answered by 404, in 45 bytes.
-const NOT_FOUND: [&str; 2] = [
-    "served front 1 1 404 45 own",
-    "accepted 1 485454502f312e3120343034204e6f7420466f756e640d0a436f6e74656e742d4c656e6774683a20300d0a0d0a",
+const NOT_FOUND: [&[&str]; 2] = [
+    &["served front 1 1 404 45 own"],
+    &[
+        "accepted 1 485454502f312e3120343034204e6f7420466f756e640d0a436f6e74656e742d4c656e6774683a20300d0a0d0a",
+    ],
 ];
 
 /// A head is answered by 431, in 86 bytes, and the connection closes.
-const TOO_LONG: [&str; 3] = [
-    "served front 1 1 431 86 own",
-    "accepted 1 485454502f312e3120343331205265717565737420486561646572204669656c647320546f6f204c617267650d0a436f6e74656e742d4c656e6774683a20300d0a436f6e6e656374696f6e3a20636c6f73650d0a0d0a",
-    "eof 1",
+const TOO_LONG: [&[&str]; 3] = [
+    &["served front 1 1 431 86 own"],
+    &[
+        "accepted 1 485454502f312e3120343331205265717565737420486561646572204669656c647320546f6f204c617267650d0a436f6e74656e742d4c656e6774683a20300d0a436f6e6e656374696f6e3a20636c6f73650d0a0d0a",
+    ],
+    &["eof 1"],
 ];
 
 /// The words of a command line, as `run` takes them.
@@ -115,24 +118,30 @@ fn the_worked_rows(rt: HostRuntime) -> Result<(), Fail> {
     Ok(())
 }
 
-/// These lines stand in the report, in this order.
-fn check_lines(rt: &impl Abort, report: &[u8], lines: &[&str]) {
+/// These lists of lines stand in the report, in this order, each of them line by line.
+fn check_steps(rt: &impl Abort, report: &[u8], steps: &[&[&str]]) {
     let mut left = report.split(|byte| *byte == b'\n');
-    for line in lines {
+    for lines in steps {
+        let Some((first, others)) = lines.split_first() else {
+            continue;
+        };
         assert!(rt;
-            left.any(|part| part == line.as_bytes()),
-            "no line {line:?}"
+            left.any(|part| part == first.as_bytes()),
+            "no line {first:?}"
         );
+        for line in others {
+            assert_eq!(rt; left.next(), Some(line.as_bytes()), "behind {first:?}");
+        }
     }
 }
 
 #[test]
-fn several_requests_in_one_write(rt: HostRuntime) -> Result<(), Fail> {
+fn rows_of_which_parts_are_told(rt: HostRuntime) -> Result<(), Fail> {
     let alloc = rt.alloc();
     for row in &TOLD {
         let (status, report) = replayed(alloc, row.input.as_bytes(), Calls::new(alloc))?;
-        assert_eq!(rt; status, Status::Done);
-        check_lines(&rt, report.as_slice(), row.lines);
+        assert_eq!(rt; status, Status::Done, "at {:?}", row.input);
+        check_steps(&rt, report.as_slice(), row.steps);
     }
     Ok(())
 }
@@ -163,11 +172,11 @@ fn heads_of_8192_bytes(rt: HostRuntime) -> Result<(), Fail> {
     let whole = long_head(alloc, 8_192 - 35 - 4, "0d0a0d0a")?;
     let (status, report) = replayed(alloc, whole.as_slice(), Calls::new(alloc))?;
     assert_eq!(rt; status, Status::Done);
-    check_lines(&rt, report.as_slice(), &NOT_FOUND);
+    check_steps(&rt, report.as_slice(), &NOT_FOUND);
     let unended = long_head(alloc, 8_192 - 35, "")?;
     let (status, report) = replayed(alloc, unended.as_slice(), Calls::new(alloc))?;
     assert_eq!(rt; status, Status::Done);
-    check_lines(&rt, report.as_slice(), &TOO_LONG);
+    check_steps(&rt, report.as_slice(), &TOO_LONG);
     Ok(())
 }
 
@@ -192,22 +201,29 @@ fn what_does_not_depend_on_a_world(rt: HostRuntime) -> Result<(), Fail> {
 fn nodes_and_jobs_that_are_not_there(rt: HostRuntime) -> Result<(), Fail> {
     let no_node = |line, n| refused(line, Why::NoNode { n, nodes: 2 });
     let no_job = |line, n, j| refused(line, Why::NoJob { n, j, len: 0 });
-    let opened = "lard 1\ngo\nopen 1 1000 5000 65535 1460\n";
-    let alloc = rt.alloc();
     check(
         &rt,
         &[
             ("lard 1\ngo\ndisk 0 1\n", no_node(3, 0), 1),
-            ("lard 1\ngo\ndisk 3 1\n", no_node(3, 3), 1),
-            ("lard 1\ngo\ndisk 1 1\n", no_job(3, 1, 1), 1),
             ("lard 1\ngo\ndisk 2 0\n", no_job(3, 2, 0), 1),
             ("lard 1\ngo\ntimer n3 1\n", refused(3, Why::NoClient(1)), 1),
+            (
+                "lard 1\ngo\nopen 1 1000 5000 65535 1460\ntimer n3 1\n",
+                no_node(4, 3),
+                2,
+            ),
+            (
+                "lard 1\ngo\nopen 1 1000 5000 65535 1460\nget 1 /x\ndisk 3 1\n",
+                no_node(5, 3),
+                3,
+            ),
+            (
+                "lard 1\ngo\nopen 1 1000 5000 65535 1460\nget 1 /x\ndisk 1 1\n",
+                no_job(5, 1, 1),
+                3,
+            ),
         ],
     )?;
-    let input = joined(alloc, opened, "timer n3 1\n")?;
-    let (status, report) = replayed(alloc, input.as_slice(), Calls::new(alloc))?;
-    assert_eq!(rt; status, no_node(4, 3));
-    assert_eq!(rt; report.as_slice(), first_parts(alloc, 2)?.as_slice());
     Ok(())
 }
 
@@ -234,8 +250,8 @@ fn configurations_that_cannot_be_used(rt: HostRuntime) -> Result<(), Fail> {
                 0,
             ),
             (
-                "lard 1\nnodes 1\nlow 1\nhigh 1\ngo\n",
-                unfit(5, ConfigFault::NoRoom),
+                "lard 1\nnodes 1\nlow 1\ngo\n",
+                unfit(4, ConfigFault::NoRoom),
                 0,
             ),
         ],
@@ -485,8 +501,8 @@ fn a_source_that_waits_for_the_steps_before(rt: HostRuntime) -> Result<(), Fail>
     let words = words_of(alloc, "replay")?;
     let taken = Cell::new(0);
     let mut source = Waiting {
-        rest: b"lard 1\ngo\nopen 1 1000 5000 65535 1460\n",
-        line: b"timer front 1\n",
+        rest: b"lard 1\ngo\n",
+        line: b"clock 0\n",
         times: 100_000,
         taken: &taken,
         before_last: 0,
@@ -495,6 +511,7 @@ fn a_source_that_waits_for_the_steps_before(rt: HostRuntime) -> Result<(), Fail>
     let status = run(alloc, words.as_slice(), &mut source, &mut sink);
     assert_eq!(rt; status, Status::Done);
     assert!(rt; source.before_last > 2_000_000);
+    assert!(rt; taken.get() > 2_700_000);
     Ok(())
 }
 
