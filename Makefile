@@ -18,6 +18,7 @@ VIM := $(SHARE)/vim/vimfiles
 EXAMPLES := $(SHARE)/doc/lardsim/examples
 TOOLS := $(shell awk '!/^\#/ && NF > 1 && $$2 != "-" { print $$1 }' install/tools)
 LINKS := $(TOOLS:%=lardsim-%)
+MODULES := $(wildcard tools/*.py tools/*.sh tools/*.lua tools/*/*.py)
 
 .PHONY: all install uninstall
 all:
@@ -29,7 +30,7 @@ install: all
 	install crates/lardsim/out/lardsim $(ROOT)/bin/lardsim
 	ln -sfn ../../../../../bin/lardsim $(LIB)/crates/lardsim/out/lardsim
 	install $(TOOLS:%=tools/%) tools/build $(LIB)/tools
-	install -m 644 $(wildcard tools/*.py tools/*.sh tools/*.lua) $(LIB)/tools
+	for module in $(MODULES); do install -D -m 644 $$module $(LIB)/$$module || exit; done
 	for tool in $(TOOLS); do ln -sfn ../lib/lardsim/tools/$$tool $(ROOT)/bin/lardsim-$$tool || exit; done
 	install -m 644 docs/lardsim.1 $(SHARE)/man/man1
 	install -m 644 install/completion.bash $(BASH)/lardsim
