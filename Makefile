@@ -38,7 +38,7 @@ install: all
 	install -m 644 install/completion.zsh $(ZSH)/_lardsim
 	install -m 644 $(wildcard install/vim/syntax/*) $(VIM)/syntax
 	install -m 644 $(wildcard install/vim/ftdetect/*) $(VIM)/ftdetect
-	install -m 644 $(wildcard examples/*) $(EXAMPLES)
+	cp -R examples/. $(EXAMPLES)
 
 uninstall:
 	rm -f $(addprefix $(ROOT)/bin/,lardsim $(LINKS)) $(addprefix $(BASH)/,lardsim $(LINKS)) $(ZSH)/_lardsim $(SHARE)/man/man1/lardsim.1
