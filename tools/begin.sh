@@ -5,3 +5,6 @@ if [ "${1-}" = --help ]; then
     exit 0
 fi
 cd "$(dirname "$(readlink -f "$0")")/.."
+
+# progress WORDS..: what is done next, for a person who waits
+progress() { if [ -t 2 ]; then echo "$(basename "$0"): $*" >&2; fi; }
