@@ -5,6 +5,12 @@
 #
 # DESTDIR goes before it, for a package. The program is proved and built first where it is missing or older than the sources.
 # install/tools says which tools are for users. tools/check-install tries all of this.
+#
+# man finds the page where PREFIX/bin is on the path, and bash-completion its file below /usr, /usr/local and $HOME/.local.
+# zsh and vim are told the folder, where it is none of theirs:
+#
+#   fpath=(PREFIX/share/zsh/site-functions $fpath)   in .zshrc, before compinit
+#   set runtimepath^=PREFIX/share/vim/vimfiles       in .vimrc, before `filetype` and `syntax`
 
 PREFIX ?= /usr/local
 DESTDIR ?=
