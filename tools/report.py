@@ -1,14 +1,13 @@
-"""Reads a report of lardsim, and the packets in it. docs/REPORT.md and docs/FORMATS.md say what stands there.
+"""Reads a report of lardsim, and the packets in it. docs/REPORT.md and docs/FORMATS.md say what stands there, and
+docs/REPORTS-FOR-PROGRAMS.md what a program of your own gets of it.
 
-read(path) gives a Report, or ends the program with status 1 and the line that is none of a report.
+read(path) and parse(text) give a Report, or raise a ReportError with the line that is none of a report. To import this
+module changes nothing in the process that does.
 """
 
 import re
-import signal
 import sys
 from types import SimpleNamespace
-
-signal.signal(signal.SIGPIPE, signal.SIG_DFL)  # a tool before `| head` ends quietly
 
 # ---- lines: each kind with its fields. Only these are read, so a new record needs its row here.
 
@@ -59,6 +58,7 @@ EVENTS = {
     "inject": "connection bytes",
 }
 
+OPENERS = "event", "inner"  # a step begins with one of these
 KEYS = "nodes low high age idle over miss cache stream".split()
 
 NUMBER = r"(?:0|[1-9][0-9]*)"
@@ -96,27 +96,47 @@ def fields_of(names, words):
 def record_of(words):
     """The record that these words are, or None."""
     kind = words[0]
-    if kind in ("event", "inner"):
+    if kind in OPENERS:
         number, form = (words[1:2], words[2:]) if kind == "event" else (["0"], words[1:])
         fields = fields_of(EVENTS[form[0]], form[1:]) if form and form[0] in EVENTS else None
         if fields is None or not number or not re.fullmatch(NUMBER, number[0]):
             return None
-        return SimpleNamespace(kind=kind, form=form[0], number=int(number[0]), text=" ".join(form), **fields)
+        return Record(kind=kind, form=form[0], number=int(number[0]), text=" ".join(form), **fields)
     if kind == "assigned":  # its third word says which of two kinds it is
         kind, words = " ".join(["assigned", *words[3:4]]), words[:3] + words[4:]
     fields = fields_of(RECORDS[kind], words[1:]) if kind in RECORDS else None
-    return None if fields is None else SimpleNamespace(kind=kind, **fields)
+    return None if fields is None else Record(kind=kind, **fields)
 
 
 # ---- the whole
 
-class Report:
-    """config: a number for each key. files: a length for each path. steps: each with its event and its records.
-    packets: the record `sent` of each packet, from packet 1 on, its contents in `segment` or `message`. opened: the record
-    `opened` of each connection."""
+class ReportError(Exception):
+    """A file that is no report, or that cannot be read. path: its name. line: the line that is wrong, or None. fault: what is
+    wrong there, in words."""
 
-    def __init__(self):
-        self.config, self.files, self.steps, self.packets, self.opened = {}, {}, [], [], {}
+    def __init__(self, path, line, fault):
+        self.path, self.line, self.fault = path, line, fault
+        super().__init__(f"{path}: {fault}" if line is None else f"{path}: line {line}: {fault}")
+
+
+class Record(SimpleNamespace):
+    """A line of a report. kind: its first word, with `first` or `later` behind `assigned`. line: its number in the report.
+    connection: the one that it is about, or None. Its other fields are those of RECORDS, or of EVENTS where kind is `event`
+    or `inner`. A `sent` has segment and message too, of which at most one is not None."""
+
+
+class Step(SimpleNamespace):
+    """name: 5, or 5.3 for the third step inside event 5. number: of its event, 5. at: its place in Report.steps, from 0 on.
+    event: the record that began it. records: those behind it."""
+
+
+class Report:
+    """path: its name. config: a number for each key. files: a length for each path. steps: each with its event and its
+    records. packets: the record `sent` of each packet, from packet 1 on, its contents in `segment` or `message`. opened: the
+    record `opened` of each connection."""
+
+    def __init__(self, path=""):
+        self.path, self.config, self.files, self.steps, self.packets, self.opened = path, {}, {}, [], [], {}
         self.events = self.inner = 0  # how many events, and how many steps inside the last of them
 
     def steps_of(self, connection):
@@ -126,17 +146,30 @@ class Report:
             if step.event.connection in (connection, None) or records:
                 yield step, records
 
+    def records(self):
+        """Each line of the report behind its files: its step, and the record, which for a step's first line is its event."""
+        for step in self.steps:
+            yield step, step.event
+            for record in step.records:
+                yield step, record
+
 
 def read(path):
-    """The report in this file. One that is none ends the program, with the line that is wrong."""
+    """The report in this file; `-` is standard input."""
     try:
+        if path == "-":
+            return parse(sys.stdin.buffer.read(), "standard input")
         with open(path, "rb") as file:
-            text = file.read().decode("latin-1")
+            return parse(file.read(), path)
     except OSError as error:
-        sys.exit(f"{path}: {error.strerror}")
-    report, line = Report(), 0
+        raise ReportError(path, None, error.strerror) from None
+
+
+def parse(text, path="report"):
+    """The report in these bytes. The name is told where they are none."""
+    report, line = Report(path), 0
+    lines = text.decode("latin-1").split("\n")
     try:
-        lines = text.split("\n")
         for line, words in enumerate((one.split(" ") for one in lines[:-1]), 1):
             if line == 1:
                 heading(report, words)
@@ -151,7 +184,7 @@ def read(path):
             line += 1
             raise ValueError("a line without its end" if lines[-1] else "not the heading of a report")
     except ValueError as error:
-        sys.exit(f"{path}: line {line}: {error}")
+        raise ReportError(path, line, str(error)) from None
     return report
 
 
@@ -161,7 +194,7 @@ def chosen(report, words):
     if len(words) == 2:
         connections = [connection for connection in connections if str(connection) == words[1]]
         if not connections:
-            sys.exit(f"{words[0]}: no connection {words[1]}")
+            raise ReportError(report.path, None, f"no connection {words[1]}")
     return connections
 
 
@@ -188,7 +221,7 @@ def add(report, line, words):
         if not 1 <= record.packet <= len(report.packets):
             raise ValueError(f"packet {record.packet} of {len(report.packets)} sent")
         record.connection = report.packets[record.packet - 1].connection
-    if record.kind in ("event", "inner"):
+    if record.kind in OPENERS:
         begin(report, record)
         return
     step = report.steps[-1]
@@ -218,7 +251,7 @@ def begin(report, event):
     else:
         report.inner += 1
         name = f"{report.events}.{report.inner}"
-    report.steps.append(SimpleNamespace(name=name, event=event, records=[]))
+    report.steps.append(Step(name=name, number=report.events, at=len(report.steps), event=event, records=[]))
 
 
 # ---- packets
