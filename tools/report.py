@@ -189,13 +189,12 @@ def parse(text, path="report"):
 
 
 def chosen(report, words):
-    """The connections that a tool's words choose: REPORT names all of them, REPORT CONNECTION one."""
-    connections = sorted(report.opened)
-    if len(words) == 2:
-        connections = [connection for connection in connections if str(connection) == words[1]]
-        if not connections:
-            raise ReportError(report.path, None, f"no connection {words[1]}")
-    return connections
+    """The connections that a tool's words choose: REPORT names all of them, REPORT CONNECTION... those."""
+    known = {str(connection): connection for connection in report.opened}
+    for word in words[1:]:
+        if word not in known:
+            raise ReportError(report.path, None, f"no connection {word}")
+    return sorted({known[word] for word in words[1:]} or known.values())
 
 
 def heading(report, words):
