@@ -6,14 +6,14 @@ import runpy
 import subprocess
 import sys
 import tempfile
-import xml.dom.minidom
 from concurrent.futures import ProcessPoolExecutor
 from contextlib import redirect_stderr, redirect_stdout
+from xml.parsers.expat import ExpatError
 
 TOP = os.path.dirname(os.path.dirname(os.path.abspath(__file__)))
 PROGRAM = "crates/lardsim/out/lardsim"
 FOLDER = tempfile.TemporaryDirectory()  # of the files that a check makes
-FAULTS = AssertionError, subprocess.CalledProcessError, xml.parsers.expat.ExpatError
+FAULTS = AssertionError, subprocess.CalledProcessError, ExpatError
 
 
 def call(command):
