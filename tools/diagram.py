@@ -25,19 +25,32 @@ class Row(SimpleNamespace):
         return {*self.before.values(), *self.behind.values()} - {None}
 
 
-class Diagram:
-    """The rows of some connections on one axis.
+class Fates:
+    """What became of each packet of a report: the names of the steps in which it was sent, was got, was lost."""
 
-    connections: their numbers. rows: in order. places: clients, the front end, nodes. sent, got, lost: of each packet the
-    names of the steps in which it was. telling: the packets that tell another window."""
-
-    def __init__(self, report, connections, first=1, last=None):
-        self.report, self.connections = report, connections
-        self.sent, self.got, self.lost, self.telling = {}, {}, {}, set()
+    def __init__(self, report):
+        self.sent, self.got, self.lost = {}, {}, {}
         for step, record in report.records():
             if record.kind in ("sent", "got", "lost"):
                 getattr(self, record.kind).setdefault(record.packet, []).append(step.name)
-        last = report.events if last is None else last
+
+    def told(self, packet):
+        told = [f"delivered in step {step}" for step in self.got.get(packet, [])]
+        told += [f"lost in step {step}" for step in self.lost.get(packet, [])]
+        return ", ".join(told) or "on its way at the end"
+
+    def comes_once(self, packet):
+        return len(self.got.get(packet, [])) == 1 and packet not in self.lost
+
+
+class Diagram:
+    """The rows of some connections on one axis, from one event to another.
+
+    connections: their numbers. rows: in order. places: clients, the front end, nodes, also those that the range leaves out.
+    telling: the packets that tell another window."""
+
+    def __init__(self, report, fates, connections, first, last):
+        self.report, self.fates, self.connections, self.telling = report, fates, connections, set()
         rows = Teller(self).rows()
         self.places = places_of(rows)
         self.rows = [row for row in rows if first <= row.number <= last]
@@ -47,16 +60,10 @@ class Diagram:
             return f"connection {self.connections[0]}"
         return f"connections {ranges(self.connections)}"
 
-    def fate(self, packet):
-        """What became of a packet."""
-        told = [f"delivered in step {step}" for step in self.got.get(packet, [])]
-        told += [f"lost in step {step}" for step in self.lost.get(packet, [])]
-        return ", ".join(told) or "on its way at the end"
-
     def is_bare(self, row):
         """A row of a segment that has neither data nor SYN, FIN or RST, comes once, and tells no other window; or of its
         Forward."""
-        if row.packet is None or len(self.got.get(row.packet, [])) != 1 or row.packet in self.lost or row.packet in self.telling:
+        if row.packet is None or row.packet in self.telling or not self.fates.comes_once(row.packet):
             return False
         packet = self.report.packets[row.packet - 1]
         part = packet.segment or getattr(packet.message, "segment", None)
@@ -200,7 +207,7 @@ class Teller:
         packet, text = record.packet, f"{record.packet} {reports.brief(self.report, record)}{self.window(record)}"
         if record.message and len(self.connections) > 1:
             text += f" (c{record.connection})"
-        whole = f"packet {text}, from {record.source} to {record.target}, {self.diagram.fate(packet)}"
+        whole = f"packet {text}, from {record.source} to {record.target}, {self.diagram.fates.told(packet)}"
         return Row(kind="arrow", source=record.source, target=record.target, packet=packet, text=text, whole=whole, connection=record.connection)
 
     def window(self, record):
@@ -219,5 +226,5 @@ class Teller:
         text = f"got {record.packet}{again}" if record.kind == "got" else f"{record.packet} is lost"
         row = self.note(packet.target, text, record, packet=record.packet, **{record.kind: True})
         row.text = text  # the packet's arrow says whose it is
-        row.whole = f"{text}, at {packet.target}: {reports.brief(self.report, packet)}, sent by {packet.source} in step {self.diagram.sent[record.packet][0]}"
+        row.whole = f"{text}, at {packet.target}: {reports.brief(self.report, packet)}, sent by {packet.source} in step {self.diagram.fates.sent[record.packet][0]}"
         return row

@@ -10,6 +10,8 @@ from concurrent.futures import ProcessPoolExecutor
 from contextlib import redirect_stderr, redirect_stdout
 from xml.parsers.expat import ExpatError
 
+import report as reports
+
 TOP = os.path.dirname(os.path.dirname(os.path.abspath(__file__)))
 PROGRAM = "crates/lardsim/out/lardsim"
 FOLDER = tempfile.TemporaryDirectory()  # of the files that a check makes
@@ -47,6 +49,13 @@ def new_file(text):
     with tempfile.NamedTemporaryFile("w", suffix=".report", delete=False, dir=FOLDER.name, encoding="latin-1") as file:
         file.write(text)
         return file.name
+
+
+def syn(client):
+    """The SYN of a client that begins at 1000 with a window of 65,535 and a maximum segment size of 1,460."""
+    data = bytes.fromhex("9c400050000003e8000000006002ffff00000000020405b4")
+    ends = reports.client_address(client) + reports.CLUSTER + bytes([0, 6, 0, len(data)])
+    return (data[:16] + reports.checksum(ends + data).to_bytes(2, "big") + data[18:]).hex()
 
 
 def replay(schedule):
