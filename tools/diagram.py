@@ -25,16 +25,26 @@ class Row(SimpleNamespace):
         return {*self.before.values(), *self.behind.values()} - {None}
 
 
-class Fates:
-    """What became of each packet of a report: the names of the steps in which it was sent, was got, was lost."""
+class Index:
+    """What is looked up in a report: the steps of each connection, and what became of each packet.
+
+    sent, got, lost: of each packet the names of the steps in which it was."""
 
     def __init__(self, report):
-        self.sent, self.got, self.lost = {}, {}, {}
+        self.report, self.sent, self.got, self.lost, self.places = report, {}, {}, {}, {}
         for step, record in report.records():
+            places = self.places.setdefault(record.connection, [])
+            if not places or places[-1] != step.at:
+                places.append(step.at)
             if record.kind in ("sent", "got", "lost"):
                 getattr(self, record.kind).setdefault(record.packet, []).append(step.name)
 
-    def told(self, packet):
+    def steps_of(self, connections):
+        """The steps of these connections, and those of none."""
+        places = set().union(*(self.places.get(connection, []) for connection in (None, *connections)))
+        return [self.report.steps[place] for place in sorted(places)]
+
+    def fate(self, packet):
         told = [f"delivered in step {step}" for step in self.got.get(packet, [])]
         told += [f"lost in step {step}" for step in self.lost.get(packet, [])]
         return ", ".join(told) or "on its way at the end"
@@ -49,8 +59,8 @@ class Diagram:
     connections: their numbers. rows: in order. places: clients, the front end, nodes, also those that the range leaves out.
     telling: the packets that tell another window."""
 
-    def __init__(self, report, fates, connections, first, last):
-        self.report, self.fates, self.connections, self.telling = report, fates, connections, set()
+    def __init__(self, index, connections, first, last):
+        self.index, self.report, self.connections, self.telling = index, index.report, connections, set()
         rows = Teller(self).rows()
         self.places = places_of(rows)
         self.rows = [row for row in rows if first <= row.number <= last]
@@ -63,7 +73,7 @@ class Diagram:
     def is_bare(self, row):
         """A row of a segment that has neither data nor SYN, FIN or RST, comes once, and tells no other window; or of its
         Forward."""
-        if row.packet is None or row.packet in self.telling or not self.fates.comes_once(row.packet):
+        if row.packet is None or row.packet in self.telling or not self.index.comes_once(row.packet):
             return False
         packet = self.report.packets[row.packet - 1]
         part = packet.segment or getattr(packet.message, "segment", None)
@@ -129,10 +139,8 @@ class Teller:
 
     def rows(self):
         rows = []
-        for step in self.report.steps:
+        for step in self.diagram.index.steps_of(self.connections):
             records = [record for record in step.records if record.connection in self.connections or record.connection is None]
-            if not records and step.event.connection is not None and step.event.connection not in self.connections:
-                continue
             found = [self.event_row(step.event), *(self.record_row(record) for record in records)]
             for nth, row in enumerate(row for row in found if row):
                 row.name, row.number, row.step = step.name, step.number, "" if nth else step.name
@@ -207,7 +215,7 @@ class Teller:
         packet, text = record.packet, f"{record.packet} {reports.brief(self.report, record)}{self.window(record)}"
         if record.message and len(self.connections) > 1:
             text += f" (c{record.connection})"
-        whole = f"packet {text}, from {record.source} to {record.target}, {self.diagram.fates.told(packet)}"
+        whole = f"packet {text}, from {record.source} to {record.target}, {self.diagram.index.fate(packet)}"
         return Row(kind="arrow", source=record.source, target=record.target, packet=packet, text=text, whole=whole, connection=record.connection)
 
     def window(self, record):
@@ -226,5 +234,5 @@ class Teller:
         text = f"got {record.packet}{again}" if record.kind == "got" else f"{record.packet} is lost"
         row = self.note(packet.target, text, record, packet=record.packet, **{record.kind: True})
         row.text = text  # the packet's arrow says whose it is
-        row.whole = f"{text}, at {packet.target}: {reports.brief(self.report, packet)}, sent by {packet.source} in step {self.diagram.fates.sent[record.packet][0]}"
+        row.whole = f"{text}, at {packet.target}: {reports.brief(self.report, packet)}, sent by {packet.source} in step {self.diagram.index.sent[record.packet][0]}"
         return row
