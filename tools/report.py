@@ -189,13 +189,12 @@ def parse(text, path="report"):
 
 
 def chosen(report, words):
-    """The connections that a tool's words choose: REPORT names all of them, REPORT CONNECTION one."""
-    connections = sorted(report.opened)
-    if len(words) == 2:
-        connections = [connection for connection in connections if str(connection) == words[1]]
-        if not connections:
-            raise ReportError(report.path, None, f"no connection {words[1]}")
-    return connections
+    """The connections that a tool's words choose: REPORT names all of them, REPORT CONNECTION... those."""
+    known = {str(connection): connection for connection in report.opened}
+    for word in words[1:]:
+        if word not in known:
+            raise ReportError(report.path, None, f"no connection {word}")
+    return sorted({known[word] for word in words[1:]} or known.values())
 
 
 def heading(report, words):
@@ -433,3 +432,27 @@ def brief(report, sent):
     else:
         more = f": {body.reason}" if body.kind == "Ended" else ""
     return body.kind + more
+
+
+# ---- as plain values, for JSON and for a data frame
+
+def plain(value):
+    """This value of numbers, words, lists and dicts alone: bytes are written in hexadecimal, and flags are in order."""
+    if isinstance(value, bytes):
+        return value.hex()
+    if isinstance(value, set):
+        return sorted(value)
+    if isinstance(value, SimpleNamespace):
+        return {name: plain(part) for name, part in vars(value).items()}
+    return value
+
+
+def rows(report):
+    """A dict for each line of the report behind its files. line: its number in the report. step, at, event: the name, the
+    place and the number of its step. words: of a `sent`, the packet in some words. The rest is what the record has."""
+    for step, record in report.records():
+        row = {"line": record.line, "step": step.name, "at": step.at, "event": step.number, **plain(record)}
+        row.pop("number", None)  # `event` is this number
+        if record.kind == "sent":
+            row["words"] = brief(report, record)
+        yield row

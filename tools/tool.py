@@ -28,18 +28,20 @@ def run(main, text, usage, status=1):
     sys.exit(status)
 
 
-def options_of(words, flags="", numbers=""):
-    """The words that are no options, and the options by their names: of the flags each whether it stands there, of the
-    numbers each the one behind it, from 1 on, or None. Another option is a misuse, and so is one that stands twice."""
-    plain, options = [], {**dict.fromkeys(flags.split(), False), **dict.fromkeys(numbers.split())}
+def options_of(words, flags="", numbers="", names=""):
+    """The words that are no options, and the options: of the flags each whether it stands there, of the numbers and the names
+    each the one behind it, a number from 1 on, or None. Another option is a misuse, and so is one that stands twice."""
+    plain, options = [], {**dict.fromkeys(flags.split(), False), **dict.fromkeys((numbers + " " + names).split())}
     words = iter(words)
     for word in words:
         if not word.startswith("-") or word == "-":
             plain.append(word)
         elif options.get(word, True):  # unknown, or there before
             raise Misuse
+        elif word in flags.split():
+            options[word] = True
         else:
-            options[word] = True if word in flags.split() else number_of(next(words, ""))
+            options[word] = (number_of if word in numbers.split() else name_of)(next(words, ""))
     return plain, options
 
 
@@ -47,3 +49,9 @@ def number_of(word):
     if not (word.isascii() and word.isdigit()) or word[0] == "0":
         raise Misuse
     return int(word)
+
+
+def name_of(word):
+    if not word or word.startswith("-"):
+        raise Misuse
+    return word
