@@ -19,14 +19,29 @@ KNOWN = {
 
 
 def cause(text, line):
-    """What is wrong with this line, or None where that cannot be told from the schedule."""
-    *whole, rest = text.split(b"\n")
-    if line == len(whole) + 1:
-        return of_bytes(rest, line) or no_end(whole, rest)
-    if not 1 <= line <= len(whole):
+    """Why this line is refused, or None where that cannot be told from the schedule."""
+    whole, rest = lines_of(text)
+    if not 1 <= line <= len(whole) + 1:
         return None
-    before = [each.decode("latin-1").split(" ") for each in whole[:line - 1]]
-    return of_bytes(whole[line - 1], line) or of_words(whole[line - 1].decode("latin-1").split(" "), before, line)
+    if line > len(whole):
+        return of_bytes(rest, line) or no_end(whole, rest)
+    before = [words_of(each) for each in whole[:line - 1]]
+    return misspelt(whole[line - 1], before) or of_asking(words_of(whole[line - 1]), before)
+
+
+def lines_of(text):
+    """The lines that a line feed ends, and what stands behind the last."""
+    *whole, rest = text.split(b"\n")
+    return whole, rest
+
+
+def words_of(line):
+    return line.decode("latin-1").split(" ")
+
+
+def misspelt(line, before):
+    """Why a line is none of a schedule, behind lines of these words; None where it is one."""
+    return of_bytes(line, len(before) + 1) or of_words(words_of(line), before)
 
 
 # ---- what an editor hides
@@ -70,22 +85,24 @@ def no_end(whole, rest):
 
 # ---- words
 
-def of_words(words, before, number):
+def of_words(words, before):
     """What is wrong with a line whose bytes are fine."""
     first = words[0]
     if first == "":
         return "it is empty: there are no empty lines"
     if re.match(r"#|//|;|--", first):
         return "there are no comments"
-    if number == 1 and words != ["lard", "1"]:
+    if not before:
         return of_first_line(words)
     if first not in FORMS:
         return f"no line begins with {shown(first)}{meant(words)}"
     form = FORMS[first]
-    return of_place(form, [each[0] for each in before]) or of_form(form, words[1:]) or of_asking(words, before)
+    return of_place(form, [each[0] for each in before]) or of_form(form, words[1:])
 
 
 def of_first_line(words):
+    if words == ["lard", "1"]:
+        return None
     if words[:2] == ["report", "1"]:
         return "this is a report, and no schedule: a schedule's first line is `lard 1`"
     if words[0] == "lard" and len(words) == 2:
