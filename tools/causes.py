@@ -113,7 +113,7 @@ def of_first_line(words):
 def meant(words):
     """The form that was probably meant."""
     word = words[0].lower()
-    near = [KNOWN[word]] if word in KNOWN else difflib.get_close_matches(word, FORMS, 1)
+    near = [KNOWN[word]] if word in KNOWN else difflib.get_close_matches(word, FORMS, 1, 0.7)
     return f"; did you mean `{near[0]}`?" if near else ""
 
 

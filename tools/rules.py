@@ -84,7 +84,9 @@ class Ledger:
         return min(nodes, key=lambda node: (self.loads[node], node))
 
     def first(self, path):
-        """The choice for the first request of a connection: LARD with replication."""
+        """The choice for the first request of a connection: LARD with replication. None where there is no node."""
+        if not self.nodes:
+            return None
         members, low, high = self.members(path), self.config["low"] * WHOLE, self.config["high"] * WHOLE
         least = self.least(self.nodes)
         choice = SimpleNamespace(node=least, add=least, remove="-", reason="nobody", load=self.loads[least], among=None, unchanged=0)

@@ -72,11 +72,12 @@ class Stages:
         body, part = record.message, record.segment
         if part and "ACK" in part.flags and "RST" not in part.flags and step.event.form != "inject":
             self.expected[record.connection, record.source[0] == "c"] = part.ack  # an end tells it whenever it changes
-        if part and record.source == "front" and "FIN" in part.flags and self.front[record.connection].stage == "held":
-            self.front[record.connection].stage = "closing"  # it ends where the other side is closed too, which is not told
+        front = self.front.get(record.connection)
+        if part and front and record.source == "front" and "FIN" in part.flags and front.stage == "held":
+            front.stage = "closing"  # it ends where the other side is closed too, which is not told
         row = body and self.nodes.get((record.source, record.connection))
-        if body and body.kind == "Tag" and record.connection in self.front:
-            self.front[record.connection].asks = body.number
+        if body and body.kind == "Tag" and front:
+            front.asks = body.number
         elif row and row.stage == HERE and body.kind == "Ask":
             row.asked, row.awaits = body.number, True
         elif row and row.stage == HERE and body.kind == "Fetch":
