@@ -48,23 +48,28 @@ def behind(report, name):
 
 def rows(report, flight, chosen):
     """What there is of these connections: a line of a schedule that would move it on, and what it is."""
-    packets = [(f"deliver {it.packet}", f"{it.source} -> {it.target}  {reports.brief(report, it)}") for it in flight.packets.values() if it.connection in chosen]
+    packets = [it for it in flight.packets.values() if it.connection in chosen]
     timers = {}
     for place, connection, kind in flight.timers:
         if connection in chosen:
             timers.setdefault((place, connection), []).append(kind)
-    jobs = []
-    for place in sorted(flight.jobs, key=reports.number_of):
-        for at, job in enumerate(flight.jobs[place], 1):
-            if job.connection in chosen:
-                reader = "its own" if job.reader == place else f"{job.reader}'s"
-                jobs.append((f"disk {place[1:]} {at}", f"{job.path}, for {reader} request {job.request} of connection {job.connection}"))
-    order = lambda key: (["f", "n", "c"].index(key[0][0]), reports.number_of(key[0]), key[1])
+    jobs = [(place, at, job) for place in sorted(flight.jobs, key=reports.number_of) for at, job in enumerate(flight.jobs[place], 1)]
     return {
-        "on the way": packets,
-        "timers that run": [(f"timer {place} {connection}", ", ".join(timers[place, connection])) for place, connection in sorted(timers, key=order)],
-        "jobs that wait": jobs,
+        "on the way": [(f"deliver {it.packet}", f"{it.source} -> {it.target}  {reports.brief(report, it)}") for it in packets],
+        "timers that run": [(f"timer {key[0]} {key[1]}", ", ".join(timers[key])) for key in sorted(timers, key=in_order)],
+        "jobs that wait": [(f"disk {place[1:]} {at}", told(place, job)) for place, at, job in jobs if job.connection in chosen],
     }
+
+
+def in_order(key):
+    """The front end first, then nodes, then clients; each by the numbers of the place and of the connection."""
+    place, connection = key
+    return "fnc".index(place[0]), reports.number_of(place), connection
+
+
+def told(place, job):
+    reader = "its own" if job.reader == place else f"{job.reader}'s"
+    return f"{job.path}, for {reader} request {job.request} of connection {job.connection}"
 
 
 def listing(report, name, chosen):

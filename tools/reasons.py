@@ -63,7 +63,8 @@ def later_choice(ledger, choice, record):
 def least_cost(choice):
     """The costs of the chosen node, of the connection's own, and of the cheapest of the others."""
     order = sorted(choice.costs, key=lambda node: (node != choice.node, node != choice.home, sum(choice.costs[node]), node))
-    text = f"of {count(len(order), 'candidate')} node {choice.node} costs least: {cost(choice.costs[choice.node])} (balancing, locality, replacement)"
+    text = f"of {count(len(order), 'candidate')} node {choice.node} costs least:"
+    text += f" {cost(choice.costs[choice.node])} (balancing, locality, replacement)"
     for node in order[1:3]:
         text += f", node {node} {cost(choice.costs[node])}"
     return text

@@ -144,7 +144,8 @@ class Stages:
             return "these bytes are no segment"
         flags = packet.segment.flags
         if row is None:
-            return None if "SYN" in flags and not flags & {"ACK", "RST", "FIN"} else "no connection is known here, and only a SYN begins one"
+            begins = "SYN" in flags and not flags & {"ACK", "RST", "FIN"}
+            return None if begins else "no connection is known here, and only a SYN begins one"
         if row.stage != OVER:
             return None
         if row.why == "reset by the client":
@@ -202,7 +203,9 @@ class Stages:
         if absent(packet, row):
             return absent(packet, row)
         request = packet.message.request
-        return None if row.fetches.get(request) == packet.source else f"it awaits no content for request {request} from there: that came before"
+        if row.fetches.get(request) == packet.source:
+            return None
+        return f"it awaits no content for request {request} from there: that came before"
 
     @staticmethod
     def at_node_endedack(packet, row, _):
