@@ -164,17 +164,22 @@ def put(name, field, value):
 
 def choose(name, world, again=False):
     """The numbers of the packets that a name says, of those on the way, or again of those that came."""
-    packets = world.came if again else world.way
-    found = name.among(packets, world)
-    if name.which == "all" and found:
+    found = name.among(world.came if again else world.way, world)
+    meant = pick(name.which, found)
+    if not meant:
+        raise unfound(name, world, found, again)
+    return meant
+
+
+def pick(which, found):
+    """Those that are meant of what was found, in its order. Without a word one alone has to be there."""
+    if which == "all":
         return found
-    if name.which == "last" and found:
+    if which == "last":
         return found[-1:]
-    if isinstance(name.which, int) and len(found) >= name.which:
-        return [found[name.which - 1]]
-    if name.which is None and len(found) == 1:
-        return found
-    raise unfound(name, world, found, again)
+    if which is None:
+        return found if len(found) == 1 else []
+    return found[which - 1:which]
 
 
 def unfound(name, world, found, again):

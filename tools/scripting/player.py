@@ -134,21 +134,17 @@ class Player:
         if came is not None:
             raise Fault(f"`{condition.text}` does not come within {within:,} deliveries; {came}")
 
-    def disk(self, node, path, client):
-        """A node's disk completes all its jobs, or the one for a path."""
+    def disk(self, node, which, path, client):
+        """A node's disk completes the jobs that are meant, in the order of its queue."""
         jobs = self.world.jobs[node]
-        if path is None:
-            if not jobs:
-                raise Fault(f"no job is queued at {node}")
-            for _ in range(len(jobs)):
-                self.tell(f"disk {node[1:]} 1")
-            return
-        found = [at for at, job in enumerate(jobs) if job.path == path and client in (None, job.connection)]
-        if len(found) != 1:
+        found = [at for at, job in enumerate(jobs) if path in (None, job.path) and client in (None, job.connection)]
+        meant = names.pick(which, found)
+        if not meant:
             queued = ", ".join(f"{job.path} for c{job.connection}" for job in jobs) or "none"
             many = f"{len(found)} jobs" if found else "no job"
-            raise Fault(f"{many} for {path}{f' for c{client}' if client else ''} at {node}; its jobs are: {queued}")
-        self.tell(f"disk {node[1:]} {found[0] + 1}")
+            raise Fault(f"{many}{f' for {path}' if path else ''}{f' for c{client}' if client else ''} at {node}; its jobs are: {queued}")
+        for done, at in enumerate(meant):
+            self.tell(f"disk {node[1:]} {at + 1 - done}")
 
     # ---- expectations
 

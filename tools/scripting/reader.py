@@ -267,18 +267,19 @@ def within_of(words):
 
 
 def read_disk(words, _):
-    """disk N J; disk all of n1; disk /a of n1 [for c2]"""
+    """disk N J; disk all of n1; disk [1st | last | all] /a of n1 [for c2]"""
     word = words.peek()
-    if word == "all" or isinstance(word, str) and word.startswith("/"):
-        path = words.take("a path")
-        words.want("of", "at")
-        node = words.node()
-        client = None
-        if words.accept("for"):
-            client = words.client()
-        return (lambda player: player.disk(node, None if path == "all" else path, client),)
-    node = words.node()[1:] if is_place(word) else words.number("the number of a node")
-    return plain(f"disk {node} {words.number('the place of a job')}")
+    if is_place(word) or isinstance(word, str) and word.isdigit():
+        node = words.node()[1:] if is_place(word) else words.number("the number of a node")
+        return plain(f"disk {node} {words.number('the place of a job')}")
+    which, path, client = names.read_order(words), None, None
+    if which != "all" or words.peek() not in ("of", "at"):
+        path = path_of(words)
+    words.want("of", "at")
+    node = words.node()
+    if words.accept("for"):
+        client = words.client()
+    return (lambda player: player.disk(node, which, path, client),)
 
 
 def read_expect(words, _):
