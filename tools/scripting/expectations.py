@@ -304,7 +304,9 @@ def matching(world, name, count):
     found = name.among(world.way, world)
     if len(found) == count or found and count is None:
         return None
-    return "on the way: " + (briefly(world, found) if found else "nothing such, but " + briefly(world, sorted(world.way)))
+    if found or not world.way:
+        return "on the way: " + briefly(world, found)
+    return "on the way is nothing such, but: " + briefly(world, sorted(world.way))
 
 
 def briefly(world, numbers):
@@ -336,7 +338,7 @@ def read_no(words):
     name = names.read_name(words, False)
     words.want("is", "are")
     words.want_all("on the way")
-    return Condition(lambda world: instead(not name.among(world.way, world), "on the way: " + briefly(world, name.among(world.way, world))))
+    return Condition(lambda world: matching(world, name, 0))
 
 
 def read_whole_way(words):

@@ -132,25 +132,22 @@ def read_kind(words, name):
 
 def read_part(words, name):
     """One more part of a name, or nothing."""
-    word, behind = words.peek(), words.peek(1)
-    if word in ("of", "for", "from", "to") and behind is None:
-        raise Fault(f"the line ends behind `{word}`, where a place is to stand")
-    if word == "for" and isinstance(behind, str) and behind.startswith("/"):
-        words.take("for")
-        put(name, "path", words.take("a path"))
-    elif word in ("of", "for", "from", "to"):
-        words.take(word)
-        place = words.place()
-        if word == "to":
-            put(name, "target", place)
-        elif word == "from" or word == "of" and place[0] != "c":
-            put(name, "source", place)
-        elif place[0] == "c":
-            put(name, "connection", int(place[1:]))
-        else:
-            raise Fault(f"`for {place}`: `for` has a client or a path behind it, `to` and `from` any place")
-    else:
+    word = words.accept("of", "for", "from", "to")
+    if word is None:
         return False
+    behind = words.peek()
+    if word == "for" and isinstance(behind, str) and behind.startswith("/"):
+        put(name, "path", words.take("a path"))
+        return True
+    place = words.place()
+    if word == "to":
+        put(name, "target", place)
+    elif word == "from" or word == "of" and place[0] != "c":
+        put(name, "source", place)
+    elif place[0] == "c":
+        put(name, "connection", int(place[1:]))
+    else:
+        raise Fault(f"`for {place}`: `for` has a client or a path behind it, `to` and `from` any place")
     return True
 
 

@@ -4,6 +4,7 @@ import re
 import sys
 import time
 
+import report as reports
 from scripting import names, program
 from scripting.words import Fault
 from scripting.world import World
@@ -128,11 +129,11 @@ class Player:
                 return
             found = name.among(self.world.way, self.world)
             if not found:
-                raise Fault(f"`{condition.text}` does not come, and no `{name.text}` is on the way any more; {came}")
+                raise Fault(f"`{condition.text}` does not come, and of `{name.text}` nothing is on the way any more; {came}")
             self.tell(f"deliver {found[0]}")
         came = condition.tell(self.world)
         if came is not None:
-            raise Fault(f"`{condition.text}` does not come within {within:,} deliveries; {came}")
+            raise Fault(f"`{condition.text}` does not come by {reports.count(within, 'delivery').replace('ys', 'ies')}; {came}")
 
     def disk(self, node, which, path, client):
         """A node's disk completes the jobs that are meant, in the order of its queue."""

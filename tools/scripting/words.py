@@ -102,6 +102,7 @@ class Words:
     def __init__(self, words, its=None):
         self.words, self.at = words, 0
         self.its, self.named = its, []
+        self.tried = (0, [])  # at which word which ones could have stood
 
     def peek(self, ahead=0):
         at = self.at + ahead
@@ -122,7 +123,8 @@ class Words:
     def accept(self, *options):
         """The next word, where it is one of these."""
         word = self.peek()
-        if word not in options or word is None:
+        if word is None or word not in options:
+            self.tried = (self.at, [*(self.tried[1] if self.tried[0] == self.at else []), *options])
             return None
         self.at += 1
         return word
@@ -142,8 +144,12 @@ class Words:
             self.want(word)
 
     def end(self):
-        if self.peek() is not None:
-            raise Fault(f"`{spelled(self.peek())}` stands behind the end of what the line says")
+        """Nothing is left. What is could be a misspelt word of those that might have stood there."""
+        if self.peek() is None:
+            return
+        near = nearest(self.peek(), self.tried[1]) if self.tried[0] == self.at else []
+        hint = f": did you mean {either(near)}?" if near else " stands behind the end of what the line says"
+        raise Fault(f"`{spelled(self.peek())}`{hint}")
 
     # ---- numbers and places
 
