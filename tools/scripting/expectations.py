@@ -54,9 +54,9 @@ def read_client(words):
     form = words.want("accepted", "served", "is", "waits", "aborted", "ended", "was")
     return {
         "accepted": read_accepted, "served": read_served, "is": read_state,
-        "waits": lambda _, it: in_state(it, "waiting", "waits in the line", "does not wait in the line"),
-        "aborted": lambda _, it: in_state(it, "aborted", "reset its connection", "did not reset its connection"),
-        "ended": lambda _, it: in_state(it, "ended", "took the end of its stream", "did not take the end of its stream"),
+        "waits": lambda _, it: in_state(it, "waiting", "does not wait in the line"),
+        "aborted": lambda _, it: in_state(it, "aborted", "did not reset its connection"),
+        "ended": lambda _, it: in_state(it, "ended", "did not take the end of its stream"),
         "was": read_reset,
     }[form](words, client)
 
@@ -66,13 +66,13 @@ def opened(client, tell):
     return Condition(lambda world: tell(world) if world.is_open(client) else f"c{client} has not opened")
 
 
-def in_state(client, state, _, otherwise):
+def in_state(client, state, otherwise):
     return opened(client, lambda world: instead(state in world.states[client], f"c{client} {otherwise}"))
 
 
 def read_reset(words, client):
     words.want("reset")
-    return in_state(client, "reset", "was reset", "was not reset at the stream limit")
+    return in_state(client, "reset", "was not reset at the stream limit")
 
 
 def read_state(words, client):
@@ -135,7 +135,7 @@ def read_pieces(words):
         elif isinstance(word, bytes):
             pieces.append(word)
         else:
-            raise Fault(f'`{word}`: behind `accepted` stands `nothing`, a number of bytes, or "texts", with ... for anything between')
+            raise Fault(f'`{word}`: behind `accepted` stands `nothing`, a number of bytes, or a "text", with ... for any bytes')
     if not pieces:
         raise Fault("the line ends where what was accepted is to stand")
     return pieces

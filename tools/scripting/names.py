@@ -186,7 +186,8 @@ def unfound(name, world, found, again):
         many = "came before" if again else "are on the way"
         return Fault(f"`{name.text}` fits {len(found)} packets that {many}: say `1st`, `last` or `all`", listed(world, found))
     if found:
-        why = f"`{name.text}`: {reports.count(len(found), 'such packet')} {where if len(found) == 1 else where.replace('is', 'are')}"
+        where = where if len(found) == 1 else where.replace("is", "are")
+        why = f"`{name.text}`: {reports.count(len(found), 'such packet')} {where}"
         return Fault(why, listed(world, found))
     why = f"no `{name.text}` {where}"
     others = [

@@ -141,9 +141,9 @@ class Player:
         found = [at for at, job in enumerate(jobs) if path in (None, job.path) and client in (None, job.connection)]
         meant = names.pick(which, found)
         if not meant:
+            wanted = (f" for {path}" if path else "") + (f" for c{client}" if client else "")
             queued = ", ".join(f"{job.path} for c{job.connection}" for job in jobs) or "none"
-            many = f"{len(found)} jobs" if found else "no job"
-            raise Fault(f"{many}{f' for {path}' if path else ''}{f' for c{client}' if client else ''} at {node}; its jobs are: {queued}")
+            raise Fault(f"{f'{len(found)} jobs' if found else 'no job'}{wanted} at {node}; its jobs are: {queued}")
         for done, at in enumerate(meant):
             self.tell(f"disk {node[1:]} {at + 1 - done}")
 
