@@ -10,6 +10,7 @@ from scripting.words import Fault
 from scripting.world import World
 
 TOLD = 2.0  # seconds between two words on how far it is
+SHOWN = 60  # letters of a line that the program refused
 
 
 class Over(Exception):
@@ -55,11 +56,9 @@ class Player:
             return
         line = self.end.line
         if line:
-            fault = Fault(f"the program refused `{self.schedule[line - 1][:60]}`: {self.end.why}")
-        else:
-            fault = Fault(f"the program ended with status {self.end.status}: {self.end.why}")
-        fault.line = self.owners[line - 1] if line else self.number
-        raise fault
+            refused = self.schedule[line - 1][:SHOWN]
+            raise Fault(f"the program refused `{refused}`: {self.end.why}", line=self.owners[line - 1])
+        raise Fault(f"the program ended with status {self.end.status}: {self.end.why}", line=self.number)
 
     def finish(self):
         """The program's input ends, where it did not. A limit that no line met has not ended it."""

@@ -70,9 +70,15 @@ class Program:
         said = self.process.stderr.read().decode("latin-1").strip()
         self.process.stdout.close()
         self.process.stderr.close()
+        return self.ended(self.process.wait(), said, records)
+
+    def ended(self, status, said, records):
+        """The line that it names is one of the schedule, a mark, or the one behind the last, where the input ended too early."""
         named = re.fullmatch(r"line ([0-9]+): (.*)", said)
-        line = self.lines[int(named[1]) - 1] if named and int(named[1]) <= len(self.lines) else None
-        return Ended(self.process.wait(), named[2] if named else said, line, bool(named) and line is None, records)
+        if not named:
+            return Ended(status, said, None, False, records)
+        line = [*self.lines, self.count + 1][int(named[1]) - 1]
+        return Ended(status, named[2], line, line is None, records)
 
 
 def replay(path, schedule):

@@ -29,24 +29,22 @@ class Reader:
         self.number = 0
 
     def read(self, text):
-        """All lines that say something. Ends by Fault with `line`, its number."""
+        """All lines that say something. A Fault has its `line`."""
         lines = []
         for self.number, line in enumerate(text.split("\n"), 1):
             try:
                 found = self.read_line(line)
+                if found and lines and lines[-1].is_of_end and not found.is_of_end:
+                    raise Fault("behind `expect refused` and `expect status` the run is over")
             except Fault as fault:
                 fault.line = self.number
                 raise
-            if found and lines and lines[-1].is_of_end and not found.is_of_end:
-                fault = Fault("behind `expect refused` and `expect status` the run is over")
-                fault.line = self.number
-                raise fault
             if found:
                 lines.append(found)
-        if "go" not in self.seen:
-            fault = Fault("the script ends before `go`" if self.seen else "the script says nothing; its first line is `lard 1`")
-            fault.line = self.number
-            raise fault
+        if not self.seen:
+            raise Fault("the script says nothing; its first line is `lard 1`", line=self.number)
+        if "go" not in self.seen and not lines[-1].is_of_end:
+            raise Fault("the script ends before `go`", line=self.number)
         return lines
 
     def read_line(self, line):

@@ -12,11 +12,11 @@ SHOWN = 120  # of a longer text so many bytes are shown
 
 
 class Fault(Exception):
-    """Why a script cannot go on: a sentence, and lines that stand below it. Its line is told by who knows it."""
+    """Why a script cannot go on: a sentence, lines that stand below it, and the script's line, told by who knows it."""
 
-    def __init__(self, why, more=()):
+    def __init__(self, why, more=(), line=None):
         super().__init__(why)
-        self.more = list(more)
+        self.more, self.line = list(more), line
 
 
 # ---- texts
