@@ -1,10 +1,13 @@
 """The words behind a tool's name: options that begin with `--`, by a table, and the others.
 
 A table has of each option its kind: Number, Percent, Word or Flag. read(words, table) gives the options, each with its value
-or that which holds without it, and the other words; or it raises Wrong, in one line.
+or that which holds without it, and the other words; or it raises Wrong, in one line. run_tool(name, main) runs a tool.
 """
 
+import os
 import re
+import signal
+import sys
 
 
 class Wrong(Exception):
@@ -103,3 +106,20 @@ def told(table):
     rows = [kind.told(name) for name, kind in table.items()]
     width = max(len(form) for form, _ in rows)
     return "".join(f"    {form:{width}}  {text}\n" for form, text in rows)
+
+
+def run_tool(name, main, *errors):
+    """Runs a tool with its words, and ends with the status that it gives: 1 with a line for what is Wrong and for these errors,
+    130 where it was interrupted, and quietly where nobody reads on, as before `| head`."""
+    signal.signal(signal.SIGPIPE, signal.SIG_IGN)  # so a program that ends while it is written to ends no tool
+    try:
+        status = main(sys.argv[1:])
+        sys.stdout.flush()
+    except BrokenPipeError:
+        os._exit(0)
+    except KeyboardInterrupt:
+        status = 128 + signal.SIGINT
+    except (Wrong, OSError, *errors) as error:
+        print(f"{name}: {error.filename}: {error.strerror}" if isinstance(error, OSError) else f"{name}: {error}", file=sys.stderr)
+        status = 1
+    sys.exit(status)
