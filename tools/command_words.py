@@ -97,8 +97,12 @@ def written(options, table):
     for name, value in options.items():
         if value == table[name].otherwise:
             continue
-        words += [name] if value is True else [name, f"{value:.9f}".rstrip("0").rstrip(".") if isinstance(value, float) else str(value)]
+        words += [name] if value is True else [name, shortest(value)]
     return words
+
+
+def shortest(value):
+    return f"{value:.9f}".rstrip("0").rstrip(".") if isinstance(value, float) else str(value)
 
 
 def told(table):
@@ -120,6 +124,7 @@ def run_tool(name, main, *errors):
     except KeyboardInterrupt:
         status = 128 + signal.SIGINT
     except (Wrong, OSError, *errors) as error:
-        print(f"{name}: {error.filename}: {error.strerror}" if isinstance(error, OSError) else f"{name}: {error}", file=sys.stderr)
+        why = f"{error.filename}: {error.strerror}" if isinstance(error, OSError) else error
+        print(f"{name}: {why}", file=sys.stderr)
         status = 1
     sys.exit(status)
