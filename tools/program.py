@@ -104,7 +104,7 @@ class Program:
         it is not known whether all records of the last event came, so both files end before that."""
         if self.status in REFUSED:
             self.keep(self.schedule, self.cut_schedule, self.events + 1)
-        elif self.status != 0:
+        elif self.status != 0 and self.events:
             self.keep(self.report, shorten, self.report, self.last_event)
             self.keep(self.schedule, self.cut_schedule, self.events - 1)
 
@@ -122,9 +122,10 @@ class Program:
 
     def kept(self):
         """What is to be said of the files."""
-        if self.fault or not self.events and self.status:
-            return "not kept: %s; %s does not replay to %s" % (
-                self.fault or "the program answered nothing", self.schedule.name, self.report.name)
+        if not self.events and self.status not in (0, *REFUSED):
+            self.fault = self.fault or "the program answered nothing"
+        if self.fault:
+            return "not kept: %s; %s does not replay to %s" % (self.fault, self.schedule.name, self.report.name)
         more = ""
         if self.status in REFUSED:
             more = ", and then refuses the same line"
