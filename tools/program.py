@@ -8,7 +8,7 @@ import signal
 import subprocess
 import time
 
-STUCK = 10.0            # seconds without a word of the program, behind its last line, until it is ended
+STUCK = 20.0            # seconds without a word of the program, behind its last line, until it is ended
 REFUSED = (2, 6)        # its statuses where it answered each line but the last, and refused that: docs/FORMATS.md
 
 
