@@ -90,7 +90,7 @@ class Program:
     def ending(self):
         """What is to be said where it did not end well."""
         if self.was_stuck:
-            yield "this tool ended the program, which said nothing for %g seconds and had %d lines to answer" % (
+            yield "this tool ended the program, which said nothing for %g seconds, with %d lines to answer" % (
                 STUCK, self.unanswered())
         elif self.status > 0:
             yield "the program ended with status %d" % self.status
