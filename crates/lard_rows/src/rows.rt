@@ -546,8 +546,8 @@ got 7
 ",
 };
 
-/// All rows.
-pub const ROWS: [Row; 28] = [
+/// Rows of one connection that stays at the front end, and of schedules that are refused.
+pub const ALONE: [Row; 15] = [
     HEADING_ALONE,
     NO_INPUT,
     ONE_REQUEST,
@@ -563,15 +563,24 @@ pub const ROWS: [Row; 28] = [
     REQUEST_IN_PARTS,
     FILE_REPEATED,
     NO_SEGMENTS_INJECTED,
+];
+
+/// Rows of connections that move.
+pub const MOVED: [Row; 4] = [
     ONE_CONNECTION_MOVES,
     A_MOVED_CONNECTION_ENDS,
     FORWARD_BEFORE_ITS_OFFER,
     FIRST_RESPONSE_PAST_THE_LIMIT,
-    EIGHT_REQUESTS,
-    CONTENT_IS_LOST,
-    SETTLED,
-    SETTLED_LATER,
-    NUMBERS_BEGIN_AGAIN,
+];
+
+/// Rows of several requests on a connection that moved.
+pub const BATCHES: [Row; 2] = [EIGHT_REQUESTS, CONTENT_IS_LOST];
+
+/// Rows that settle, with a connection or two.
+pub const SETTLES: [Row; 3] = [SETTLED, SETTLED_LATER, NUMBERS_BEGIN_AGAIN];
+
+/// Rows that settle behind a limit, a batch, a line or a move.
+pub const LONG_SETTLES: [Row; 4] = [
     RESPONSES_AT_THE_LIMIT,
     BATCH_SETTLES,
     LINE_SETTLES,

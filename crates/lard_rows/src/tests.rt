@@ -1,7 +1,7 @@
 //! The rows: for each input the status and the report that the rules give, worked out by hand.
 
 use crate::report::{HEADING, PARTS};
-use crate::rows::{ROWS, TOLD};
+use crate::rows::{ALONE, BATCHES, LONG_SETTLES, MOVED, Row, SETTLES, TOLD};
 use crate::slow::{Counting, Drip, Trickle, Waiting};
 use lard_app::{FileFault, Status, What, Why, run};
 use lard_base::{Bytes, Calls, ConfigFault, Key, MemSink, MemSource, NoMemory};
@@ -102,10 +102,10 @@ fn refused(line: u64, why: Why) -> Status {
     Status::Refused { line, why }
 }
 
-#[test]
-fn the_worked_rows(rt: HostRuntime) -> Result<(), Fail> {
+/// Each row gives its status and its report, byte for byte. The rows are lent: over a table by value the prover writes all of it out.
+fn check_rows(rt: &(impl Abort + AllocGlobal), rows: &[Row]) -> Result<(), NoMemory> {
     let alloc = rt.alloc();
-    for row in &ROWS {
+    for row in rows {
         let (status, report) = replayed(alloc, row.input.as_bytes(), Calls::new(alloc))?;
         assert_eq!(rt; status, row.status, "at {:?}", row.input);
         assert_eq!(rt;
@@ -115,6 +115,36 @@ fn the_worked_rows(rt: HostRuntime) -> Result<(), Fail> {
             row.input
         );
     }
+    Ok(())
+}
+
+#[test]
+fn rows_of_connections_that_stay(rt: HostRuntime) -> Result<(), Fail> {
+    check_rows(&rt, &ALONE)?;
+    Ok(())
+}
+
+#[test]
+fn rows_of_connections_that_move(rt: HostRuntime) -> Result<(), Fail> {
+    check_rows(&rt, &MOVED)?;
+    Ok(())
+}
+
+#[test]
+fn rows_of_batches(rt: HostRuntime) -> Result<(), Fail> {
+    check_rows(&rt, &BATCHES)?;
+    Ok(())
+}
+
+#[test]
+fn rows_that_settle(rt: HostRuntime) -> Result<(), Fail> {
+    check_rows(&rt, &SETTLES)?;
+    Ok(())
+}
+
+#[test]
+fn rows_that_settle_long(rt: HostRuntime) -> Result<(), Fail> {
+    check_rows(&rt, &LONG_SETTLES)?;
     Ok(())
 }
 
