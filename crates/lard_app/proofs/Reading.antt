@@ -77,7 +77,6 @@ module _ (left left_now old now : Option (List ℕ)) (held : Held) (s : Progress
     pub reading_failed : held.read ≤ MAX_INPUT_BYTES → Reads ReadFault left left_now old now
     reading_failed small = ended_as ReadFault now (going_failed r.text held.rest s old now r.going none left_now (subst (λ n. n ≤ MAX_INPUT_BYTES) (sym r.count) small))
 
-
 none-wrote : (old : Option (List ℕ)) → WrotePrefix old old (report_of (whole []).0)
 unfolding whole
 none-wrote old = record { front = []; rest = []; is = refl; written = Appends-nil old }
