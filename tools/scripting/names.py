@@ -206,7 +206,7 @@ def unfound(name, world, found, again):
 def listed(world, numbers, heading="they are:"):
     """Packets, a line each."""
     if not numbers:
-        return [f"{heading.split(':')[0]} none"]
+        return [f"{heading} none"]
     lines = [heading] + [f"  {told(world, number)}" for number in numbers[:LISTED]]
     if len(numbers) > LISTED:
         lines.append(f"  and {len(numbers) - LISTED:,} more")
