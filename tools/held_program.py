@@ -7,27 +7,39 @@
 
 `held.lines` are the lines so far and `held.text()` is their report, as `lardsim replay` prints it. `held.ahead` is what the
 report says is still to come: packets on the way, timers that run, jobs that wait.
+
+Nothing in a report says that a line's records are over. So behind each line the program is told `clock 0`, a line that changes
+nothing, and what comes before the record of that is the answer. These marks are in no schedule that is written.
 """
 
 import collections
 import os
+import re
 import subprocess
 import sys
 
 TOP = os.path.dirname(os.path.dirname(os.path.realpath(__file__)))
 PROGRAM = os.path.join(TOP, "crates", "lardsim", "out", "lardsim")
-ASIDE = "clock 0"  # told behind each line, since its record is how the end of that line's records is seen; it changes nothing
+MARK = "clock 0"
 
 Packet = collections.namedtuple("Packet", "number source target event place")  # which event sent it, as the how manieth
 Job = collections.namedtuple("Job", "event place")  # which event queued it, as the how manieth of its jobs
 
 
 class Ended(Exception):
-    """The program ended: its exit status, and what it printed to standard error."""
+    """The program has ended: its status, and what it says of it. line: the line of the schedule that it names, counted without
+    marks, or None. is_at_mark: it named a mark, which a limit can refuse. records: those that came of the last line."""
 
-    def __init__(self, status, words):
-        super().__init__(f"the program ended with status {status}" + (f": {words}" if words else ""))
-        self.status, self.words = status, words
+    def __init__(self, status, why, line=None, is_at_mark=False, records=()):
+        super().__init__()
+        self.status, self.why, self.line, self.is_at_mark, self.records = status, why, line, is_at_mark, list(records)
+
+    def said(self):
+        """What it printed to standard error, with the line counted without marks."""
+        return (f"line {self.line}: " if self.line else "") + self.why
+
+    def __str__(self):
+        return f"the program ended with status {self.status}" + (f": {self.said()}" if self.why else "")
 
 
 def built():
@@ -37,10 +49,77 @@ def built():
     return PROGRAM
 
 
-def replay(program, lines):
-    """A whole schedule is replayed at once: what subprocess.run gives, with all that was printed."""
-    text = "".join(line + "\n" for line in lines)
-    return subprocess.run([program, "replay"], input=text.encode("latin-1"), capture_output=True, check=False)
+def bytes_of(lines):
+    """A schedule of these lines, which were read byte by byte."""
+    return "".join(line + "\n" for line in lines).encode("latin-1")
+
+
+def replay(program, schedule):
+    """A whole schedule, given as bytes, is replayed at once: what subprocess.run gives, with all that was printed."""
+    return subprocess.run([program, "replay"], input=schedule, capture_output=True, check=False)
+
+
+class Program:
+    """A program that replays. lines: for each line that it was told its number in the schedule, or None for a mark."""
+
+    def __init__(self, path, encoding):
+        pipe = subprocess.PIPE
+        # in a session of its own, since an interrupt of the tool is not for it
+        self.process = subprocess.Popen([path, "replay"], stdin=pipe, stdout=pipe, stderr=pipe, start_new_session=True)
+        self.encoding = encoding
+        self.lines, self.count, self.events = [], 0, 0
+
+    def tell(self, line):
+        """A line that has no answer: one before `go`."""
+        self.count += 1
+        self.lines.append(self.count)
+        self.write(line + "\n")
+
+    def ask(self, line):
+        """A line, its records, and those of the mark behind it. Ended is raised where the program ends."""
+        self.count += 1
+        self.lines += [self.count, None]
+        self.write(f"{line}\n{MARK}\n")
+        self.events += 1 if line == "go" else 2
+        records = []
+        while True:
+            record = self.record(records)
+            if record.startswith(f"event {self.events} "):
+                return records, [record, self.record(records)]
+            records.append(record)
+
+    def record(self, before):
+        record = self.process.stdout.readline().decode("latin-1")
+        if not record.endswith("\n"):
+            raise self.end(before)
+        return record[:-1]
+
+    def write(self, text):
+        try:
+            self.process.stdin.write(text.encode(self.encoding))
+            self.process.stdin.flush()
+        except BrokenPipeError:
+            pass  # it has ended, and the answer will tell
+
+    def end(self, records=()):
+        """Its input ends. How it ended."""
+        try:
+            self.process.stdin.close()
+        except BrokenPipeError:
+            pass
+        records = [*records, *self.process.stdout.read().decode("latin-1").splitlines()]
+        said = self.process.stderr.read().decode("latin-1").strip()
+        self.process.stdout.close()
+        self.process.stderr.close()
+        return self.ended(self.process.wait(), said, records)
+
+    def ended(self, status, said, records):
+        """The line that it names is one of the schedule, a mark, or the one behind the last, where the input ended too early."""
+        named = re.fullmatch(r"line ([0-9]+): (.*)", said)
+        if not named:
+            return Ended(status, said, None, False, records)
+        line = [*self.lines, self.count + 1][int(named[1]) - 1]
+        return Ended(status, named[2], line, line is None, records)
 
 
 class Ahead:
@@ -101,79 +180,50 @@ class Ahead:
 
 
 class Held:
-    """The program, held."""
+    """The program, held, and what its report leaves to come."""
 
     def __init__(self, program):
-        # in a session of its own, since an interrupt of the tool is not for it
-        self.process = subprocess.Popen(
-            [program, "replay"], stdin=subprocess.PIPE, stdout=subprocess.PIPE, stderr=subprocess.PIPE, start_new_session=True
-        )
+        self.program = Program(program, "latin-1")
         self.lines, self.records = [], []
         self.ahead = Ahead()
-        self.events = self.asides = 0
+        self.events = 0
 
     def __enter__(self):
         return self
 
     def __exit__(self, *_):
-        self.process.kill()
-        self.process.communicate()
+        self.program.process.kill()
+        self.program.process.wait()
 
     def begin(self, head):
         """The first lines, up to and with `go`, are told."""
         self.lines = list(head)
-        self.write("".join(line + "\n" for line in head))
-        return self.answer()
+        for line in head[:-1]:
+            self.program.tell(line)
+        return self.answer(head[-1])
 
     def tell(self, line):
         """An event is told. Its records."""
         self.lines.append(line)
         self.events += 1
         self.ahead.begin(self.events)
-        self.write(line + "\n")
-        return self.answer()
+        return self.answer(line)
 
-    def write(self, text):
-        try:
-            self.process.stdin.write((text + ASIDE + "\n").encode("latin-1"))
-            self.process.stdin.flush()
-        except BrokenPipeError:
-            pass  # it ended, and reading tells why
-        self.asides += 1
-
-    def answer(self):
-        """The records up to that of the aside, which is left out, with the event's number as it is without asides."""
-        own, aside = self.events + self.asides - 1, self.events + self.asides
-        records = self.up_to(b"event %d %s\n" % (aside, ASIDE.encode())).decode("latin-1").split("\n")[:-1]
-        if self.events and records:
-            records[0] = records[0].replace(f"event {own} ", f"event {self.events} ", 1)
+    def answer(self, line):
+        """The records of a line, with its event's number as it is without marks."""
+        records, _ = self.program.ask(line)
+        if self.events:
+            records[0] = records[0].replace(f"event {self.program.events - 1} ", f"event {self.events} ", 1)
         for record in records:
             self.ahead.note(record)
         self.records += records
         return records
-
-    def up_to(self, end):
-        """What is printed before this line, which is read too, with the record behind it. What comes next is not printed yet."""
-        found, looked = bytearray(), 0
-        while True:
-            at = found.find(b"\n" + end, looked) + 1 if not found.startswith(end) else 0
-            if (at or found.startswith(end)) and found.endswith(b"\n") and len(found) > at + len(end):
-                return bytes(found[:at])
-            looked = max(0, len(found) - len(end) - 64)
-            piece = os.read(self.process.stdout.fileno(), 1 << 20)
-            if not piece:
-                raise self.ended()
-            found += piece
-
-    def ended(self):
-        _, words = self.process.communicate()
-        return Ended(self.process.returncode, words.decode("latin-1").strip())
 
     def text(self):
         return "".join(record + "\n" for record in self.records)
 
     def end(self):
         """Its input ends, and so does it."""
-        _, words = self.process.communicate()
-        if self.process.returncode:
-            raise Ended(self.process.returncode, words.decode("latin-1").strip())
+        ended = self.program.end()
+        if ended.status:
+            raise ended

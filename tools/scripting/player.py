@@ -4,8 +4,9 @@ import re
 import sys
 import time
 
+import held_program
 import report as reports
-from scripting import names, program
+from scripting import names
 from scripting.words import Fault
 from scripting.world import World
 
@@ -23,7 +24,7 @@ class Player:
 
     def __init__(self, path, keeps_going=False):
         self.path, self.keeps_going = path, keeps_going
-        self.program, self.world = program.Program(path), World()
+        self.program, self.world = held_program.Program(path, "utf-8"), World()
         self.schedule, self.owners, self.records = [], [], []
         self.number, self.end, self.is_end_expected, self.failed = 0, None, False, []
 
@@ -65,7 +66,7 @@ class Player:
         if not self.end:
             self.ended(self.program.end())
         elif self.end.is_at_mark:
-            self.end = program.Ended(0, "", None, False, [])
+            self.end = held_program.Ended(0, "")
 
     def ended(self, ended):
         self.records += without_numbers(ended.records)
@@ -86,7 +87,7 @@ class Player:
             return
         try:
             records, mark = self.program.ask(line)
-        except program.Ended as ended:
+        except held_program.Ended as ended:
             self.ended(ended)
             if not ended.is_at_mark:
                 raise Over from None
@@ -169,15 +170,11 @@ class Player:
 
     def report(self):
         """The report of the schedule alone. It is compared with what the script has seen."""
-        status, report, said = program.replay(self.path, self.text())
-        again = without_numbers(report.decode("latin-1").splitlines())
-        if again != self.records or (status, said.strip()) != (self.end.status, self.said()):
+        done = held_program.replay(self.path, self.text())
+        again = without_numbers(done.stdout.decode("latin-1").splitlines())
+        if again != self.records or (done.returncode, done.stderr.decode("latin-1").strip()) != (self.end.status, self.end.said()):
             raise Fault("the schedule, replayed by itself, has another report than the script has seen")
-        return report
-
-
-    def said(self):
-        return (f"line {self.end.line}: " if self.end.line else "") + self.end.why
+        return done.stdout
 
 
 def without_numbers(records):
