@@ -3,24 +3,24 @@ use Rattle.std.proofs.Common.{◌≡◌, ◌⊎◌, ℕ, false, Option, Some, Re
 use Rattle.lard_base.specs.Config.{config_check}
 use Rattle.lard_base.specs.declared.event.Event.{Event}
 use Rattle.lard_base.specs.declared.event.Event.TheVariants as event
-use Rattle.lard_cluster.specs.declared.fault.StepFault.{StepFault}
-use Rattle.lard_cluster.specs.declared.fault.StepFault.TheVariants as fault
-use Rattle.lard_cluster.specs.declared.machine.Machine.{Machine}
-use Rattle.lard_cluster.specs.Machine.{machine_step}
-use Rattle.lard_machine.specs.declared.fault.What.{What}
-use Rattle.lard_machine.specs.declared.fault.What.TheVariants as what
+use Rattle.lard_rules.specs.declared.fault.StepFault.{StepFault}
+use Rattle.lard_rules.specs.declared.fault.StepFault.TheVariants as fault
+use Rattle.lard_rules.specs.declared.machine.Machine.{Machine}
+use Rattle.lard_rules.specs.Machine.{machine_step}
+use Rattle.lard_rules.specs.declared.fault.What.{What}
+use Rattle.lard_rules.specs.declared.fault.What.TheVariants as what
 use Rattle.lard_settling.specs.Events.{event_step, settled_to, stepped_from}
 use Rattle.lard_settling.specs.Settling.{Stop, settled}
-use Rattle.lard_settle_quiet.proofs.Whole.{settles-stop}
+use Rattle.lard_law_settles.proofs.Whole.{settles-stop}
 use Rattle.lard_settling.specs.Steps.{settle_begun}
 use Rattle.lard_settling.specs.Written.{IsWrittenOut, is_settle}
 use Rattle.lard_app.specs.declared.status.Why.{Why}
 use Rattle.lard_app.specs.declared.status.Why.TheVariants as why
 use Rattle.lard_app.specs.Causes.{HasReached, IsUntimely, IsWithinLimits, MayNotCome, Reaches, WritesTooMuch}
-use Rattle.lard_settle_quiet.proofs.Events.{either-kind, plain-step}
+use Rattle.lard_law_settles.proofs.Events.{either-kind, plain-step}
 use Rattle.lard_app.proofs.Events.{begun-not, plain-stopped}
 use Rattle.lard_app.proofs.Failures.{IsFault, fault-step, limit_found, limit_there, limit-step, step-fault}
-use Rattle.lard_settle_quiet.proofs.Firing.{IsInner}
+use Rattle.lard_law_settles.proofs.Firing.{IsInner}
 use Rattle.lard_app.proofs.Reached.{Told, written-told}
 use Rattle.lard_app.proofs.Written.{StepNotDone, fault-inner, inner-fault, settle-stop}
 

@@ -4,7 +4,7 @@ use Rattle.std.proofs.lemmas.Bool.Decides.{nat_tests}
 use Rattle.std.specs.Prelude.{nat_lt}
 use Rattle.lard_base.specs.declared.limits.TheConstants.{MAX_INPUT_BYTES}
 use Rattle.lard_lines.specs.Lines.{is_feed, lines_of}
-use Rattle.lard_machine.specs.declared.fault.What.TheVariants.{Input, Packets, PacketBytes, Records, Answers, Stream}
+use Rattle.lard_rules.specs.declared.fault.What.TheVariants.{Input, Packets, PacketBytes, Records, Answers, Stream}
 use Rattle.lard_schedule.specs.declared.reader.Stage.{Stage}
 use Rattle.lard_schedule.specs.declared.reader.Stage.TheVariants as stage
 use Rattle.lard_schedule.proofs.Cuts.{first_part}

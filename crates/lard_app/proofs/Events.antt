@@ -2,23 +2,23 @@
 use Rattle.std.proofs.Common.{◌≡◌, ◌⊎◌, inl, inr, ℕ, ◌+◌, ◌<◌, false, List, [], ◌∷◌, ◌++◌, length, Option, Some, None, Result, Ok, Err, refl, sym, ap, ◌∙◌, subst, append_assoc, append-nil, arith, length-append}
 use Rattle.lard_base.specs.declared.event.Event.{Event}
 use Rattle.lard_base.specs.declared.event.Event.TheVariants as event
-use Rattle.lard_cluster.specs.declared.fault.StepFault.{StepFault}
-use Rattle.lard_cluster.specs.declared.fault.StepFault.TheVariants as fault
-use Rattle.lard_cluster.specs.declared.machine.Machine.{Machine}
-use Rattle.lard_cluster.specs.Machine.{limit_reached, machine_step, passed, unless_limit}
+use Rattle.lard_rules.specs.declared.fault.StepFault.{StepFault}
+use Rattle.lard_rules.specs.declared.fault.StepFault.TheVariants as fault
+use Rattle.lard_rules.specs.declared.machine.Machine.{Machine}
+use Rattle.lard_rules.specs.Machine.{limit_reached, machine_step, passed, unless_limit}
 use Rattle.lard_settle.proofs.Runs.{GoesOn, step-goes-on}
 use Rattle.lard_history.proofs.Each.{Each}
 use Rattle.lard_journal.specs.Inner.{turned_at}
 use Rattle.lard_journal.specs.declared.rec.Rec.{Rec}
 use Rattle.lard_journal.specs.declared.rec.Rec.TheVariants as rec
-use Rattle.lard_machine.specs.declared.fault.What.{What}
+use Rattle.lard_rules.specs.declared.fault.What.{What}
 use Rattle.lard_settling.specs.Events.{event_step, stepped_from}
 use Rattle.lard_settling.specs.Settling.{Stop, completions, deliveries, firings, left, takes}
 use Rattle.lard_settling.specs.Steps.{as_inner, inner_given, inner_step, settle_begun, settle_closed}
 use Rattle.lard_settling.specs.Written.{is_settle}
 use Rattle.lard_app.specs.Replay.{came}
-use Rattle.lard_settle_quiet.proofs.Events.{begun-is, either-kind, plain-step}
-use Rattle.lard_settle_quiet.proofs.Inside.{KeptInside, SettleLands, settle-lands}
+use Rattle.lard_law_settles.proofs.Events.{begun-is, either-kind, plain-step}
+use Rattle.lard_law_settles.proofs.Inside.{KeptInside, SettleLands, settle-lands}
 
 -- ---- a journal that goes on
 

@@ -9,21 +9,21 @@ use Rattle.lard_base.specs.declared.event.Event.TheVariants as event
 use Rattle.lard_base.specs.declared.place.Place.{Place}
 use Rattle.lard_base.specs.declared.place.Place.TheVariants.{Front, Node, Client}
 use Rattle.lard_client.specs.Control.{ClientBlock, written_len}
-use Rattle.lard_cluster_clients.proofs.Tables.{client_at}
-use Rattle.lard_cluster.specs.Machine.{client_does, client_goes_on, completes, delivered, disk_at, happens, is_no_job, is_no_node, limit_reached, lost, machine_step, node_acts, node_at, node_gave, node_setting, opened, passed, timer, to_place, unless_limit, wrote}
-use Rattle.lard_cluster.specs.declared.fault.StepFault.{StepFault}
-use Rattle.lard_cluster.specs.declared.fault.StepFault.TheVariants as fault
-use Rattle.lard_cluster.specs.declared.machine.Machine.{Machine}
+use Rattle.lard_law_steps.proofs.ClientsTables.{client_at}
+use Rattle.lard_rules.specs.Machine.{client_does, client_goes_on, completes, delivered, disk_at, happens, is_no_job, is_no_node, limit_reached, lost, machine_step, node_acts, node_at, node_gave, node_setting, opened, passed, timer, to_place, unless_limit, wrote}
+use Rattle.lard_rules.specs.declared.fault.StepFault.{StepFault}
+use Rattle.lard_rules.specs.declared.fault.StepFault.TheVariants as fault
+use Rattle.lard_rules.specs.declared.machine.Machine.{Machine}
 use Rattle.lard_history.specs.Journal.{answered_bytes, numbers_of, packet_bytes, request}
 use Rattle.lard_journal.specs.declared.rec.Rec.{Rec}
 use Rattle.lard_journal.specs.declared.rec.Rec.TheVariants as rec
 use Rattle.lard_rules.specs.Client.{client_aborts, client_holds, client_injects, client_shuts, client_takes, client_writes}
-use Rattle.lard_machine.specs.declared.fault.What.{What}
-use Rattle.lard_machine.specs.declared.fault.What.TheVariants.{Stream}
-use Rattle.lard_machine.specs.Machine.{limit_of}
-use Rattle.lard_node_rules.specs.declared.node.BackIn.TheVariants as back
-use Rattle.lard_node_rules.specs.declared.node.NodeState.{NodeState}
-use Rattle.lard_node_rules.specs.NodePlace.{node_step}
+use Rattle.lard_rules.specs.declared.fault.What.{What}
+use Rattle.lard_rules.specs.declared.fault.What.TheVariants.{Stream}
+use Rattle.lard_rules.specs.Limits.{limit_of}
+use Rattle.lard_rules.specs.declared.node.BackIn.TheVariants as back
+use Rattle.lard_rules.specs.declared.node.NodeState.{NodeState}
+use Rattle.lard_rules.specs.NodePlace.{node_step}
 use Rattle.lard_rules.specs.declared.places.Station.{Station}
 use Rattle.lard_rules.specs.declared.places.Turn.{Turn}
 use Rattle.lard_net.specs.Net.{Packet, bytes_in, lose_at, packet_at}

@@ -1,6 +1,6 @@
 -- What a call gives of a generated run, made of what another did.
 use Rattle.std.proofs.Common.{◌≡◌, ℕ, List, Ok, Err, sym, ap, ◌∙◌}
-use Rattle.lard_cluster.specs.declared.machine.Machine.{Machine}
+use Rattle.lard_rules.specs.declared.machine.Machine.{Machine}
 use Rattle.lard_generate.specs.Generated.{generated}
 use Rattle.lard_generate.specs.declared.schedule.Schedule.{Schedule}
 use Rattle.lard_journal.specs.declared.rec.Rec.{Rec}

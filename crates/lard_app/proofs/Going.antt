@@ -12,7 +12,7 @@ use Rattle.lard_base.specs.Outside.{WrotePrefix}
 use Rattle.lard_base.specs.declared.event.Event.{Event}
 use Rattle.lard_lines.proofs.Feeds.{found_before, none_until}
 use Rattle.lard_lines.specs.Lines.{is_feed, lines_of}
-use Rattle.lard_machine.specs.declared.fault.What.TheVariants.{Input}
+use Rattle.lard_rules.specs.declared.fault.What.TheVariants.{Input}
 use Rattle.lard_schedule.specs.declared.reader.Stage.{Stage}
 use Rattle.lard_schedule.specs.declared.reader.Stage.TheVariants.{Start, Settings, Files, Running}
 use Rattle.lard_schedule.proofs.Cuts.{first_part, split_alone, split_at}

@@ -7,7 +7,7 @@ use Rattle.lard_base.specs.declared.config.Key.{Key}
 use Rattle.lard_base.specs.declared.event.Event.{Event}
 use Rattle.lard_base.specs.declared.event.Event.TheVariants as event
 use Rattle.lard_base.specs.declared.limits.TheConstants.{MAX_INPUT_BYTES}
-use Rattle.lard_cluster.specs.declared.machine.Machine.{Machine}
+use Rattle.lard_rules.specs.declared.machine.Machine.{Machine}
 use Rattle.lard_settle.proofs.Runs.{GoesOn}
 use Rattle.lard_files.specs.Files.{add_check}
 use Rattle.lard_files.specs.declared.fault.FileFault.{FileFault}
@@ -16,7 +16,7 @@ use Rattle.lard_grammar.proofs.Texts.{cut_again, front_joined, joined}
 use Rattle.lard_grammar.proofs.Wholes.{found_is}
 use Rattle.lard_grammar.specs.Schedule.{AreLines, Found, at_end, nothing, read_from, schedule_of, text_of, with_item}
 use Rattle.lard_lines.specs.Lines.{is_feed, lines_of}
-use Rattle.lard_machine.specs.declared.fault.What.TheVariants.{Input}
+use Rattle.lard_rules.specs.declared.fault.What.TheVariants.{Input}
 use Rattle.lard_schedule.proofs.Cuts.{first_part}
 use Rattle.lard_schedule.specs.declared.item.Item.{Item}
 use Rattle.lard_schedule.specs.declared.item.Item.TheVariants as item

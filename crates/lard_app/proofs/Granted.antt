@@ -14,18 +14,18 @@ use Rattle.lard_base.specs.declared.config.Config.{Config}
 use Rattle.lard_base.specs.declared.event.Event.{Event}
 use Rattle.lard_base.specs.declared.event.Event.TheVariants as event
 use Rattle.lard_base.specs.declared.limits.TheConstants.{MAX_RECORDS}
-use Rattle.lard_cluster.specs.Bounds.{HasRule}
-use Rattle.lard_cluster.specs.declared.fault.StepFault.{StepFault}
-use Rattle.lard_cluster.specs.declared.machine.Machine.{Machine}
-use Rattle.lard_cluster.specs.Machine.{machine_step, node_at, start}
-use Rattle.lard_cluster_records.specs.Records.{IsFile, IsGiven}
-use Rattle.lard_cluster_records.proofs.Reached.{records-ranges}
+use Rattle.lard_rules.specs.Bounds.{HasRule}
+use Rattle.lard_rules.specs.declared.fault.StepFault.{StepFault}
+use Rattle.lard_rules.specs.declared.machine.Machine.{Machine}
+use Rattle.lard_rules.specs.Machine.{machine_step, node_at, start}
+use Rattle.lard_law_steps.specs.Records.{IsFile, IsGiven}
+use Rattle.lard_law_steps.proofs.RecordsReached.{records-ranges}
 use Rattle.lard_history.proofs.Each.{Each, Each-append, Each-weaker}
 use Rattle.lard_journal.specs.Range.{IsEventInRange, IsInRange, IsNumber, IsPlaceInRange}
 use Rattle.lard_journal.specs.declared.rec.Rec.{Rec}
 use Rattle.lard_journal.specs.declared.rec.Rec.TheVariants as rec
-use Rattle.lard_laws_records.proofs.Bytes.{all-each, each-all}
-use Rattle.lard_node_rules.specs.declared.node.NodeState.{NodeState}
+use Rattle.lard_law_ends.proofs.ByteLists.{all-each, each-all}
+use Rattle.lard_rules.specs.declared.node.NodeState.{NodeState}
 use Rattle.lard_settling.specs.Events.{EndsInside, Goes, LeadsTo, MayCome, event_step, stepped_from}
 use Rattle.lard_settling.specs.Settling.{Stop, completions, deliveries, firings, left, takes}
 use Rattle.lard_settling.specs.Left.{is_holder, jobs_of}
@@ -35,14 +35,14 @@ use Rattle.lard_settling.proofs.Plain.{AreUnmarked, is_mark}
 use Rattle.lard_settling.proofs.Written.{written}
 use Rattle.lard_app.specs.Replay.{came}
 use Rattle.lard_app.specs.Happened.{step_of, step_told, steps_told}
-use Rattle.lard_settle_quiet.proofs.Events.{begun-is, either-kind, plain-rule, plain-step}
-use Rattle.lard_settle_quiet.proofs.Few.{config-is, few-left}
-use Rattle.lard_settle_quiet.proofs.Firing.{IsInner, OfTimer, each-filter, each-map, each-parts, entries-each, firings-each, firings-inner}
-use Rattle.lard_settle_quiet.proofs.Given.{begun-few, InnerRows, StepRows, inner-rows, step-rows}
-use Rattle.lard_settle_quiet.proofs.Inside.{KeptInside, SettleLands, settle-lands}
+use Rattle.lard_law_settles.proofs.Events.{begun-is, either-kind, plain-rule, plain-step}
+use Rattle.lard_law_settles.proofs.Few.{config-is, few-left}
+use Rattle.lard_law_settles.proofs.Firing.{IsInner, OfTimer, each-filter, each-map, each-parts, entries-each, firings-each, firings-inner}
+use Rattle.lard_law_settles.proofs.Given.{begun-few, InnerRows, StepRows, inner-rows, step-rows}
+use Rattle.lard_law_settles.proofs.Inside.{KeptInside, SettleLands, settle-lands}
 use Rattle.lard_app.proofs.Reached.{Told, written-told}
 use Rattle.lard_app.proofs.Telling.{plain-events}
-use Rattle.lard_settle_quiet.proofs.Firing.{inner-rule}
+use Rattle.lard_law_settles.proofs.Firing.{inner-rule}
 
 -- ---- what a record of a step or a settle was given
 

@@ -5,8 +5,8 @@ use Rattle.lard_base.specs.Config.{config_check, range_check}
 use Rattle.lard_base.specs.declared.config.ConfigFault.{ConfigFault}
 use Rattle.lard_base.specs.declared.config.Key.{Key}
 use Rattle.lard_base.specs.declared.event.Event.{Event}
-use Rattle.lard_cluster.specs.Machine.{start}
-use Rattle.lard_cluster.specs.declared.machine.Machine.{Machine}
+use Rattle.lard_rules.specs.Machine.{start}
+use Rattle.lard_rules.specs.declared.machine.Machine.{Machine}
 use Rattle.lard_settle.proofs.Runs.{GoesOn}
 use Rattle.lard_files.specs.Files.{add_check}
 use Rattle.lard_files.specs.declared.fault.FileFault.{FileFault}

@@ -3,7 +3,7 @@ use Rattle.std.proofs.Common.{◌≡◌, ◌⊎◌, inl, inr, ℕ, ◌<◌, List
 use Rattle.std.proofs.lemmas.Bool.Decides.{nat_tests}
 use Rattle.lard_base.specs.declared.event.Event.{Event}
 use Rattle.lard_base.specs.declared.event.Event.TheVariants as event
-use Rattle.lard_cluster.specs.declared.machine.Machine.{Machine}
+use Rattle.lard_rules.specs.declared.machine.Machine.{Machine}
 use Rattle.lard_schedule.specs.declared.item.Item.{Item}
 use Rattle.lard_schedule.specs.declared.item.Item.TheVariants as item
 use Rattle.lard_schedule.specs.Reader.{item_of}

@@ -3,25 +3,25 @@ use Rattle.std.proofs.Common.{◌≡◌, ℕ, Ok, List, [], refl, subst}
 use Rattle.lard_base.specs.Config.{config_check}
 use Rattle.lard_base.specs.declared.config.Config.{Config}
 use Rattle.lard_base.specs.declared.event.Event.{Event}
-use Rattle.lard_cluster.specs.Machine.{start}
-use Rattle.lard_cluster.specs.declared.machine.Machine.{Machine}
+use Rattle.lard_rules.specs.Machine.{start}
+use Rattle.lard_rules.specs.declared.machine.Machine.{Machine}
 use Rattle.lard_settle.specs.Lawful.{IsLawful}
 use Rattle.lard_settle.proofs.Lawful.{journals-lawful}
-use Rattle.lard_cluster_records.specs.Messages.{MayTalk}
-use Rattle.lard_cluster_records.specs.Records.{IsFile, IsGiven}
-use Rattle.lard_cluster_records.proofs.Talking.{packets-decode}
-use Rattle.lard_cluster_steps.proofs.Following.{follows}
+use Rattle.lard_law_steps.specs.RecordsMessages.{MayTalk}
+use Rattle.lard_law_steps.specs.Records.{IsFile, IsGiven}
+use Rattle.lard_law_steps.proofs.RecordsTalking.{packets-decode}
+use Rattle.lard_law_steps.proofs.StepsFollowing.{follows}
 use Rattle.lard_files.specs.Files.{file_at}
 use Rattle.lard_history.specs.Laws.{EachMay, Follows}
 use Rattle.lard_history.proofs.Each.{Each}
 use Rattle.lard_journal.specs.Range.{IsNumber}
-use Rattle.lard_laws_records.proofs.Bytes.{each-all}
+use Rattle.lard_law_ends.proofs.ByteLists.{each-all}
 use Rattle.lard_settling.specs.Events.{LeadsTo}
-use Rattle.lard_settle_quiet.proofs.Order.{in-order}
+use Rattle.lard_law_settles.proofs.Order.{in-order}
 use Rattle.lard_settle.proofs.Enough.{runs-settle}
-use Rattle.lard_settle_quiet.proofs.Runs.{runs-are-done}
-use Rattle.lard_settle_quiet.proofs.Same.{tells-the-same}
-use Rattle.lard_settle_quiet.proofs.Rounding.{take-rounds}
+use Rattle.lard_law_settles.proofs.DoneRuns.{runs-are-done}
+use Rattle.lard_law_settles.proofs.DoneSame.{tells-the-same}
+use Rattle.lard_law_settles.proofs.Rounding.{take-rounds}
 use Rattle.lard_settling.specs.Written.{IsWrittenOut, written_out}
 use Rattle.lard_app.specs.Happened.{Happened}
 use Rattle.lard_app.proofs.Granted.{IsGrantedBy, granted-events, leads-granted}

@@ -2,12 +2,12 @@
 use Rattle.std.proofs.Common.{◌≡◌, ◌≢◌, ℕ, Option, List, [], ◌++◌, length, refl, sym, ap, ◌∙◌, subst, arith, length-append}
 use Rattle.std.specs.List.{flat_map}
 use Rattle.lard_base.specs.declared.config.Config.{Config}
-use Rattle.lard_cluster.specs.declared.machine.Machine.{Machine}
-use Rattle.lard_cluster.specs.Machine.{start}
+use Rattle.lard_rules.specs.declared.machine.Machine.{Machine}
+use Rattle.lard_rules.specs.Machine.{start}
 use Rattle.lard_journal.specs.declared.rec.Rec.{Rec}
 use Rattle.lard_journal.specs.Range.{IsFileInRange, IsInRange, IsReportInRange}
 use Rattle.lard_journal.specs.Report.{file_text, heading_line, rec_line, report}
-use Rattle.lard_laws_records.proofs.Bytes.{each-all}
+use Rattle.lard_law_ends.proofs.ByteLists.{each-all}
 use Rattle.lard_app.proofs.Granted.{granted-ranged, leads-granted}
 use Rattle.lard_app.proofs.Happened.{happened}
 use Rattle.lard_schedule.specs.declared.reader.Stage.{Stage}

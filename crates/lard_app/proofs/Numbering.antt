@@ -3,8 +3,8 @@ use Rattle.std.proofs.Common.{◌≡◌, ◌⊎◌, inl, inr, ◌<◌, ℕ, zero
 use Rattle.lard_base.specs.declared.config.Config.{Config}
 use Rattle.lard_base.specs.declared.event.Event.{Event}
 use Rattle.lard_base.specs.declared.event.Event.TheVariants as event
-use Rattle.lard_cluster.specs.declared.machine.Machine.{Machine}
-use Rattle.lard_cluster.specs.Machine.{passed, start}
+use Rattle.lard_rules.specs.declared.machine.Machine.{Machine}
+use Rattle.lard_rules.specs.Machine.{passed, start}
 use Rattle.lard_journal.specs.declared.rec.Rec.{Rec}
 use Rattle.lard_journal.specs.declared.rec.Rec.TheVariants as rec
 use Rattle.lard_settling.specs.Events.{EndsInside, Goes, LeadsTo, MayCome, event_step}
@@ -15,11 +15,11 @@ use Rattle.lard_settling.proofs.Plain.{AreUnmarked, is_mark}
 use Rattle.lard_settling.proofs.Written.{written}
 use Rattle.lard_app.specs.Replay.{came}
 use Rattle.lard_app.specs.Happened.{event_told, events_told, numbered_from}
-use Rattle.lard_settle_quiet.proofs.Events.{begun-is, either-kind, plain-done, plain-rule}
-use Rattle.lard_settle_quiet.proofs.Firing.{IsInner}
-use Rattle.lard_settle_quiet.proofs.Given.{InnerRows, StepRows, inner-rows, step-rows}
-use Rattle.lard_settle_quiet.proofs.Inside.{KeptInside, SettleLands, settle-lands}
-use Rattle.lard_settle_quiet.proofs.Firing.{inner-rule}
+use Rattle.lard_law_settles.proofs.Events.{begun-is, either-kind, plain-done, plain-rule}
+use Rattle.lard_law_settles.proofs.Firing.{IsInner}
+use Rattle.lard_law_settles.proofs.Given.{InnerRows, StepRows, inner-rows, step-rows}
+use Rattle.lard_law_settles.proofs.Inside.{KeptInside, SettleLands, settle-lands}
+use Rattle.lard_law_settles.proofs.Firing.{inner-rule}
 use Rattle.lard_app.proofs.Written.{event-written, kept-inside}
 
 -- ---- journals

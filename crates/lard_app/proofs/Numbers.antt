@@ -13,9 +13,9 @@ use Rattle.lard_files.specs.declared.fault.FileFault.{FileFault}
 use Rattle.lard_files.specs.declared.fault.FileFault.TheVariants.{Repeated, TooLong, TooMany, TooMuch, NoMemory}
 use Rattle.lard_history.specs.Journal.{answered_bytes, packet_bytes, sent_count}
 use Rattle.lard_journal.specs.declared.rec.Rec.{Rec}
-use Rattle.lard_machine.specs.Machine.{limit_of}
-use Rattle.lard_machine.specs.declared.fault.What.{What}
-use Rattle.lard_machine.specs.declared.fault.What.TheVariants.{Input, Packets, PacketBytes, Records, Answers, Stream}
+use Rattle.lard_rules.specs.Limits.{limit_of}
+use Rattle.lard_rules.specs.declared.fault.What.{What}
+use Rattle.lard_rules.specs.declared.fault.What.TheVariants.{Input, Packets, PacketBytes, Records, Answers, Stream}
 use Rattle.lard_app.specs.Causes.{DisagreesBy, HasReached, IsFit, IsWithinLimits, MayNotAdd}
 
 -- ---- tests of numbers

@@ -7,7 +7,7 @@ use Rattle.std.specs.Prelude.{nat_lt}
 use Rattle.lard_base.specs.declared.limits.TheConstants.{MAX_INPUT_BYTES}
 use Rattle.lard_base.specs.Outside.{TakesIn, WrotePrefix}
 use Rattle.lard_lines.specs.Lines.{Held, is_feed}
-use Rattle.lard_machine.specs.declared.fault.What.TheVariants.{Input}
+use Rattle.lard_rules.specs.declared.fault.What.TheVariants.{Input}
 use Rattle.lard_schedule.specs.declared.reader.Stage.{Stage}
 use Rattle.lard_schedule.specs.declared.reader.Stage.TheVariants.{Start, Settings, Files, Running}
 use Rattle.lard_app.specs.declared.status.Status.{Status}

@@ -2,14 +2,14 @@
 use Rattle.std.proofs.Common.{All, ◌≡◌, ◌+◌, ◌≤◌, ℕ, List, [], ◌∷◌, ◌++◌, length, Option, Some, None, Ok, Err, refl, subst, arith}
 use Rattle.std.specs.Io.KnownBytes.{Appends, Keeps}
 use Rattle.lard_base.specs.Outside.{WrotePrefix}
-use Rattle.lard_cluster.specs.declared.machine.Machine.{Machine}
+use Rattle.lard_rules.specs.declared.machine.Machine.{Machine}
 use Rattle.lard_base.specs.declared.event.Event.{Event}
-use Rattle.lard_cluster_records.specs.Records.{IsFile, IsGiven}
+use Rattle.lard_law_steps.specs.Records.{IsFile, IsGiven}
 use Rattle.lard_generate.specs.Generated.{generated}
 use Rattle.lard_generate.specs.Laws.{IsSpelled, IsSpelledFile}
 use Rattle.lard_generate.proofs.Spelled.{events_spelled, files_spelled}
 use Rattle.lard_history.proofs.Each.{Each, Each-weaker}
-use Rattle.lard_laws_records.proofs.Bytes.{all-each, each-all}
+use Rattle.lard_law_ends.proofs.ByteLists.{all-each, each-all}
 use Rattle.lard_schedule.specs.Events.{IsInRange}
 use Rattle.lard_settling.specs.Events.{MayCome}
 use Rattle.lard_settling.proofs.Written.{written}
@@ -17,7 +17,7 @@ use Rattle.lard_app.specs.declared.status.Status.{Status}
 use Rattle.lard_app.specs.declared.status.Status.TheVariants.{Done, Usage, Refused, ReadFault, WriteFault, NoMemory, Limit}
 use Rattle.lard_app.specs.declared.status.Why.{Why}
 use Rattle.lard_app.specs.Generate.{EndsLeft, EndsPlay, Generated, Gives, Prints, begins, first_line, large, run_of}
-use Rattle.lard_settle_quiet.proofs.Firing.{each-parts}
+use Rattle.lard_law_settles.proofs.Firing.{each-parts}
 use Rattle.lard_app.proofs.Happened.{happened}
 use Rattle.lard_app.proofs.Fit.{IsFit}
 use Rattle.lard_app.proofs.Played.{Front, caused, front, played-done}

@@ -5,9 +5,9 @@ use Rattle.std.proofs.Math.Seq.{drop-append_seam}
 use Rattle.lard_base.specs.declared.event.Event.{Event}
 use Rattle.lard_base.specs.declared.event.Event.TheVariants as event
 use Rattle.lard_base.specs.declared.place.Place.TheVariants as place
-use Rattle.lard_cluster.specs.Bounds.{HasRule}
-use Rattle.lard_cluster.specs.Machine.{machine_step}
-use Rattle.lard_cluster.specs.declared.machine.Machine.{Machine}
+use Rattle.lard_rules.specs.Bounds.{HasRule}
+use Rattle.lard_rules.specs.Machine.{machine_step}
+use Rattle.lard_rules.specs.declared.machine.Machine.{Machine}
 use Rattle.lard_settle.proofs.Runs.{GoesOn, step-goes-on}
 use Rattle.lard_journal.specs.declared.rec.Rec.{Rec}
 use Rattle.lard_schedule.specs.Events.{IsInRange}

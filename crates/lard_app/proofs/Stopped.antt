@@ -8,10 +8,10 @@ use Rattle.lard_agenda.specs.declared.agenda.Agenda.{Agenda}
 use Rattle.lard_base.specs.Outside.{WrotePrefix}
 use Rattle.lard_base.specs.declared.event.Event.{Event}
 use Rattle.lard_base.specs.declared.event.Event.TheVariants as event
-use Rattle.lard_cluster.specs.declared.fault.StepFault.{StepFault}
-use Rattle.lard_cluster.specs.declared.fault.StepFault.TheVariants as fault
-use Rattle.lard_cluster.specs.declared.machine.Machine.{Machine}
-use Rattle.lard_cluster.specs.Machine.{Steps, machine_step}
+use Rattle.lard_rules.specs.declared.fault.StepFault.{StepFault}
+use Rattle.lard_rules.specs.declared.fault.StepFault.TheVariants as fault
+use Rattle.lard_rules.specs.declared.machine.Machine.{Machine}
+use Rattle.lard_rules.specs.Machine.{Steps, machine_step}
 use Rattle.lard_journal.specs.Report.{rec_line}
 use Rattle.lard_journal.specs.declared.rec.Rec.{Rec}
 use Rattle.lard_settling.specs.Events.{event_step, settled_to, stepped_from}
@@ -22,7 +22,7 @@ use Rattle.lard_app.specs.declared.status.Status.TheVariants.{Done, Usage, Refus
 use Rattle.lard_app.specs.Generate.{Happens}
 use Rattle.lard_app.specs.Replay.{Passes, Progress, Writes, came, ended_by, event_gain}
 use Rattle.lard_app.specs.Seen.{Does, Stops, rounds_of}
-use Rattle.lard_settle_quiet.proofs.Events.{plain-step}
+use Rattle.lard_law_settles.proofs.Events.{plain-step}
 use Rattle.lard_app.proofs.Steps.{Grows, event-grows, grows-longer, step-grows}
 
 -- ---- kinds of events

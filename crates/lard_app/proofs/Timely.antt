@@ -10,11 +10,11 @@ use Rattle.lard_base.specs.declared.event.Event.{Event}
 use Rattle.lard_base.specs.declared.event.Event.TheVariants as event
 use Rattle.lard_base.specs.declared.place.Place.{Place}
 use Rattle.lard_base.specs.declared.place.Place.TheVariants as place
-use Rattle.lard_cluster.specs.declared.fault.StepFault.{StepFault}
-use Rattle.lard_cluster.specs.declared.fault.StepFault.TheVariants as fault
-use Rattle.lard_cluster.specs.declared.machine.Machine.{Machine}
-use Rattle.lard_cluster.specs.Machine.{client_acted, client_does, client_goes_on, client_put, delivered, from_place, front_acts, happens, limit_reached, lost, machine_step, node_acts, node_at, opened, passed, start, to_client, to_front, to_place, told, unless_limit, wrote}
-use Rattle.lard_machine.specs.Machine.{packets_of}
+use Rattle.lard_rules.specs.declared.fault.StepFault.{StepFault}
+use Rattle.lard_rules.specs.declared.fault.StepFault.TheVariants as fault
+use Rattle.lard_rules.specs.declared.machine.Machine.{Machine}
+use Rattle.lard_rules.specs.Machine.{client_acted, client_does, client_goes_on, client_put, delivered, from_place, front_acts, happens, limit_reached, lost, machine_step, node_acts, node_at, opened, passed, start, to_client, to_front, to_place, told, unless_limit, wrote}
+use Rattle.lard_rules.specs.Sent.{packets_of}
 use Rattle.lard_rules.specs.declared.front.FrontIn.{FrontIn}
 use Rattle.lard_rules.specs.declared.front.FrontIn.TheVariants as input
 use Rattle.lard_client.specs.Control.{ClientBlock, is_armed, written_len}
@@ -22,14 +22,14 @@ use Rattle.lard_history.proofs.Each.{Each, Each-append}
 use Rattle.lard_history.specs.Journal.{is_lost, numbers_of, sent_count}
 use Rattle.lard_journal.specs.declared.rec.Rec.{Rec}
 use Rattle.lard_journal.specs.declared.rec.Rec.TheVariants as rec
-use Rattle.lard_machine.specs.declared.fault.What.{What}
-use Rattle.lard_machine.specs.declared.fault.What.TheVariants as what
+use Rattle.lard_rules.specs.declared.fault.What.{What}
+use Rattle.lard_rules.specs.declared.fault.What.TheVariants as what
 use Rattle.lard_net.specs.Net.{Packet, lose_at, packet_at}
 use Rattle.lard_net.proofs.Packets.{lost_length}
-use Rattle.lard_node_rules.specs.declared.node.BackIn.{BackIn}
-use Rattle.lard_node_rules.specs.declared.node.BackIn.TheVariants as back
-use Rattle.lard_node_rules.specs.declared.node.NodeState.{NodeState}
-use Rattle.lard_rules.specs.declared.front.Out.{Out}
+use Rattle.lard_rules.specs.declared.node.BackIn.{BackIn}
+use Rattle.lard_rules.specs.declared.node.BackIn.TheVariants as back
+use Rattle.lard_rules.specs.declared.node.NodeState.{NodeState}
+use Rattle.lard_rules.specs.declared.places.Out.{Out}
 use Rattle.lard_rules.specs.declared.places.Station.{Station}
 use Rattle.lard_rules.specs.declared.places.Turn.{Turn}
 use Rattle.lard_rules.specs.Client.{client_opens, client_shuts, client_writes}
@@ -47,7 +47,7 @@ use Rattle.lard_app.specs.declared.status.Why.{Why}
 use Rattle.lard_app.specs.declared.status.Why.TheVariants as why
 use Rattle.lard_app.specs.Causes.{MayNotCome}
 use Rattle.lard_app.specs.Generate.{begins, large}
-use Rattle.lard_settle_quiet.proofs.Events.{plain-done}
+use Rattle.lard_law_settles.proofs.Events.{plain-done}
 use Rattle.lard_app.proofs.Failures.{some_there}
 use Rattle.lard_app.proofs.Fit.{IsFit, next-fit}
 use Rattle.lard_app.proofs.Reached.{Told, written-told}

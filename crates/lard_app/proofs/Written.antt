@@ -3,19 +3,19 @@ use Rattle.std.proofs.Common.{◌≡◌, ◌⊎◌, inl, inr, ℕ, false, List, 
 use Rattle.lard_base.specs.declared.config.Config.{Config}
 use Rattle.lard_base.specs.declared.event.Event.{Event}
 use Rattle.lard_base.specs.declared.event.Event.TheVariants as event
-use Rattle.lard_cluster.specs.declared.fault.StepFault.{StepFault}
-use Rattle.lard_cluster.specs.declared.machine.Machine.{Machine}
-use Rattle.lard_cluster.specs.Bounds.{HasRule}
-use Rattle.lard_cluster.specs.Machine.{machine_step}
+use Rattle.lard_rules.specs.declared.fault.StepFault.{StepFault}
+use Rattle.lard_rules.specs.declared.machine.Machine.{Machine}
+use Rattle.lard_rules.specs.Bounds.{HasRule}
+use Rattle.lard_rules.specs.Machine.{machine_step}
 use Rattle.lard_settling.specs.Events.{Goes, MayCome, event_step, stepped_from}
 use Rattle.lard_settling.specs.Settling.{Stop, left}
 use Rattle.lard_settling.specs.Steps.{inner_given, inner_step, settle_begun}
 use Rattle.lard_settling.specs.Written.{AreWrittenOut, IsWrittenOut, is_settle}
 use Rattle.lard_settling.proofs.Written.{written}
 use Rattle.lard_app.specs.Replay.{came}
-use Rattle.lard_settle_quiet.proofs.Events.{either-kind, plain-rule, plain-step}
-use Rattle.lard_settle_quiet.proofs.Firing.{IsInner, deliver-inner, disk-inner, firings-inner, inner-rule, take-inner}
-use Rattle.lard_settle_quiet.proofs.Inside.{KeptInside, SettleLands, settle-lands}
+use Rattle.lard_law_settles.proofs.Events.{either-kind, plain-rule, plain-step}
+use Rattle.lard_law_settles.proofs.Firing.{IsInner, deliver-inner, disk-inner, firings-inner, inner-rule, take-inner}
+use Rattle.lard_law_settles.proofs.Inside.{KeptInside, SettleLands, settle-lands}
 
 -- ---- the faults of inner steps
 

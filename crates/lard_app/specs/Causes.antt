@@ -11,18 +11,18 @@ use Rattle.lard_base.specs.declared.event.Event.TheVariants as event
 use Rattle.lard_base.specs.declared.place.Place.{Place}
 use Rattle.lard_base.specs.declared.place.Place.TheVariants.{Front, Node, Client}
 use Rattle.lard_client.specs.Control.{ClientBlock, written_len}
-use Rattle.lard_cluster.specs.declared.fault.StepFault.{StepFault}
-use Rattle.lard_cluster.specs.declared.machine.Machine.{Machine}
-use Rattle.lard_cluster_stores.specs.Stores.{jobs}
+use Rattle.lard_rules.specs.declared.fault.StepFault.{StepFault}
+use Rattle.lard_rules.specs.declared.machine.Machine.{Machine}
+use Rattle.lard_counts.specs.Stores.{jobs}
 use Rattle.lard_files.specs.Files.{file_at, total}
 use Rattle.lard_files.specs.declared.fault.FileFault.{FileFault}
 use Rattle.lard_files.specs.declared.fault.FileFault.TheVariants as file_fault
 use Rattle.lard_history.specs.Journal.{answered_bytes, is_lost, numbers_of, packet_bytes, request, sent_count}
 use Rattle.lard_history.specs.Own.{own}
 use Rattle.lard_journal.specs.declared.rec.Rec.{Rec}
-use Rattle.lard_laws_steps.specs.Clients.{client_of}
-use Rattle.lard_machine.specs.declared.fault.What.{What}
-use Rattle.lard_machine.specs.declared.fault.What.TheVariants as what
+use Rattle.lard_law_ends.specs.ClientRule.{client_of}
+use Rattle.lard_rules.specs.declared.fault.What.{What}
+use Rattle.lard_rules.specs.declared.fault.What.TheVariants as what
 use Rattle.lard_schedule.specs.declared.item.Item.{Item}
 use Rattle.lard_schedule.specs.declared.item.Item.TheVariants as item
 use Rattle.lard_schedule.specs.declared.reader.Stage.TheVariants.{Running}

@@ -6,10 +6,10 @@ use Rattle.lard_base.specs.Outside.{WrotePrefix}
 use Rattle.lard_base.specs.declared.config.Config.{Config}
 use Rattle.lard_base.specs.declared.config.Key.TheVariants.{Nodes}
 use Rattle.lard_base.specs.declared.event.Event.{Event}
-use Rattle.lard_cluster.specs.Machine.{start}
-use Rattle.lard_cluster.specs.declared.fault.StepFault.{StepFault}
-use Rattle.lard_cluster.specs.declared.fault.StepFault.TheVariants as fault
-use Rattle.lard_cluster.specs.declared.machine.Machine.{Machine}
+use Rattle.lard_rules.specs.Machine.{start}
+use Rattle.lard_rules.specs.declared.fault.StepFault.{StepFault}
+use Rattle.lard_rules.specs.declared.fault.StepFault.TheVariants as fault
+use Rattle.lard_rules.specs.declared.machine.Machine.{Machine}
 use Rattle.lard_generate.specs.Generated.{generated}
 use Rattle.lard_generate.specs.declared.schedule.Schedule.{Schedule}
 use Rattle.lard_journal.specs.declared.rec.Rec.{Rec}

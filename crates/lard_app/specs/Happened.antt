@@ -4,18 +4,18 @@ use Rattle.std.specs.Prelude.{◌≡◌, ℕ, ◌+◌, if◌then◌else◌, List
 use Rattle.std.specs.List.{flat_map}
 use Rattle.lard_base.specs.declared.config.Config.{Config}
 use Rattle.lard_base.specs.declared.event.Event.{Event}
-use Rattle.lard_cluster.specs.Machine.{start}
-use Rattle.lard_cluster.specs.declared.machine.Machine.{Machine}
+use Rattle.lard_rules.specs.Machine.{start}
+use Rattle.lard_rules.specs.declared.machine.Machine.{Machine}
 use Rattle.lard_settle.specs.Lawful.{IsLawful}
-use Rattle.lard_cluster_records.specs.Messages.{MayTalk}
+use Rattle.lard_law_steps.specs.RecordsMessages.{MayTalk}
 use Rattle.lard_files.specs.Files.{file_at}
 use Rattle.lard_history.specs.Laws.{EachMay, Follows}
 use Rattle.lard_journal.specs.declared.rec.Rec.{Rec}
 use Rattle.lard_journal.specs.declared.rec.Rec.TheVariants as rec
 use Rattle.lard_settle.specs.Enough.{MayLeave}
-use Rattle.lard_settle_quiet.specs.Done.{MaySettle}
-use Rattle.lard_settle_quiet.specs.Same.{TellsTheSame}
-use Rattle.lard_settle_quiet.specs.Rounds.{SettlesTakeRounds}
+use Rattle.lard_law_settles.specs.Done.{MaySettle}
+use Rattle.lard_law_settles.specs.DoneSame.{TellsTheSame}
+use Rattle.lard_law_settles.specs.Rounds.{SettlesTakeRounds}
 use Rattle.lard_settling.specs.Events.{LeadsTo}
 use Rattle.lard_settling.specs.Order.{SettlesInOrder}
 use Rattle.lard_settling.specs.Written.{is_settle, written_out}

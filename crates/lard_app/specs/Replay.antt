@@ -10,17 +10,17 @@ use Rattle.lard_base.specs.declared.config.Key.{Key}
 use Rattle.lard_base.specs.Outside.{WrotePrefix}
 use Rattle.lard_base.specs.declared.event.Event.{Event}
 use Rattle.lard_base.specs.declared.limits.TheConstants.{MAX_INPUT_BYTES}
-use Rattle.lard_cluster.specs.Machine as machine
-use Rattle.lard_cluster.specs.declared.fault.StepFault.{StepFault}
-use Rattle.lard_cluster.specs.declared.fault.StepFault.TheVariants as fault
-use Rattle.lard_cluster.specs.declared.machine.Machine.{Machine}
+use Rattle.lard_rules.specs.Machine as machine
+use Rattle.lard_rules.specs.declared.fault.StepFault.{StepFault}
+use Rattle.lard_rules.specs.declared.fault.StepFault.TheVariants as fault
+use Rattle.lard_rules.specs.declared.machine.Machine.{Machine}
 use Rattle.lard_files.specs.Files.{add_check}
 use Rattle.lard_files.specs.declared.fault.FileFault.{FileFault}
 use Rattle.lard_files.specs.declared.fault.FileFault.TheVariants as file_fault
 use Rattle.lard_journal.specs.declared.rec.Rec.{Rec}
 use Rattle.lard_journal.specs.Report.{file_text, heading_line, rec_line, report}
 use Rattle.lard_lines.specs.Lines.{lines_of}
-use Rattle.lard_machine.specs.declared.fault.What.TheVariants.{Input}
+use Rattle.lard_rules.specs.declared.fault.What.TheVariants.{Input}
 use Rattle.lard_schedule.specs.declared.item.Item.{Item}
 use Rattle.lard_schedule.specs.declared.item.Item.TheVariants as item
 use Rattle.lard_schedule.specs.declared.reader.Reader.{Reader}

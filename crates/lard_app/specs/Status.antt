@@ -5,8 +5,8 @@ use Rattle.lard_base.specs.declared.config.ConfigFault.{ConfigFault}
 use Rattle.lard_base.specs.declared.config.ConfigFault.TheVariants.{Range, LowHigh, NoRoom}
 use Rattle.lard_files.specs.declared.fault.FileFault.{FileFault}
 use Rattle.lard_files.specs.declared.fault.FileFault.TheVariants as file_fault
-use Rattle.lard_machine.specs.declared.fault.What.{What}
-use Rattle.lard_machine.specs.declared.fault.What.TheVariants.{Input, Packets, PacketBytes, Records, Answers, Stream}
+use Rattle.lard_rules.specs.declared.fault.What.{What}
+use Rattle.lard_rules.specs.declared.fault.What.TheVariants.{Input, Packets, PacketBytes, Records, Answers, Stream}
 use Rattle.lard_app.specs.declared.status.Why.{Why}
 use Rattle.lard_app.specs.declared.status.Why.TheVariants.{Syntax, Config, File, NotSent, WasLost, NoClient, Used, NoNode, NoJob}
 use Rattle.lard_app.specs.declared.status.Status.{Status}

@@ -2,8 +2,8 @@
 
 ghost use Rattle.std.specs.Prelude.{◌≡◌, false, OnOk};
 ghost use Rattle.lard_agenda.specs.Agenda.{IsAgendaOf};
-ghost use Rattle.lard_cluster.specs.Bounds.{HasRule};
-ghost use Rattle.lard_cluster.specs.Machine.{machine_step};
+ghost use Rattle.lard_rules.specs.Bounds.{HasRule};
+ghost use Rattle.lard_rules.specs.Machine.{machine_step};
 ghost use Rattle.lard_schedule.specs.Events.{IsInRange};
 ghost use Rattle.lard_settling.specs.Events.{event_step, settled_to, stepped_from};
 ghost use Rattle.lard_settling.specs.Settling.{settled};
@@ -15,7 +15,7 @@ use crate::status::{Status, Why, refused};
 use lard_agenda::Agenda;
 use lard_agenda::laws::agendas_go_on;
 use lard_base::Event;
-use lard_cluster::StepFault;
+use lard_rules::StepFault;
 use lard_settle::{World, settle};
 use std::alloc::Global;
 

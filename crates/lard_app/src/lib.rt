@@ -2,7 +2,7 @@
 //! and writes four lines of what is counted. `flush_report` passes on what a sink of standard output still holds back behind it.
 //!
 //! It stands at the top of the path. `run` reads its words and the input, the reader of `lard_schedule` makes an item
-//! of each line, the world of `lard_cluster_world` does the step of an event, or `lard_settle` the steps of a settle, and their
+//! of each line, the world of `lard_world` does the step of an event, or `lard_settle` the steps of a settle, and their
 //! records go to the sink as lines. `lard_generate` makes the generated schedule, and `lard_summary` counts its journal.
 #![tactic(auto)]
 
@@ -19,5 +19,5 @@ mod words;
 pub use commands::run;
 pub use flush::flush_report;
 pub use lard_files::FileFault;
-pub use lard_machine::What;
+pub use lard_rules::What;
 pub use status::{Status, Why};

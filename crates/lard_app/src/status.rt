@@ -7,7 +7,7 @@ ghost use Rattle.lard_app.specs.Status.{code_of, line_prefix, line_text, what_wo
 use itoa::Buffer;
 use lard_base::{ConfigFault, Key, NoMemory};
 use lard_files::FileFault;
-use lard_machine::What;
+use lard_rules::What;
 use lard_schedule::key_word;
 use std::alloc::Global;
 

@@ -16,16 +16,16 @@ use Rattle.lard_handoff_back.specs.declared.row.BackConn.TheVariants as stage
 use Rattle.lard_handoff_back.specs.declared.row.BackRow.{BackRow}
 use Rattle.lard_handoff_back.specs.Back.{Backs, acknowledged, awaits_ack, with_stage}
 use Rattle.lard_handoff_back.specs.Row.{is_ended}
-use Rattle.lard_node_rules.specs.declared.node.NodeState.{NodeState}
-use Rattle.lard_node_rules.specs.declared.node.NodeTurn.{NodeTurn}
-use Rattle.lard_node_rules.specs.declared.stay.Stay.{Stay}
-use Rattle.lard_node_rules.specs.Node.{Deed, Does, Drops, NodePart, gone, node_acknowledged, saying}
-use Rattle.lard_node_rules.specs.NodePlace.{NodeSetting, node_deed, node_env, node_part, node_put}
+use Rattle.lard_rules.specs.declared.node.NodeState.{NodeState}
+use Rattle.lard_rules.specs.declared.node.NodeTurn.{NodeTurn}
+use Rattle.lard_rules.specs.declared.stay.Stay.{Stay}
+use Rattle.lard_rules.specs.Node.{Deed, Does, Drops, NodePart, gone, node_acknowledged, saying}
+use Rattle.lard_rules.specs.NodePlace.{NodeSetting, node_deed, node_env, node_part, node_put}
 use Rattle.lard_resend.specs.Kept.{without}
 use Rattle.lard_resend.specs.Pending.{settled}
 use Rattle.lard_resend.proofs.Lists.{list_got}
 use Rattle.lard_resend.proofs.Renewed.{settled_is}
-use Rattle.lard_rules.specs.declared.front.Out.{Out}
+use Rattle.lard_rules.specs.declared.places.Out.{Out}
 use Rattle.lard_table.proofs.Map.{put_got}
 use Rattle.lard_table.specs.Table.{put_or}
 

@@ -20,17 +20,17 @@ use Rattle.lard_handoff_back.specs.declared.row.BackRow.{BackRow}
 use Rattle.lard_handoff_back.specs.declared.row.BackConn.TheVariants as stage
 use Rattle.lard_handoff_back.specs.Back.{staying}
 use Rattle.lard_handoff_back.specs.Row.{held_in}
-use Rattle.lard_node_rules.specs.declared.node.NodeState.{NodeState}
-use Rattle.lard_node_rules.specs.declared.node.NodeTurn.{NodeTurn}
-use Rattle.lard_node_rules.specs.declared.stay.Stay.{Stay}
-use Rattle.lard_node_rules.specs.Node.{NodePart, both_of, here, kept_after, turn_by}
-use Rattle.lard_node_rules.specs.NodePlace.{NodeSetting, node_part, node_put, told}
-use Rattle.lard_node_rules.specs.declared.stay.Progress.{Progress}
-use Rattle.lard_node_rules.specs.Stay.{NodeEnv, Work, came_for, come_on}
+use Rattle.lard_rules.specs.declared.node.NodeState.{NodeState}
+use Rattle.lard_rules.specs.declared.node.NodeTurn.{NodeTurn}
+use Rattle.lard_rules.specs.declared.stay.Stay.{Stay}
+use Rattle.lard_rules.specs.Node.{NodePart, both_of, here, kept_after, turn_by}
+use Rattle.lard_rules.specs.NodePlace.{NodeSetting, node_part, node_put, told}
+use Rattle.lard_rules.specs.declared.stay.Progress.{Progress}
+use Rattle.lard_rules.specs.Stay.{NodeEnv, Work, came_for, come_on}
 use Rattle.lard_resend.proofs.Lists.{found_other, some_put}
 use Rattle.lard_resend.specs.Pending.{put_list}
 use Rattle.lard_resend.specs.declared.kept.Kept.{Kept}
-use Rattle.lard_rules.specs.declared.front.Out.{Out}
+use Rattle.lard_rules.specs.declared.places.Out.{Out}
 use Rattle.lard_rules.specs.declared.places.Ending.{Ending}
 use Rattle.lard_rules.specs.declared.places.Ending.TheVariants as ending
 use Rattle.lard_rules.specs.declared.places.Turn.{Turn}

@@ -28,13 +28,13 @@ use Rattle.lard_handoff_back.specs.Back.{Backs, after_offer, offer_answer, stay_
 use Rattle.lard_handoff_back.specs.Row.{is_gone}
 use Rattle.lard_journal.specs.declared.rec.Rec.{Rec}
 use Rattle.lard_journal.specs.declared.rec.Rec.TheVariants as rec
-use Rattle.lard_node_rules.specs.declared.node.NodeState.{NodeState}
-use Rattle.lard_node_rules.specs.declared.node.NodeTurn.{NodeTurn}
-use Rattle.lard_node_rules.specs.declared.stay.Stay.{Stay}
-use Rattle.lard_node_rules.specs.Node.{NodePart, begins, kept_after, node_offered, offered_by, taken_sent, turn_by, work_of}
-use Rattle.lard_node_rules.specs.NodePlace.{NodeSetting, node_deed, node_env, node_part, node_put, told}
-use Rattle.lard_node_rules.specs.Stay.{NodeEnv, Work, goes_on, reads_batch}
-use Rattle.lard_rules.specs.declared.front.Out.{Out}
+use Rattle.lard_rules.specs.declared.node.NodeState.{NodeState}
+use Rattle.lard_rules.specs.declared.node.NodeTurn.{NodeTurn}
+use Rattle.lard_rules.specs.declared.stay.Stay.{Stay}
+use Rattle.lard_rules.specs.Node.{NodePart, begins, kept_after, node_offered, offered_by, taken_sent, turn_by, work_of}
+use Rattle.lard_rules.specs.NodePlace.{NodeSetting, node_deed, node_env, node_part, node_put, told}
+use Rattle.lard_rules.specs.Stay.{NodeEnv, Work, goes_on, reads_batch}
+use Rattle.lard_rules.specs.declared.places.Out.{Out}
 use Rattle.lard_rules.specs.declared.places.Ending.{Ending}
 use Rattle.lard_rules.specs.declared.places.Ending.TheVariants as ending
 use Rattle.lard_rules.specs.declared.places.Turn.{Turn}

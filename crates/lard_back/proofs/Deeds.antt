@@ -20,18 +20,18 @@ use Rattle.lard_endpoint.specs.Control.{ControlBlock}
 use Rattle.lard_journal.specs.declared.rec.Rec.{Rec}
 use Rattle.lard_lateral.specs.Lateral.{after_content}
 use Rattle.lard_lateral.specs.Lateral as lateral
-use Rattle.lard_node_rules.specs.declared.node.NodeState.{NodeState}
-use Rattle.lard_node_rules.specs.declared.stay.Stay.{Stay}
-use Rattle.lard_node_rules.specs.declared.node.NodeTurn.{NodeTurn}
-use Rattle.lard_node_rules.specs.Node.{Does, Drops, NodePart, come_by, heard_by, here, is_awaited, kept_after, node_armed, node_content, node_forwarded, node_read, node_tagged, read_by, rests, saying, tagged_by, turn_by, work_of}
-use Rattle.lard_node_rules.specs.NodePlace.{NodeSetting, aside, node_deed, node_did, node_env, node_out, node_part, node_put, timers_of, told}
-use Rattle.lard_node_rules.specs.Stay.{NodeEnv, Work, came_for, come_progress, goes_on, read_progress, tagged}
+use Rattle.lard_rules.specs.declared.node.NodeState.{NodeState}
+use Rattle.lard_rules.specs.declared.stay.Stay.{Stay}
+use Rattle.lard_rules.specs.declared.node.NodeTurn.{NodeTurn}
+use Rattle.lard_rules.specs.Node.{Does, Drops, NodePart, come_by, heard_by, here, is_awaited, kept_after, node_armed, node_content, node_forwarded, node_read, node_tagged, read_by, rests, saying, tagged_by, turn_by, work_of}
+use Rattle.lard_rules.specs.NodePlace.{NodeSetting, aside, node_deed, node_did, node_env, node_out, node_part, node_put, timers_of, told}
+use Rattle.lard_rules.specs.Stay.{NodeEnv, Work, came_for, come_progress, goes_on, read_progress, tagged}
 use Rattle.lard_resend.specs.declared.kept.Kept.{Kept}
 use Rattle.lard_resend.specs.Kept.{without}
 use Rattle.lard_resend.specs.Pending.{held, put_list, settled}
 use Rattle.lard_resend.proofs.Lists.{list_got, list_twice}
 use Rattle.lard_resend.proofs.Renewed.{held_settled, settled_is}
-use Rattle.lard_rules.specs.declared.front.Out.{Out}
+use Rattle.lard_rules.specs.declared.places.Out.{Out}
 use Rattle.lard_rules.specs.declared.places.Ending.{Ending}
 use Rattle.lard_rules.specs.declared.places.Turn.{Turn}
 use Rattle.lard_table.specs.Table.{put_or}

@@ -21,12 +21,12 @@ use Rattle.lard_endpoint.specs.Leaving.{after_timer, timed}
 use Rattle.lard_handoff_back.specs.declared.row.BackRow.{BackRow}
 use Rattle.lard_handoff_back.specs.Back.{endpoint_of, staying}
 use Rattle.lard_handoff_back.specs.Row.{held_in}
-use Rattle.lard_node_rules.specs.declared.node.NodeState.{NodeState}
-use Rattle.lard_node_rules.specs.declared.stay.Stay.{Stay}
-use Rattle.lard_node_rules.specs.Node.{again_sent, both_of, fired_by, here, node_timer, work_of}
-use Rattle.lard_node_rules.specs.NodePlace.{NodeSetting, epoch_at, node_deed, node_env, node_part}
-use Rattle.lard_node_rules.specs.Stay.{Work}
-use Rattle.lard_rules.specs.declared.front.Out.{Out}
+use Rattle.lard_rules.specs.declared.node.NodeState.{NodeState}
+use Rattle.lard_rules.specs.declared.stay.Stay.{Stay}
+use Rattle.lard_rules.specs.Node.{again_sent, both_of, fired_by, here, node_timer, work_of}
+use Rattle.lard_rules.specs.NodePlace.{NodeSetting, epoch_at, node_deed, node_env, node_part}
+use Rattle.lard_rules.specs.Stay.{Work}
+use Rattle.lard_rules.specs.declared.places.Out.{Out}
 use Rattle.lard_rules.specs.declared.places.Ending.{Ending}
 use Rattle.lard_rules.specs.declared.places.Turn.{Turn}
 use Rattle.lard_rules.specs.Serving.{ServeEnv, ready_of, spoken}

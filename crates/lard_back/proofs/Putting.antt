@@ -13,13 +13,13 @@ use Rattle.lard_handoff_back.specs.declared.row.BackConn.TheVariants as stage
 use Rattle.lard_handoff_back.specs.declared.row.BackRow.{BackRow}
 use Rattle.lard_handoff_back.specs.Back.{Backs, staying, with_stage}
 use Rattle.lard_handoff_back.specs.Row.{held_in}
-use Rattle.lard_node_rules.specs.declared.node.NodeState.{NodeState}
-use Rattle.lard_node_rules.specs.declared.node.NodeTurn.{NodeTurn}
-use Rattle.lard_node_rules.specs.declared.stay.Asked.{Asked}
-use Rattle.lard_node_rules.specs.declared.stay.Want.{Want}
-use Rattle.lard_node_rules.specs.Node.{NodePart, ask_kept, asked_kept, asked_sent, ended_sent, kept_after, stay_after, turn_by, wants_kept, wants_sent}
-use Rattle.lard_node_rules.specs.NodePlace.{NodeSetting, node_part, node_put, told}
-use Rattle.lard_node_rules.specs.Stay.{NodeEnv, Work}
+use Rattle.lard_rules.specs.declared.node.NodeState.{NodeState}
+use Rattle.lard_rules.specs.declared.node.NodeTurn.{NodeTurn}
+use Rattle.lard_rules.specs.declared.stay.Asked.{Asked}
+use Rattle.lard_rules.specs.declared.stay.Want.{Want}
+use Rattle.lard_rules.specs.Node.{NodePart, ask_kept, asked_kept, asked_sent, ended_sent, kept_after, stay_after, turn_by, wants_kept, wants_sent}
+use Rattle.lard_rules.specs.NodePlace.{NodeSetting, node_part, node_put, told}
+use Rattle.lard_rules.specs.Stay.{NodeEnv, Work}
 use Rattle.lard_resend.specs.declared.kept.Kept.{Kept}
 use Rattle.lard_resend.specs.Kept.{anew}
 use Rattle.lard_resend.specs.Pending.{held, put_list, renewed}

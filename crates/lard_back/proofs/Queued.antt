@@ -27,23 +27,23 @@ use Rattle.lard_message.specs.declared.message.Body.{Body}
 use Rattle.lard_message.specs.declared.message.Body.TheVariants as body
 use Rattle.lard_message.specs.declared.message.Message.{Message}
 use Rattle.lard_message.specs.Reading.{decoded_message}
-use Rattle.lard_node_rules.specs.declared.node.BackIn.{BackIn}
-use Rattle.lard_node_rules.specs.declared.node.BackIn.TheVariants as input
-use Rattle.lard_node_rules.specs.declared.node.NodeState.{NodeState}
-use Rattle.lard_node_rules.specs.declared.node.NodeTurn.{NodeTurn}
-use Rattle.lard_node_rules.specs.declared.stay.Entry.{Entry}
-use Rattle.lard_node_rules.specs.declared.stay.Next.{Next}
-use Rattle.lard_node_rules.specs.declared.stay.Next.TheVariants.{Serve, Read, Stop}
-use Rattle.lard_node_rules.specs.declared.stay.Progress.{Progress}
-use Rattle.lard_node_rules.specs.declared.stay.Progress.TheVariants.{Named, Reading, Awaited, Ready}
-use Rattle.lard_node_rules.specs.declared.stay.Stay.{Stay}
-use Rattle.lard_node_rules.specs.Node.{Deed, Does, Drops, NodePart, Says, begins, both_of, come_by, fired_by, gone, heard_by, here, is_awaited, node_acknowledged, node_content, node_forwarded, node_offered, node_read, node_tagged, node_timer, offered_by, read_by, rests, saying, tagged_by, taken_sent, work_of}
-use Rattle.lard_node_rules.specs.NodePlace.{NodeSetting, aside, brought, completed, content_sent, disk_step, epoch_at, fetched, fetched_file, node_deed, node_env, node_gets, node_hears, node_part, node_step}
-use Rattle.lard_node_rules.specs.Stay.{NodeEnv, Work, asks_for, came_for, come_on, come_progress, entered, enters, enters_first, enters_one, goes_on, left, named_path, named_paths, next_of, noted, read_progress, reads_batch, reads_these, serves_by, serves_first, started, started_here, started_there, starts_at, starts_named, starts_one, tagged, turn, turned}
+use Rattle.lard_rules.specs.declared.node.BackIn.{BackIn}
+use Rattle.lard_rules.specs.declared.node.BackIn.TheVariants as input
+use Rattle.lard_rules.specs.declared.node.NodeState.{NodeState}
+use Rattle.lard_rules.specs.declared.node.NodeTurn.{NodeTurn}
+use Rattle.lard_rules.specs.declared.stay.Entry.{Entry}
+use Rattle.lard_rules.specs.declared.stay.Next.{Next}
+use Rattle.lard_rules.specs.declared.stay.Next.TheVariants.{Serve, Read, Stop}
+use Rattle.lard_rules.specs.declared.stay.Progress.{Progress}
+use Rattle.lard_rules.specs.declared.stay.Progress.TheVariants.{Named, Reading, Awaited, Ready}
+use Rattle.lard_rules.specs.declared.stay.Stay.{Stay}
+use Rattle.lard_rules.specs.Node.{Deed, Does, Drops, NodePart, Says, begins, both_of, come_by, fired_by, gone, heard_by, here, is_awaited, node_acknowledged, node_content, node_forwarded, node_offered, node_read, node_tagged, node_timer, offered_by, read_by, rests, saying, tagged_by, taken_sent, work_of}
+use Rattle.lard_rules.specs.NodePlace.{NodeSetting, aside, brought, completed, content_sent, disk_step, epoch_at, fetched, fetched_file, node_deed, node_env, node_gets, node_hears, node_part, node_step}
+use Rattle.lard_rules.specs.Stay.{NodeEnv, Work, asks_for, came_for, come_on, come_progress, entered, enters, enters_first, enters_one, goes_on, left, named_path, named_paths, next_of, noted, read_progress, reads_batch, reads_these, serves_by, serves_first, started, started_here, started_there, starts_at, starts_named, starts_one, tagged, turn, turned}
 use Rattle.lard_reader.specs.Batches.{batch_of, bytes_used}
 use Rattle.lard_request.specs.declared.verdict.Verdict.{Verdict}
 use Rattle.lard_resend.specs.Kept.{is_under, without}
-use Rattle.lard_rules.specs.declared.front.Out.{Out}
+use Rattle.lard_rules.specs.declared.places.Out.{Out}
 use Rattle.lard_rules.specs.declared.places.Ending.{Ending}
 use Rattle.lard_rules.specs.declared.places.Turn.{Turn}
 use Rattle.lard_rules.specs.Loop.{Step, state_of}

@@ -14,9 +14,9 @@ use Rattle.lard_base.specs.declared.place.Reason.TheVariants.{Closed, Peer, Limi
 use Rattle.lard_endpoint.specs.Control.{ControlBlock}
 use Rattle.lard_endpoint.specs.Moving.{end_reason, final_of, may_end}
 use Rattle.lard_message.specs.Message.{IsCount}
-use Rattle.lard_node_rules.specs.declared.stay.Asked.{Asked}
-use Rattle.lard_node_rules.specs.declared.stay.Want.{Want}
-use Rattle.lard_node_rules.specs.Stay.{Work}
+use Rattle.lard_rules.specs.declared.stay.Asked.{Asked}
+use Rattle.lard_rules.specs.declared.stay.Want.{Want}
+use Rattle.lard_rules.specs.Stay.{Work}
 use Rattle.lard_recv.specs.Recv.{Received}
 use Rattle.lard_rules.specs.declared.places.Ending.{Ending}
 use Rattle.lard_rules.specs.declared.places.Ending.TheVariants.{Here, Over}

@@ -2,10 +2,10 @@
 use Rattle.std.specs.Prelude.{ℕ, Bool, false, List, Option, Some, None}
 use Rattle.lard_back.specs.declared.hand.At.{At}
 use Rattle.lard_endpoint.specs.Control.{ControlBlock}
-use Rattle.lard_node_rules.specs.declared.node.NodeState.{NodeState}
-use Rattle.lard_node_rules.specs.declared.stay.Stay.{Stay}
-use Rattle.lard_node_rules.specs.Node.{is_awaited}
-use Rattle.lard_node_rules.specs.NodePlace.{NodeSetting, node_env, node_part}
+use Rattle.lard_rules.specs.declared.node.NodeState.{NodeState}
+use Rattle.lard_rules.specs.declared.stay.Stay.{Stay}
+use Rattle.lard_rules.specs.Node.{is_awaited}
+use Rattle.lard_rules.specs.NodePlace.{NodeSetting, node_env, node_part}
 
 -- whether a Tag counts
 abbrev pub awaits : NodeSetting → NodeState → At → ℕ → List ℕ → Option (ControlBlock × Stay) → Bool

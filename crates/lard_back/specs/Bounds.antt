@@ -7,10 +7,10 @@ use Rattle.lard_back.specs.declared.hand.Rested.{Rested}
 use Rattle.lard_back.specs.declared.hand.Rested.TheVariants.{Here, Over}
 use Rattle.lard_message.specs.declared.message.Body.TheVariants as body
 use Rattle.lard_message.specs.Message.{IsCount, IsOfTable, IsPath}
-use Rattle.lard_node_rules.specs.declared.stay.Asked.{Asked}
-use Rattle.lard_node_rules.specs.declared.stay.Want.{Want}
-use Rattle.lard_node_rules.specs.Node.{count_of}
-use Rattle.lard_rules.specs.declared.front.Out.{Out}
+use Rattle.lard_rules.specs.declared.stay.Asked.{Asked}
+use Rattle.lard_rules.specs.declared.stay.Want.{Want}
+use Rattle.lard_rules.specs.Node.{count_of}
+use Rattle.lard_rules.specs.declared.places.Out.{Out}
 use Rattle.lard_rules.specs.Speaking.{AreShort}
 
 -- messages that fit packets

@@ -16,12 +16,12 @@ use Rattle.lard_handoff_back.specs.Back.{with_stage}
 use Rattle.lard_journal.specs.declared.rec.Rec.{Rec}
 use Rattle.lard_journal.specs.declared.rec.Rec.TheVariants as rec
 use Rattle.lard_lateral.specs.Lateral.{fetch_kept}
-use Rattle.lard_node_rules.specs.declared.node.NodeState.{NodeState}
-use Rattle.lard_node_rules.specs.declared.node.NodeTurn.{NodeTurn}
-use Rattle.lard_node_rules.specs.declared.stay.Asked.{Asked}
-use Rattle.lard_node_rules.specs.declared.stay.Want.{Want}
-use Rattle.lard_node_rules.specs.Node.{ask_kept, count_of, ended_kept}
-use Rattle.lard_node_rules.specs.Stay.{Work}
+use Rattle.lard_rules.specs.declared.node.NodeState.{NodeState}
+use Rattle.lard_rules.specs.declared.node.NodeTurn.{NodeTurn}
+use Rattle.lard_rules.specs.declared.stay.Asked.{Asked}
+use Rattle.lard_rules.specs.declared.stay.Want.{Want}
+use Rattle.lard_rules.specs.Node.{ask_kept, count_of, ended_kept}
+use Rattle.lard_rules.specs.Stay.{Work}
 use Rattle.lard_resend.specs.declared.kept.Kept.{Kept}
 use Rattle.lard_resend.specs.Pending.{renewed, sent_of}
 use Rattle.lard_rules.specs.declared.places.Ending.{Ending}

@@ -15,13 +15,13 @@ use Rattle.lard_base.specs.declared.place.Place.TheVariants.{Node}
 use Rattle.lard_cache.specs.Recency.{Recency, has}
 use Rattle.lard_endpoint.specs.Control.{ControlBlock}
 use Rattle.lard_files.specs.Files.{file_at}
-use Rattle.lard_node_rules.specs.declared.node.NodeState.{NodeState}
-use Rattle.lard_node_rules.specs.declared.node.NodeTurn.{NodeTurn}
-use Rattle.lard_node_rules.specs.declared.stay.Stay.{Stay}
-use Rattle.lard_node_rules.specs.Node.{NodePart, here, kept_after, turn_by}
-use Rattle.lard_node_rules.specs.NodePlace.{NodeSetting, node_part, node_put, told}
-use Rattle.lard_node_rules.specs.Stay.{NodeEnv, Work}
-use Rattle.lard_rules.specs.declared.front.Out.{Out}
+use Rattle.lard_rules.specs.declared.node.NodeState.{NodeState}
+use Rattle.lard_rules.specs.declared.node.NodeTurn.{NodeTurn}
+use Rattle.lard_rules.specs.declared.stay.Stay.{Stay}
+use Rattle.lard_rules.specs.Node.{NodePart, here, kept_after, turn_by}
+use Rattle.lard_rules.specs.NodePlace.{NodeSetting, node_part, node_put, told}
+use Rattle.lard_rules.specs.Stay.{NodeEnv, Work}
+use Rattle.lard_rules.specs.declared.places.Out.{Out}
 use Rattle.lard_rules.specs.declared.places.Ending.{Ending}
 use Rattle.lard_rules.specs.declared.places.Turn.{Turn}
 use Rattle.lard_rules.specs.Outs.{nothing_done}

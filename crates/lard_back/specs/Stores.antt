@@ -4,10 +4,10 @@ use Rattle.lard_back.specs.declared.hand.At.{At}
 use Rattle.lard_disk.specs.declared.disk.Job.{Job}
 use Rattle.lard_journal.specs.declared.rec.Rec.{Rec}
 use Rattle.lard_journal.specs.declared.rec.Rec.TheVariants as rec
-use Rattle.lard_node_rules.specs.declared.node.NodeState.{NodeState}
-use Rattle.lard_node_rules.specs.declared.node.NodeTurn.{NodeTurn}
-use Rattle.lard_node_rules.specs.Node.{saying}
-use Rattle.lard_node_rules.specs.NodePlace.{hits}
+use Rattle.lard_rules.specs.declared.node.NodeState.{NodeState}
+use Rattle.lard_rules.specs.declared.node.NodeTurn.{NodeTurn}
+use Rattle.lard_rules.specs.Node.{saying}
+use Rattle.lard_rules.specs.NodePlace.{hits}
 
 -- the cache is told these notes, and the disk is given these jobs
 abbrev pub told_of : NodeState → List Rec → List Job → NodeState

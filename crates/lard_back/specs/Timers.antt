@@ -4,7 +4,7 @@ use Rattle.lard_back.specs.declared.timers.Flags.{Flags}
 use Rattle.lard_base.specs.declared.place.Place.TheVariants.{Node}
 use Rattle.lard_base.specs.declared.place.TimerKind.TheVariants.{Tcp, Ask, Fetch, Ended}
 use Rattle.lard_journal.specs.declared.rec.Rec.{Rec}
-use Rattle.lard_node_rules.specs.Node.{NodePart, node_armed}
+use Rattle.lard_rules.specs.Node.{NodePart, node_armed}
 use Rattle.lard_rules.specs.Outs.{kind_change}
 
 abbrev pub flags_of : NodePart → Flags

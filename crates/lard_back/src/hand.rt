@@ -5,8 +5,8 @@ ghost use Rattle.std.specs.FinMap as table;
 ghost use Rattle.lard_back.specs.Bounds.{AreMessages, AreWants, IsAsk, MayTell};
 ghost use Rattle.lard_back.specs.Hand.{end_sent, gave_at, left, lent_if, rested_in, stage_of, turn_at};
 ghost use Rattle.lard_handoff_back.specs.Back.{may_put, with_stage};
-ghost use Rattle.lard_node_rules.specs.Node.{here};
-ghost use Rattle.lard_node_rules.specs.NodePlace.{node_part};
+ghost use Rattle.lard_rules.specs.Node.{here};
+ghost use Rattle.lard_rules.specs.NodePlace.{node_part};
 
 use crate::sends::{ask, end, want_all};
 use lard_base::{ConnId, Epoch, Items, NoMemory, NodeId, Place, Sends};
@@ -14,8 +14,7 @@ use lard_disk::Job;
 use lard_endpoint::{Endpoint, Final};
 use lard_handoff_back::BackTable;
 use lard_journal::{Rec, Recs};
-use lard_node_rules::{Asked, Entry, NodeState, NodeTurn, Stay, Want};
-use lard_rules::{Ending, Turn};
+use lard_rules::{Asked, Ending, Entry, NodeState, NodeTurn, Stay, Turn, Want};
 use lard_table::Table;
 use std::alloc::Global;
 

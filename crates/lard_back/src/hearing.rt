@@ -9,7 +9,7 @@ ghost use Rattle.lard_message.specs.declared.fault.MsgFault as the_fault;
 ghost use Rattle.lard_message.specs.declared.message.Message as the_message;
 ghost use Rattle.lard_message.specs.Message.{IsOfTable};
 ghost use Rattle.lard_message.specs.Reading.{Gives, decoded_message};
-ghost use Rattle.lard_node_rules.specs.NodePlace.{node_gets, node_hears};
+ghost use Rattle.lard_rules.specs.NodePlace.{node_gets, node_hears};
 ghost use Rattle.lard_rules.specs.Outs.{nothing_done};
 
 use crate::acting::Setting;
@@ -19,8 +19,7 @@ use crate::rules::{acknowledged, content, forward, tagged};
 use crate::stores::fetch;
 use lard_base::{NoMemory, NodeId, Place};
 use lard_message::{Body, Message, MsgFault, decode};
-use lard_node_rules::NodeState;
-use lard_rules::Out;
+use lard_rules::{NodeState, Out};
 use lard_serving::nothing;
 use std::alloc::Global;
 

@@ -2,7 +2,7 @@
 //! and answers what other nodes ask for.
 //!
 //! It stands above the tables of a node, its cache and its disk, and what is done with the requests of one stay, and follows the
-//! rules of `lard_node_rules`. `step` is all that a node does with what comes to it. `lard_stepping` calls it.
+//! rules of `lard_rules`. `step` is all that a node does with what comes to it. `lard_stepping` calls it.
 #![tactic(auto)]
 
 mod acting;

@@ -5,7 +5,7 @@ ghost use Rattle.lard_back.specs.Bounds.{IsNodeOut};
 ghost use Rattle.lard_back.specs.Place.{setting_seen};
 ghost use Rattle.lard_back.specs.Sound.{IsNodeSound};
 ghost use Rattle.lard_base.specs.declared.limits.TheConstants.{MAX_STREAM_BYTES};
-ghost use Rattle.lard_node_rules.specs.NodePlace.{no_stays, node_step};
+ghost use Rattle.lard_rules.specs.NodePlace.{no_stays, node_step};
 
 use crate::acting::Setting;
 use crate::firing::fire;
@@ -16,9 +16,8 @@ use lard_cache::Cache;
 use lard_disk::Disk;
 use lard_handoff_back::BackTable;
 use lard_lateral::Lateral;
-use lard_node_rules::{BackIn, NodeState};
 use lard_resend::Pending;
-use lard_rules::Out;
+use lard_rules::{BackIn, NodeState, Out};
 use lard_table::Table;
 use std::alloc::Global;
 

@@ -7,7 +7,7 @@ ghost use Rattle.lard_back.specs.Sound.{IsNodeSound};
 ghost use Rattle.lard_base.specs.declared.limits.TheConstants.{MAX_STREAM_BYTES};
 ghost use Rattle.lard_disk.specs.Jobs.{job_at};
 ghost use Rattle.lard_files.specs.Files.{file_at};
-ghost use Rattle.lard_node_rules.specs.NodePlace.{brought, bytes_of, disk_step};
+ghost use Rattle.lard_rules.specs.NodePlace.{brought, bytes_of, disk_step};
 
 use crate::acting::Setting;
 use crate::hand::At;
@@ -17,8 +17,7 @@ use crate::stores::content;
 use lard_base::{NoMemory, NodeId, Path, Sends};
 use lard_disk::Job;
 use lard_journal::{Rec, Recs};
-use lard_node_rules::NodeState;
-use lard_rules::Out;
+use lard_rules::{NodeState, Out};
 use lard_serving::nothing;
 use std::alloc::Global;
 

@@ -6,8 +6,8 @@ ghost use Rattle.lard_back.specs.Bounds.{AreMessages, AreWants, IsAsk, IsNodeOut
 ghost use Rattle.lard_back.specs.Hand.{ask_sent, asked_in, ended_at, fetch_at, fetches_sent, wanted};
 ghost use Rattle.lard_base.specs.declared.limits.TheConstants.{MAX_MESSAGE_BYTES};
 ghost use Rattle.lard_message.specs.Message.{IsCount, IsOfTable, IsPath};
-ghost use Rattle.lard_node_rules.specs.Node.{again_sent, count_of, message};
-ghost use Rattle.lard_node_rules.specs.NodePlace.{node_part};
+ghost use Rattle.lard_rules.specs.Node.{again_sent, count_of, message};
+ghost use Rattle.lard_rules.specs.NodePlace.{node_part};
 ghost use Rattle.lard_resend.specs.Pending.{AreFit, renewed, sent_of};
 ghost use Rattle.lard_rules.specs.Outs.{nothing_done};
 
@@ -16,9 +16,8 @@ use lard_base::{Bytes, ConnId, NoMemory, Place, Sends, TimerKind};
 use lard_endpoint::Final;
 use lard_lateral::Lateral;
 use lard_message::{Body, Message, encode};
-use lard_node_rules::{Asked, NodeState, Want};
 use lard_resend::{Kept, Pending, PendingKey};
-use lard_rules::Out;
+use lard_rules::{Asked, NodeState, Out, Want};
 use lard_serving::nothing;
 use std::alloc::Global;
 

@@ -9,8 +9,8 @@ ghost use Rattle.lard_base.specs.declared.limits.TheConstants.{MAX_FILE_BYTES, M
 ghost use Rattle.lard_cache.specs.Recency.{has};
 ghost use Rattle.lard_disk.specs.Jobs.{is_for};
 ghost use Rattle.lard_files.specs.Files.{IsContent, file_at};
-ghost use Rattle.lard_node_rules.specs.Node.{message, saying};
-ghost use Rattle.lard_node_rules.specs.NodePlace.{aside, bytes_of, content_sent, fetched, fetched_file, hits};
+ghost use Rattle.lard_rules.specs.Node.{message, saying};
+ghost use Rattle.lard_rules.specs.NodePlace.{aside, bytes_of, content_sent, fetched, fetched_file, hits};
 
 use crate::acting::Setting;
 use crate::hand::At;
@@ -20,8 +20,7 @@ use lard_cache::Cache;
 use lard_disk::{Disk, Job};
 use lard_journal::{Rec, Recs};
 use lard_message::Body;
-use lard_node_rules::NodeState;
-use lard_rules::Out;
+use lard_rules::{NodeState, Out};
 use std::alloc::Global;
 
 // ---- a turn is told

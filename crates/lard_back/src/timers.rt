@@ -4,15 +4,15 @@ ghost use Rattle.std.specs.Prelude.{◌≡◌, ◌++◌, IfOk, OnOk};
 ghost use Rattle.std.specs.FinMap as table;
 ghost use Rattle.lard_back.specs.Timers.{flag_changes, flags_of};
 ghost use Rattle.lard_handoff_back.specs.Back.{endpoint_of};
-ghost use Rattle.lard_node_rules.specs.Node.{holds_kind, is_unsaid};
-ghost use Rattle.lard_node_rules.specs.NodePlace.{node_part};
+ghost use Rattle.lard_rules.specs.Node.{holds_kind, is_unsaid};
+ghost use Rattle.lard_rules.specs.NodePlace.{node_part};
 ghost use Rattle.lard_rules.specs.Outs.{kind_change};
 
 use lard_base::{ConnId, NoMemory, NodeId, Place, TimerKind};
 use lard_handoff_back::{BackConn, BackTable};
 use lard_journal::{Rec, Recs};
-use lard_node_rules::NodeState;
 use lard_resend::{Kept, rank};
+use lard_rules::NodeState;
 use std::alloc::Global;
 
 /// Which timers of a connection run: that of its endpoint, and those of messages that await their answers.

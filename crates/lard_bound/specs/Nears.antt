@@ -21,7 +21,7 @@ use Rattle.lard_message.specs.declared.message.Body.TheVariants as body
 use Rattle.lard_message.specs.declared.message.Message.{Message}
 use Rattle.lard_message.specs.Reading.{decoded_message}
 use Rattle.lard_resend.specs.Kept.{is_under}
-use Rattle.lard_rules.specs.Front.{is_plain_syn}
+use Rattle.lard_rules.specs.Tombstone.{is_plain_syn}
 use Rattle.lard_segment.specs.declared.fault.SegFault.{SegFault}
 use Rattle.lard_segment.specs.declared.segment.Dir.TheVariants.{ToClient, ToCluster}
 use Rattle.lard_segment.specs.Segment.{Said, decoded}

@@ -10,7 +10,7 @@ use Rattle.lard_bound.specs.Units.{Whole, units}
 use Rattle.lard_client.specs.Control.{ClientBlock}
 use Rattle.lard_client.specs.declared.phase.Phase.{Phase}
 use Rattle.lard_client.specs.declared.phase.Phase.TheVariants.{Open, Aborted, Reset}
-use Rattle.lard_cluster_view.specs.View.{Conn, Move, Setting, grown, letters_of}
+use Rattle.lard_law_view.specs.View.{Conn, Move, Setting, grown, letters_of}
 use Rattle.lard_history.specs.Own.{Came, Letter, Row, Seen}
 use Rattle.lard_message.specs.declared.fault.MsgFault.{MsgFault}
 use Rattle.lard_message.specs.declared.message.Body.{Body}
@@ -111,7 +111,3 @@ pub record Lasts (k : Setting) (w : Whole) (x : Conn) (v : Move) : Type 0 where
 pub record Answers (k : Setting) (w : Whole) (x : Conn) (v : Move) (l : Letter) : Type 0 where
   pub shorter : units w k.nodes x ≤ units w k.nodes (grown x v) → Every (λ a. chain_at k.files (grown x v) a < chain_at k.files x l) (letters_of v)
   pub leads : units w k.nodes x ≤ units w k.nodes (grown x v) → (d : ℕ) → NearAt k.files x (suc d) l → Any (λ a. NearAt k.files (grown x v) d a) (letters_of v) ⊎ IsFetch l
-
-pub record Progress (k : Setting) (w : Whole) (x : Conn) (v : Move) : Type 0 where
-  pub lasts : Lasts k w x v
-  pub answers : IfCame (Answers k w x v) (came_in v.heads)

@@ -6,10 +6,10 @@ use Rattle.lard_bound.specs.Units.{taken}
 use Rattle.lard_client.specs.declared.phase.Phase.{Phase}
 use Rattle.lard_client.specs.declared.phase.Phase.TheVariants as phase
 use Rattle.lard_client.specs.Control.{ClientBlock}
-use Rattle.lard_cluster_view.specs.View.{Part}
+use Rattle.lard_law_view.specs.View.{Part}
 use Rattle.lard_endpoint.specs.Control.{ControlBlock, rcv_nxt}
 use Rattle.lard_endpoint.specs.declared.control.moving.Final.{Final}
-use Rattle.lard_node_rules.specs.Stay.{named_paths}
+use Rattle.lard_rules.specs.Stay.{named_paths}
 use Rattle.lard_resend.specs.declared.kept.Kept.{Kept}
 use Rattle.lard_rules.specs.declared.places.Station.{Station}
 use Rattle.lard_send.specs.Send.{symbols}

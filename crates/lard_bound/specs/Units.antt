@@ -5,13 +5,13 @@ use Rattle.lard_base.specs.declared.ids.TheConstants.ConnId.{MAX}
 use Rattle.lard_client.specs.declared.phase.Phase.{Phase}
 use Rattle.lard_client.specs.declared.phase.Phase.TheVariants.{Open, Aborted, Reset}
 use Rattle.lard_client.specs.Control.{ClientBlock}
-use Rattle.lard_cluster.specs.declared.machine.Machine.{Machine}
-use Rattle.lard_cluster_view.specs.View.{Conn, Part, conn}
+use Rattle.lard_rules.specs.declared.machine.Machine.{Machine}
+use Rattle.lard_law_view.specs.View.{Conn, Part, conn}
 use Rattle.lard_endpoint.specs.Control.{ControlBlock}
-use Rattle.lard_node_rules.specs.declared.stay.Entry.{Entry}
-use Rattle.lard_node_rules.specs.declared.stay.Progress.{Progress}
-use Rattle.lard_node_rules.specs.declared.stay.Progress.TheVariants.{Named, Reading, Awaited, Ready}
-use Rattle.lard_node_rules.specs.Node.{NodePart}
+use Rattle.lard_rules.specs.declared.stay.Entry.{Entry}
+use Rattle.lard_rules.specs.declared.stay.Progress.{Progress}
+use Rattle.lard_rules.specs.declared.stay.Progress.TheVariants.{Named, Reading, Awaited, Ready}
+use Rattle.lard_rules.specs.Node.{NodePart}
 use Rattle.lard_rules.specs.declared.places.Station.{Station}
 use Rattle.lard_bound.specs.Seats.{Gone, Held, Here, Offered, Over, Seat, Staying, Unborn, Waiting, seat_of, tells_end}
 

@@ -10,11 +10,11 @@ use Rattle.lard_base.specs.declared.event.Event.{Event}
 use Rattle.lard_base.specs.declared.event.Event.TheVariants as event
 use Rattle.lard_block.specs.Blocks.{blocks}
 use Rattle.lard_bound.specs.Bound.{IsOrdinary, bytes_of, opener_step, openers, requests_of, settling_bound, total_of}
-use Rattle.lard_cluster.specs.declared.fault.StepFault.{StepFault}
-use Rattle.lard_cluster.specs.declared.machine.Machine.{Machine}
-use Rattle.lard_cluster.specs.Bounds.{HasRule}
-use Rattle.lard_cluster.specs.Machine.{Passes, machine_step, start}
-use Rattle.lard_cluster_steps.proofs.Following.{follows}
+use Rattle.lard_rules.specs.declared.fault.StepFault.{StepFault}
+use Rattle.lard_rules.specs.declared.machine.Machine.{Machine}
+use Rattle.lard_rules.specs.Bounds.{HasRule}
+use Rattle.lard_rules.specs.Machine.{Passes, machine_step, start}
+use Rattle.lard_law_steps.proofs.StepsFollowing.{follows}
 use Rattle.lard_files.specs.Files.{file_at}
 use Rattle.lard_generate.specs.declared.action.Action.{Action}
 use Rattle.lard_generate.specs.declared.action.Action.TheVariants.{Ask}

@@ -4,8 +4,8 @@ use Rattle.lard_base.specs.declared.config.Config.{Config}
 use Rattle.lard_base.specs.declared.event.Event.{Event}
 use Rattle.lard_base.specs.declared.event.Event.TheVariants.{Settle}
 use Rattle.lard_bound.specs.Bound.{IsOrdinary, settling_bound}
-use Rattle.lard_cluster.specs.declared.machine.Machine.{Machine}
-use Rattle.lard_cluster.specs.Machine.{start}
+use Rattle.lard_rules.specs.declared.machine.Machine.{Machine}
+use Rattle.lard_rules.specs.Machine.{start}
 use Rattle.lard_files.specs.Files.{file_at}
 use Rattle.lard_generate.specs.Clients.{drawn_actions, drawn_fate, drawn_open, event_of, rounds}
 use Rattle.lard_generate.specs.Draws.{each, seeded}

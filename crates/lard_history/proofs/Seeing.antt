@@ -40,10 +40,6 @@ pub own-append : (q : ℕ) (J rs : List Rec) → own q (J ++ rs) ≡ own q J ++ 
 unfolding own
 own-append q J rs = seen_on-append q [] J rs
 
-pub own-nil : (q : ℕ) → own q [] ≡ []
-unfolding own
-own-nil q = refl
-
 -- records of one connection, each as it sees it
 abbrev pub AreOf : ℕ → List Rec → Type 0
 AreOf c rs = Each (λ r. (whose r ≡ Some c) × (plain r ≡ r)) rs

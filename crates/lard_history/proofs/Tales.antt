@@ -5,7 +5,7 @@ use Rattle.std.proofs.lemmas.List.Sums.{fold-append}
 use Rattle.std.specs.List.{fold}
 use Rattle.lard_base.specs.declared.place.Place.{Place}
 use Rattle.lard_base.specs.declared.place.Place.TheVariants.{Front, Node, Client}
-use Rattle.lard_history.specs.Journal.{Tale, about, accepted, accepted_step, assigned, assigned_step, closed_step, epoch_step, event_shuts, fin_sent, fin_step, fin_to, goes_to, has_closed, home, home_step, in_step, is_cluster, is_in, is_touched, last_epoch, numbers_of, numbers_step, owner, owner_step, reset_step, said_fin, served, served_bytes, served_bytes_step, served_step, tale, tale_step, told_on, touched_step, untold, waits, waits_step, was_reset, wrote, wrote_step}
+use Rattle.lard_history.specs.Journal.{Tale, about, accepted, accepted_step, assigned, assigned_step, closed_step, epoch_step, event_shuts, fin_sent, fin_step, fin_to, goes_to, has_closed, home, home_step, is_cluster, is_in, is_touched, last_epoch, numbers_of, numbers_step, owner, owner_step, reset_step, said_fin, served, served_bytes, served_bytes_step, served_step, tale, tale_step, told_on, touched_step, untold, waits, was_reset, wrote, wrote_step}
 use Rattle.lard_history.proofs.Each.{Each}
 use Rattle.lard_journal.specs.declared.rec.Rec.{Rec}
 use Rattle.lard_journal.specs.declared.rec.Rec.TheVariants as rec
@@ -16,14 +16,6 @@ use Rattle.lard_segment.specs.Segment.{decoded}
 
 pub told_on-append : (c : ℕ) (t : Tale) (xs ys : List Rec) → told_on c t (xs ++ ys) ≡ told_on c (told_on c t xs) ys
 told_on-append c t xs ys = fold-append (tale_step c) t xs ys
-
-pub tale-append : (J rs : List Rec) (c : ℕ) → tale (J ++ rs) c ≡ told_on c (tale J c) rs
-unfolding tale
-tale-append J rs c = fold-append (tale_step c) untold J rs
-
-pub tale-nil : (c : ℕ) → tale [] c ≡ untold
-unfolding tale
-tale-nil c = refl
 
 -- ---- the fields
 
@@ -82,14 +74,6 @@ module _ (J : List Rec) (c : ℕ) where
   unfolding tale
   assigned-tale = field_of (λ t. t.assigned) (assigned_step c) c (λ t r. refl) untold J
 
-  pub in-tale : is_in J c ≡ (tale J c).is_in
-  unfolding tale
-  in-tale = field_of (λ t. t.is_in) (in_step c) c (λ t r. refl) untold J
-
-  pub waits-tale : waits J c ≡ (tale J c).waits
-  unfolding tale
-  waits-tale = field_of (λ t. t.waits) (waits_step c) c (λ t r. refl) untold J
-
   pub touched-tale : is_touched J c ≡ (tale J c).touched
   unfolding tale
   touched-tale = field_of (λ t. t.touched) (touched_step c) c (λ t r. refl) untold J
@@ -139,7 +123,3 @@ other c t _ n = refl
 pub others : (c : ℕ) (t : Tale) (rs : List Rec) → Each (λ r. about c r ≡ false) rs → told_on c t rs ≡ t
 others c t [] none = refl
 others c t (r ∷ rs) none = ap (λ u. told_on c u rs) (other c t r none.0) ∙ others c t rs none.1
-
--- nor do they of a journal's tale
-pub tale-others : (J rs : List Rec) (c : ℕ) → Each (λ r. about c r ≡ false) rs → tale (J ++ rs) c ≡ tale J c
-tale-others J rs c none = tale-append J rs c ∙ others c (tale J c) rs none

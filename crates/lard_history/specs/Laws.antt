@@ -140,9 +140,6 @@ MayServe files past (rec.Served place c r code size via) =
 MayServe files past (rec.Reset place c total) = is_touched past c ≡ false → option_map (λ bytes. served_bytes past c + length bytes) (next_answer files past c) ≡ Some total
 MayServe files past _ = Unit {0}
 
-abbrev pub ServesTheAnswers : FilesAt → List Rec → Type 0
-ServesTheAnswers files J = EachMay (MayServe files) [] J
-
 -- ---- the reset law
 
 -- The responses on a connection have at most `stream` bytes, and none follows a reset, which counts more. With the law

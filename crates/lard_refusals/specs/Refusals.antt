@@ -4,7 +4,7 @@ use Rattle.lard_answers.specs.Answers.{FilesAt}
 use Rattle.lard_base.specs.Config.{config_check}
 use Rattle.lard_base.specs.declared.config.Config.{Config}
 use Rattle.lard_base.specs.declared.place.Place.{Place}
-use Rattle.lard_cluster_laws.specs.Lawful.{IsLawful}
+use Rattle.lard_laws.specs.Lawful.{IsLawful}
 use Rattle.lard_files.specs.Files.{file_at}
 use Rattle.lard_journal.specs.declared.rec.Rec.{Rec}
 use Rattle.lard_journal.specs.declared.rec.Rec.TheVariants as rec

@@ -1,49 +1,13 @@
 -- One induction for each loop of a place: what each of its turns keeps, the loop keeps.
-use Rattle.std.proofs.Common.{◌≡◌, ℕ, zero, suc, ◌+◌, List, [], ◌∷◌, length, take, drop, true, false, cond, Option, Some, None, refl}
+use Rattle.std.proofs.Common.{◌≡◌, ℕ, zero, suc, List, [], ◌∷◌, false, cond, Option, Some, None, refl}
 use Rattle.std.proofs.lemmas.Bool.{cond_both}
 use Rattle.lard_base.specs.declared.place.Place.{Place}
-use Rattle.lard_base.specs.declared.place.Via.TheVariants.{Own}
-use Rattle.lard_block.specs.declared.block.Found.{Found}
-use Rattle.lard_block.specs.declared.block.Found.TheVariants.{Block, More, TooLong}
-use Rattle.lard_block.specs.Blocks.{cut_of}
 use Rattle.lard_client.specs.Control.{ClientBlock}
 use Rattle.lard_client.specs.Leaving as client
 use Rattle.lard_endpoint.specs.Control.{ControlBlock}
 use Rattle.lard_endpoint.specs.Leaving as endpoint
-use Rattle.lard_rules.specs.Front.{read_found, reads, reads_on}
-use Rattle.lard_rules.specs.Serving.{ServeEnv, Service, answered, consumed, ended_at_fin, may_read}
 use Rattle.lard_rules.specs.Speaking.{client_emits, client_speaks, emits, emits_symbols, has_symbol, speaks, speaks_symbols, to_client, to_front}
-use Rattle.lard_request.specs.declared.verdict.Code.TheVariants as code
-use Rattle.lard_request.specs.declared.verdict.Verdict.TheVariants.{Fault}
-use Rattle.lard_request.specs.Verdict.{verdict}
 use Rattle.lard_segment.specs.declared.segment.Ready.{Ready}
-
--- ---- reading
-
--- P is kept where no whole block is left, where one is answered, and where one is too long
-pub record KeptByReading (env : ServeEnv) (P : Service → Type 0) : Type 0 where
-  pub more : (w : Service) (skip : ℕ) → may_read w ≡ true → cut_of w.block.recv.unread ≡ More skip → P w → P (ended_at_fin (consumed skip w))
-  pub block : (w : Service) (skip len : ℕ) → may_read w ≡ true → cut_of w.block.recv.unread ≡ Block skip len → P w
-      → P (answered env Own (verdict (take len (drop skip w.block.recv.unread))) (consumed (skip + len) w))
-  pub long : (w : Service) (skip : ℕ) → may_read w ≡ true → cut_of w.block.recv.unread ≡ TooLong skip → P w
-      → P (answered env Own (Fault code.FieldsTooLarge) (consumed (length w.block.recv.unread) w))
-
-module _ (env : ServeEnv) (P : Service → Type 0) (kept : KeptByReading env P) where
-  found-keeps : (later : Service → Service) → ((v : Service) → P v → P (later v)) → (w : Service) → may_read w ≡ true → P w
-      → (f : Found) → cut_of w.block.recv.unread ≡ f → P (read_found env later w f)
-  found-keeps later on w may p (More skip) is = kept.more w skip may is p
-  found-keeps later on w may p (Block skip len) is = on _ (kept.block w skip len may is p)
-  found-keeps later on w may p (TooLong skip) is = on _ (kept.long w skip may is p)
-
-  reads_on-keep : (n : ℕ) (w : Service) → P w → P (reads_on n env w)
-  unfolding reads_on
-  reads_on-keep zero w p = p
-  reads_on-keep (suc n) w p = cond_both (may_read w) (read_found env (reads_on n env) w (cut_of w.block.recv.unread)) w P
-      (λ may. found-keeps (reads_on n env) (reads_on-keep n) w may p (cut_of w.block.recv.unread) refl)
-      (λ may. p)
-
-  pub reads_keep : (w : Service) → P w → P (reads env w)
-  reads_keep w p = reads_on-keep (length w.block.recv.unread + 1) w p
 
 -- ---- speaking
 

@@ -1,5 +1,5 @@
 -- What an endpoint and a client say, segment by segment.
-use Rattle.std.proofs.Common.{◌≡◌, ℕ, ◌==◌, ◌+◌, ◌≤◌, ◌<◌, ◌^◌, [], ◌∷◌, Bool, true, false, cond, not, refl, ap, subst, arith}
+use Rattle.std.proofs.Common.{◌≡◌, ℕ, ◌==◌, ◌≤◌, ◌<◌, [], ◌∷◌, Bool, true, false, cond, not, refl, ap, subst, arith}
 use Rattle.std.specs.Prelude.{Option, Some, None, OnSome, if◌then◌else◌}
 use Rattle.lard_client.specs.Control.{ClientBlock, is_open}
 use Rattle.lard_client.specs.Leaving as client
@@ -91,6 +91,3 @@ client-more x r h e = one_more client.emitted client.after_emit to_front always 
 
 pub client-done : (x : ClientBlock) → client.emitted x ≡ None → client_speaks x ≡ ([], x)
 client-done x e = nothing_more client.emitted client.after_emit to_front always client.unsaid (λ y. IsSending y.send) client_emits client-drains (client.unsaid x) x e
-
-pub unsaid-most : (x : ClientBlock) → IsSending x.send → client.unsaid x ≤ 2 ^ 30 + 3
-unsaid-most x h = let most = h.most in let f = one_if-most x.send.finished in let o = one_if-most (client.owes x) in omega arith

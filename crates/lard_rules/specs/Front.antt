@@ -1,132 +1,346 @@
--- The rules of the front end, each over the seat of one connection: the seat after it, and the front end's turn.
-use Rattle.std.specs.Prelude.{ℕ, zero, suc, ◌+◌, nat_lt, ◌&&◌, ◌||◌, not, Bool, true, false, if◌then◌else◌, [], ◌∷◌, length, take, drop, Option, Some, None, Result, Ok, Err}
-use Rattle.lard_base.specs.declared.limits.TheConstants.{RECEIVE_WINDOW}
+-- The rules of the front end, each over what it keeps of one connection.
+use Rattle.std.specs.Prelude.{ℕ, ◌+◌, ◌==◌, nat_lt, ◌&&◌, Bool, true, false, not, if◌then◌else◌, List, [], ◌∷◌, ◌++◌, length, map, Option, Some, None, Result, Ok, Err}
+use Rattle.std.specs.List.{list_any}
+use Rattle.lard_base.specs.declared.ids.Epoch.{Epoch}
+use Rattle.lard_base.specs.declared.ids.Millis.{Millis}
+use Rattle.lard_base.specs.declared.place.Place.{Place}
 use Rattle.lard_base.specs.declared.place.Place.TheVariants as place
-use Rattle.lard_base.specs.declared.place.Reason.{Reason}
-use Rattle.lard_base.specs.declared.place.Reason.TheVariants as reason
-use Rattle.lard_base.specs.declared.place.Via.TheVariants.{Own}
-use Rattle.lard_block.specs.declared.block.Found.{Found}
-use Rattle.lard_block.specs.declared.block.Found.TheVariants.{Block, More, TooLong}
-use Rattle.lard_block.specs.Blocks.{cut_of}
+use Rattle.lard_base.specs.declared.place.TimerKind.{TimerKind}
+use Rattle.lard_base.specs.declared.place.TimerKind.TheVariants as kind
+use Rattle.lard_costs.specs.declared.later.LaterChoice.{LaterChoice}
+use Rattle.lard_dispatch.specs.declared.dispatch.Ask.{Ask}
+use Rattle.lard_dispatch.specs.declared.dispatch.First.{First}
+use Rattle.lard_dispatch.specs.declared.dispatch.First.TheVariants as first
+use Rattle.lard_dispatch.specs.declared.dispatch.Later.{Later}
+use Rattle.lard_dispatch.specs.Laws.{Call}
+use Rattle.lard_dispatch.specs.Laws as call
 use Rattle.lard_endpoint.specs.declared.control.moving.Final.{Final}
 use Rattle.lard_endpoint.specs.Arriving.{on_segment}
 use Rattle.lard_endpoint.specs.Control.{ControlBlock, listening}
 use Rattle.lard_endpoint.specs.Leaving.{timed, after_timer}
+use Rattle.lard_endpoint.specs.Moving.{parts_of}
+use Rattle.lard_rules.specs.declared.front.FrontRest.{FrontRest}
+use Rattle.lard_rules.specs.declared.front.FrontTurn.{FrontTurn}
+use Rattle.lard_rules.specs.FrontReading.{Reading, reads}
+use Rattle.lard_handoff_front.specs.declared.row.FrontConn.{FrontConn}
+use Rattle.lard_handoff_front.specs.declared.row.FrontConn.TheVariants as stage
+use Rattle.lard_handoff_front.specs.declared.row.FrontRow.{FrontRow}
+use Rattle.lard_handoff_front.specs.declared.table.OnEnded.{OnEnded}
+use Rattle.lard_handoff_front.specs.declared.table.OnEnded.TheVariants.{New, Again, Stale}
+use Rattle.lard_handoff_front.specs.Front.{asked_node, end_answer, ended_row, next_epoch}
+use Rattle.lard_journal.specs.declared.rec.Rec.{Rec}
 use Rattle.lard_journal.specs.declared.rec.Rec.TheVariants as rec
+use Rattle.lard_message.specs.declared.message.Body.{Body}
+use Rattle.lard_message.specs.declared.message.Body.TheVariants as body
+use Rattle.lard_message.specs.Message.{spelled_message}
+use Rattle.lard_policy.specs.declared.first.FirstChoice.{FirstChoice}
+use Rattle.lard_resend.specs.declared.kept.Kept.{Kept}
+use Rattle.lard_resend.specs.Kept.{rank, without}
+use Rattle.lard_resend.specs.Pending.{sent_of}
 use Rattle.lard_rules.specs.declared.places.Ending.{Ending}
-use Rattle.lard_rules.specs.declared.places.Ending.TheVariants as ending
+use Rattle.lard_rules.specs.declared.places.Ending.TheVariants.{Here, Over}
 use Rattle.lard_rules.specs.declared.places.Turn.{Turn}
-use Rattle.lard_rules.specs.Client.{silent}
-use Rattle.lard_rules.specs.Seat.{Seat, Nowhere, AtFront, Away, Over}
-use Rattle.lard_rules.specs.Serving.{ServeEnv, Service, answered, consumed, ended_at_fin, may_read, ready_of, serving, settled, spoken, told}
-use Rattle.lard_request.specs.declared.verdict.Code.TheVariants as code
-use Rattle.lard_request.specs.declared.verdict.Verdict.TheVariants.{Fault}
-use Rattle.lard_request.specs.Verdict.{verdict}
+use Rattle.lard_rules.specs.Tombstone.{is_plain_syn, last_words, tombstone}
+use Rattle.lard_rules.specs.Serving.{ServeEnv, Service, ready_of, serving, settled, spoken}
 use Rattle.lard_segment.specs.declared.fault.SegFault.{SegFault}
 use Rattle.lard_segment.specs.Segment.{Said}
+use Rattle.lard_send.specs.Send.{is_clear}
 
--- What the rules rest on beside the connection's state.
+-- What the rules rest on beside what is kept of the connection: the dispatcher's answers, at this time, come in as functions.
 pub record FrontEnv : Type 0 where
-  pub serve : ServeEnv
+  pub serve : ServeEnv  -- the place that serves is the front end
   pub iss : ℕ  -- the sequence number with which the cluster begins
+  pub now : Millis
+  pub first : List ℕ → First  -- what becomes of the connection with its first request, for this path
+  pub later : Ask → Later
 
--- ---- reading
+-- ---- what is kept of one connection
 
--- what is found at the front of the unread bytes is answered, and `later` goes on; where there is no whole block,
--- reading stops
-abbrev pub read_found : ServeEnv → (Service → Service) → Service → Found → Service
-read_found env later w (More skip) = ended_at_fin (consumed skip w)
-read_found env later w (Block skip len) = later (answered env Own (verdict (take len (drop skip w.block.recv.unread))) (consumed (skip + len) w))
-read_found env later w (TooLong skip) = later (answered env Own (Fault code.FieldsTooLarge) (consumed (length w.block.recv.unread) w))
+pub record FrontPart : Type 0 where
+  pub row : Option FrontRow
+  pub rest : Option FrontRest
+  pub kept : List Kept  -- its Offer, where that awaits an answer
 
--- the front end reads block by block, at most so many
-unfoldable pub reads_on : ℕ → ServeEnv → Service → Service
-reads_on zero env w = w
-reads_on (suc n) env w = if may_read w then read_found env (reads_on n env) w (cut_of w.block.recv.unread) else w
+-- What a rule gives: what is kept then, the turn, and what the dispatcher was asked and told, in order.
+pub record Did : Type 0 where
+  pub part : FrontPart
+  pub turn : FrontTurn
+  pub calls : List Call
 
--- until no whole block is left: each takes some of the unread bytes
-abbrev pub reads : ServeEnv → Service → Service
-reads env w = reads_on (length w.block.recv.unread + 1) env w
+-- What a rule comes to: it drops what came, or does this and keeps what it kept, or does and keeps this.
+pub data Deed : Type 0 where
+  Drops : Deed
+  Says : FrontTurn → Deed
+  Does : Did → Deed
 
--- ---- the end of a turn
+-- ---- turns
 
--- where the connection is then
-abbrev pub seat_after : Ending → Seat
-seat_after (ending.Here b count) = AtFront b count
-seat_after (ending.Over last) = Over last
+-- a turn of an endpoint that is here
+abbrev pub turn_here : Turn → FrontTurn
+turn_here t = record { notes = t.notes; segments = t.segments; gave = []; messages = []; answered = t.answered }
 
-abbrev pub at_front : Ending × Turn → Seat × Turn
-at_front given = (seat_after given.0, given.1)
+-- messages go out, and nothing else is done
+abbrev pub saying : List (Place × List ℕ) → FrontTurn
+saying messages = record { notes = []; segments = []; gave = []; messages = messages; answered = 0 }
+
+abbrev pub message : ℕ → ℕ → Body → List ℕ
+message c epoch b = spelled_message (record { c = c; epoch = record { 0 = epoch }; body = b })
+
+-- ---- an endpoint that is here
+
+-- nothing is known of what was done before a connection began
+abbrev pub rest_of : Option FrontRest → FrontRest
+rest_of None = record { count = 0; asks = 0; tag = []; assigned = 0; target = None }
+rest_of (Some rest) = rest
+
+-- it stays in this stage, or it ended
+abbrev pub stage_after : (ControlBlock → FrontConn) → Ending → FrontConn
+stage_after stays (Here b count) = stays b
+stage_after stays (Over last) = stage.Closed last
+
+abbrev pub rest_after : FrontRest → Ending → Option FrontRest
+rest_after rest (Here b count) = Some (record rest { count = count })
+rest_after rest (Over last) = None
+
+abbrev pub rests : FrontPart → FrontRow → FrontRest → (ControlBlock → FrontConn) → Ending → FrontPart
+rests p row rest stays e = record p { row = Some (record row { stage = stage_after stays e }); rest = rest_after rest e }
+
+-- A held connection goes on, or ends; the dispatcher knows nothing of it.
+abbrev pub holds : FrontPart → FrontRow → FrontRest → Ending × Turn → Deed
+holds p row rest given = Does (record { part = rests p row rest stage.Held given.0; turn = turn_here given.1; calls = [] })
+
+-- A waiting one goes on to wait, or ends, and leaves the line then.
+abbrev pub leaves_by : ℕ → Ending → List Call
+leaves_by c (Here b count) = []
+leaves_by c (Over last) = call.Leave c ∷ []
+
+abbrev pub waits_on : FrontEnv → FrontPart → FrontRow → FrontRest → Ending × Turn → Deed
+waits_on env p row rest given = Does (record { part = rests p row rest stage.Waiting given.0; turn = turn_here given.1; calls = leaves_by env.serve.c given.0 })
+
+-- ---- the hand-off
+
+abbrev pub offer_kept : ℕ → FrontRow → ControlBlock → ℕ → ℕ → Kept
+offer_kept c row b count node = record { kind = kind.Offer; r = 0; to = place.Node node; bytes = message c (next_epoch row).0 (body.Offer (parts_of b count)) }
+
+-- It is on its way to the node, in the next epoch.
+abbrev pub offering : FrontEnv → FrontRow → Service → List ℕ → ℕ → FrontPart
+offering env row w path node = record {
+  row = Some (record { stage = stage.Offering node (next_epoch row); epoch = next_epoch row; ended_by = None });
+  rest = Some (record { count = w.count; asks = 0; tag = []; assigned = w.count + 1; target = None });
+  kept = offer_kept env.serve.c row w.block w.count node ∷ [];
+}
+
+-- The endpoint is frozen as it is, with its unread bytes: nothing is sent of it any more, also no ACK that is owed, since the
+-- one that goes on from it owes one. The front end gives the connection up, and offers it until the node answers.
+abbrev pub handed_off : FrontEnv → FrontRow → Service → List ℕ → FirstChoice → FrontPart × FrontTurn
+handed_off env row w path choice = (
+  offering env row w path choice.node,
+  record {
+    notes = w.notes ++ rec.Admitted env.serve.c ∷ rec.AssignedFirst env.serve.c (w.count + 1) path choice.node choice.add choice.remove ∷ [];
+    segments = [];
+    gave = rec.Gave place.Front env.serve.c row.epoch ∷ [];
+    messages = sent_of (offer_kept env.serve.c row w.block w.count choice.node) ∷ [];
+    answered = w.answered;
+  },
+)
+
+-- The dispatcher admits it to a node, or it waits, last of the line, and says what it may.
+abbrev pub placed : FrontEnv → FrontPart → FrontRow → FrontRest → Service → List ℕ → First → Did
+placed env p row rest w path (first.Go choice) =
+    record { part = (handed_off env row w path choice).0; turn = (handed_off env row w path choice).1; calls = call.First env.serve.c path env.now ∷ [] }
+placed env p row rest w path first.Waits =
+    let given = spoken env.serve (record w { notes = w.notes ++ rec.Waits env.serve.c ∷ [] }) [] in
+    record {
+      part = rests p row (record rest { target = Some path }) stage.Waiting given.0;
+      turn = turn_here given.1;
+      calls = call.First env.serve.c path env.now ∷ leaves_by env.serve.c given.0;
+    }
 
 -- ---- segments
 
--- a plain SYN: it has no other control bit that counts
-abbrev pub is_plain_syn : Said → Bool
-is_plain_syn s = s.flags.syn && (not s.flags.ack && (not s.flags.rst && not s.flags.fin))
+-- what was read is said, or the connection is placed
+abbrev pub settled_by : FrontEnv → FrontPart → FrontRow → FrontRest → Service → Option (List ℕ) → Deed
+settled_by env p row rest w None = holds p row rest (settled env.serve w)
+settled_by env p row rest w (Some path) = Does (placed env p row rest w path (env.first path))
 
--- The front end listens to every client (RFC 9293, 3.10.7.2), and is the first owner of the connection.
-abbrev pub begun : FrontEnv → Said → Seat × Turn
-begun env s = at_front (spoken env.serve (serving (listening s env.iss) 0 (rec.Took place.Front env.serve.c (record { 0 = 1 }) ∷ [])) [])
-
-abbrev pub met : FrontEnv → Said → Seat × Turn
-met env s = if is_plain_syn s then begun env s else (Nowhere, silent)
+abbrev pub read_by : FrontEnv → FrontPart → FrontRow → FrontRest → Reading → Deed
+read_by env p row rest x = settled_by env p row rest x.service x.target
 
 -- The endpoint takes a segment, and the front end reads what it may.
-abbrev pub heard : ServeEnv → ControlBlock → ℕ → Seat × Turn
-heard env b count = at_front (settled env (reads env (serving b count [])))
+abbrev pub heard : FrontEnv → FrontPart → FrontRow → FrontRest → ControlBlock → Deed
+heard env p row rest b = read_by env p row rest (reads env.serve (record { service = serving b rest.count []; target = None }))
 
--- What an ended connection answers by: the ACK with the last numbers (RFC 9293, 3.10.7.4, TIME-WAIT), or the RST of one
--- that is not known (3.10.7.1).
-abbrev pub last_ack : Final → Said
-last_ack last = record {
-  seq = last.snd.0;
-  ack = last.rcv.0;
-  flags = record { syn = false; ack = true; fin = false; rst = false; psh = false };
-  wnd = RECEIVE_WINDOW;
-  mss = None;
-  payload = [];
-}
+-- The front end listens to every client (RFC 9293, 3.10.7.2), and is the first owner of the connection.
+abbrev pub begun : FrontEnv → FrontPart → Said → Deed
+begun env p s = holds p (record { stage = stage.Lent; epoch = record { 0 = 1 }; ended_by = None }) (rest_of None)
+    (spoken env.serve (serving (listening s env.iss) 0 (rec.Took place.Front env.serve.c (record { 0 = 1 }) ∷ [])) [])
 
-abbrev pub refusal : ℕ → Said
-refusal ack = record {
-  seq = ack;
-  ack = 0;
-  flags = record { syn = false; ack = false; fin = false; rst = true; psh = false };
-  wnd = 0;
-  mss = None;
-  payload = [];
-}
+abbrev pub met : FrontEnv → FrontPart → Said → Deed
+met env p s = if is_plain_syn s then begun env p s else Drops
 
--- a segment has something to acknowledge, and is no RST
-abbrev pub is_telling : Said → Bool
-is_telling s = not s.flags.rst && (s.flags.syn || (s.flags.fin || nat_lt 0 (length s.payload)))
+-- A segment of a connection that is away goes to its node, as it came.
+abbrev pub forwarded : FrontEnv → ℕ → Epoch → List ℕ → Deed
+forwarded env node epoch bytes = Says (saying ((place.Node node, message env.serve.c epoch.0 (body.Forward bytes)) ∷ []))
 
-abbrev pub last_words : Reason → Final → Said → Option Said
-last_words reason.Closed last s = if is_telling s then Some (last_ack last) else None
-last_words reason.Peer last s = None
-last_words reason.Limit last s = if s.flags.ack && not s.flags.rst then Some (refusal s.ack) else None
+abbrev pub hears_at : FrontEnv → FrontPart → FrontRow → List ℕ → Said → FrontConn → Deed
+hears_at env p row bytes s (stage.Held b) = heard env p row (rest_of p.rest) (on_segment b s).1
+hears_at env p row bytes s (stage.Waiting b) = waits_on env p row (rest_of p.rest) (spoken env.serve (serving (on_segment b s).1 (rest_of p.rest).count []) [])
+hears_at env p row bytes s stage.Lent = Drops
+hears_at env p row bytes s (stage.Offering node epoch) = forwarded env node epoch bytes
+hears_at env p row bytes s (stage.Moved node epoch) = forwarded env node epoch bytes
+hears_at env p row bytes s (stage.Closed last) = Says (turn_here (tombstone env.serve (last_words last.reason last s)))
 
-abbrev pub tombstone : ServeEnv → Option Said → Turn
-tombstone env None = silent
-tombstone env (Some s) = record { notes = []; segments = told env s ∷ []; answered = 0 }
-
--- A segment comes.
-abbrev pub front_hears : FrontEnv → Seat → Said → Seat × Turn
-front_hears env Nowhere s = met env s
-front_hears env (AtFront b count) s = heard env.serve (on_segment b s).1 count
-front_hears env Away s = (Away, silent)
-front_hears env (Over last) s = (Over last, tombstone env.serve (last_words last.reason last s))
+abbrev pub front_hears : FrontEnv → FrontPart → List ℕ → Said → Option FrontRow → Deed
+front_hears env p bytes s None = met env p s
+front_hears env p bytes s (Some row) = hears_at env p row bytes s row.stage
 
 -- What does not decode is dropped.
-abbrev pub front_gets : FrontEnv → Seat → Result Said SegFault → Seat × Turn
-front_gets env x (Err fault) = (x, silent)
-front_gets env x (Ok s) = front_hears env x s
+abbrev pub front_gets : FrontEnv → FrontPart → List ℕ → Result Said SegFault → Deed
+front_gets env p bytes (Err fault) = Drops
+front_gets env p bytes (Ok s) = front_hears env p bytes s p.row
+
+-- ---- messages of nodes
+
+-- A node took the connection: the Offer is not told again.
+abbrev pub taken_by : FrontPart → ℕ → Option FrontRow → Option ℕ → Deed
+taken_by p epoch None asked = Drops
+taken_by p epoch (Some row) None = Drops
+taken_by p epoch (Some row) (Some node) =
+    Does (record { part = record p { row = Some (record row { stage = stage.Moved node (record { 0 = epoch }) }); kept = without kind.Offer 0 p.kept }; turn = saying []; calls = [] })
+
+abbrev pub front_taken : FrontPart → ℕ → Deed
+front_taken p epoch = taken_by p epoch p.row (asked_node epoch p.row)
+
+-- the connection is with this node, in this epoch
+abbrev pub is_with : ℕ → ℕ → FrontConn → Bool
+is_with from epoch (stage.Offering node e) = node == from && e.0 == epoch
+is_with from epoch (stage.Moved node e) = node == from && e.0 == epoch
+is_with from epoch (stage.Held b) = false
+is_with from epoch (stage.Waiting b) = false
+is_with from epoch stage.Lent = false
+is_with from epoch (stage.Closed last) = false
+
+abbrev pub is_at : ℕ → ℕ → Option FrontRow → Bool
+is_at from epoch None = false
+is_at from epoch (Some row) = is_with from epoch row.stage
+
+abbrev pub tag_sent : FrontEnv → ℕ → ℕ → ℕ → List ℕ → List (Place × List ℕ)
+tag_sent env from epoch number nodes = (place.Node from, message env.serve.c epoch (body.Tag number nodes)) ∷ []
+
+-- the requests of an Ask are assigned, in order, with numbers that go on from the last
+abbrev pub assigned_notes : ℕ → Ask → ℕ → List (List ℕ) → List LaterChoice → List Rec
+assigned_notes c ask r [] choices = []
+assigned_notes c ask r (path ∷ paths) [] = []
+assigned_notes c ask r (path ∷ paths) (choice ∷ choices) =
+    rec.AssignedLater c (r + 1) path choice.node choice.add ask.size ask.queue ∷ assigned_notes c ask (r + 1) paths choices
+
+-- shares of the batch before are over, where some were open
+abbrev pub over_note : ℕ → Bool → List Rec
+over_note c true = rec.BatchOver c ∷ []
+over_note c false = []
+
+abbrev pub assigns : FrontEnv → FrontPart → FrontRest → ℕ → ℕ → Ask → Later → Did
+assigns env p rest from epoch ask l = record {
+  part = record p { rest = Some (record rest { asks = ask.number; tag = map (λ x. x.node) l.choices; assigned = rest.assigned + length l.choices }) };
+  turn = record (saying (tag_sent env from epoch ask.number (map (λ x. x.node) l.choices))) { notes = over_note env.serve.c l.over ++ assigned_notes env.serve.c ask rest.assigned ask.paths l.choices };
+  calls = call.Later ask env.now ∷ [];
+}
+
+-- An Ask of the connection's node in its epoch: the last that was answered gets the same Tag again, the next one is new, and any
+-- other is dropped.
+abbrev pub asked_by : FrontEnv → FrontPart → ℕ → ℕ → Ask → Option FrontRest → Deed
+asked_by env p from epoch ask None = Drops
+asked_by env p from epoch ask (Some rest) =
+    if ask.number == rest.asks + 1 then Does (assigns env p rest from epoch ask (env.later ask)) else
+    if ask.number == rest.asks && nat_lt 0 rest.asks then Says (saying (tag_sent env from epoch rest.asks rest.tag)) else
+    Drops
+
+abbrev pub ask_of : ℕ → ℕ → ℕ → ℕ → ℕ → List (List ℕ) → Ask
+ask_of c home number queue size paths = record { c = c; home = home; number = number; queue = queue; size = size; paths = paths }
+
+abbrev pub front_asked : FrontEnv → FrontPart → ℕ → ℕ → Ask → Deed
+front_asked env p from epoch ask = if is_at from epoch p.row then asked_by env p from epoch ask p.rest else Drops
+
+-- The connection ended at its node: the front end takes it in the next epoch, keeps its last numbers, and releases it. The first
+-- of the line is admitted in the same step. Told again, it acknowledges again.
+abbrev pub ack_sent : FrontEnv → ℕ → ℕ → List (Place × List ℕ)
+ack_sent env from epoch = (place.Node from, message env.serve.c epoch body.EndedAck) ∷ []
+
+abbrev pub ends : FrontEnv → FrontPart → ℕ → ℕ → Final → FrontRow → Epoch → Did
+ends env p from epoch last row next = record {
+  part = record { row = Some (ended_row (record { 0 = epoch }) last row); rest = None; kept = without kind.Offer 0 p.kept };
+  turn = record (saying (ack_sent env from epoch)) { notes = rec.Took place.Front env.serve.c next ∷ rec.Released env.serve.c ∷ [] };
+  calls = call.Ended env.serve.c env.now ∷ [];
+}
+
+abbrev pub ended_by : FrontEnv → FrontPart → ℕ → ℕ → Final → Option FrontRow → OnEnded → Deed
+ended_by env p from epoch last None given = Drops
+ended_by env p from epoch last (Some row) (New next) = Does (ends env p from epoch last row next)
+ended_by env p from epoch last (Some row) Again = Says (saying (ack_sent env from epoch))
+ended_by env p from epoch last (Some row) Stale = Drops
+
+abbrev pub front_ended : FrontEnv → FrontPart → ℕ → ℕ → Final → Deed
+front_ended env p from epoch last = ended_by env p from epoch last p.row (end_answer epoch p.row)
+
+-- ---- the head of the line
+
+-- A waiting connection is handed off as the dispatcher says, in the step in which another one ended.
+abbrev pub admitted_with : FrontEnv → FrontRow → FrontRest → ControlBlock → FirstChoice → Option (List ℕ) → Option (FrontPart × FrontTurn)
+admitted_with env row rest b choice None = None
+admitted_with env row rest b choice (Some path) = Some (handed_off env row (serving b rest.count []) path choice)
+
+abbrev pub admitted_at : FrontEnv → FrontPart → FirstChoice → FrontRow → FrontConn → Option (FrontPart × FrontTurn)
+admitted_at env p choice row (stage.Waiting b) = admitted_with env row (rest_of p.rest) b choice (rest_of p.rest).target
+admitted_at env p choice row (stage.Held b) = None
+admitted_at env p choice row stage.Lent = None
+admitted_at env p choice row (stage.Offering node epoch) = None
+admitted_at env p choice row (stage.Moved node epoch) = None
+admitted_at env p choice row (stage.Closed last) = None
+
+abbrev pub admitted_by : FrontEnv → FrontPart → FirstChoice → Option FrontRow → Option (FrontPart × FrontTurn)
+admitted_by env p choice None = None
+admitted_by env p choice (Some row) = admitted_at env p choice row row.stage
+
+abbrev pub front_admitted : FrontEnv → FrontPart → FirstChoice → Option (FrontPart × FrontTurn)
+front_admitted env p choice = admitted_by env p choice p.row
 
 -- ---- timers
 
--- The timer fires (RFC 9293, 3.10.8).
-abbrev pub front_timer : FrontEnv → Seat → Seat × Turn
-front_timer env Nowhere = (Nowhere, silent)
-front_timer env (AtFront b count) = at_front (spoken env.serve (serving (after_timer b) count []) (ready_of env.serve (after_timer b) (timed b)))
-front_timer env Away = (Away, silent)
-front_timer env (Over last) = (Over last, silent)
+-- The endpoint's timer fires (RFC 9293, 3.10.8), or the Offer that awaits an answer is sent again.
+abbrev pub fired : FrontEnv → FrontRest → ControlBlock → Ending × Turn
+fired env rest b = spoken env.serve (serving (after_timer b) rest.count []) (ready_of env.serve (after_timer b) (timed b))
+
+abbrev pub fires_at : FrontEnv → FrontPart → FrontRow → FrontConn → Deed
+fires_at env p row (stage.Held b) = holds p row (rest_of p.rest) (fired env (rest_of p.rest) b)
+fires_at env p row (stage.Waiting b) = waits_on env p row (rest_of p.rest) (fired env (rest_of p.rest) b)
+fires_at env p row stage.Lent = Drops
+fires_at env p row (stage.Offering node epoch) = Says (saying (map sent_of p.kept))
+fires_at env p row (stage.Moved node epoch) = Drops
+fires_at env p row (stage.Closed last) = Drops
+
+abbrev pub fired_by : FrontEnv → FrontPart → Option FrontRow → Deed
+fired_by env p None = Drops
+fired_by env p (Some row) = fires_at env p row row.stage
+
+abbrev pub front_timer : FrontEnv → FrontPart → Deed
+front_timer env p = fired_by env p p.row
+
+-- what is armed at the front end for the connection
+abbrev pub stage_armed : FrontConn → Bool
+stage_armed (stage.Held b) = not (is_clear b.send)
+stage_armed (stage.Waiting b) = not (is_clear b.send)
+stage_armed stage.Lent = false
+stage_armed (stage.Offering node epoch) = false
+stage_armed (stage.Moved node epoch) = false
+stage_armed (stage.Closed last) = false
+
+abbrev pub row_armed : Option FrontRow → Bool
+row_armed None = false
+row_armed (Some row) = stage_armed row.stage
+
+abbrev pub front_armed : FrontPart → TimerKind → Bool
+front_armed p kind.Tcp = row_armed p.row
+front_armed p kind.Offer = list_any (λ x. rank x.kind == rank kind.Offer) p.kept
+front_armed p kind.Ask = false
+front_armed p kind.Fetch = false
+front_armed p kind.Ended = false

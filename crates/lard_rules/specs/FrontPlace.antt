@@ -1,44 +1,126 @@
--- The front end's step: it looks up what it keeps of the connection, does the rule of its seat, and puts it back.
-use Rattle.std.specs.Prelude.{◌≡◌, ℕ, ◌≤◌}
+-- The front end's step: it looks up what it keeps of the connection, does the rule of what came, puts it back, and tells the
+-- dispatcher; where a connection ended, the first of the line is admitted behind it.
+use Rattle.std.specs.Prelude.{ℕ, nat_lt, if◌then◌else◌, List, [], ◌++◌, Option, Some, None, Result, Ok, Err}
+use Rattle.std.specs.FinMap as table
+use Rattle.std.specs.List.{flat_map}
 use Rattle.lard_answers.specs.Answers.{FilesAt}
+use Rattle.lard_base.specs.declared.config.Config.{Config}
+use Rattle.lard_base.specs.declared.ids.Millis.{Millis}
 use Rattle.lard_base.specs.declared.place.Place.TheVariants as place
-use Rattle.lard_endpoint.specs.Control.{ControlBlock}
-use Rattle.lard_rules.specs.declared.front.FrontIn.{FrontIn}
-use Rattle.lard_rules.specs.declared.front.FrontIn.TheVariants.{Segment, Message, Timer}
+use Rattle.lard_dispatch.specs.Books as books
+use Rattle.lard_dispatch.specs.Books.{Dispatcher}
+use Rattle.lard_dispatch.specs.Calls.{ended_answer, first_answer, later_answer}
+use Rattle.lard_dispatch.specs.Laws.{after_calls}
 use Rattle.lard_rules.specs.declared.front.FrontState.{FrontState}
-use Rattle.lard_rules.specs.declared.front.Out.{Out}
-use Rattle.lard_rules.specs.declared.places.Turn.{Turn}
-use Rattle.lard_rules.specs.Outs.{nothing_done, out_of}
-use Rattle.lard_rules.specs.Front.{FrontEnv, front_gets, front_timer}
-use Rattle.lard_rules.specs.Seat.{Seat, AtFront, front_armed, front_part, front_put, seat_of, seated}
+use Rattle.lard_rules.specs.declared.front.FrontTurn.{FrontTurn}
+use Rattle.lard_rules.specs.Front.{Deed, Drops, Says, Does, Did, FrontEnv, FrontPart, ask_of, front_admitted, front_armed, front_asked, front_ended, front_gets, front_taken, front_timer}
+use Rattle.lard_journal.specs.declared.rec.Rec.{Rec}
+use Rattle.lard_message.specs.declared.fault.MsgFault.{MsgFault}
+use Rattle.lard_message.specs.declared.message.Body.{Body}
+use Rattle.lard_message.specs.declared.message.Body.TheVariants as body
+use Rattle.lard_message.specs.declared.message.Message.{Message}
+use Rattle.lard_message.specs.Reading.{decoded_message}
+use Rattle.lard_policy.specs.declared.first.FirstChoice.{FirstChoice}
+use Rattle.lard_resend.specs.Pending.{held, put_list}
+use Rattle.lard_rules.specs.declared.front.FrontIn.{FrontIn}
+use Rattle.lard_rules.specs.declared.front.FrontIn.TheVariants as input
+use Rattle.lard_rules.specs.declared.places.Out.{Out}
+use Rattle.lard_rules.specs.Outs.{kind_change, kinds, nothing_done}
 use Rattle.lard_segment.specs.declared.segment.Dir.TheVariants.{ToCluster}
 use Rattle.lard_segment.specs.Segment.{decoded}
+use Rattle.lard_table.specs.Table.{put_or}
 
--- What never changes in a run.
+-- What never changes in a run, and the time.
 pub record FrontSetting : Type 0 where
   pub files : FilesAt
   pub stream : ℕ  -- the most bytes of responses on one connection
+  pub now : Millis
 
-abbrev pub env_in : FrontSetting → ℕ → ℕ → FrontEnv
-env_in k c iss = record { serve = record { place = place.Front; c = c; files = k.files; stream = k.stream }; iss = iss }
+-- ---- what is kept
 
-abbrev pub seat_at : FrontState → ℕ → Seat
-seat_at s c = seat_of (front_part s c)
+abbrev pub front_part : FrontState → ℕ → FrontPart
+front_part s c = record { row = table.get s.conns c; rest = table.get s.rests c; kept = held s.kept c }
 
--- connection c takes this seat
-unfoldable pub front_seats : FrontState → ℕ → Seat → FrontState
-front_seats s c seat = front_put s c (seated (front_part s c) seat)
+abbrev pub front_put : FrontState → ℕ → FrontPart → FrontState
+front_put s c p = record s { conns = put_or s.conns c p.row; rests = put_or s.rests c p.rest; kept = put_list s.kept c p.kept }
 
--- its rule gave this
-abbrev pub front_did : FrontState → ℕ → Seat × Turn → FrontState × Out
-front_did s c given = (front_seats s c given.0, out_of place.Front c (front_armed (seat_at s c)) (front_armed given.0) given.1)
+-- no connection was taken, and nobody waits
+abbrev pub no_connections : Config → FrontState
+no_connections cfg = record { conns = table.empty; rests = table.empty; kept = table.empty; dispatch = books.begun cfg }
 
--- Messages of nodes have no rule yet, and are dropped.
+abbrev pub front_env : FrontSetting → FrontState → ℕ → ℕ → FrontEnv
+front_env k s c iss = record {
+  serve = record { place = place.Front; c = c; files = k.files; stream = k.stream };
+  iss = iss;
+  now = k.now;
+  first = λ path. first_answer s.dispatch path k.now;
+  later = λ ask. later_answer s.dispatch ask k.now;
+}
+
+-- ---- what a turn comes to in a step
+
+-- the records of the timers that changed, from what was kept before the step and after it
+abbrev pub timers_of : ℕ → FrontPart → FrontPart → List Rec
+timers_of c p q = flat_map (λ kind. kind_change place.Front c kind (front_armed p kind) (front_armed q kind)) kinds
+
+abbrev pub out_of : FrontTurn → List Rec → Out
+out_of t timers = record { notes = t.notes; segments = t.segments; gave = t.gave; messages = t.messages; timers = timers; answered = t.answered }
+
+-- connection c is put back, and the dispatcher was called so
+abbrev pub put_back : FrontState → ℕ → Did → FrontState
+put_back s c x = record (front_put s c x.part) { dispatch = after_calls s.dispatch x.calls }
+
+abbrev pub front_did : FrontState → ℕ → Did → FrontState × Out
+front_did s c x = (put_back s c x, out_of x.turn (timers_of c (front_part s c) x.part))
+
+abbrev pub front_deed : FrontState → ℕ → Deed → FrontState × Out
+front_deed s c Drops = (s, nothing_done)
+front_deed s c (Says turn) = (s, out_of turn [])
+front_deed s c (Does x) = front_did s c x
+
+-- ---- where a connection ended, the first of the line is admitted
+
+abbrev pub joined : FrontTurn → FrontTurn → FrontTurn
+joined t u = record { notes = t.notes ++ u.notes; segments = t.segments ++ u.segments; gave = t.gave ++ u.gave; messages = t.messages ++ u.messages; answered = t.answered }
+
+-- timers stand in the order of the connections' numbers
+abbrev pub in_order : ℕ → ℕ → List Rec → List Rec → List Rec
+in_order c d cs ds = if nat_lt d c then ds ++ cs else cs ++ ds
+
+-- the head d is handed off as well
+abbrev pub admits_too : FrontState → FrontState → ℕ → Did → ℕ → Option (FrontPart × FrontTurn) → FrontState × Out
+admits_too old s c x d None = (s, out_of x.turn (timers_of c (front_part old c) x.part))
+admits_too old s c x d (Some y) =
+    (front_put s d y.0, out_of (joined x.turn y.1) (in_order c d (timers_of c (front_part old c) x.part) (timers_of d (front_part s d) y.0)))
+
+abbrev pub admits : FrontSetting → FrontState → FrontState → ℕ → Did → Option (ℕ × FirstChoice) → FrontState × Out
+admits k old s c x None = (s, out_of x.turn (timers_of c (front_part old c) x.part))
+admits k old s c x (Some next) = admits_too old s c x next.0 (front_admitted (front_env k s next.0 0) (front_part s next.0) next.1)
+
+-- what an end comes to: its connection is put back and released, and the head is admitted by the books after that
+abbrev pub ended_deed : FrontSetting → FrontState → ℕ → Deed → FrontState × Out
+ended_deed k s c Drops = (s, nothing_done)
+ended_deed k s c (Says turn) = (s, out_of turn [])
+ended_deed k s c (Does x) = admits k s (put_back s c x) c x (ended_answer s.dispatch c k.now)
+
+-- ---- messages
+
+-- each kind of message that a node sends to the front end; any other is dropped
+abbrev pub front_told : FrontSetting → FrontState → ℕ → ℕ → ℕ → Body → FrontState × Out
+front_told k s from c epoch body.Taken = front_deed s c (front_taken (front_part s c) epoch)
+front_told k s from c epoch (body.Ask number queue size paths) = front_deed s c (front_asked (front_env k s c 0) (front_part s c) from epoch (ask_of c from number queue size paths))
+front_told k s from c epoch (body.Ended reason snd rcv count) =
+    ended_deed k s c (front_ended (front_env k s c 0) (front_part s c) from epoch (record { reason = reason; snd = record { 0 = snd }; rcv = record { 0 = rcv } }))
+front_told k s from c epoch _ = (s, nothing_done)
+
+-- what does not decode is dropped
+abbrev pub message_comes : FrontSetting → FrontState → ℕ → Result Message MsgFault → FrontState × Out
+message_comes k s from (Err fault) = (s, nothing_done)
+message_comes k s from (Ok m) = front_told k s from m.c m.epoch.0 m.body
+
+-- ---- one step
+
 abbrev pub front_step : FrontSetting → FrontState → FrontIn → FrontState × Out
-front_step k s (Segment c iss bytes) = front_did s c (front_gets (env_in k c iss.0) (seat_at s c) (decoded bytes c ToCluster))
-front_step k s (Message from bytes) = (s, nothing_done)
-front_step k s (Timer c) = front_did s c (front_timer (env_in k c 0) (seat_at s c))
-
--- What the code relies on: each response has a byte, so there are no more responses than bytes.
-pub record IsFrontSound (s : FrontState) : Type 0 where
-  pub counts : (c count : ℕ) (b : ControlBlock) → seat_at s c ≡ AtFront b count → count ≤ b.send.total
+front_step k s (input.Segment c iss bytes) = front_deed s c (front_gets (front_env k s c iss.0) (front_part s c) bytes (decoded bytes c ToCluster))
+front_step k s (input.Message from bytes) = message_comes k s from (decoded_message bytes)
+front_step k s (input.Timer c) = front_deed s c (front_timer (front_env k s c 0) (front_part s c))

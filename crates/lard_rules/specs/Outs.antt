@@ -5,7 +5,7 @@ use Rattle.lard_base.specs.declared.place.TimerKind.{TimerKind}
 use Rattle.lard_base.specs.declared.place.TimerKind.TheVariants.{Tcp, Offer, Ask, Fetch, Ended}
 use Rattle.lard_journal.specs.declared.rec.Rec.{Rec}
 use Rattle.lard_journal.specs.declared.rec.Rec.TheVariants as rec
-use Rattle.lard_rules.specs.declared.front.Out.{Out}
+use Rattle.lard_rules.specs.declared.places.Out.{Out}
 use Rattle.lard_rules.specs.declared.places.Turn.{Turn}
 
 -- the record of a timer of one kind that changed, from its flags before and after the step

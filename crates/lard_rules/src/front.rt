@@ -1,18 +1,24 @@
-//! What the front end keeps, what comes to it, and what it does in a step.
+//! What the front end keeps, what comes to it, and what it does for a connection.
 
-use lard_base::{Bytes, ConnId, NodeId, Nodes, Sends};
+use lard_base::{Bytes, ConnId, NodeId, Nodes, Path, Sends};
+use lard_dispatch::Dispatch;
 use lard_handoff_front::FrontTable;
 use lard_journal::Recs;
+use lard_resend::Pending;
 use lard_seq::Seq;
 use lard_table::Table;
 
-/// All that the front end keeps. It holds endpoints, and so has to be spent: `conns` by its `finish`, `rests` by `pop` and
-/// `destroy_empty`.
+/// All that the front end keeps. It holds endpoints, and so has to be spent: `conns` and `kept` by their `finish`, `rests` by
+/// `pop` and `destroy_empty`.
 pub struct FrontState {
     /// Who holds each connection that was taken, for ever.
     pub conns: FrontTable,
-    /// What was done on each that is here.
+    /// What was done on each that has not ended.
     pub rests: Table<FrontRest>,
+    /// The Offer of each connection whose node has not answered it.
+    pub kept: Pending,
+    /// Which connections are admitted and where, who serves what, and who waits.
+    pub dispatch: Dispatch,
 }
 
 /// What was done on a connection, kept until it ends.
@@ -26,6 +32,8 @@ pub struct FrontRest {
     pub tag: Nodes,
     /// The number of the request in the last `assigned` record, or 0.
     pub assigned: u32,
+    /// The path with which the connection waits, while it does.
+    pub target: Option<Path>,
 }
 
 /// What comes to the front end.
@@ -40,19 +48,17 @@ pub enum FrontIn {
     Timer(ConnId),
 }
 
-/// What a place does in a step, in the order in which it is told.
+/// What the front end does for a connection in its turn, in the order in which it is told.
 #[derive(Debug, Drop)]
-pub struct Out {
+pub struct FrontTurn {
     /// The records of what it did, without those of packets and timers.
     pub notes: Recs,
     /// The segments that it sends, each with its goal.
     pub segments: Sends,
-    /// The records of the connections that it gave up.
+    /// The record of the connection where it gave it up.
     pub gave: Recs,
     /// The messages that it sends, each with its goal.
     pub messages: Sends,
-    /// The records of the timers that changed.
-    pub timers: Recs,
     /// How many bytes of responses it queued.
     pub answered: u32,
 }

@@ -1,4 +1,4 @@
-//! A client's place, and what a place does in its turn.
+//! A client's place, and what a place does in its turn and in a step.
 
 use lard_base::Sends;
 use lard_client::Client;
@@ -31,4 +31,21 @@ pub enum Ending {
     Here { endpoint: Endpoint, count: u32 },
     /// It ended, with these numbers.
     Over(Final),
+}
+
+/// What a place does in a step, in the order in which it is told.
+#[derive(Debug, Drop)]
+pub struct Out {
+    /// The records of what it did, without those of packets and timers.
+    pub notes: Recs,
+    /// The segments that it sends, each with its goal.
+    pub segments: Sends,
+    /// The records of the connections that it gave up.
+    pub gave: Recs,
+    /// The messages that it sends, each with its goal.
+    pub messages: Sends,
+    /// The records of the timers that changed.
+    pub timers: Recs,
+    /// How many bytes of responses it queued.
+    pub answered: u32,
 }

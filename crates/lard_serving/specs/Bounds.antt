@@ -1,7 +1,7 @@
 -- What bounds a turn, and what a place does in a step.
 use Rattle.std.specs.Prelude.{◌≡◌, ◌^◌, ◌≤◌, [], length}
 use Rattle.lard_base.specs.declared.limits.TheConstants.{MAX_STREAM_BYTES}
-use Rattle.lard_rules.specs.declared.front.Out.{Out}
+use Rattle.lard_rules.specs.declared.places.Out.{Out}
 use Rattle.lard_rules.specs.declared.places.Turn.{Turn}
 use Rattle.lard_rules.specs.Speaking.{AreShort}
 

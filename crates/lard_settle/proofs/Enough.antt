@@ -1,10 +1,10 @@
 -- With enough rounds a settle answers that nothing is left, since its world rests.
 use Rattle.std.proofs.Common.{ℕ, IfOk, OnOk, Result, Ok, Err}
-use Rattle.lard_cluster.specs.declared.fault.StepFault.{StepFault}
-use Rattle.lard_cluster.specs.declared.machine.Machine.{Machine}
-pub use Rattle.lard_cluster_world.proofs.Law.{runs-settle, settles-end-quiet}
-use Rattle.lard_cluster_world.proofs.Law.{ends-with-enough}
-use Rattle.lard_cluster_world.specs.Enough.{EndsWithEnough, RestsWithEnough}
+use Rattle.lard_rules.specs.declared.fault.StepFault.{StepFault}
+use Rattle.lard_rules.specs.declared.machine.Machine.{Machine}
+pub use Rattle.lard_world.proofs.Law.{runs-settle, settles-end-quiet}
+use Rattle.lard_world.proofs.Law.{ends-with-enough}
+use Rattle.lard_world.specs.Enough.{EndsWithEnough, RestsWithEnough}
 use Rattle.lard_settling.specs.declared.settled.Settled.{Settled}
 use Rattle.lard_settling.specs.Settling.{Settles, settled}
 

@@ -4,11 +4,11 @@ use Rattle.lard_agenda.specs.Agenda.{IsAgendaOf}
 use Rattle.lard_agenda.specs.declared.agenda.Agenda.{Agenda}
 use Rattle.lard_agenda.proofs.Follows.{still}
 use Rattle.lard_base.specs.declared.event.Event.{Event}
-use Rattle.lard_cluster.specs.declared.fault.StepFault.{StepFault}
-use Rattle.lard_cluster.specs.declared.fault.StepFault.TheVariants.{NoClient, Used, NoNode, NotSent, WasLost, NoJob, Limit, NoMemory}
-use Rattle.lard_cluster.specs.declared.machine.Machine.{Machine}
-use Rattle.lard_cluster.specs.Machine.{Steps}
-use Rattle.lard_cluster_world.proofs.Runs.{inner-goes-on}
+use Rattle.lard_rules.specs.declared.fault.StepFault.{StepFault}
+use Rattle.lard_rules.specs.declared.fault.StepFault.TheVariants.{NoClient, Used, NoNode, NotSent, WasLost, NoJob, Limit, NoMemory}
+use Rattle.lard_rules.specs.declared.machine.Machine.{Machine}
+use Rattle.lard_rules.specs.Machine.{Steps}
+use Rattle.lard_world.proofs.Runs.{inner-goes-on}
 use Rattle.lard_journal.specs.declared.rec.Rec.{Rec}
 use Rattle.lard_settling.specs.declared.settled.Settled.{Settled}
 use Rattle.lard_settling.specs.Settling.{Does, DoesRounds, IsFrontOf, Settles, Stop, all_inner, closed_by, come, completed_since, completions, counted, deliveries, is_quiet, nodes_complete, outcome, round, rounds_from, settled, settled_from}

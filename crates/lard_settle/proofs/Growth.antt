@@ -2,14 +2,14 @@
 use Rattle.std.proofs.Common.{◌≡◌, ℕ, zero, suc, ◌+◌, Bool, true, false, cond, List, [], ◌∷◌, ◌++◌, length, Option, Some, None, Result, Ok, Err, refl, sym, ap, ◌∙◌, subst, append-nil, append_assoc}
 use Rattle.lard_base.specs.declared.event.Event.{Event}
 use Rattle.lard_base.specs.declared.event.Event.TheVariants as event
-use Rattle.lard_cluster.specs.declared.fault.StepFault.{StepFault}
-use Rattle.lard_cluster.specs.declared.machine.Machine.{Machine}
-use Rattle.lard_cluster.specs.Machine.{limit_reached, machine_step, passed, unless_limit}
-use Rattle.lard_cluster_world.proofs.Runs.{GoesOn, step-goes-on}
+use Rattle.lard_rules.specs.declared.fault.StepFault.{StepFault}
+use Rattle.lard_rules.specs.declared.machine.Machine.{Machine}
+use Rattle.lard_rules.specs.Machine.{limit_reached, machine_step, passed, unless_limit}
+use Rattle.lard_world.proofs.Runs.{GoesOn, step-goes-on}
 use Rattle.lard_journal.specs.Inner.{turned_at}
 use Rattle.lard_journal.specs.declared.rec.Rec.{Rec}
 use Rattle.lard_journal.specs.declared.rec.Rec.TheVariants as rec
-use Rattle.lard_machine.specs.declared.fault.What.{What}
+use Rattle.lard_rules.specs.declared.fault.What.{What}
 use Rattle.lard_settling.specs.declared.settled.Settled.{Settled}
 use Rattle.lard_settling.specs.Settling.{IsFrontOf, Stop, all_inner, closed_by, come, completed_since, completions, counted, deliveries, fired_since, firings, is_quiet, left, nodes_complete, outcome, round, rounds_from, settled, settled_from, takes}
 use Rattle.lard_settling.specs.Steps.{as_inner, closing, inner_given, inner_step, settle_begun}

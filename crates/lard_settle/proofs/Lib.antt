@@ -2,5 +2,5 @@ pub mod Going
 pub mod Growth
 pub mod Ruled
 pub mod Enough
-pub use Rattle.lard_cluster_world.proofs.Lawful
-pub use Rattle.lard_cluster_world.proofs.Runs
+pub use Rattle.lard_world.proofs.Lawful
+pub use Rattle.lard_world.proofs.Runs

@@ -1,4 +1,4 @@
 pub use Rattle.lard_settling.specs.Events
 pub use Rattle.lard_settling.specs.Settling
-pub use Rattle.lard_cluster_world.specs.Enough
-pub use Rattle.lard_cluster_world.specs.Lawful
+pub use Rattle.lard_world.specs.Enough
+pub use Rattle.lard_world.specs.Lawful

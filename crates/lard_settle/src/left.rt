@@ -7,7 +7,7 @@ ghost use Rattle.lard_settling.specs.Left.{jobs_at};
 
 use lard_agenda::Agenda;
 use lard_base::{NoMemory, NodeId};
-use lard_cluster_world::World;
+use lard_world::World;
 
 /// Whether no timer runs but those that are stalled, and no job waits.
 pub fn is_quiet(world: &World, agenda: &mut Agenda) -> Result<bool, NoMemory>

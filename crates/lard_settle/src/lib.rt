@@ -12,6 +12,6 @@ mod steps;
 #[cfg(test)]
 mod tests;
 
-pub use lard_cluster_world::World;
 pub use lard_settling::Settled;
+pub use lard_world::World;
 pub use settles::settle;

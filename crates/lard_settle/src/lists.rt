@@ -4,14 +4,14 @@ ghost use Rattle.std.specs.Prelude.{◌≡◌, ◌≤◌, false, filter, map, re
 ghost use Rattle.std.specs.List.{AllByRecursion};
 ghost use Rattle.lard_agenda.specs.Agenda.{IsAgendaOf, due, holders, on_way};
 ghost use Rattle.lard_base.specs.declared.event.Event.TheVariants as event;
-ghost use Rattle.lard_cluster.specs.Bounds.{HasRule};
+ghost use Rattle.lard_rules.specs.Bounds.{HasRule};
 ghost use Rattle.lard_settling.specs.Settling.{completions, deliveries, firings, is_own, is_own_at, takes};
 ghost use Rattle.lard_settling.specs.Left.{is_holder};
 
 use crate::left::jobs;
 use lard_agenda::Agenda;
 use lard_base::{ConnId, Event, Events, Items, NoMemory, Place};
-use lard_cluster_world::World;
+use lard_world::World;
 use std::alloc::Global;
 
 /// Each client that holds takes, by number.

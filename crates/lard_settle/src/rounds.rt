@@ -8,8 +8,8 @@ use crate::left::is_quiet;
 use crate::lists::{completions, deliveries, firings};
 use crate::steps::do_all;
 use lard_agenda::Agenda;
-use lard_cluster::StepFault;
-use lard_cluster_world::World;
+use lard_rules::StepFault;
+use lard_world::World;
 use std::alloc::Global;
 
 /// Rounds until nothing is left or so many were done, and how many were done.

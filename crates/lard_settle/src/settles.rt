@@ -2,7 +2,7 @@
 
 ghost use Rattle.std.specs.Prelude.{◌≡◌, false, Ok, IfOk, OnOk};
 ghost use Rattle.lard_agenda.specs.Agenda.{IsAgendaOf};
-ghost use Rattle.lard_cluster_world.specs.Enough.{EndsWithEnough, RestsWithEnough};
+ghost use Rattle.lard_world.specs.Enough.{EndsWithEnough, RestsWithEnough};
 ghost use Rattle.lard_settling.specs.Settling.{Does, IsFrontOf, Settles, all_inner, answer, closed_by, rounds_from, settled, settled_from, takes};
 
 use crate::left::left;
@@ -10,9 +10,9 @@ use crate::lists::takes;
 use crate::rounds::do_rounds;
 use crate::steps::do_all;
 use lard_agenda::Agenda;
-use lard_cluster::StepFault;
-use lard_cluster_world::World;
+use lard_rules::StepFault;
 use lard_settling::Settled;
+use lard_world::World;
 use std::alloc::Global;
 
 /// Settles: first each client that holds takes; then rounds of inner steps, at most so many, until no timer runs but those that are

@@ -2,12 +2,12 @@
 
 ghost use Rattle.std.specs.Prelude.{◌≡◌, false, OnOk};
 ghost use Rattle.std.specs.List.{AllByRecursion};
-ghost use Rattle.lard_cluster.specs.Bounds.{HasRule};
+ghost use Rattle.lard_rules.specs.Bounds.{HasRule};
 ghost use Rattle.lard_settling.specs.Settling.{Does, IsFrontOf, all_inner};
 
 use lard_base::Events;
-use lard_cluster::StepFault;
-use lard_cluster_world::World;
+use lard_rules::StepFault;
+use lard_world::World;
 use std::alloc::Global;
 
 /// Does an inner step of each of these events, up to one that is not done.

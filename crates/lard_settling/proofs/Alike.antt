@@ -8,25 +8,25 @@ use Rattle.lard_base.specs.declared.event.Event.TheVariants as event
 use Rattle.lard_base.specs.declared.place.Place.{Place}
 use Rattle.lard_base.specs.declared.place.Place.TheVariants as place
 use Rattle.lard_client.specs.Control.{ClientBlock, is_armed, written_len}
-use Rattle.lard_cluster.specs.Bounds.{HasRule}
-use Rattle.lard_cluster.specs.declared.fault.StepFault.{StepFault}
-use Rattle.lard_cluster.specs.declared.machine.Machine.{Machine}
-use Rattle.lard_cluster.specs.Machine.{client_acted, client_does, client_goes_on, client_put, clocked, completes, delivered, disk_at, from_place, front_acts, front_gave, front_setting, happens, is_no_job, is_no_node, lost, node_acts, node_at, node_gave, node_setting, opened, passed, segments_sent, timer, to_client, to_front, to_place, told, wrote}
-use Rattle.lard_front_rules.specs.declared.front.FrontState.{FrontState}
-use Rattle.lard_front_rules.specs.FrontPlace.{front_step}
+use Rattle.lard_rules.specs.Bounds.{HasRule}
+use Rattle.lard_rules.specs.declared.fault.StepFault.{StepFault}
+use Rattle.lard_rules.specs.declared.machine.Machine.{Machine}
+use Rattle.lard_rules.specs.Machine.{client_acted, client_does, client_goes_on, client_put, clocked, completes, delivered, disk_at, from_place, front_acts, front_gave, front_setting, happens, is_no_job, is_no_node, lost, node_acts, node_at, node_gave, node_setting, opened, passed, segments_sent, timer, to_client, to_front, to_place, told, wrote}
+use Rattle.lard_rules.specs.declared.front.FrontState.{FrontState}
+use Rattle.lard_rules.specs.FrontPlace.{front_step}
 use Rattle.lard_history.specs.Journal.{request}
 use Rattle.lard_journal.specs.declared.rec.Rec.{Rec}
 use Rattle.lard_journal.specs.declared.rec.Rec.TheVariants as rec
-use Rattle.lard_machine.specs.Machine.{packets_of, sent_records}
+use Rattle.lard_rules.specs.Sent.{packets_of, sent_records}
 use Rattle.lard_net.specs.Net.{Packet, lose_at, packet_at}
-use Rattle.lard_node_rules.specs.declared.node.BackIn.{BackIn}
-use Rattle.lard_node_rules.specs.declared.node.BackIn.TheVariants as back
-use Rattle.lard_node_rules.specs.declared.node.NodeState.{NodeState}
-use Rattle.lard_node_rules.specs.NodePlace.{node_step}
+use Rattle.lard_rules.specs.declared.node.BackIn.{BackIn}
+use Rattle.lard_rules.specs.declared.node.BackIn.TheVariants as back
+use Rattle.lard_rules.specs.declared.node.NodeState.{NodeState}
+use Rattle.lard_rules.specs.NodePlace.{node_step}
 use Rattle.lard_rules.specs.Client.{client_aborts, client_gets, client_holds, client_injects, client_opens, client_shuts, client_takes, client_timer, client_writes}
 use Rattle.lard_rules.specs.declared.front.FrontIn.{FrontIn}
 use Rattle.lard_rules.specs.declared.front.FrontIn.TheVariants as input
-use Rattle.lard_rules.specs.declared.front.Out.{Out}
+use Rattle.lard_rules.specs.declared.places.Out.{Out}
 use Rattle.lard_rules.specs.declared.places.Station.{Station}
 use Rattle.lard_rules.specs.declared.places.Turn.{Turn}
 use Rattle.lard_rules.specs.Outs.{out_of}

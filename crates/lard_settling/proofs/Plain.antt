@@ -5,22 +5,22 @@ use Rattle.lard_base.specs.declared.event.Event.{Event}
 use Rattle.lard_base.specs.declared.event.Event.TheVariants as event
 use Rattle.lard_base.specs.declared.place.Place.{Place}
 use Rattle.lard_base.specs.declared.place.Place.TheVariants.{Front, Node, Client}
-use Rattle.lard_cluster.specs.declared.machine.Machine.{Machine}
-use Rattle.lard_cluster.specs.Bounds.{HasRule}
-use Rattle.lard_cluster.specs.Machine.{clocked, machine_step, segments_sent, told, told_rows}
-use Rattle.lard_cluster_view.specs.View.{IsViewed, Part, part_of, setting_of, timer_rows}
-use Rattle.lard_cluster_view.proofs.Fine.{IsFine, fine}
-use Rattle.lard_cluster_view.proofs.Saying.{GaveAt, NotedAt}
-use Rattle.lard_cluster_view.proofs.Shapes.{IsPut, Shapes, both_out}
-use Rattle.lard_cluster_view.proofs.Stepping.{step-has}
-use Rattle.lard_cluster_view.proofs.Timers.{IsTimerAt, timer_rows-are}
-use Rattle.lard_cluster_view.proofs.Turned.{IsSaid}
+use Rattle.lard_rules.specs.declared.machine.Machine.{Machine}
+use Rattle.lard_rules.specs.Bounds.{HasRule}
+use Rattle.lard_rules.specs.Machine.{clocked, machine_step, segments_sent, told, told_rows}
+use Rattle.lard_law_view.specs.View.{IsViewed, Part, part_of, setting_of, timer_rows}
+use Rattle.lard_law_view.proofs.Fine.{IsFine, fine}
+use Rattle.lard_law_view.proofs.Saying.{GaveAt, NotedAt}
+use Rattle.lard_law_view.proofs.Shapes.{IsPut, Shapes, both_out}
+use Rattle.lard_law_view.proofs.Stepping.{step-has}
+use Rattle.lard_law_view.proofs.Timers.{IsTimerAt, timer_rows-are}
+use Rattle.lard_law_view.proofs.Turned.{IsSaid}
 use Rattle.lard_history.proofs.Each.{Each, Each-append, Each-weaker}
 use Rattle.lard_journal.specs.declared.rec.Rec.{Rec}
 use Rattle.lard_journal.specs.declared.rec.Rec.TheVariants as rec
-use Rattle.lard_machine.specs.Machine.{sent_records}
-use Rattle.lard_rules.specs.declared.front.Out.{Out}
-use Rattle.lard_view.proofs.Shapes.{behind}
+use Rattle.lard_rules.specs.Sent.{sent_records}
+use Rattle.lard_rules.specs.declared.places.Out.{Out}
+use Rattle.lard_law_ends.proofs.OwnRecords.{behind}
 
 -- it begins a step, or closes a settle
 abbrev pub is_mark : Rec → Bool

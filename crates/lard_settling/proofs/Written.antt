@@ -8,19 +8,19 @@ use Rattle.lard_base.specs.declared.config.Config.{Config}
 use Rattle.lard_base.specs.declared.event.Event.{Event}
 use Rattle.lard_base.specs.declared.event.Event.TheVariants as event
 use Rattle.lard_base.specs.declared.limits.TheConstants.{MAX_PACKETS, MAX_PACKET_BYTES, MAX_RECORDS, MAX_RESPONSE_BYTES}
-use Rattle.lard_cluster.specs.Bounds.{HasRule}
-use Rattle.lard_cluster.specs.declared.fault.StepFault.{StepFault}
-use Rattle.lard_cluster.specs.declared.machine.Machine.{Machine}
-use Rattle.lard_cluster.specs.Machine.{happens, limit_reached, machine_step, passed, start, unless_limit}
-use Rattle.lard_cluster_view.proofs.Carried.{reached-viewed}
-use Rattle.lard_cluster_view.proofs.Runs.{passes-more}
+use Rattle.lard_rules.specs.Bounds.{HasRule}
+use Rattle.lard_rules.specs.declared.fault.StepFault.{StepFault}
+use Rattle.lard_rules.specs.declared.machine.Machine.{Machine}
+use Rattle.lard_rules.specs.Machine.{happens, limit_reached, machine_step, passed, start, unless_limit}
+use Rattle.lard_law_view.proofs.Carried.{reached-viewed}
+use Rattle.lard_law_view.proofs.Runs.{passes-more}
 use Rattle.lard_journal.specs.Inner.{turned_at}
 use Rattle.lard_journal.specs.declared.rec.Rec.{Rec}
 use Rattle.lard_journal.specs.declared.rec.Rec.TheVariants as rec
 use Rattle.lard_journal.proofs.Turned.{turned_behind}
-use Rattle.lard_machine.specs.declared.fault.What.{What}
-use Rattle.lard_machine.specs.declared.fault.What.TheVariants.{Answers, PacketBytes, Packets, Records}
-use Rattle.lard_machine.specs.Machine.{limit_of}
+use Rattle.lard_rules.specs.declared.fault.What.{What}
+use Rattle.lard_rules.specs.declared.fault.What.TheVariants.{Answers, PacketBytes, Packets, Records}
+use Rattle.lard_rules.specs.Limits.{limit_of}
 use Rattle.lard_net.specs.Net.{bytes_in}
 use Rattle.lard_settling.specs.Steps.{as_inner, closing, inner_given, inner_step, settle_begun, settle_closed}
 use Rattle.lard_settling.specs.Written.{AreWrittenOut, IsWrittenOut, is_settle, steps_in, steps_with, told_as, written_from, written_out, written_rec}

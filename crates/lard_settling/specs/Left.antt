@@ -2,9 +2,9 @@
 use Rattle.std.specs.Prelude.{ℕ, zero, suc, ◌+◌, Bool, false, length, Option, Some, None}
 use Rattle.std.specs.FinMap as table
 use Rattle.lard_client.specs.Control.{is_holding}
-use Rattle.lard_cluster.specs.declared.machine.Machine.{Machine}
-use Rattle.lard_cluster.specs.Machine.{node_at}
-use Rattle.lard_node_rules.specs.declared.node.NodeState.{NodeState}
+use Rattle.lard_rules.specs.declared.machine.Machine.{Machine}
+use Rattle.lard_rules.specs.Machine.{node_at}
+use Rattle.lard_rules.specs.declared.node.NodeState.{NodeState}
 use Rattle.lard_rules.specs.declared.places.Station.{Station}
 
 -- how many jobs wait at the disk of node n

@@ -5,9 +5,9 @@ use Rattle.lard_base.specs.declared.event.Event.{Event}
 use Rattle.lard_base.specs.declared.event.Event.TheVariants as event
 use Rattle.lard_base.specs.declared.place.Place.{Place}
 use Rattle.lard_base.specs.declared.place.Place.TheVariants.{Front, Node, Client}
-use Rattle.lard_cluster.specs.declared.fault.StepFault.{StepFault}
-use Rattle.lard_cluster.specs.declared.fault.StepFault.TheVariants.{NoMemory}
-use Rattle.lard_cluster.specs.declared.machine.Machine.{Machine}
+use Rattle.lard_rules.specs.declared.fault.StepFault.{StepFault}
+use Rattle.lard_rules.specs.declared.fault.StepFault.TheVariants.{NoMemory}
+use Rattle.lard_rules.specs.declared.machine.Machine.{Machine}
 use Rattle.lard_journal.specs.declared.rec.Rec.{Rec}
 use Rattle.lard_settling.specs.declared.settled.Settled.{Settled}
 use Rattle.lard_settling.specs.declared.settled.Settled.TheVariants.{Open, Quiet}

@@ -2,9 +2,9 @@
 use Rattle.std.proofs.Common.{◌≡◌, ℕ, zero, suc, ◌≤◌, ◌<◌, List, [], ◌∷◌, length, get_or, refl, ap, arith}
 use Rattle.std.proofs.Math.ListN.{set}
 use Rattle.lard_endpoint.specs.Control.{ControlBlock}
-use Rattle.lard_node_rules.specs.declared.stay.Entry.{Entry}
-use Rattle.lard_node_rules.specs.declared.stay.Progress.{Progress}
-use Rattle.lard_node_rules.specs.Stay.{come_on}
+use Rattle.lard_rules.specs.declared.stay.Entry.{Entry}
+use Rattle.lard_rules.specs.declared.stay.Progress.{Progress}
+use Rattle.lard_rules.specs.Stay.{come_on}
 use Rattle.lard_stay.specs.declared.work.Work.{Work}
 use Rattle.lard_stay.specs.Work.{IsSound}
 

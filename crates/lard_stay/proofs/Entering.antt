@@ -5,8 +5,8 @@ use Rattle.std.specs.List.{slice_get}
 use Rattle.std.proofs.lemmas.Bool.Decides.{nat_tests}
 use Rattle.lard_disk.specs.declared.disk.Job.{Job}
 use Rattle.lard_endpoint.specs.Control.{ControlBlock}
-use Rattle.lard_node_rules.specs.declared.stay.Entry.{Entry}
-use Rattle.lard_node_rules.specs.Stay.{NodeEnv, Work as Ruled, enters, enters_one, started, started_here, started_there, starts_at, starts_one}
+use Rattle.lard_rules.specs.declared.stay.Entry.{Entry}
+use Rattle.lard_rules.specs.Stay.{NodeEnv, Work as Ruled, enters, enters_one, started, started_here, started_there, starts_at, starts_one}
 use Rattle.lard_request.specs.declared.verdict.Verdict.{Verdict}
 use Rattle.lard_seq.specs.Seq.{one_if}
 use Rattle.lard_stay.specs.declared.work.Work.{Work}

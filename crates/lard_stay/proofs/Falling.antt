@@ -7,12 +7,12 @@ use Rattle.std.proofs.lemmas.List.{length-drop, length_push}
 use Rattle.lard_answers.specs.Answers.{answer}
 use Rattle.lard_base.specs.declared.place.Via.{Via}
 use Rattle.lard_endpoint.specs.Control.{ControlBlock, discarding_on, finishing}
-use Rattle.lard_node_rules.specs.declared.stay.Entry.{Entry}
-use Rattle.lard_node_rules.specs.declared.stay.Next.{Next}
-use Rattle.lard_node_rules.specs.declared.stay.Next.TheVariants.{Serve, Read, Stop}
-use Rattle.lard_node_rules.specs.declared.stay.Progress.{Progress}
-use Rattle.lard_node_rules.specs.declared.stay.Progress.TheVariants.{Named, Reading, Awaited, Ready}
-use Rattle.lard_node_rules.specs.Stay.{NodeEnv, Work, asking, asks_for, entered, enters, goes_on, left, left_over, named_paths, next_by, next_in, next_of, read_entry, reads_batch, reads_these, serves, serves_by, serves_first, serves_with, turn, turned}
+use Rattle.lard_rules.specs.declared.stay.Entry.{Entry}
+use Rattle.lard_rules.specs.declared.stay.Next.{Next}
+use Rattle.lard_rules.specs.declared.stay.Next.TheVariants.{Serve, Read, Stop}
+use Rattle.lard_rules.specs.declared.stay.Progress.{Progress}
+use Rattle.lard_rules.specs.declared.stay.Progress.TheVariants.{Named, Reading, Awaited, Ready}
+use Rattle.lard_rules.specs.Stay.{NodeEnv, Work, asking, asks_for, entered, enters, goes_on, left, left_over, named_paths, next_by, next_in, next_of, read_entry, reads_batch, reads_these, serves, serves_by, serves_first, serves_with, turn, turned}
 use Rattle.lard_reader.specs.Batches.{batch_of, bytes_used}
 use Rattle.lard_reader.proofs.Used.{batch-used}
 use Rattle.lard_request.specs.declared.verdict.Verdict.{Verdict}

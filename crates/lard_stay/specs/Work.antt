@@ -4,11 +4,11 @@ use Rattle.lard_base.specs.declared.limits.TheConstants.{MAX_PATH_BYTES}
 use Rattle.lard_cache.specs.Recency.{has}
 use Rattle.lard_disk.specs.declared.disk.Job.{Job}
 use Rattle.lard_endpoint.specs.Control.{ControlBlock}
-use Rattle.lard_node_rules.specs.declared.stay.Asked.{Asked}
-use Rattle.lard_node_rules.specs.declared.stay.Progress.{Progress}
-use Rattle.lard_node_rules.specs.declared.stay.Stay.{Stay}
-use Rattle.lard_node_rules.specs.declared.stay.Want.{Want}
-use Rattle.lard_node_rules.specs.Stay.{NodeEnv, Work as Ruled, come_progress, read_progress}
+use Rattle.lard_rules.specs.declared.stay.Asked.{Asked}
+use Rattle.lard_rules.specs.declared.stay.Progress.{Progress}
+use Rattle.lard_rules.specs.declared.stay.Stay.{Stay}
+use Rattle.lard_rules.specs.declared.stay.Want.{Want}
+use Rattle.lard_rules.specs.Stay.{NodeEnv, Work as Ruled, come_progress, read_progress}
 use Rattle.lard_seq.specs.Seq.{one_if}
 use Rattle.lard_serving.specs.Serving as serving
 use Rattle.lard_stay.specs.declared.coming.Coming.{Coming}

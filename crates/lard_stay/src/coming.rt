@@ -3,14 +3,14 @@
 ghost use Rattle.std.specs.Prelude.{◌≡◌, ◌+◌, ◌≤◌, ◌<◌, ◌^◌, length, OnOk, List};
 ghost use Rattle.std.specs.List.{slice_get};
 ghost use Rattle.lard_endpoint.specs.Control.{ControlBlock};
-ghost use Rattle.lard_node_rules.specs.Stay.{came_for, come_on, come_progress, read_progress, tagged};
+ghost use Rattle.lard_rules.specs.Stay.{came_for, come_on, come_progress, read_progress, tagged};
 ghost use Rattle.lard_stay.specs.Work.{IsSound, env_seen, progress_by, work_seen};
 
 use crate::starting::start_named;
 use crate::work::{Env, Work};
 use lard_base::{Items, NoMemory, NodeId, Via};
 use lard_endpoint::Endpoint;
-use lard_node_rules::{Entry, Progress};
+use lard_rules::{Entry, Progress};
 use std::alloc::Global;
 use std::mem::replace;
 
@@ -25,7 +25,7 @@ pub enum Coming {
 
 /// A Tag came, with a node for each path of the Ask: each request that the Ask names starts at its node, in order. Nothing is
 /// served yet. It adds at most eight jobs and eight contents to fetch.
-#[tactic(auto, unfolding(lard_node_rules::specs::Stay::starts_at))]
+#[tactic(auto, unfolding(lard_rules::specs::Stay::starts_at))]
 pub fn tag(
     alloc: Global,
     env: &Env<'_>,

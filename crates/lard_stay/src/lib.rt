@@ -1,6 +1,6 @@
 //! The requests of a stay at a node: how they are read, started where they are assigned, and served in their order.
 //!
-//! It stands above `lard_serving`, which answers one request, and follows the rules of `lard_node_rules`. A node calls it for
+//! It stands above `lard_serving`, which answers one request, and follows the rules of `lard_rules`. A node calls it for
 //! each connection that is here, with the endpoint in hand, and puts the endpoint and what is left of the stay back.
 #![tactic(auto)]
 

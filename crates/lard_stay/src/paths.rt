@@ -3,13 +3,13 @@
 ghost use Rattle.std.specs.Prelude.{◌≡◌, ◌+◌, ◌≤◌, All, length, IfOk, IfSome, option_copied};
 ghost use Rattle.lard_answers.specs.Answers.{good_path};
 ghost use Rattle.lard_files.specs.Files.{file_at};
-ghost use Rattle.lard_node_rules.specs.Stay.{named_path, named_paths};
+ghost use Rattle.lard_rules.specs.Stay.{named_path, named_paths};
 ghost use Rattle.lard_stay.specs.Work.{IsPath};
 
 use lard_base::{NoMemory, Path, Paths};
 use lard_files::Files;
-use lard_node_rules::{Entry, Progress};
 use lard_request::Verdict;
+use lard_rules::{Entry, Progress};
 use std::alloc::Global;
 
 /// The path of a request for a file.

@@ -3,7 +3,7 @@
 ghost use Rattle.std.specs.Prelude.{◌≡◌, IfOk, OnOk};
 ghost use Rattle.lard_endpoint.specs.Control.{ControlBlock};
 ghost use Rattle.lard_files.specs.Files.{file_at};
-ghost use Rattle.lard_node_rules.specs.Stay.{enters_one, read_entry, started, started_here, started_there, starts_one};
+ghost use Rattle.lard_rules.specs.Stay.{enters_one, read_entry, started, started_here, started_there, starts_one};
 ghost use Rattle.lard_stay.specs.Work.{HasEntered, IsPath, StartsOne, env_seen, work_seen};
 
 use crate::paths::{good_path, named_path};
@@ -12,8 +12,8 @@ use lard_base::{NoMemory, NodeId, Path, Via};
 use lard_disk::Job;
 use lard_files::Files;
 use lard_journal::Rec;
-use lard_node_rules::{Entry, Progress, Want};
 use lard_request::Verdict;
+use lard_rules::{Entry, Progress, Want};
 use std::alloc::Global;
 
 /// A request as it is read: one for a file is to be assigned, any other has its answer.

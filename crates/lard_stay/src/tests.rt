@@ -11,7 +11,7 @@ use lard_cache::Cache;
 use lard_endpoint::Endpoint;
 use lard_files::Files;
 use lard_journal::Rec;
-use lard_node_rules::{Progress, Stay};
+use lard_rules::{Progress, Stay};
 use std::alloc::Global;
 use std::test::Fail;
 

@@ -3,7 +3,7 @@
 ghost use Rattle.std.specs.Prelude.{◌≡◌, ◌+◌, ◌≤◌, ◌<◌, ◌^◌, [], false, true, None, length, drop, IfOk, OnOk, ◌≢◌};
 ghost use Rattle.lard_base.specs.declared.limits.TheConstants.{MAX_STREAM_BYTES};
 ghost use Rattle.lard_endpoint.specs.Control.{ControlBlock};
-ghost use Rattle.lard_node_rules.specs.Stay.{asking, enters, goes_on, next_by, next_of, reads_batch, serves};
+ghost use Rattle.lard_rules.specs.Stay.{asking, enters, goes_on, next_by, next_of, reads_batch, serves};
 ghost use Rattle.lard_rules.specs.Loop.{state_of, step_of};
 ghost use Rattle.lard_seq.specs.Seq.{one_if};
 ghost use Rattle.lard_stay.specs.Work.{HasAsked, HasEntered, IsSound, env_seen, work_seen};
@@ -13,10 +13,10 @@ use crate::starting::enter;
 use crate::work::{Env, Work};
 use lard_base::{Items, NoMemory};
 use lard_endpoint::Endpoint;
-use lard_node_rules::{Asked, Entry, Next, Progress};
 use lard_reader::batch;
 use lard_reader::laws::each_verdict_uses_a_byte;
 use lard_request::Verdicts;
+use lard_rules::{Asked, Entry, Next, Progress};
 use lard_serving::{answer, end_at_fin, may_read};
 use std::alloc::Global;
 use std::mem::replace;
@@ -181,7 +181,7 @@ fn read(
 }
 
 /// Enters the requests of a batch, in order.
-#[tactic(auto, unfolding(lard_node_rules::specs::Stay::enters))]
+#[tactic(auto, unfolding(lard_rules::specs::Stay::enters))]
 fn enter_all(
     alloc: Global,
     env: &Env<'_>,

@@ -2,13 +2,13 @@
 
 ghost use Rattle.std.specs.Prelude.{◌≡◌, []};
 ghost use Rattle.lard_endpoint.specs.Control.{ControlBlock};
-ghost use Rattle.lard_node_rules.specs.Node.{work_of};
+ghost use Rattle.lard_rules.specs.Node.{work_of};
 ghost use Rattle.lard_stay.specs.Work.{IsSound, IsStaySound, work_seen};
 
 use lard_base::{Epoch, Items, NodeId};
 use lard_cache::Cache;
 use lard_disk::Job;
-use lard_node_rules::{Asked, Entry, Stay, Want};
+use lard_rules::{Asked, Entry, Stay, Want};
 use lard_serving::Service;
 use std::alloc::Global;
 

@@ -1,8 +1,8 @@
 -- A packet comes to its place with the bytes that it shares.
 use Rattle.std.proofs.Common.{◌≡◌, ℕ, List, Bool, false, cond, Some, Ok, Err, sym, ap, ◌∙◌}
-use Rattle.lard_cluster.specs.declared.fault.StepFault.TheVariants.{WasLost}
-use Rattle.lard_cluster.specs.declared.machine.Machine.{Machine}
-use Rattle.lard_cluster.specs.Machine.{delivered, to_place}
+use Rattle.lard_rules.specs.declared.fault.StepFault.TheVariants.{WasLost}
+use Rattle.lard_rules.specs.declared.machine.Machine.{Machine}
+use Rattle.lard_rules.specs.Machine.{delivered, to_place}
 use Rattle.lard_net.specs.Net.{Packet, packet_at}
 
 pub delivered_is : (m n : Machine) (k : ℕ) (p : Packet) (bytes : List ℕ) → Some p ≡ packet_at m.net k → p.lost ≡ false → bytes ≡ p.bytes

@@ -6,8 +6,8 @@ use Rattle.std.specs.Ordering.{nat_cmp}
 use Rattle.lard_base.specs.declared.event.Event.{Event}
 use Rattle.lard_base.specs.declared.place.Place.TheVariants as place
 use Rattle.lard_client.specs.Control.{ClientBlock, is_armed}
-use Rattle.lard_cluster.specs.Machine.{client_acted, client_goes_on, told}
-use Rattle.lard_cluster.specs.declared.machine.Machine.{Machine}
+use Rattle.lard_rules.specs.Machine.{client_acted, client_goes_on, told}
+use Rattle.lard_rules.specs.declared.machine.Machine.{Machine}
 use Rattle.lard_stepping.specs.Lent.{stand_in, without_client}
 use Rattle.lard_journal.specs.declared.rec.Rec.{Rec}
 use Rattle.lard_net.specs.Net.{Packet, lose_at}

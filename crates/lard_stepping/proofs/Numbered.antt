@@ -5,16 +5,16 @@ use Rattle.lard_base.specs.declared.event.Event.{Event}
 use Rattle.lard_base.specs.declared.event.Event.TheVariants as event
 use Rattle.lard_base.specs.declared.errors.NoMemory.{NoMemory}
 use Rattle.lard_base.specs.declared.place.Place.TheVariants as place
-use Rattle.lard_cluster.specs.Machine.{completes, disk_at, is_no_job, is_no_node, node_acts, node_at, node_gave, node_setting, told}
-use Rattle.lard_cluster.specs.declared.fault.StepFault.{StepFault}
-use Rattle.lard_cluster.specs.declared.fault.StepFault.TheVariants.{NoNode, NoJob}
-use Rattle.lard_cluster.specs.declared.machine.Machine.{Machine}
+use Rattle.lard_rules.specs.Machine.{completes, disk_at, is_no_job, is_no_node, node_acts, node_at, node_gave, node_setting, told}
+use Rattle.lard_rules.specs.declared.fault.StepFault.{StepFault}
+use Rattle.lard_rules.specs.declared.fault.StepFault.TheVariants.{NoNode, NoJob}
+use Rattle.lard_rules.specs.declared.machine.Machine.{Machine}
 use Rattle.lard_journal.specs.declared.rec.Rec.{Rec}
-use Rattle.lard_node_rules.specs.declared.node.BackIn.{BackIn}
-use Rattle.lard_node_rules.specs.declared.node.BackIn.TheVariants as back
-use Rattle.lard_node_rules.specs.declared.node.NodeState.{NodeState}
-use Rattle.lard_node_rules.specs.NodePlace.{node_step}
-use Rattle.lard_rules.specs.declared.front.Out.{Out}
+use Rattle.lard_rules.specs.declared.node.BackIn.{BackIn}
+use Rattle.lard_rules.specs.declared.node.BackIn.TheVariants as back
+use Rattle.lard_rules.specs.declared.node.NodeState.{NodeState}
+use Rattle.lard_rules.specs.NodePlace.{node_step}
+use Rattle.lard_rules.specs.declared.places.Out.{Out}
 
 there : (nodes : List NodeState) (n at : ℕ) (s : NodeState) → 1 ≤ n → at ≡ n - 1 → slice_get nodes at ≡ Some s → node_at nodes n ≡ Some s
 there nodes zero at s le is h = absurd (omega (arith, le))

@@ -7,18 +7,18 @@ use Rattle.std.proofs.lemmas.List.{length-set}
 use Rattle.lard_back.specs.Sound.{IsNodeSound}
 use Rattle.lard_base.specs.declared.event.Event.{Event}
 use Rattle.lard_base.specs.declared.place.Place.{Place}
-use Rattle.lard_cluster.specs.Machine.{passed, told, told_rows}
-use Rattle.lard_cluster.specs.declared.machine.Machine.{Machine}
+use Rattle.lard_rules.specs.Machine.{passed, told, told_rows}
+use Rattle.lard_rules.specs.declared.machine.Machine.{Machine}
 use Rattle.lard_stepping.specs.Sound.{IsNodeFit, IsSound, IsSoundTo}
 use Rattle.lard_dispatch.specs.Sound.{AreBefore}
-use Rattle.lard_front_rules.specs.declared.front.FrontState.{FrontState}
-use Rattle.lard_front_rules.specs.Sound.{IsFrontSound}
+use Rattle.lard_rules.specs.declared.front.FrontState.{FrontState}
+use Rattle.lard_rules.specs.FrontSound.{IsFrontSound}
 use Rattle.lard_journal.specs.Inner.{turned_at}
 use Rattle.lard_journal.specs.declared.rec.Rec.{Rec}
 use Rattle.lard_journal.specs.declared.rec.Rec.TheVariants as rec
 use Rattle.lard_net.specs.Net.{Packet}
-use Rattle.lard_node_rules.specs.declared.node.NodeState.{NodeState}
-use Rattle.lard_rules.specs.declared.front.Out.{Out}
+use Rattle.lard_rules.specs.declared.node.NodeState.{NodeState}
+use Rattle.lard_rules.specs.declared.places.Out.{Out}
 use Rattle.lard_rules.specs.declared.places.Station.{Station}
 use Rattle.lard_settling.specs.Steps.{as_inner, closing, settle_closed}
 

@@ -2,7 +2,7 @@
 use Rattle.std.specs.Prelude.{ℕ}
 use Rattle.std.specs.FinMap as table
 use Rattle.lard_client.specs.Control.{opened}
-use Rattle.lard_cluster.specs.declared.machine.Machine.{Machine}
+use Rattle.lard_rules.specs.declared.machine.Machine.{Machine}
 use Rattle.lard_rules.specs.declared.places.Station.{Station}
 
 -- the station that stands in for one that is in hand

@@ -5,10 +5,10 @@ use Rattle.lard_back.specs.Sound.{IsNodeSound}
 use Rattle.lard_base.specs.Config.{config_check}
 use Rattle.lard_base.specs.declared.config.Config.{Config}
 use Rattle.lard_base.specs.declared.limits.TheConstants.{MAX_PACKETS, MAX_RECORDS, MAX_RESPONSE_BYTES, MAX_STREAM_BYTES}
-use Rattle.lard_cluster.specs.declared.machine.Machine.{Machine}
+use Rattle.lard_rules.specs.declared.machine.Machine.{Machine}
 use Rattle.lard_dispatch.specs.Sound.{AreBefore}
-use Rattle.lard_front_rules.specs.Sound.{IsFrontSound}
-use Rattle.lard_node_rules.specs.declared.node.NodeState.{NodeState}
+use Rattle.lard_rules.specs.FrontSound.{IsFrontSound}
+use Rattle.lard_rules.specs.declared.node.NodeState.{NodeState}
 
 -- no limit was reached
 pub record HasRoom (m : Machine) : Type 0 where

@@ -2,10 +2,10 @@
 
 ghost use Rattle.std.specs.Prelude.{◌≡◌, ◌+◌, ◌^◌, ◌≤◌, ◌<◌, ◌-◌, true, [], ◌∷◌, ◌++◌, length, IfOk, OnOk, OnErr};
 ghost use Rattle.lard_base.specs.declared.limits.TheConstants.{MAX_SEGMENT_BYTES};
-ghost use Rattle.lard_cluster.specs.Machine.{passed, told};
+ghost use Rattle.lard_rules.specs.Machine.{passed, told};
 ghost use Rattle.lard_stepping.specs.Acting.{IsSendable};
 ghost use Rattle.lard_stepping.specs.Sound.{HasRoom, IsSound, IsSoundTo};
-ghost use Rattle.lard_machine.specs.Machine.{packets_of, sent_records};
+ghost use Rattle.lard_rules.specs.Sent.{packets_of, sent_records};
 ghost use Rattle.lard_net.specs.Net.{IsSized, most_bytes};
 ghost use Rattle.lard_rules.specs.Outs.{out_of};
 ghost use Rattle.lard_rules.specs.Speaking.{AreShort, listed};
@@ -13,10 +13,9 @@ ghost use Rattle.lard_serving.specs.Bounds.{IsTurn};
 
 use lard_base::limits::{MAX_MESSAGE_BYTES, MAX_SEGMENT_BYTES};
 use lard_base::{Bytes, ConnId, Event, NoMemory, Place, Sends};
-use lard_cluster::Machine;
 use lard_journal::{Journal, Rec, Recs};
 use lard_net::Net;
-use lard_rules::{Out, Turn};
+use lard_rules::{Machine, Out, Turn};
 use lard_serving::out_of;
 use std::alloc::Global;
 
@@ -55,7 +54,7 @@ pub fn conclude(
 }
 
 /// Tells all that a place does in a step, kind by kind. Without memory the journal is as it was.
-#[tactic(auto, using(crate::proofs::Sound::told_sound), unfolding(lard_cluster::specs::Machine::told))]
+#[tactic(auto, using(crate::proofs::Sound::told_sound), unfolding(lard_rules::specs::Machine::told))]
 pub fn tell(
     machine: &mut Machine,
     alloc: Global,

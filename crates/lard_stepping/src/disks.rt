@@ -1,19 +1,18 @@
 //! The steps of disks and of the clock.
 
 ghost use Rattle.std.specs.Prelude.{◌≡◌, ◌≤◌, true, false, Ok, IfSome, IfNone, OnOk};
-ghost use Rattle.lard_cluster.specs.Machine.{Steps, clocked, completes, is_no_node};
+ghost use Rattle.lard_rules.specs.Machine.{Steps, clocked, completes, is_no_node};
 ghost use Rattle.lard_stepping.specs.Sound.{HasRoom, IsSet, IsSound};
 
 use crate::acting::note;
 use crate::places::node_acts;
 use lard_base::{Event, Millis, NodeId};
-use lard_cluster::{Machine, StepFault};
 use lard_journal::Rec;
-use lard_node_rules::BackIn;
+use lard_rules::{BackIn, Machine, StepFault};
 use std::alloc::Global;
 
 /// Node n completes the j-th of its disk's jobs.
-#[tactic(auto, unfolding(lard_cluster::specs::Machine::completes))]
+#[tactic(auto, unfolding(lard_rules::specs::Machine::completes))]
 pub fn complete(machine: &mut Machine, alloc: Global, n: u32, j: u32) -> Result<(), StepFault>
     requires room { HasRoom machine.old }
     requires sound { IsSound machine.old }
@@ -48,7 +47,7 @@ pub fn node_of(n: u32, nodes: u8) -> Option<NodeId>
 }
 
 /// The time moves on.
-#[tactic(auto, using(crate::proofs::Sound::passed_at), unfolding(lard_cluster::specs::Machine::clocked))]
+#[tactic(auto, using(crate::proofs::Sound::passed_at), unfolding(lard_rules::specs::Machine::clocked))]
 pub fn tick(machine: &mut Machine, alloc: Global, ms: u32) -> Result<(), StepFault>
     requires room { HasRoom machine.old }
     requires sound { IsSound machine.old }

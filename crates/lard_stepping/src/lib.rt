@@ -1,6 +1,6 @@
-//! The steps of the whole cluster: the code that follows the machine of `lard_cluster`, event by event.
+//! The steps of the whole cluster: the code that follows the machine of `lard_rules`, event by event.
 //!
-//! It stands above a client's place, the front end, a node, the network and the journal, and on no law. `lard_cluster_world` calls it
+//! It stands above a client's place, the front end, a node, the network and the journal, and on no law. `lard_world` calls it
 //! for each event, and promises the laws of what it did.
 #![tactic(auto)]
 

@@ -3,8 +3,8 @@
 ghost use Rattle.std.specs.Prelude.{◌≡◌, ◌≤◌, ◌∷◌, [], length, false, OnOk, OnErr};
 ghost use Rattle.std.specs.FinMap as table;
 ghost use Rattle.lard_base.specs.declared.limits.TheConstants.{MAX_SEGMENT_BYTES};
-ghost use Rattle.lard_cluster.specs.Bounds.{HasTimer};
-ghost use Rattle.lard_cluster.specs.Machine.{Steps, delivered, from_place, front_acts, lost, timer, to_client, to_front, to_place};
+ghost use Rattle.lard_rules.specs.Bounds.{HasTimer};
+ghost use Rattle.lard_rules.specs.Machine.{Steps, delivered, from_place, front_acts, lost, timer, to_client, to_front, to_place};
 ghost use Rattle.lard_stepping.specs.Sound.{HasRoom, IsSet, IsSound};
 ghost use Rattle.lard_net.specs.Net.{IsSized, packet_at};
 
@@ -13,16 +13,14 @@ use crate::disks::node_of;
 use crate::places::{front_acts, node_acts, to_node};
 use crate::stations::{put_back, take_out};
 use lard_base::{Bytes, ConnId, Event, NoMemory, NodeId, Place};
-use lard_cluster::{Machine, StepFault};
 use lard_journal::Rec;
-use lard_node_rules::BackIn;
-use lard_rules::FrontIn;
+use lard_rules::{BackIn, FrontIn, Machine, StepFault};
 use lard_seq::Seq;
 use lard_shared::Shared;
 use std::alloc::Global;
 
 /// A packet comes to its place.
-#[tactic(auto, unfolding(lard_cluster::specs::Machine::delivered))]
+#[tactic(auto, unfolding(lard_rules::specs::Machine::delivered))]
 pub fn deliver(machine: &mut Machine, alloc: Global, k: u32) -> Result<(), StepFault>
     requires room { HasRoom machine.old }
     requires sound { IsSound machine.old }
@@ -172,7 +170,7 @@ fn to_client(
 }
 
 /// A packet arrives no more from now on.
-#[tactic(auto, using(crate::proofs::Lent::lost_len, crate::proofs::Sound::net_sound), unfolding(lard_cluster::specs::Machine::lost))]
+#[tactic(auto, using(crate::proofs::Lent::lost_len, crate::proofs::Sound::net_sound), unfolding(lard_rules::specs::Machine::lost))]
 pub fn lose(machine: &mut Machine, alloc: Global, k: u32) -> Result<(), StepFault>
     requires room { HasRoom machine.old }
     requires sound { IsSound machine.old }
@@ -208,7 +206,7 @@ pub fn fire(machine: &mut Machine, alloc: Global, place: Place, c: ConnId) -> Re
 }
 
 /// The front end's timers for a connection fire.
-#[tactic(auto, unfolding(lard_cluster::specs::Machine::timer))]
+#[tactic(auto, unfolding(lard_rules::specs::Machine::timer))]
 fn fire_front(machine: &mut Machine, alloc: Global, c: ConnId) -> Result<(), StepFault>
     requires room { HasRoom machine.old }
     requires sound { IsSound machine.old }
@@ -226,7 +224,7 @@ fn fire_front(machine: &mut Machine, alloc: Global, c: ConnId) -> Result<(), Ste
 }
 
 /// A node's timers for a connection fire.
-#[tactic(auto, unfolding(lard_cluster::specs::Machine::timer))]
+#[tactic(auto, unfolding(lard_rules::specs::Machine::timer))]
 fn fire_node(machine: &mut Machine, alloc: Global, n: NodeId, c: ConnId) -> Result<(), StepFault>
     requires room { HasRoom machine.old }
     requires sound { IsSound machine.old }
@@ -249,7 +247,7 @@ fn fire_node(machine: &mut Machine, alloc: Global, n: NodeId, c: ConnId) -> Resu
 }
 
 /// A client's timer fires.
-#[tactic(auto, unfolding(lard_cluster::specs::Machine::timer))]
+#[tactic(auto, unfolding(lard_rules::specs::Machine::timer))]
 fn fire_client(machine: &mut Machine, alloc: Global, c: ConnId) -> Result<(), StepFault>
     requires room { HasRoom machine.old }
     requires sound { IsSound machine.old }

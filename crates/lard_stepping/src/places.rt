@@ -1,17 +1,15 @@
 //! The steps of the front end and of nodes: each does the rule of what comes to it, and all that it did is told.
 
 ghost use Rattle.std.specs.Prelude.{◌≡◌, ◌≤◌, ◌∷◌, [], length, OnOk, OnErr};
-ghost use Rattle.lard_cluster.specs.Machine.{front_acts, node_acts, node_at};
-ghost use Rattle.lard_front_whole.specs.Bounds.{IsShort};
+ghost use Rattle.lard_rules.specs.Machine.{front_acts, node_acts, node_at};
+ghost use Rattle.lard_front.specs.Bounds.{IsShort};
 ghost use Rattle.lard_stepping.specs.Sound.{HasRoom, IsSet, IsSound};
 ghost use Rattle.lard_rules.specs.Speaking.{listed};
 
 use crate::acting::{pass, tell};
 use lard_base::{Event, Millis, NoMemory, NodeId, Place};
-use lard_cluster::Machine;
 use lard_journal::Rec;
-use lard_node_rules::BackIn;
-use lard_rules::FrontIn;
+use lard_rules::{BackIn, FrontIn, Machine};
 use std::alloc::Global;
 
 /// Ends a step in which the front end does the rule of what comes to it. Without memory the journal is as it was.
@@ -30,12 +28,12 @@ pub fn front_acts(
     ensures sound { OnOk result (IsSound machine.new) }
     ensures err { OnErr result (machine.new.journal ≡ machine.old.journal) }
 {
-    let setting = lard_front_whole::step::Setting {
+    let setting = lard_front::step::Setting {
         files: &machine.files,
         stream: machine.config.stream,
         now: Millis(machine.now),
     };
-    let out = lard_front_whole::step::step(&mut machine.front, alloc, &setting, input)?;
+    let out = lard_front::step::step(&mut machine.front, alloc, &setting, input)?;
     tell(machine, alloc, event, own, Place::Front, out)
 }
 

@@ -1,16 +1,16 @@
 //! What a settle does of the whole: its event, inner steps, and its closing record.
 
 ghost use Rattle.std.specs.Prelude.{◌≡◌, OnOk, OnErr};
-ghost use Rattle.lard_cluster.specs.Bounds.{HasRule};
-ghost use Rattle.lard_cluster.specs.Machine.{Steps};
+ghost use Rattle.lard_rules.specs.Bounds.{HasRule};
+ghost use Rattle.lard_rules.specs.Machine.{Steps};
 ghost use Rattle.lard_stepping.specs.Sound.{IsSet, IsSound};
 ghost use Rattle.lard_settling.specs.Steps.{closing, inner_step, settle_begun, settle_closed};
 
 use crate::acting::{append, mark};
 use crate::steps::{limit_reached, step};
 use lard_base::{Event, NoMemory};
-use lard_cluster::{Machine, StepFault};
 use lard_journal::Rec;
+use lard_rules::{Machine, StepFault};
 use std::alloc::Global;
 
 /// Begins a settle of at most so many rounds. After a fault everything is as it was; if memory ran out, only the journal is.

@@ -6,7 +6,7 @@ ghost use Rattle.lard_base.specs.declared.limits.TheConstants.{MAX_SEGMENT_BYTES
 ghost use Rattle.lard_client.specs.Control.{is_armed};
 ghost use Rattle.lard_history.specs.Journal.{request};
 ghost use Rattle.lard_rules.specs.Client.{client_aborts, client_holds, client_injects, client_shuts, client_takes, speaking};
-ghost use Rattle.lard_cluster.specs.Machine.{Steps, client_acted, client_does, opened, wrote};
+ghost use Rattle.lard_rules.specs.Machine.{Steps, client_acted, client_does, opened, wrote};
 ghost use Rattle.lard_stepping.specs.Lent.{without_client};
 ghost use Rattle.lard_stepping.specs.Sound.{HasRoom, IsSet, IsSound};
 ghost use Rattle.lard_rules.specs.Speaking.{listed};
@@ -15,10 +15,8 @@ ghost use Rattle.lard_serving.specs.Bounds.{IsTurn};
 use crate::acting::{Act, conclude};
 use lard_base::{Bytes, ConnId, Event, NoMemory, Path, Place};
 use lard_client::Client;
-use lard_cluster::{Machine, StepFault};
 use lard_journal::Rec;
-use lard_machine::What;
-use lard_rules::{Station, Turn};
+use lard_rules::{Machine, Station, StepFault, Turn, What};
 use lard_seq::Seq;
 use std::alloc::Global;
 
@@ -96,7 +94,7 @@ pub fn put_back(
 // ---- the events
 
 /// The client opens.
-#[tactic(auto, unfolding(lard_cluster::specs::Machine::opened))]
+#[tactic(auto, unfolding(lard_rules::specs::Machine::opened))]
 pub fn open(
     machine: &mut Machine,
     alloc: Global,
@@ -197,7 +195,7 @@ pub fn write_bytes(
 }
 
 /// The client writes bytes, unless they pass the stream limit.
-#[tactic(auto, unfolding(lard_cluster::specs::Machine::wrote))]
+#[tactic(auto, unfolding(lard_rules::specs::Machine::wrote))]
 fn write(
     machine: &mut Machine,
     alloc: Global,
@@ -228,7 +226,7 @@ fn write(
 }
 
 /// The client closes its side.
-#[tactic(auto, unfolding(lard_cluster::specs::Machine::client_does))]
+#[tactic(auto, unfolding(lard_rules::specs::Machine::client_does))]
 pub fn shut(machine: &mut Machine, alloc: Global, c: ConnId) -> Result<(), StepFault>
     requires room { HasRoom machine.old }
     requires sound { IsSound machine.old }
@@ -244,7 +242,7 @@ pub fn shut(machine: &mut Machine, alloc: Global, c: ConnId) -> Result<(), StepF
 }
 
 /// The client resets its connection.
-#[tactic(auto, unfolding(lard_cluster::specs::Machine::client_does))]
+#[tactic(auto, unfolding(lard_rules::specs::Machine::client_does))]
 pub fn abort(machine: &mut Machine, alloc: Global, c: ConnId) -> Result<(), StepFault>
     requires room { HasRoom machine.old }
     requires sound { IsSound machine.old }
@@ -260,7 +258,7 @@ pub fn abort(machine: &mut Machine, alloc: Global, c: ConnId) -> Result<(), Step
 }
 
 /// The schedule puts a packet with these bytes on the way from the client to the front end.
-#[tactic(auto, unfolding(lard_cluster::specs::Machine::client_does))]
+#[tactic(auto, unfolding(lard_rules::specs::Machine::client_does))]
 pub fn inject(
     machine: &mut Machine,
     alloc: Global,
@@ -284,7 +282,7 @@ pub fn inject(
 }
 
 /// The client leaves accepted bytes in its window from now on.
-#[tactic(auto, unfolding(lard_cluster::specs::Machine::client_does))]
+#[tactic(auto, unfolding(lard_rules::specs::Machine::client_does))]
 pub fn hold(machine: &mut Machine, alloc: Global, c: ConnId) -> Result<(), StepFault>
     requires room { HasRoom machine.old }
     requires sound { IsSound machine.old }
@@ -300,7 +298,7 @@ pub fn hold(machine: &mut Machine, alloc: Global, c: ConnId) -> Result<(), StepF
 }
 
 /// The client reads all that lies in its window.
-#[tactic(auto, unfolding(lard_cluster::specs::Machine::client_does))]
+#[tactic(auto, unfolding(lard_rules::specs::Machine::client_does))]
 pub fn take(machine: &mut Machine, alloc: Global, c: ConnId) -> Result<(), StepFault>
     requires room { HasRoom machine.old }
     requires sound { IsSound machine.old }

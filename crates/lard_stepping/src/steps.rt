@@ -1,18 +1,17 @@
 //! One step: no limit was reached, and the event has its rule.
 
 ghost use Rattle.std.specs.Prelude.{◌≡◌, OnOk};
-ghost use Rattle.lard_cluster.specs.Bounds.{HasRule};
-ghost use Rattle.lard_cluster.specs.Machine.{Steps, happens, limit_reached, machine_step};
+ghost use Rattle.lard_rules.specs.Bounds.{HasRule};
+ghost use Rattle.lard_rules.specs.Machine.{Steps, happens, limit_reached, machine_step};
 ghost use Rattle.lard_stepping.specs.Sound.{HasRoom, IsSet, IsSound};
 
 use crate::{disks, packets, stations};
 use lard_base::Event;
-use lard_cluster::{Machine, StepFault};
-use lard_machine::{What, first_limit};
+use lard_rules::{Machine, StepFault, What, first_limit};
 use std::alloc::Global;
 
 /// Does the step of an event. After a fault everything is as it was; if memory ran out, only the journal is.
-#[tactic(auto, unfolding(lard_cluster::specs::Machine::machine_step))]
+#[tactic(auto, unfolding(lard_rules::specs::Machine::machine_step))]
 pub fn step(machine: &mut Machine, alloc: Global, event: Event) -> Result<(), StepFault>
     requires ruled { HasRule event }
     requires sound { IsSound machine.old }

@@ -2,8 +2,8 @@
 use Rattle.std.proofs.Common.{◌≡◌, ap, ◌∙◌}
 use Rattle.lard_back.proofs.Acted.{acted-by}
 use Rattle.lard_back.specs.Place.{env_of, setting_seen}
-use Rattle.lard_node_rules.specs.Node.{work_of}
-use Rattle.lard_node_rules.specs.Stay.{goes_on, tagged}
+use Rattle.lard_rules.specs.Node.{work_of}
+use Rattle.lard_rules.specs.Stay.{goes_on, tagged}
 use Rattle.lard_stay.specs.Work.{work_seen}
 use Rattle.lard_back.proofs.Turning.{of_ok}
 use Rattle.lard_stay.specs.declared.work.Work.{Work as InHand}

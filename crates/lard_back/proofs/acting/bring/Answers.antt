@@ -2,8 +2,8 @@
 use Rattle.std.proofs.Common.{ap, sym, ◌∙◌}
 use Rattle.lard_back.proofs.Acted.{acted-by, came-few, stay-sound}
 use Rattle.lard_back.specs.Place.{env_of, setting_seen}
-use Rattle.lard_node_rules.specs.Node.{work_of}
-use Rattle.lard_node_rules.specs.Stay.{came_for, come_progress, goes_on}
+use Rattle.lard_rules.specs.Node.{work_of}
+use Rattle.lard_rules.specs.Stay.{came_for, come_progress, goes_on}
 use Rattle.lard_stay.specs.Work.{work_seen}
 use Rattle.lard_back.proofs.acting.bring.Goals as goal
 

@@ -3,8 +3,8 @@ use Rattle.std.proofs.Common.{ap, sym, ◌∙◌}
 use Rattle.lard_back.proofs.Acted.{acted-by, heard-sound, stay-sound}
 use Rattle.lard_back.specs.Place.{env_of, setting_seen}
 use Rattle.lard_endpoint.specs.Control.{ControlBlock}
-use Rattle.lard_node_rules.specs.Node.{work_of}
-use Rattle.lard_node_rules.specs.Stay.{goes_on}
+use Rattle.lard_rules.specs.Node.{work_of}
+use Rattle.lard_rules.specs.Stay.{goes_on}
 use Rattle.lard_stay.specs.Work.{work_seen}
 use Rattle.lard_endpoint.specs.Arriving.{on_segment}
 use Rattle.lard_segment.specs.Segment.{said}

@@ -3,7 +3,7 @@ use Rattle.std.proofs.Common.{◌≡◌, ap, ◌∙◌}
 use Rattle.lard_back.specs.Hand.{rest_of}
 use Rattle.lard_back.proofs.Fired.{spoken-is}
 use Rattle.lard_back.proofs.Turning.{of_ok}
-use Rattle.lard_node_rules.specs.Stay.{Work}
+use Rattle.lard_rules.specs.Stay.{Work}
 use Rattle.lard_rules.specs.declared.places.Turn.{Turn}
 use Rattle.lard_rules.specs.Serving.{spoken}
 use Rattle.lard_serving.specs.declared.answering.Service.{Service as Served}

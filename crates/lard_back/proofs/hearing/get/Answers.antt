@@ -6,9 +6,9 @@ use Rattle.lard_base.specs.declared.place.Place.{Place}
 use Rattle.lard_message.specs.declared.fault.MsgFault.{MsgFault}
 use Rattle.lard_message.specs.declared.message.Message.{Message}
 use Rattle.lard_message.specs.Reading.{Gives, decoded_message}
-use Rattle.lard_node_rules.specs.declared.node.NodeState.{NodeState}
-use Rattle.lard_node_rules.specs.NodePlace.{NodeSetting, node_gets}
-use Rattle.lard_rules.specs.declared.front.Out.{Out}
+use Rattle.lard_rules.specs.declared.node.NodeState.{NodeState}
+use Rattle.lard_rules.specs.NodePlace.{NodeSetting, node_gets}
+use Rattle.lard_rules.specs.declared.places.Out.{Out}
 use Rattle.lard_rules.specs.Outs.{nothing_done}
 use Rattle.lard_back.proofs.hearing.get.Goals as goal
 

@@ -1,9 +1,9 @@
 -- The first batch is read, and the stay goes on.
 use Rattle.std.proofs.Common.{◌≡◌, true, ap, ◌∙◌}
 use Rattle.lard_back.proofs.Adopted.{begun-is, first-sound, first_stay, noted-sound}
-use Rattle.lard_node_rules.specs.declared.stay.Stay.{Stay}
-use Rattle.lard_node_rules.specs.Node.{work_of}
-use Rattle.lard_node_rules.specs.Stay.{Work, goes_on, reads_batch}
+use Rattle.lard_rules.specs.declared.stay.Stay.{Stay}
+use Rattle.lard_rules.specs.Node.{work_of}
+use Rattle.lard_rules.specs.Stay.{Work, goes_on, reads_batch}
 use Rattle.lard_rules.specs.Loop.{state_of}
 use Rattle.lard_stay.specs.Work.{env_seen}
 use Rattle.lard_back.proofs.offers.start.Goals as goal

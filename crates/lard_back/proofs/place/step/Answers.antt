@@ -1,7 +1,7 @@
 -- Each job that is queued has its record.
 use Rattle.lard_back.specs.Place.{setting_seen}
 use Rattle.lard_back.proofs.Queued.{grows-by}
-use Rattle.lard_node_rules.specs.declared.node.BackIn.TheVariants as input
+use Rattle.lard_rules.specs.declared.node.BackIn.TheVariants as input
 use Rattle.lard_back.proofs.place.step.Goals as goal
 
 pub returns-in-Message-clause-queue : goal.returns-in-Message-clause-queue

@@ -2,7 +2,7 @@
 use Rattle.std.proofs.Common.{sym, ap, ◌∙◌}
 use Rattle.lard_back.specs.Place.{setting_seen}
 use Rattle.lard_back.proofs.Queued.{without-none}
-use Rattle.lard_node_rules.specs.NodePlace.{disk_step}
+use Rattle.lard_rules.specs.NodePlace.{disk_step}
 use Rattle.lard_back.proofs.reads.complete.Goals as goal
 
 pub returns-in_default-clause-ok : goal.returns-in_default-clause-ok

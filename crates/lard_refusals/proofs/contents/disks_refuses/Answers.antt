@@ -1,6 +1,6 @@
 use Rattle.std.proofs.Common.{◌≡◌, [], ◌∷◌, true, false, Some, ap, arith, refl}
 use Rattle.std.specs.Prelude.{codes}
-use Rattle.lard_cluster_stores.specs.Stores.{Waiting}
+use Rattle.lard_counts.specs.Stores.{Waiting}
 use Rattle.lard_journal.specs.declared.rec.Rec.TheVariants as rec
 use Rattle.lard_refusals.proofs.contents.disks_refuses.Goals as goal
 

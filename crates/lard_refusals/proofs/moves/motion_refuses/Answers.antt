@@ -1,5 +1,5 @@
 use Rattle.std.proofs.Common.{◌≡◌, ℕ, List, [], ◌∷◌, refl}
-use Rattle.lard_front_rules.specs.Front.{message}
+use Rattle.lard_rules.specs.Front.{message}
 use Rattle.lard_history.specs.Own.{own}
 use Rattle.lard_message.specs.declared.message.Body.TheVariants as body
 use Rattle.lard_message.specs.Reading.{counted_at, decoded_message, flag_at, offer_at, parts_at}

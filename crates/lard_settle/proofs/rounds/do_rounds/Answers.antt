@@ -1,7 +1,7 @@
 -- One round more, or one that stops; and the end, by quiet or by number.
 use Rattle.std.proofs.Common.{◌-◌, ◌+◌, ◌∙◌, ℕ, Result, Err, arith, sym, subst}
 use Rattle.std.proofs.lemmas.Result.{err_from_is_err_and}
-use Rattle.lard_cluster.specs.declared.machine.Machine.{Machine}
+use Rattle.lard_rules.specs.declared.machine.Machine.{Machine}
 use Rattle.lard_settling.specs.Settling.{DoesRounds, IsFrontOf, Stop, counted}
 use Rattle.lard_settle.proofs.Going.{rounds-none, rounds-on, rounds-quiet, rounds-stop}
 use Rattle.lard_settle.proofs.Growth.{front-over, rounds-grow}

@@ -2,7 +2,7 @@
 use Rattle.std.proofs.Common.{◌<◌, ◌≤◌, ◌-◌, ◌+◌, ◌∙◌, ℕ, Result, Err, arith, sym, subst}
 use Rattle.std.proofs.lemmas.Result.{err_from_is_err_and}
 use Rattle.lard_base.specs.declared.config.Config.{Config}
-use Rattle.lard_cluster.specs.declared.machine.Machine.{Machine}
+use Rattle.lard_rules.specs.declared.machine.Machine.{Machine}
 use Rattle.lard_settling.specs.Settling.{Does, Stop}
 use Rattle.lard_settle.proofs.Going.{node-on, node-stops, nodes-none}
 use Rattle.lard_settle.proofs.Growth.{front-over}

@@ -1,7 +1,7 @@
 -- A settle begins, and goes on from there.
 use Rattle.std.proofs.Common.{Result, sym, subst}
 use Rattle.std.proofs.lemmas.Result.{err_from_is_err_and}
-use Rattle.lard_cluster.specs.declared.machine.Machine.{Machine}
+use Rattle.lard_rules.specs.declared.machine.Machine.{Machine}
 use Rattle.lard_settling.specs.declared.settled.Settled.{Settled}
 use Rattle.lard_settling.specs.Settling.{Settles, Stop}
 use Rattle.lard_settle.proofs.Going.{agenda-on, begun-front, begun-on, begun-stops}

@@ -2,7 +2,7 @@
 use Rattle.std.proofs.Common.{◌∙◌, rules, Result, Err, sym, ap, subst}
 use Rattle.std.proofs.lemmas.Result.{err_from_is_err_and}
 use Rattle.std.specs.Vec.Iter.{into_iter_items}
-use Rattle.lard_cluster.specs.declared.machine.Machine.{Machine}
+use Rattle.lard_rules.specs.declared.machine.Machine.{Machine}
 use Rattle.lard_settling.specs.Settling.{Does, Stop, all_inner}
 use Rattle.lard_settle.proofs.Going.{inner-config, inner-front, inner-none, inner-on, inner-stops}
 use Rattle.lard_settle.proofs.Growth.{front-over}

@@ -2,7 +2,7 @@
 use Rattle.std.proofs.Common.{◌≡◌, false}
 use Rattle.std.specs.List.{AllByRecursion}
 use Rattle.std.specs.Vec.Iter.{into_iter_items}
-use Rattle.lard_cluster.specs.Bounds.{HasRule}
+use Rattle.lard_rules.specs.Bounds.{HasRule}
 use Rattle.lard_settling.specs.Settling.{IsFrontOf, all_inner}
 use Rattle.lard_settle.proofs.steps.do_all.Given as goal
 

@@ -1,6 +1,6 @@
 -- The entry at the place comes on, if there is one.
 use Rattle.std.proofs.Common.{ap, arith, ◌∙◌, set}
-use Rattle.lard_node_rules.specs.declared.stay.Entry.{Entry}
+use Rattle.lard_rules.specs.declared.stay.Entry.{Entry}
 use Rattle.lard_stay.specs.Work.{progress_by}
 use Rattle.lard_stay.proofs.Arrived.{come-past, come-set}
 use Rattle.lard_stay.proofs.coming.brought_on.Goals as goal

@@ -1,7 +1,7 @@
 -- One more was entered, and after the last all were.
 use Rattle.std.proofs.Common.{◌≡◌, ◌+◌, ◌≤◌, length, sym, ap, ◌∙◌, arith}
 use Rattle.std.proofs.lemmas.List.{length_push}
-use Rattle.lard_node_rules.specs.Stay.{starts_at, starts_one}
+use Rattle.lard_rules.specs.Stay.{starts_at, starts_one}
 use Rattle.lard_stay.specs.Work.{env_seen, work_seen}
 use Rattle.lard_stay.proofs.Entering.{entered_more, next_at, sound_tagged, starts-more}
 use Rattle.lard_stay.proofs.coming.tag.Goals as goal

@@ -1,6 +1,6 @@
 use Rattle.std.proofs.Common.{◌≡◌, ◌+◌, ◌^◌, ◌<◌, ◌≤◌, length}
 use Rattle.std.specs.Vec.Iter.{into_iter_items}
-use Rattle.lard_node_rules.specs.Stay.{starts_at, tagged}
+use Rattle.lard_rules.specs.Stay.{starts_at, tagged}
 use Rattle.lard_stay.specs.Work.{HasEntered, env_seen, work_seen}
 use Rattle.lard_stay.proofs.coming.tag.Given as goal
 

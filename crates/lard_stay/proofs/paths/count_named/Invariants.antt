@@ -1,6 +1,6 @@
 use Rattle.std.proofs.Common.{◌≡◌, ◌+◌, ◌≤◌, length, drop}
 use Rattle.lard_files.specs.Files.{file_at}
-use Rattle.lard_node_rules.specs.Stay.{named_paths}
+use Rattle.lard_rules.specs.Stay.{named_paths}
 use Rattle.lard_stay.proofs.paths.count_named.Given as goal
 
 -- those that were counted and those that are left are all

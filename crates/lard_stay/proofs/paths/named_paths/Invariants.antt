@@ -1,6 +1,6 @@
 use Rattle.std.proofs.Common.{◌≡◌, ◌++◌, ◌≤◌, All, length, drop}
 use Rattle.lard_files.specs.Files.{file_at}
-use Rattle.lard_node_rules.specs.Stay.{named_paths}
+use Rattle.lard_rules.specs.Stay.{named_paths}
 use Rattle.lard_stay.specs.Work.{IsPath}
 use Rattle.lard_stay.proofs.paths.named_paths.Given as goal
 

@@ -1,7 +1,7 @@
 use Rattle.std.proofs.Common.{◌≡◌, ◌+◌, ◌^◌, ◌<◌, length}
 use Rattle.std.specs.Vec.Iter.{into_iter_items}
 use Rattle.lard_endpoint.specs.Control.{ControlBlock}
-use Rattle.lard_node_rules.specs.Stay.{enters}
+use Rattle.lard_rules.specs.Stay.{enters}
 use Rattle.lard_stay.specs.Work.{HasEntered, StartsOne, env_seen, work_seen}
 use Rattle.lard_stay.proofs.turns.enter_all.Given as goal
 

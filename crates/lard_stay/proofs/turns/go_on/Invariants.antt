@@ -1,5 +1,5 @@
 use Rattle.std.proofs.Common.{◌≡◌}
-use Rattle.lard_node_rules.specs.Stay.{goes_on, left}
+use Rattle.lard_rules.specs.Stay.{goes_on, left}
 use Rattle.lard_stay.specs.Work.{IsSound, env_seen, work_seen}
 use Rattle.lard_stay.proofs.turns.go_on.Given as goal
 

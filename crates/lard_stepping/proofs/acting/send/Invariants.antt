@@ -1,6 +1,6 @@
 use Rattle.std.proofs.Common.{◌≡◌, ◌+◌, ◌-◌, ◌^◌, ◌<◌, ◌++◌, length}
 use Rattle.std.specs.Vec.Iter.{into_iter_items}
-use Rattle.lard_machine.specs.Machine.{packets_of, sent_records}
+use Rattle.lard_rules.specs.Sent.{packets_of, sent_records}
 use Rattle.lard_rules.specs.Speaking.{AreShort}
 use Rattle.lard_stepping.proofs.acting.send.Given as goal
 

@@ -1,8 +1,8 @@
 -- The node and the job are there.
 use Rattle.std.proofs.Common.{[], ◌-◌, Ok, sym, ap, ◌∙◌, arith}
 use Rattle.lard_base.specs.declared.event.Event.TheVariants as event
-use Rattle.lard_cluster.specs.Machine.{node_acts, node_at}
-use Rattle.lard_node_rules.specs.declared.node.BackIn.TheVariants as back
+use Rattle.lard_rules.specs.Machine.{node_acts, node_at}
+use Rattle.lard_rules.specs.declared.node.BackIn.TheVariants as back
 use Rattle.lard_stepping.proofs.Numbered.{completes_is, job_there}
 use Rattle.lard_stepping.proofs.disks.complete.Goals as goal
 

@@ -3,7 +3,7 @@ use Rattle.std.proofs.Common.{[], Ok, refl}
 use Rattle.lard_base.specs.declared.event.Event.TheVariants.{Timer}
 use Rattle.lard_base.specs.declared.place.Place.TheVariants.{Client}
 use Rattle.lard_rules.specs.Client.{client_timer}
-use Rattle.lard_cluster.specs.Machine.{timer}
+use Rattle.lard_rules.specs.Machine.{timer}
 use Rattle.lard_stepping.proofs.Lent.{client_done}
 use Rattle.lard_stepping.proofs.packets.fire_client.Goals as goal
 

@@ -3,8 +3,8 @@ use Rattle.std.proofs.Common.{[], ◌∷◌, refl, sym}
 use Rattle.lard_base.specs.declared.event.Event.TheVariants.{Deliver}
 use Rattle.lard_journal.specs.declared.rec.Rec.TheVariants.{Got}
 use Rattle.lard_rules.specs.Client.{client_gets}
-use Rattle.lard_cluster.specs.Machine.{to_client}
-use Rattle.lard_cluster.specs.declared.machine.Machine.{Machine}
+use Rattle.lard_rules.specs.Machine.{to_client}
+use Rattle.lard_rules.specs.declared.machine.Machine.{Machine}
 use Rattle.lard_segment.specs.Segment.{decoded}
 use Rattle.lard_segment.specs.declared.segment.Dir.TheVariants.{ToClient}
 use Rattle.lard_stepping.proofs.Lent.{client_done}

@@ -1,6 +1,6 @@
 -- The record of the step's event, the first that it appended, is turned.
 use Rattle.std.proofs.Common.{◌≡◌, ◌+◌, ◌∷◌, length, List, Ok, sym, ap, ◌∙◌, subst, arith, length-append}
-use Rattle.lard_cluster.specs.declared.machine.Machine.{Machine}
+use Rattle.lard_rules.specs.declared.machine.Machine.{Machine}
 use Rattle.lard_stepping.specs.Sound.{IsSound}
 use Rattle.lard_stepping.proofs.Sound.{inner_sound}
 use Rattle.lard_journal.specs.Inner.{turned_at}

@@ -2,7 +2,7 @@
 use Rattle.std.proofs.Common.{[], Ok, refl}
 use Rattle.lard_base.specs.declared.event.Event.TheVariants.{Hold}
 use Rattle.lard_rules.specs.Client.{client_holds}
-use Rattle.lard_cluster.specs.Machine.{client_does}
+use Rattle.lard_rules.specs.Machine.{client_does}
 use Rattle.lard_stepping.proofs.Lent.{client_done}
 use Rattle.lard_stepping.proofs.stations.hold.Goals as goal
 

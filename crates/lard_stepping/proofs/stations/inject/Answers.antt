@@ -3,7 +3,7 @@ use Rattle.std.proofs.Common.{[], ◌∷◌, Ok, refl, ap, ◌∙◌}
 use Rattle.lard_base.specs.declared.event.Event.TheVariants.{Inject}
 use Rattle.lard_journal.specs.declared.rec.Rec.TheVariants.{Injected}
 use Rattle.lard_rules.specs.Client.{client_injects}
-use Rattle.lard_cluster.specs.Machine.{client_does}
+use Rattle.lard_rules.specs.Machine.{client_does}
 use Rattle.lard_stepping.proofs.Lent.{client_done}
 use Rattle.lard_stepping.proofs.stations.inject.Goals as goal
 

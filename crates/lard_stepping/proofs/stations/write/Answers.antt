@@ -4,11 +4,11 @@ use Rattle.std.proofs.lemmas.Bool.Decides.{nat_tests}
 use Rattle.std.specs.FinMap as table
 use Rattle.lard_client.specs.Control.{written_len}
 use Rattle.lard_rules.specs.Client.{client_writes}
-use Rattle.lard_cluster.specs.Machine.{client_goes_on, wrote}
-use Rattle.lard_cluster.specs.declared.fault.StepFault.{StepFault}
-use Rattle.lard_cluster.specs.declared.fault.StepFault.TheVariants.{Limit}
-use Rattle.lard_machine.specs.declared.fault.What.TheVariants.{Stream}
-use Rattle.lard_cluster.specs.declared.machine.Machine.{Machine}
+use Rattle.lard_rules.specs.Machine.{client_goes_on, wrote}
+use Rattle.lard_rules.specs.declared.fault.StepFault.{StepFault}
+use Rattle.lard_rules.specs.declared.fault.StepFault.TheVariants.{Limit}
+use Rattle.lard_rules.specs.declared.fault.What.TheVariants.{Stream}
+use Rattle.lard_rules.specs.declared.machine.Machine.{Machine}
 use Rattle.lard_rules.specs.declared.places.Station.{Station}
 use Rattle.lard_stepping.proofs.Lent.{client_done}
 use Rattle.lard_stepping.proofs.stations.write.Goals as goal

@@ -1,2 +1,0 @@
-pub mod Acks
-pub mod Laws

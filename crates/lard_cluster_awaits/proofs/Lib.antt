@@ -1,4 +1,0 @@
-pub mod Batches
-pub mod Nodes
-pub mod Runs
-pub mod Stays

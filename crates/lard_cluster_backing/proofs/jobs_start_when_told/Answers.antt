@@ -1,6 +1,0 @@
--- By what backs each response.
-use Rattle.lard_cluster_backing.proofs.Runs.{jobs-start}
-use Rattle.lard_cluster_backing.proofs.jobs_start_when_told.Goals as goal
-
-pub returns : goal.returns
-returns c = record { starts = jobs-start }

@@ -1,6 +1,0 @@
--- By the jobs that were queued and the Fetches that were sent.
-use Rattle.lard_cluster_backing.proofs.Runs.{responses-backed}
-use Rattle.lard_cluster_backing.proofs.responses_are_backed.Goals as goal
-
-pub returns : goal.returns
-returns c = record { backed = responses-backed }

@@ -1,4 +1,0 @@
-pub mod Asides
-pub mod Tables
-pub mod Writers
-pub mod Taking

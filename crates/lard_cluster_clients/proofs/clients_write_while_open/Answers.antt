@@ -1,6 +1,0 @@
--- By what each move tells of its client.
-use Rattle.lard_cluster_clients.proofs.Writers.{writers-are}
-use Rattle.lard_cluster_clients.proofs.clients_write_while_open.Goals as goal
-
-pub returns : goal.returns
-returns c = writers-are

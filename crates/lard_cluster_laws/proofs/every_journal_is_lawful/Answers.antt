@@ -1,5 +1,0 @@
-use Rattle.lard_cluster_laws.proofs.Lawful.{journals-lawful}
-use Rattle.lard_cluster_laws.proofs.every_journal_is_lawful.Goals as goal
-
-pub returns : goal.returns
-returns c = record { laws = journals-lawful }

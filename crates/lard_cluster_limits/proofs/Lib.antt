@@ -1,9 +1,0 @@
-pub mod Rows
-pub mod Moves
-pub mod Offers
-pub mod Serving
-pub mod Reading
-pub mod Working
-pub mod Fronts
-pub mod Nodes
-pub mod Runs

@@ -1,9 +1,0 @@
-pub mod Answers
-pub mod Picking
-pub mod Comings
-pub mod Elsewhere
-pub mod Fronts
-pub mod Nodes
-pub mod NodeTurns
-pub mod Rules
-pub mod Runs

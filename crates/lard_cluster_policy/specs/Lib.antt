@@ -1,5 +1,0 @@
-pub mod Laws
-pub mod Ledger
-pub mod Line
-pub mod Loads
-pub mod Servers

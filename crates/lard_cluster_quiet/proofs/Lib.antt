@@ -1,4 +1,0 @@
-pub mod Closed
-pub mod Complete
-pub mod Ends
-pub mod Still

@@ -1,3 +1,0 @@
-pub mod Quiet
-pub mod Rests
-pub mod Still

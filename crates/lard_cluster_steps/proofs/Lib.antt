@@ -1,4 +1,0 @@
-pub mod Following
-pub mod Linking
-pub mod Places
-pub mod Timers

@@ -1,0 +1,65 @@
+-- A connection that begins.
+use Rattle.std.proofs.Common.{◌≡◌, ℕ, false, [], Some, None, refl, ap, ◌∙◌, arith}
+use Rattle.std.specs.FinMap as table
+use Rattle.std.specs.FinMap.{FinMap}
+use Rattle.std.specs.Ordering.{nat_cmp}
+use Rattle.lard_endpoint.specs.Control.{ControlBlock, listening}
+use Rattle.lard_segment.specs.Segment.{Said}
+use Rattle.lard_rules.specs.declared.front.FrontRest.{FrontRest}
+use Rattle.lard_rules.specs.declared.front.FrontState.{FrontState}
+use Rattle.lard_rules.specs.Front.{holds, rest_of, rests, rest_after, turn_here}
+use Rattle.lard_rules.specs.FrontPlace.{front_part}
+use Rattle.lard_rules.specs.FrontSound.{Serves}
+use Rattle.lard_front.specs.Hand.{Holds, deed_turn}
+use Rattle.lard_handoff_front.specs.declared.row.FrontConn.TheVariants as stage
+use Rattle.lard_handoff_front.specs.declared.row.FrontRow.{FrontRow}
+use Rattle.lard_handoff_front.specs.Front.{Fronts, begun}
+use Rattle.lard_resend.specs.Pending.{held, put_list}
+use Rattle.lard_rules.specs.declared.places.Ending.{Ending}
+use Rattle.lard_rules.specs.declared.places.Turn.{Turn}
+use Rattle.lard_table.proofs.Map.{get_inserted, put_twice}
+use Rattle.lard_table.specs.Table.{put_or}
+
+-- before it is held
+abbrev pub first_row : FrontRow
+first_row = record { stage = stage.Lent; epoch = record { 0 = 1 }; ended_by = None }
+
+module _ (s : FrontState) (c : ℕ) (b : ControlBlock) (m : Fronts) (r : FinMap nat_cmp FrontRest) (kept : m ≡ table.insert s.conns c (begun b)) (set : r ≡ table.insert s.rests c (rest_of None)) where
+  abbrev met : FrontState
+  met = record s { conns = m; rests = r }
+
+  pub found : table.get m c ≡ Some (begun b)
+  found = ap (λ u. table.get u c) kept ∙ get_inserted s.conns c (begun b)
+
+  pub found_rest : table.get r c ≡ Some (rest_of None)
+  found_rest = ap (λ u. table.get u c) set ∙ get_inserted s.rests c (rest_of None)
+
+  abbrev pub met_holds : Serves 0 b.recv b.send → held s.kept c ≡ [] → (table.get s.kept c ≡ Some [] → ⊥) → Holds met c false
+  met_holds serves none some = record {
+    row = begun b;
+    block = b;
+    rest = rest_of None;
+    found = found;
+    stage = refl;
+    found_rest = found_rest;
+    here = record { first_owner = refl; serves = serves };
+    none_kept = none;
+    some_kept = some;
+  }
+
+  -- what is held from there on is held from the beginning
+  pub met_is : (x : Ending × Turn) → deed_turn met c (holds (front_part met c) (begun b) (rest_of (table.get r c)) x) ≡ deed_turn s c (holds (front_part s c) first_row (rest_of None) x)
+  met_is x =
+      ap (λ o. deed_turn met c (holds (front_part met c) (begun b) (rest_of o) x)) found_rest
+      ∙ (λ i. (
+        record s {
+          conns = (ap (λ u. put_or u c (rests (front_part s c) first_row (rest_of None) stage.Held x.0).row) kept ∙ put_twice s.conns c (Some (begun b)) (rests (front_part s c) first_row (rest_of None) stage.Held x.0).row) i;
+          rests = (ap (λ u. put_or u c (rest_after (rest_of None) x.0)) set ∙ put_twice s.rests c (Some (rest_of None)) (rest_after (rest_of None) x.0)) i;
+          kept = put_list s.kept c (held s.kept c);
+        },
+        turn_here x.1,
+      ))
+
+-- nothing was done on a connection that listens
+pub listens_serve : (syn : Said) (iss : ℕ) → Serves 0 (listening syn iss).recv (listening syn iss).send
+listens_serve syn iss = record { counted = omega arith; asked = omega arith; most = omega arith; sent = omega arith }

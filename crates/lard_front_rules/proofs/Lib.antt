@@ -1,9 +1,0 @@
-pub mod Turns
-pub mod Parts
-pub mod Blocks
-pub mod Standings
-pub mod Keeping
-pub mod Deeds
-pub mod Waiting
-pub mod Ended
-pub mod Stepping

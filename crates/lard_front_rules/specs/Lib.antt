@@ -1,4 +1,0 @@
-pub mod Reading
-pub mod Front
-pub mod FrontPlace
-pub mod Sound

@@ -1,7 +1,0 @@
--- The state at its beginning is sound.
-use Rattle.std.proofs.Common.{rules}
-use Rattle.lard_front_rules.proofs.Stepping.{begins_sound}
-use Rattle.lard_front_whole.proofs.place.begin.Goals as goal
-
-pub returns-clause-sound : goal.returns-clause-sound
-returns-clause-sound c = begins_sound c.args.config _ c.requires (search rules)

@@ -1,0 +1,18 @@
+-- The connection that moves in a step, and the step's records with the numbers that they have.
+use Rattle.std.proofs.Common.{◌≡◌, ℕ, List, Some}
+use Rattle.lard_base.specs.declared.event.Event.{Event}
+use Rattle.lard_base.specs.declared.event.Event.TheVariants as event
+use Rattle.lard_history.specs.Own.{Seen, Row, Came, letter_of}
+use Rattle.lard_journal.specs.declared.rec.Rec.TheVariants as rec
+use Rattle.lard_net.specs.Net.{Packet, packet_at}
+
+-- an event that is seen is this one
+abbrev pub IsHead : Event → Seen → Type 0
+IsHead e (Row (rec.Event i d)) = d ≡ e
+IsHead e (Row (rec.Inner d)) = ⊥
+IsHead e _ = Unit {0}
+
+-- a packet that is seen to come is the one that the event delivers
+abbrev pub IsDelivered : List Packet → Event → Seen → Type 0
+IsDelivered net e (Row r) = Unit {0}
+IsDelivered net e (Came l) = (k : ℕ) × (p : Packet) × (e ≡ event.Deliver k) × (packet_at net k ≡ Some p) × (letter_of p ≡ l)

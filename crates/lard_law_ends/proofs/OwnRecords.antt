@@ -1,0 +1,23 @@
+-- The shapes of a step: an event names a place, which acts; a packet comes to a place, which acts, or to nobody; a packet is
+-- lost. The forms of a step are told by their shapes here and nowhere else, so what speaks of whole steps has four cases.
+use Rattle.std.proofs.Common.{◌≡◌, ℕ, ◌-◌, List, [], ◌∷◌}
+use Rattle.lard_base.specs.declared.event.Event.{Event}
+use Rattle.lard_base.specs.declared.event.Event.TheVariants as event
+use Rattle.lard_journal.specs.declared.rec.Rec.{Rec}
+use Rattle.lard_journal.specs.declared.rec.Rec.TheVariants as rec
+
+-- ---- the shapes
+
+-- what stands directly behind an event, of whatever connection
+abbrev pub behind : Event → List Rec
+behind (event.Open c isn iss wnd mss) = rec.Opened c isn iss wnd mss ∷ []
+behind (event.Deliver k) = rec.Got k ∷ []
+behind (event.Lose k) = rec.Lost k ∷ []
+behind (event.Inject c bytes) = rec.Injected c ∷ []
+behind _ = []
+
+-- it stands behind an event that names connection c, and says nothing of packets
+abbrev pub IsAside : ℕ → Rec → Type 0
+IsAside c (rec.Opened d isn iss wnd mss) = d ≡ c
+IsAside c (rec.Injected d) = d ≡ c
+IsAside c _ = ⊥

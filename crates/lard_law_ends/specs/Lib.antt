@@ -1,0 +1,13 @@
+pub mod Laws
+pub mod Truth
+pub mod WhileUntouched
+pub mod Sending
+pub mod ClientTale
+pub mod Agreement
+pub mod Keeping
+pub mod Truthful
+pub mod Taking
+pub mod ClientRule
+pub mod Timers
+pub mod Quiet
+pub mod Seat

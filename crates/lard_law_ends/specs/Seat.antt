@@ -1,0 +1,24 @@
+-- What the front end keeps of one connection, and the seat: where the connection's endpoint is.
+use Rattle.std.specs.Prelude.{ℕ, Bool, false}
+use Rattle.lard_endpoint.specs.declared.control.moving.Final.{Final}
+use Rattle.lard_endpoint.specs.Control.{ControlBlock}
+use Rattle.lard_rules.specs.declared.places.Ending.TheVariants as ending
+use Rattle.lard_rules.specs.Serving.{is_armed}
+
+-- ---- the seat
+
+-- Where the endpoint of a connection is.
+pub data Seat : Type 0 where
+  Nowhere : Seat  -- no SYN came
+  AtFront : ControlBlock → ℕ → Seat  -- at the front end, which queued so many responses
+  Away : Seat  -- not here, though it has not ended; no rule leads to it yet
+  Over : Final → Seat  -- the connection ended with these numbers
+
+-- ---- timers
+
+-- the front end's timer runs
+abbrev pub front_armed : Seat → Bool
+front_armed Nowhere = false
+front_armed (AtFront b count) = is_armed (ending.Here b count)
+front_armed Away = false
+front_armed (Over last) = is_armed (ending.Over last)

@@ -1,0 +1,5 @@
+pub mod LineLaws
+pub mod Line
+pub mod SilenceLaws
+pub mod SilencePlaces
+pub mod Silence

@@ -1,0 +1,49 @@
+-- What is so of an endpoint, wherever the front end or a node has it.
+use Rattle.std.specs.Prelude.{Option, Some, None}
+use Rattle.lard_endpoint.specs.Control.{ControlBlock}
+use Rattle.lard_handoff_back.specs.declared.row.BackConn.{BackConn}
+use Rattle.lard_handoff_back.specs.declared.row.BackConn.TheVariants as back
+use Rattle.lard_handoff_back.specs.declared.row.BackRow.{BackRow}
+use Rattle.lard_handoff_front.specs.declared.row.FrontConn.{FrontConn}
+use Rattle.lard_handoff_front.specs.declared.row.FrontConn.TheVariants as stage
+use Rattle.lard_handoff_front.specs.declared.row.FrontRow.{FrontRow}
+use Rattle.lard_rules.specs.declared.stay.Stay.{Stay}
+use Rattle.lard_rules.specs.Node.{NodePart}
+
+-- ---- at the front end
+
+abbrev pub FrontStageHas : (ControlBlock → Type 0) → FrontConn → Type 0
+FrontStageHas P (stage.Held b) = P b
+FrontStageHas P (stage.Waiting b) = P b
+FrontStageHas P stage.Lent = Unit {0}
+FrontStageHas P (stage.Offering n e) = Unit {0}
+FrontStageHas P (stage.Moved n e) = Unit {0}
+FrontStageHas P (stage.Closed last) = Unit {0}
+
+abbrev pub FrontHas : (ControlBlock → Type 0) → Option FrontRow → Type 0
+FrontHas P None = Unit {0}
+FrontHas P (Some row) = FrontStageHas P row.stage
+
+-- of one that the front end knows
+abbrev pub KnownHas : (ControlBlock → Type 0) → Option FrontRow → Type 0
+KnownHas P None = ⊥
+KnownHas P (Some row) = FrontStageHas P row.stage
+
+-- ---- at a node: P is so of an endpoint with a stay, and Q of one without
+
+abbrev pub HereHas : (ControlBlock → Type 0) → (ControlBlock → Type 0) → ControlBlock → Option Stay → Type 0
+HereHas P Q b None = Q b
+HereHas P Q b (Some s) = P b
+
+abbrev pub BackStageHas : (ControlBlock → Type 0) → (ControlBlock → Type 0) → BackConn → Option Stay → Type 0
+BackStageHas P Q (back.Here b) o = HereHas P Q b o
+BackStageHas P Q back.Out o = Unit {0}
+BackStageHas P Q back.Ended o = Unit {0}
+BackStageHas P Q back.Gone o = Unit {0}
+
+abbrev pub BackHas : (ControlBlock → Type 0) → (ControlBlock → Type 0) → Option BackRow → Option Stay → Type 0
+BackHas P Q None o = Unit {0}
+BackHas P Q (Some row) o = BackStageHas P Q row.stage o
+
+abbrev pub NodeHas : (ControlBlock → Type 0) → (ControlBlock → Type 0) → NodePart → Type 0
+NodeHas P Q p = BackHas P Q p.row p.stay

@@ -1,0 +1,12 @@
+pub mod Acks
+pub mod AcksLaws
+pub mod EndedEnds
+pub mod EndedLaws
+pub mod WindowsEarly
+pub mod WindowsLaws
+pub mod WindowsRefusals
+pub mod Windows
+pub mod WindowsWords
+pub mod Quiet
+pub mod QuietRests
+pub mod QuietStill

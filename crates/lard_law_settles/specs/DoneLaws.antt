@@ -1,0 +1,23 @@
+-- Runs with settles: each one that leaves nothing leaves each connection complete or in the line, and all folds say the same of a journal
+-- and of it with its settles written out.
+use Rattle.std.specs.Prelude.{◌≡◌, ℕ, List, [], Ok}
+use Rattle.lard_answers.specs.Answers.{FilesAt}
+use Rattle.lard_base.specs.Config.{config_check}
+use Rattle.lard_base.specs.declared.config.Config.{Config}
+use Rattle.lard_base.specs.declared.event.Event.{Event}
+use Rattle.lard_rules.specs.Machine.{start}
+use Rattle.lard_rules.specs.declared.machine.Machine.{Machine}
+use Rattle.lard_files.specs.Files.{file_at}
+use Rattle.lard_history.specs.Laws.{EachMay}
+use Rattle.lard_journal.specs.declared.rec.Rec.{Rec}
+use Rattle.lard_law_settles.specs.Done.{MaySettle}
+use Rattle.lard_law_settles.specs.DoneSame.{TellsTheSame}
+use Rattle.lard_settling.specs.Events.{LeadsTo}
+use Rattle.lard_settling.specs.Written.{written_out}
+
+abbrev pub WrittenOutTellsTheSame : Type 0
+WrittenOutTellsTheSame = (config : Config) (files : FilesAt) (J : List Rec) → TellsTheSame config files J (written_out J)
+
+abbrev pub SettledRunsAreDone : Type 0
+SettledRunsAreDone = (config : Config) (files : List (List ℕ × List ℕ)) (es : List Event) (m : Machine) → config_check config ≡ Ok tt → LeadsTo (start config files) es m
+    → EachMay (MaySettle config (file_at files)) [] m.journal

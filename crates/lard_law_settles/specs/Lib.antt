@@ -1,0 +1,10 @@
+pub mod SettlesFew
+pub mod SettlesOrder
+pub mod SettlesStops
+pub mod RoundsToDo
+pub mod Rounds
+pub mod RoundsLaws
+pub mod DoneSame
+pub mod Done
+pub mod DoneLaws
+pub use Rattle.lard_law_settles.specs.Rounds

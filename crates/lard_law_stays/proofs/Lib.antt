@@ -1,0 +1,15 @@
+pub mod StopsFalling
+pub mod StopsFronts
+pub mod StopsNodes
+pub mod StopsRuns
+pub mod StopsSame
+pub mod AwaitsBatches
+pub mod AwaitsNodes
+pub mod AwaitsRuns
+pub mod AwaitsStays
+pub mod KeptBatches
+pub mod KeptFronts
+pub mod KeptHere
+pub mod KeptNodes
+pub mod KeptRuns
+pub mod KeptStays

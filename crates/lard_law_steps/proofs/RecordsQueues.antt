@@ -1,0 +1,336 @@
+-- A step gives the disk of a node eight jobs at most: one for the first request of a batch that an Offer brings, and one for each node
+-- of a Tag.
+use Rattle.std.proofs.Common.{◌≡◌, ℕ, suc, ◌+◌, ◌-◌, ◌≤◌, ◌<◌, ◌==◌, ◌&&◌, nat_le, nat_lt, List, [], ◌∷◌, ◌++◌, length, take, drop, Bool, true, false, cond, not, Option, Some, None, Result, Ok, Err, refl, sym, ap, ◌∙◌, arith, length-append, length-drop}
+use Rattle.std.proofs.lemmas.Bool.{and_parts, cond_both}
+use Rattle.std.proofs.lemmas.Bool.Decides.{nat_tests}
+use Rattle.std.proofs.lemmas.List.{length-take}
+use Rattle.std.proofs.lemmas.Option.{slice_get_within}
+use Rattle.std.specs.List.{find, list_any}
+use Rattle.std.specs.Prelude.{slice_get}
+use Rattle.lard_answers.specs.Answers.{good_path}
+use Rattle.lard_base.specs.declared.ids.TheConstants.ConnId.{MAX}
+use Rattle.lard_base.specs.declared.parts.EndpointParts.{EndpointParts}
+use Rattle.lard_base.specs.declared.place.Place.{Place}
+use Rattle.lard_base.specs.declared.place.Place.TheVariants as place
+use Rattle.lard_base.specs.declared.place.TimerKind.TheVariants as kind
+use Rattle.lard_base.specs.declared.place.Via.TheVariants as via
+use Rattle.lard_cache.specs.Recency.{has}
+use Rattle.lard_disk.specs.declared.disk.Job.{Job}
+use Rattle.lard_disk.specs.Jobs.{is_for, job_at, without_job}
+use Rattle.lard_endpoint.specs.Arriving.{on_segment}
+use Rattle.lard_endpoint.specs.Control.{ControlBlock}
+use Rattle.lard_handoff_back.specs.declared.table.Adopt.{Adopt}
+use Rattle.lard_handoff_back.specs.declared.table.Adopt.TheVariants.{Again, New, Stale}
+use Rattle.lard_handoff_back.specs.Back.{awaits_ack, endpoint_of, offer_answer}
+use Rattle.lard_journal.specs.declared.rec.Rec.TheVariants as rec
+use Rattle.lard_lateral.specs.Lateral.{is_from}
+use Rattle.lard_message.specs.declared.fault.MsgFault.{MsgFault}
+use Rattle.lard_message.specs.declared.fault.MsgFault.TheVariants as fault
+use Rattle.lard_message.specs.declared.kind.Kind.{Kind}
+use Rattle.lard_message.specs.Kinds.{is_version, kind_named}
+use Rattle.lard_message.specs.declared.message.Body.{Body}
+use Rattle.lard_message.specs.declared.message.Body.TheVariants as body
+use Rattle.lard_message.specs.declared.message.Message.{Message}
+use Rattle.lard_message.specs.Reading.{body_at, connection_at, decoded_message, epoch_at as message_epoch, is_of_table, length_at, number_byte, version_at, with_body, with_kind}
+use Rattle.lard_rules.specs.declared.node.BackIn.{BackIn}
+use Rattle.lard_rules.specs.declared.node.BackIn.TheVariants as input
+use Rattle.lard_rules.specs.declared.node.NodeState.{NodeState}
+use Rattle.lard_rules.specs.declared.node.NodeTurn.{NodeTurn}
+use Rattle.lard_rules.specs.declared.stay.Entry.{Entry}
+use Rattle.lard_rules.specs.declared.stay.Next.{Next}
+use Rattle.lard_rules.specs.declared.stay.Next.TheVariants.{Read, Serve, Stop}
+use Rattle.lard_rules.specs.declared.stay.Progress.{Progress}
+use Rattle.lard_rules.specs.declared.stay.Progress.TheVariants.{Awaited, Named, Reading, Ready}
+use Rattle.lard_rules.specs.declared.stay.Stay.{Stay}
+use Rattle.lard_rules.specs.Node.{Deed, Drops, Does, NodePart, Says, begins, both_of, come_by, fired_by, gone, heard_by, here, is_awaited, node_acknowledged, node_content, node_forwarded, node_offered, node_read, node_tagged, node_timer, offered_by, read_by, saying, tagged_by, with_work, work_of}
+use Rattle.lard_rules.specs.NodePlace.{NodeSetting, aside, brought, completed, content_sent, disk_step, epoch_at, fetched, fetched_file, node_deed, node_env, node_gets, node_hears, node_part, node_step}
+use Rattle.lard_rules.specs.Stay.{NodeEnv, Work, asks_for, came_for, come_on, come_progress, entered, enters, enters_first, goes_on, left, named_path, named_paths, noted, read_entry, read_progress, reads_batch, reads_these, serves_by, serves_first, started, started_here, started_there, starts_at, starts_named, starts_one, tagged, turn, turned, next_of}
+use Rattle.lard_reader.specs.Batches.{batch_of, bytes_used}
+use Rattle.lard_request.specs.declared.verdict.Verdict.{Verdict}
+use Rattle.lard_resend.specs.Kept.{is_under, without}
+use Rattle.lard_rules.specs.declared.places.Out.{Out}
+use Rattle.lard_rules.specs.Loop.{Step, state_of}
+use Rattle.lard_rules.proofs.Runs.{KeptByTurns, runs_keep}
+use Rattle.lard_rules.specs.Outs.{nothing_done}
+use Rattle.lard_rules.specs.Serving.{consumed}
+use Rattle.lard_segment.specs.declared.fault.SegFault.{SegFault}
+use Rattle.lard_segment.specs.declared.segment.Dir.TheVariants.{ToCluster}
+use Rattle.lard_segment.specs.Segment.{Said, decoded}
+
+-- ---- a Tag is for eight requests at most
+
+abbrev TagsFew : Body → Type 0
+TagsFew (body.Tag number nodes) = length nodes ≤ 8
+TagsFew _ = Unit {0}
+
+table-few : (b : Body) → is_of_table b ≡ true → TagsFew b
+table-few (body.Tag number nodes) is = let most = (and_parts (nat_le 1 (length nodes)) (nat_le (length nodes) 8) is).1 in grind (arith, nat_tests, most)
+table-few _ is = tt
+
+abbrev ReadsFew : Result Message MsgFault → Type 0
+ReadsFew (Err fault) = Unit {0}
+ReadsFew (Ok m) = TagsFew m.body
+
+body-few : (c epoch : ℕ) (o : Option (Body × List ℕ)) → ReadsFew (with_body c epoch o)
+body-few c epoch None = tt
+body-few c epoch (Some (b, rest)) = cond_both (length rest == 0 && is_of_table b) (Ok (record { c = c; epoch = record { 0 = epoch }; body = b })) (Err fault.Field) ReadsFew
+    (λ t. table-few b (and_parts (length rest == 0) (is_of_table b) t).1) (λ t. tt)
+
+-- of two answers by a test, the first is a fault
+else-few : (b : Bool) (f : MsgFault) (x : Result Message MsgFault) → ReadsFew x → ReadsFew (cond b (Err f) x)
+else-few true f x h = tt
+else-few false f x h = h
+
+kind-few : (bytes : List ℕ) (o : Option Kind) → ReadsFew (with_kind bytes o)
+kind-few bytes None = tt
+kind-few bytes (Some name) =
+    let short : Bool = nat_lt (length bytes) (10 + length_at bytes) in
+    let long : Bool = nat_lt (10 + length_at bytes) (length bytes) in
+    let unnamed : Bool = not (nat_le 1 (connection_at bytes) && nat_le (connection_at bytes) MAX) in
+    let whole : Result Message MsgFault = with_body (connection_at bytes) (message_epoch bytes) (body_at name (drop 10 bytes)) in
+    let named : Result Message MsgFault = cond unnamed (Err fault.Field) whole in
+    else-few short fault.Length (cond long (Err fault.Trailing) named) (else-few long fault.Trailing named (else-few unnamed fault.Field whole (body-few (connection_at bytes) (message_epoch bytes) (body_at name (drop 10 bytes)))))
+
+decoded-few : (bytes : List ℕ) → ReadsFew (decoded_message bytes)
+unfolding decoded_message
+decoded-few bytes =
+    let old : Bool = not (is_version (version_at bytes)) in
+    let rest : Result Message MsgFault = with_kind bytes (kind_named (version_at bytes) (number_byte bytes)) in
+    else-few (nat_lt (length bytes) 10) fault.Short (cond old (Err fault.Version) rest) (else-few old fault.Version rest (kind-few bytes (kind_named (version_at bytes) (number_byte bytes))))
+
+-- ---- what is in hand
+
+module _ (env : NodeEnv) where
+  -- requests that are entered and not started have no job
+  unstarted : (r : ℕ) (vs : List Verdict) (w : Work) → (enters env false r vs w).jobs ≡ w.jobs
+  unfolding enters
+  unstarted r [] w = refl
+  unstarted r (v ∷ vs) w = unstarted (r + 1) vs (entered (read_entry env.serve.files v) w)
+
+  here-one : (r : ℕ) (path : List ℕ) (v : Verdict) (w : Work) → length (started_here env r path v w).jobs ≤ length w.jobs + 1
+  here-one r path v w =
+      let job : Job = record { origin = env.n; c = env.serve.c; epoch = record { 0 = env.epoch }; r = r; path = path } in
+      let hit : Work = record w { service = noted (rec.Hit env.n path ∷ []) w.service } in
+      let queued : Work = record w { service = noted (rec.Queued env.n env.n env.serve.c r path ∷ []) w.service; jobs = w.jobs ++ job ∷ [] } in
+      let more = length-append w.jobs (job ∷ []) in
+      cond_both (env.cached path) (entered (record { verdict = v; progress = Ready via.Cache }) hit) (entered (record { verdict = v; progress = Reading }) queued) (λ (y : Work). length y.jobs ≤ length w.jobs + 1) (λ t. omega arith) (λ t. omega (arith, more))
+
+  started-one : (to r : ℕ) (path : List ℕ) (v : Verdict) (w : Work) → length (started env to r path v w).jobs ≤ length w.jobs + 1
+  started-one to r path v w = cond_both (to == env.n) (started_here env r path v w) (started_there to r path v w) (λ (y : Work). length y.jobs ≤ length w.jobs + 1) (λ t. here-one r path v w) (λ t. omega arith)
+
+  -- of the requests of a batch one is started at most
+  entered-one : (r : ℕ) (vs : List Verdict) (w : Work) → length (enters env true r vs w).jobs ≤ length w.jobs + 1
+  unfolding enters
+  entered-one r [] w = omega arith
+  entered-one r (v ∷ vs) w = go (good_path env.serve.files v) (entered-one (r + 1) vs (entered (read_entry env.serve.files v) w)) where
+    go : (o : Option (List ℕ)) → length (enters env true (r + 1) vs (entered (read_entry env.serve.files v) w)).jobs ≤ length w.jobs + 1
+        → length (enters env (enters_first env r v w o).0 (r + 1) vs (enters_first env r v w o).1).jobs ≤ length w.jobs + 1
+    go None more = more
+    go (Some path) more =
+        let same : length (enters env false (r + 1) vs (started_here env r path v w)).jobs ≡ length (started_here env r path v w).jobs = ap length (unstarted (r + 1) vs (started_here env r path v w)) in
+        let one = here-one r path v w in
+        omega (arith, same, one)
+
+  asked-same : (size : ℕ) (paths : List (List ℕ)) (w : Work) → (asks_for env size paths w).jobs ≡ w.jobs
+  asked-same size [] w = refl
+  asked-same size (path ∷ paths) w = refl
+
+  these-same : (used : ℕ) (w : Work) (vs : List Verdict) → (state_of (reads_these env false used w vs)).jobs ≡ w.jobs
+  these-same used w [] = refl
+  these-same used w (v ∷ vs) =
+      let x : Work = record w { service = consumed used w.service } in
+      let y : Work = enters env false (w.service.count + 1) (v ∷ vs) x in
+      asked-same (length (v ∷ vs)) (named_paths env.serve.files y.batch) y ∙ unstarted (w.service.count + 1) (v ∷ vs) x
+
+  these-one : (used : ℕ) (w : Work) (vs : List Verdict) → length (state_of (reads_these env true used w vs)).jobs ≤ length w.jobs + 1
+  these-one used w [] = omega arith
+  these-one used w (v ∷ vs) =
+      let x : Work = record w { service = consumed used w.service } in
+      let y : Work = enters env true (w.service.count + 1) (v ∷ vs) x in
+      let same : length (asks_for env (length (v ∷ vs)) (named_paths env.serve.files y.batch) y).jobs ≡ length y.jobs = ap length (asked-same (length (v ∷ vs)) (named_paths env.serve.files y.batch) y) in
+      let one = entered-one (w.service.count + 1) (v ∷ vs) x in
+      omega (arith, same, one)
+
+  -- ---- turn by turn no job is queued
+
+  served-same : (e : Entry) (rest : List Entry) (w : Work) (p : Progress) → (serves_by env e rest w p).jobs ≡ w.jobs
+  served-same e rest w (Ready way) = refl
+  served-same e rest w Named = refl
+  served-same e rest w Reading = refl
+  served-same e rest w (Awaited node) = refl
+
+  first-same : (w : Work) (es : List Entry) → (serves_first env w es).jobs ≡ w.jobs
+  first-same w [] = refl
+  first-same w (e ∷ rest) = served-same e rest w e.progress
+
+  turned-same : (w : Work) (next : Next) → (state_of (turned env w next)).jobs ≡ w.jobs
+  turned-same w Serve = first-same w w.batch
+  turned-same w Read = these-same (bytes_used 8 w.service.block.recv.unread) w (batch_of 8 w.service.block.recv.unread)
+  turned-same w Stop = refl
+
+  abbrev HasJobs : List Job → Work → Type 0
+  HasJobs jobs w = w.jobs ≡ jobs
+
+  turns-same : (jobs : List Job) → KeptByTurns (turn env) left (HasJobs jobs)
+  turns-same jobs = record {
+    more = λ x y is same. ap (λ (s : Step Work). (state_of s).jobs) (sym is) ∙ turned-same x (next_of x) ∙ same;
+    done = λ x y is same. ap (λ (s : Step Work). (state_of s).jobs) (sym is) ∙ turned-same x (next_of x) ∙ same;
+  }
+
+  goes-same : (w : Work) → (goes_on env w).jobs ≡ w.jobs
+  goes-same w = runs_keep (turn env) left (HasJobs w.jobs) (turns-same w.jobs) w refl
+
+  -- ---- what a Tag starts
+
+  -- how it goes on behind a request, started or not
+  abbrev started_on : List ℕ → ℕ → ℕ → List Entry → Bool × Work → Work
+  started_on nodes at r es x = elim x.0 as (λ b. Work) [ true ↦ starts_at env nodes (at + 1) (r + 1) es x.1 | false ↦ starts_at env nodes at (r + 1) es x.1 ]
+
+  -- each takes one of the nodes that are left
+  starts-few : (nodes : List ℕ) (at r : ℕ) (es : List Entry) (w : Work) → length (starts_at env nodes at r es w).jobs ≤ length w.jobs + (length nodes - at)
+  unfolding starts_at
+  starts-few nodes at r [] w = omega arith
+  starts-few nodes at r (e ∷ es) w = go (slice_get nodes at) refl (λ y. starts-few nodes (at + 1) (r + 1) es y) (λ y. starts-few nodes at (r + 1) es y) where
+    named : (to : ℕ) → at < length nodes → (o : Option (List ℕ)) → ((y : Work) → length (starts_at env nodes (at + 1) (r + 1) es y).jobs ≤ length y.jobs + (length nodes - (at + 1)))
+        → ((y : Work) → length (starts_at env nodes at (r + 1) es y).jobs ≤ length y.jobs + (length nodes - at)) → length (started_on nodes at r es (starts_named env to r e w o)).jobs ≤ length w.jobs + (length nodes - at)
+    named to within None later same = same (entered e w)
+    named to within (Some path) later same = let one = started-one to r path e.verdict w in let more = later (started env to r path e.verdict w) in omega (arith, one, more, within)
+
+    go : (o : Option ℕ) → slice_get nodes at ≡ o → ((y : Work) → length (starts_at env nodes (at + 1) (r + 1) es y).jobs ≤ length y.jobs + (length nodes - (at + 1)))
+        → ((y : Work) → length (starts_at env nodes at (r + 1) es y).jobs ≤ length y.jobs + (length nodes - at)) → length (started_on nodes at r es (starts_one env o r e w)).jobs ≤ length w.jobs + (length nodes - at)
+    go None is later same = same (entered e w)
+    go (Some to) is later same = named to (slice_get_within nodes at to is) (named_path env.serve.files e) later same
+
+  -- ---- the rules
+
+  -- what a rule comes to queues eight jobs at most
+  abbrev QueuesFew : Deed → Type 0
+  QueuesFew Drops = Unit {0}
+  QueuesFew (Says messages) = Unit {0}
+  QueuesFew (Does x) = length x.1.jobs ≤ 8
+
+  -- of two deeds by a test, the other is that nothing is done
+  if-few : (b : Bool) (d : Deed) → QueuesFew d → QueuesFew (cond b d Drops)
+  if-few true d h = h
+  if-few false d h = tt
+
+  -- what is in hand goes on, with so few jobs
+  on-few : (w : Work) → length w.jobs ≤ 8 → length (goes_on env w).jobs ≤ 8
+  on-few w few = let same : length (goes_on env w).jobs ≡ length w.jobs = ap length (goes-same w) in omega (arith, same, few)
+
+  came-same : (f : Progress → Progress) (r : ℕ) (w : Work) → (came_for f r w).jobs ≡ w.jobs
+  came-same f r w = cond_both (nat_lt w.service.count r) (record w { batch = come_on f (r - (w.service.count + 1)) w.batch }) w (λ (y : Work). y.jobs ≡ w.jobs) (λ t. refl) (λ t. refl)
+
+  came-few : (f : Progress → Progress) (r : ℕ) (w : Work) → length w.jobs ≤ 8 → length (goes_on env (came_for f r w)).jobs ≤ 8
+  came-few f r w few = on-few (came_for f r w) (let same : length (came_for f r w).jobs ≡ length w.jobs = ap length (came-same f r w) in omega (arith, same, few))
+
+  heard-few : (p : NodePart) (given : Result Said SegFault) (x : Option (ControlBlock × Stay)) → QueuesFew (heard_by env p given x)
+  heard-few p (Err fault) x = tt
+  heard-few p (Ok s) None = tt
+  heard-few p (Ok s) (Some x) = on-few (work_of (on_segment x.0 s).1 x.1) (omega arith)
+
+  tagged-few : (number : ℕ) (nodes : List ℕ) (p : NodePart) (x : Option (ControlBlock × Stay)) → length nodes ≤ 8 → QueuesFew (tagged_by env number nodes p x)
+  tagged-few number nodes p None few = tt
+  tagged-few number nodes p (Some x) few =
+      let w : Work = work_of x.0 x.1 in
+      let all = starts-few nodes 0 (w.service.count + 1) w.batch (record w { batch = [] }) in
+      let q : NodePart = record p { kept = without kind.Ask 0 p.kept } in
+      if-few (is_awaited env number nodes p x.1) (with_work env q [] (goes_on env (tagged env nodes w))) (on-few (tagged env nodes w) (omega (arith, all, few)))
+
+  come-few : (from r : ℕ) (p : NodePart) (x : Option (ControlBlock × Stay)) → QueuesFew (come_by env from r p x)
+  come-few from r p None = tt
+  come-few from r p (Some x) =
+      let w : Work = came_for (come_progress from) r (work_of x.0 x.1) in
+      let q : NodePart = record p { fetches = without kind.Fetch r p.fetches } in
+      if-few (is_from from env.epoch (find (is_under kind.Fetch r) p.fetches)) (with_work env q [] (goes_on env w)) (came-few (come_progress from) r (work_of x.0 x.1) (omega arith))
+
+  read-few : (r : ℕ) (p : NodePart) (x : Option (ControlBlock × Stay)) → QueuesFew (read_by env r p x)
+  read-few r p None = tt
+  read-few r p (Some x) = came-few read_progress r (work_of x.0 x.1) (omega arith)
+
+  offered-few : (parts : EndpointParts) (p : NodePart) (a : Adopt) → QueuesFew (offered_by env parts p a)
+  offered-few parts p New =
+      let w : Work = begins env parts in
+      let one = these-one (bytes_used 8 w.service.block.recv.unread) w (batch_of 8 w.service.block.recv.unread) in
+      on-few (state_of (reads_batch env true w)) (omega (arith, one))
+  offered-few parts p Again = tt
+  offered-few parts p Stale = tt
+
+  acknowledged-few : (p : NodePart) → QueuesFew (node_acknowledged env p)
+  acknowledged-few p = if-few (awaits_ack env.epoch p.row) (Does (record p { row = gone p.row; kept = without kind.Ended 0 p.kept }, saying [])) (omega arith)
+
+  fires-few : (p : NodePart) (x : Option (ControlBlock × Stay)) → QueuesFew (fired_by env p x)
+  fires-few p None = tt
+  fires-few p (Some x) = omega arith
+
+-- ---- a node's step
+
+-- so many jobs more, at most
+abbrev pub GainsFew : List Job → List Job → Type 0
+GainsFew old new = length new ≤ length old + 8
+
+module _ (k : NodeSetting) where
+  still-gains : (jobs : List Job) → GainsFew jobs jobs
+  still-gains jobs = omega arith
+
+  deed-gains : (env : NodeEnv) (s : NodeState) (c : ℕ) (d : Deed) → QueuesFew env d → GainsFew s.disk (node_deed k s c d).0.disk
+  deed-gains env s c Drops few = omega arith
+  deed-gains env s c (Says messages) few = let more = length-append s.disk [] in omega (arith, more)
+  deed-gains env s c (Does x) few = let more = length-append s.disk x.1.jobs in omega (arith, more, few)
+
+  file-gains : (s : NodeState) (from c epoch r : ℕ) (path : List ℕ) → GainsFew s.disk (aside s (fetched_file k s from c epoch r path)).0.disk
+  file-gains s from c epoch r path =
+      let job : Job = record { origin = from; c = c; epoch = record { 0 = epoch }; r = r; path = path } in
+      let sent : NodeTurn = record (saying (content_sent k from c epoch r path ∷ [])) { notes = rec.Hit k.n path ∷ [] } in
+      let queued : NodeTurn = record (saying []) { notes = rec.Queued k.n from c r path ∷ []; jobs = job ∷ [] } in
+      let none = length-append s.disk [] in
+      let one = length-append s.disk (job ∷ []) in
+      cond_both (has s.cache.entries path) sent queued (λ (t : NodeTurn). GainsFew s.disk (aside s t).0.disk) (λ t. omega (arith, none)) (λ t. omega (arith, one))
+
+  fetched-gains : (s : NodeState) (from c epoch r : ℕ) (path : List ℕ) (o : Option (List ℕ)) → GainsFew s.disk (fetched k s from c epoch r path o).0.disk
+  fetched-gains s from c epoch r path None = omega arith
+  fetched-gains s from c epoch r path (Some bytes) =
+      cond_both (list_any (is_for c epoch r) s.disk) (s, nothing_done) (aside s (fetched_file k s from c epoch r path)) (λ (x : NodeState × Out). GainsFew s.disk x.0.disk) (λ t. omega arith) (λ t. file-gains s from c epoch r path)
+
+  hears-gains : (s : NodeState) (from : Place) (c epoch : ℕ) (b : Body) → TagsFew b → GainsFew s.disk (node_hears k s from c epoch b).0.disk
+  hears-gains s place.Front c epoch (body.Offer parts) few = let env = node_env k s c epoch in deed-gains env s c (node_offered env (node_part s c) parts) (offered-few env parts (node_part s c) (offer_answer epoch (node_part s c).row))
+  hears-gains s place.Front c epoch (body.Forward bytes) few = let env = node_env k s c epoch in deed-gains env s c (node_forwarded env (node_part s c) (decoded bytes c ToCluster)) (heard-few env (node_part s c) (decoded bytes c ToCluster) (here epoch (node_part s c)))
+  hears-gains s place.Front c epoch (body.Tag number nodes) few = let env = node_env k s c epoch in deed-gains env s c (node_tagged env (node_part s c) number nodes) (tagged-few env number nodes (node_part s c) (here epoch (node_part s c)) few)
+  hears-gains s place.Front c epoch body.EndedAck few = let env = node_env k s c epoch in deed-gains env s c (node_acknowledged env (node_part s c)) (acknowledged-few env (node_part s c))
+  hears-gains s (place.Node from) c epoch (body.Fetch r path) few = fetched-gains s from c epoch r path (k.files path)
+  hears-gains s (place.Node from) c epoch (body.Content r bytes) few = let env = node_env k s c epoch in deed-gains env s c (node_content env (node_part s c) from r) (come-few env from r (node_part s c) (here epoch (node_part s c)))
+  hears-gains s _ c epoch _ few = still-gains s.disk
+
+  gets-gains : (s : NodeState) (from : Place) (given : Result Message MsgFault) → ReadsFew given → GainsFew s.disk (node_gets k s from given).0.disk
+  gets-gains s from (Err fault) few = still-gains s.disk
+  gets-gains s from (Ok m) few = hears-gains s from m.c m.epoch.0 m.body few
+
+  -- a completed job is taken out
+  without-less : (jobs : List Job) (j : ℕ) → length (without_job jobs j) ≤ length jobs
+  without-less jobs j =
+      let i : ℕ = j - 1 in
+      let all = length-append (take i jobs) (drop (suc i) jobs) in
+      let first = length-take i jobs in
+      let last = length-drop (suc i) jobs in
+      cond_both (j == 0) jobs (take i jobs ++ drop (suc i) jobs) (λ (js : List Job). length js ≤ length jobs) (λ t. omega arith) (λ t. omega (arith, all, first, last))
+
+  brought-gains : (s : NodeState) (job : Job) → GainsFew s.disk (brought k s job).0.disk
+  brought-gains s job =
+      let env = node_env k s job.c job.epoch.0 in
+      let none = length-append s.disk [] in
+      let read : NodeState × Out = node_deed k s job.c (node_read env (node_part s job.c) job.r) in
+      let sent : NodeState × Out = aside s (saying (content_sent k job.origin job.c job.epoch.0 job.r job.path ∷ [])) in
+      cond_both (job.origin == k.n) read sent (λ (x : NodeState × Out). GainsFew s.disk x.0.disk)
+      (λ t. deed-gains env s job.c (node_read env (node_part s job.c) job.r) (read-few env job.r (node_part s job.c) (here job.epoch.0 (node_part s job.c))))
+      (λ t. omega (arith, none))
+
+  disk-gains : (s : NodeState) (j : ℕ) (o : Option Job) → GainsFew s.disk (disk_step k s j o).0.disk
+  disk-gains s j None = still-gains s.disk
+  disk-gains s j (Some job) = let less = without-less s.disk j in let more = brought-gains (completed k s j job) job in omega (arith, less, more)
+
+  pub step-gains : (s : NodeState) (i : BackIn) → GainsFew s.disk (node_step k s i).0.disk
+  step-gains s (input.Message from bytes) = gets-gains s from (decoded_message bytes) (decoded-few bytes)
+  step-gains s (input.Timer c) =
+      let env = node_env k s c (epoch_at s c) in
+      deed-gains env s c (node_timer env (node_part s c)) (fires-few env (node_part s c) (both_of (endpoint_of (node_part s c).row) (node_part s c).stay))
+  step-gains s (input.Disk j) = disk-gains s j (job_at s.disk j)

@@ -1,0 +1,14 @@
+pub mod TagsAgree
+pub mod TagsChoices
+pub mod TagsFronts
+pub mod TagsGoing
+pub mod TagsNodes
+pub mod TagsRuns
+pub mod OriginsFetches
+pub mod OriginsJobs
+pub mod OriginsKnown
+pub mod OriginsNotes
+pub mod OriginsRuns
+pub mod HomesFronts
+pub mod HomesNodes
+pub mod HomesRuns

@@ -1,0 +1,250 @@
+-- What a step makes of the journal, of no one connection: it begins by its event and no other, and what the journal tells of
+-- packets goes on as the network does.
+use Rattle.std.proofs.Common.{◌≡◌, ℕ, ◌+◌, ◌-◌, List, [], ◌∷◌, ◌++◌, length, false, Ok, refl, sym, ap, ◌∙◌, subst, ⊎_elim, true, not, ◌&&◌, arith, append_assoc}
+use Rattle.std.specs.Prelude.{◌⊎◌}
+use Rattle.std.proofs.lemmas.List.Sums.{fold-append}
+use Rattle.std.specs.List.{fold, list_all}
+use Rattle.lard_base.specs.declared.event.Event.{Event}
+use Rattle.lard_base.specs.declared.event.Event.TheVariants as event
+use Rattle.lard_base.specs.declared.place.Place.{Place}
+use Rattle.lard_base.specs.declared.place.Place.TheVariants.{Front, Node}
+use Rattle.lard_rules.specs.declared.machine.Machine.{Machine}
+use Rattle.lard_rules.specs.Bounds.{HasRule}
+use Rattle.lard_rules.specs.Machine.{clocked, machine_step, node_at, passed, segments_sent, told, told_rows}
+use Rattle.lard_law_view.specs.View.{IsViewed, Part, part_of, setting_of, timer_rows}
+use Rattle.lard_law_view.proofs.Fine.{IsFine, fine}
+use Rattle.lard_law_view.proofs.Saying.{GaveAt, IsStill, NotedAt, gave-still, note-still}
+use Rattle.lard_law_view.proofs.Shapes.{HasJobs, IsPut, Shapes, both_out}
+use Rattle.lard_law_view.proofs.Stepping.{step-has}
+use Rattle.lard_law_view.proofs.Timers.{IsTimerAt, timer-still, timer_rows-are}
+use Rattle.lard_law_view.proofs.Turned.{IsSaid}
+use Rattle.lard_history.specs.Journal.{answered_step}
+use Rattle.lard_history.specs.Laws.{IsStep, is_own}
+use Rattle.lard_history.specs.Own.{net_of, net_step}
+use Rattle.lard_history.specs.Steps.{is_opening}
+use Rattle.lard_history.proofs.Each.{Each, Each-append, Each-weaker}
+use Rattle.lard_history.proofs.Stepping.{AreInside, IsOneStep}
+use Rattle.lard_journal.specs.declared.rec.Rec.{Rec}
+use Rattle.lard_journal.specs.declared.rec.Rec.TheVariants as rec
+use Rattle.lard_rules.specs.Sent.{packets_of, sent_records}
+use Rattle.lard_net.specs.Net.{Packet, lose_at}
+use Rattle.lard_rules.specs.declared.places.Out.{Out}
+use Rattle.lard_law_ends.proofs.Firsts.{AreOthers, HasOwn, others_append, own-alone}
+use Rattle.lard_law_ends.proofs.SentPackets.{sents-net}
+use Rattle.lard_law_ends.proofs.OwnRecords.{behind}
+
+-- Behind m comes one step, of this event, which counts the bytes of its responses, and the journal tells of the packets that there are. Settings stay, and so do the nodes and what their disks
+-- are given.
+pub record IsAfter (m : Machine) (e : Event) (n : Machine) : Type 0 where
+  pub step : List Rec
+  pub is : n.journal ≡ m.journal ++ step
+  pub one : IsOneStep step
+  pub events : n.events ≡ m.events + 1
+  pub follows : IsStep n.events e step
+  pub answered : fold answered_step m.answered step ≡ n.answered
+  pub told : net_of n.journal ≡ n.net
+  pub config : n.config ≡ m.config
+  pub files : n.files ≡ m.files
+  pub nodes : length n.nodes ≡ length m.nodes
+  pub jobs : HasJobs m → HasJobs n
+
+-- ---- records that begin no step, and tell of no packet
+
+abbrev pub AreStill : List Rec → Type 0
+AreStill rs = Each IsStill rs
+
+still-net : (net : List Packet) (rs : List Rec) → AreStill rs → fold net_step net rs ≡ net
+still-net net [] e = refl
+still-net net (r ∷ rs) e = ap (λ n. fold net_step n rs) (e.0.1 net) ∙ still-net net rs e.1
+
+still-inside : (rs : List Rec) → AreStill rs → AreInside rs
+still-inside rs e = Each-weaker IsStill (λ r. is_opening r ≡ false) (λ r h. h.0) rs e
+
+sents-inside : (k : ℕ) (place : Place) (ss : List (Place × List ℕ)) → AreInside (sent_records k place ss)
+sents-inside k place [] = tt
+sents-inside k place (s ∷ ss) = (refl, sents-inside (k + 1) place ss)
+
+-- ---- records that count no response, and are no event's own
+
+-- neither, wherever they stand
+abbrev pub IsQuiet : Rec → Type 0
+IsQuiet r = ((n : ℕ) → answered_step n r ≡ n) × (not (is_own r) ≡ true)
+
+quiet-count : (n : ℕ) (rs : List Rec) → Each IsQuiet rs → fold answered_step n rs ≡ n
+quiet-count n [] e = refl
+quiet-count n (r ∷ rs) e = ap (λ k. fold answered_step k rs) (e.0.0 n) ∙ quiet-count n rs e.1
+
+quiet-others : (rs : List Rec) → Each IsQuiet rs → AreOthers rs
+quiet-others [] e = refl
+quiet-others (r ∷ rs) e = ap (λ b. b && list_all (λ q. not (is_own q)) rs) e.0.1 ∙ quiet-others rs e.1
+
+sents-quiet : (k : ℕ) (place : Place) (ss : List (Place × List ℕ)) → Each IsQuiet (sent_records k place ss)
+sents-quiet k place [] = tt
+sents-quiet k place (s ∷ ss) = ((λ n. refl, refl), sents-quiet (k + 1) place ss)
+
+gave-quiet : (place : Place) (c : ℕ) (r : Rec) → GaveAt place c r → IsQuiet r
+gave-quiet Front c (rec.Gave Front d epoch) h = (λ n. refl, refl)
+gave-quiet (Node n) c (rec.Gave (Node k) d epoch) h = (λ n. refl, refl)
+gave-quiet _ c _ h = absurd h
+
+timer-quiet : (place : Place) (c : ℕ) (r : Rec) → IsTimerAt place c r → IsQuiet r
+timer-quiet place c (rec.Armed p d kind) h = (λ n. refl, refl)
+timer-quiet place c (rec.Cleared p d kind) h = (λ n. refl, refl)
+timer-quiet place c _ h = absurd h
+
+-- ---- what an act says, of one connection or of two
+
+-- Its notes, gifts and timers begin no step and tell of no packet; the notes count its responses.
+pub record IsStillOut (o : Out) : Type 0 where
+  pub notes : AreStill o.notes
+  pub gave : Each (λ r. IsStill r × IsQuiet r) o.gave
+  pub timers : Each (λ r. IsStill r × IsQuiet r) o.timers
+  pub counted : (n : ℕ) → fold answered_step n o.notes ≡ n + o.answered
+
+timers-still : (place : Place) (c : ℕ) (p q : Part) (rs : List Rec) → rs ≡ timer_rows place c p q → Each (λ r. IsStill r × IsQuiet r) rs
+timers-still place c p q rs e = subst (Each (λ r. IsStill r × IsQuiet r)) (sym e)
+    (Each-weaker (IsTimerAt place c) (λ r. IsStill r × IsQuiet r) (λ r h. (timer-still place c r h, timer-quiet place c r h)) (timer_rows place c p q) (timer_rows-are place c p q))
+
+said-still : (place : Place) (c : ℕ) (o : Out) (answered : ℕ) → answered ≡ o.answered → IsSaid place c o.notes o.segments o.gave o.messages answered
+    → Each (λ r. IsStill r × IsQuiet r) o.timers → IsStillOut o
+said-still place c o answered same said timers = record {
+  notes = Each-weaker (NotedAt place c) IsStill (note-still place c) o.notes said.notes;
+  gave = Each-weaker (GaveAt place c) (λ r. IsStill r × IsQuiet r) (λ r h. (gave-still place c r h, gave-quiet place c r h)) o.gave said.gave;
+  timers = timers;
+  counted = λ n. said.counted n ∙ ap (λ k. n + k) same;
+}
+
+both-still : (a b : Out) (rows : List Rec) → IsStillOut a → IsStillOut (record b { answered = 0 }) → (rows ≡ a.timers ++ b.timers) ⊎ (rows ≡ b.timers ++ a.timers) → IsStillOut (both_out a b rows)
+both-still a b rows h k order =
+    let Both : Rec → Type 0 = λ r. IsStill r × IsQuiet r in record {
+      notes = Each-append IsStill a.notes b.notes h.notes k.notes;
+      gave = Each-append Both a.gave b.gave h.gave k.gave;
+      timers = ⊎_elim
+          (λ (e : rows ≡ a.timers ++ b.timers). subst (Each Both) (sym e) (Each-append Both a.timers b.timers h.timers k.timers))
+          (λ (e : rows ≡ b.timers ++ a.timers). subst (Each Both) (sym e) (Each-append Both b.timers a.timers k.timers h.timers))
+          order;
+      counted = λ n.
+          let all : fold answered_step n (a.notes ++ b.notes) ≡ (n + a.answered) + 0 =
+          fold-append answered_step n a.notes b.notes ∙ ap (λ j. fold answered_step j b.notes) (h.counted n) ∙ k.counted (n + a.answered) in
+          all ∙ omega arith;
+    }
+
+-- the event and its own records stand before all others
+own_first : (r : Rec) (own rest notes S G M T : List Rec) → notes ≡ own ++ rest
+    → (r ∷ []) ++ notes ++ S ++ G ++ M ++ T ≡ r ∷ own ++ (rest ++ S ++ G ++ M ++ T)
+own_first r own rest notes S G M T e =
+    ap (λ (ns : List Rec). r ∷ ns ++ S ++ G ++ M ++ T) e
+    ∙ ap (λ l. l ++ G ++ M ++ T) (append_assoc (r ∷ own) rest S)
+    ∙ ap (λ l. l ++ M ++ T) (append_assoc (r ∷ own) (rest ++ S) G)
+    ∙ ap (λ l. l ++ T) (append_assoc (r ∷ own) (rest ++ S ++ G) M)
+    ∙ append_assoc (r ∷ own) (rest ++ S ++ G ++ M) T
+
+-- ---- a step
+
+module _ (m : Machine) (known : net_of m.journal ≡ m.net) where
+  told-after : (w : Machine) (e : Event) (place : Place) (o : Out) → IsPut m w → AreStill (behind e) → ((n : ℕ) → fold answered_step n (behind e) ≡ n) → HasOwn e (behind e ++ o.notes) → IsStillOut o → IsAfter m e (told w e (behind e) place o)
+  unfolding told
+  told-after w e place o put first uncounted has still =
+      let inside : Rec → Type 0 = λ r. is_opening r ≡ false in
+      let Both : Rec → Type 0 = λ r. IsStill r × IsQuiet r in
+      let gave_still : AreStill o.gave = Each-weaker Both IsStill (λ r h. h.0) o.gave still.gave in
+      let timers_still : AreStill o.timers = Each-weaker Both IsStill (λ r h. h.0) o.timers still.timers in
+      let gave_quiet : Each IsQuiet o.gave = Each-weaker Both IsQuiet (λ r h. h.1) o.gave still.gave in
+      let timers_quiet : Each IsQuiet o.timers = Each-weaker Both IsQuiet (λ r h. h.1) o.timers still.timers in
+      let A : List Rec = rec.Event (w.events + 1) e ∷ behind e in
+      let S : List Rec = sent_records (length w.net + 1) place o.segments in
+      let M : List Rec = sent_records (length (segments_sent w place o) + 1) place o.messages in
+      let to_notes : fold net_step m.net (A ++ o.notes) ≡ m.net = fold-append net_step m.net A o.notes ∙ ap (λ n. fold net_step n o.notes) (still-net m.net (behind e) first) ∙ still-net m.net o.notes still.notes in
+      let to_segments : fold net_step m.net (A ++ o.notes ++ S) ≡ m.net ++ packets_of place o.segments =
+      fold-append net_step m.net (A ++ o.notes) S ∙ ap (λ n. fold net_step n S) to_notes ∙ sents-net m.net (length w.net + 1) place o.segments in
+      let between : List Packet = m.net ++ packets_of place o.segments in
+      let to_gave : fold net_step m.net (A ++ o.notes ++ S ++ o.gave) ≡ between =
+      fold-append net_step m.net (A ++ o.notes ++ S) o.gave ∙ ap (λ n. fold net_step n o.gave) to_segments ∙ still-net between o.gave gave_still in
+      let to_messages : fold net_step m.net (A ++ o.notes ++ S ++ o.gave ++ M) ≡ between ++ packets_of place o.messages =
+      fold-append net_step m.net (A ++ o.notes ++ S ++ o.gave) M ∙ ap (λ n. fold net_step n M) to_gave ∙ sents-net between (length (segments_sent w place o) + 1) place o.messages in
+      record {
+        step = told_rows w e (behind e) place o;
+        is = ap (λ (J : List Rec). J ++ told_rows w e (behind e) place o) put.journal;
+        one = (
+          refl,
+          Each-append inside (behind e ++ o.notes ++ S ++ o.gave ++ M) o.timers
+              (Each-append inside (behind e ++ o.notes ++ S ++ o.gave) M
+              (Each-append inside (behind e ++ o.notes ++ S) o.gave
+              (Each-append inside (behind e ++ o.notes) S
+              (Each-append inside (behind e) o.notes (still-inside (behind e) first) (still-inside o.notes still.notes))
+              (sents-inside (length w.net + 1) place o.segments))
+              (still-inside o.gave gave_still))
+              (sents-inside (length (segments_sent w place o) + 1) place o.messages))
+              (still-inside o.timers timers_still),
+        );
+        events = ap (λ i. i + 1) put.events;
+        follows = record {
+          own = has.0;
+          others = has.1 ++ S ++ o.gave ++ M ++ o.timers;
+          is = own_first (rec.Event (w.events + 1) e) has.0 has.1 (behind e ++ o.notes) S o.gave M o.timers has.2;
+          own_are = has.3;
+          alone = others_append (has.1 ++ S ++ o.gave ++ M) o.timers
+              (others_append (has.1 ++ S ++ o.gave) M
+              (others_append (has.1 ++ S) o.gave
+              (others_append has.1 S has.4 (quiet-others S (sents-quiet (length w.net + 1) place o.segments)))
+              (quiet-others o.gave gave_quiet))
+              (quiet-others M (sents-quiet (length (segments_sent w place o) + 1) place o.messages)))
+              (quiet-others o.timers timers_quiet);
+        };
+        answered =
+            fold-append answered_step m.answered (A ++ o.notes ++ S ++ o.gave ++ M) o.timers
+            ∙ quiet-count (fold answered_step m.answered (A ++ o.notes ++ S ++ o.gave ++ M)) o.timers timers_quiet
+            ∙ fold-append answered_step m.answered (A ++ o.notes ++ S ++ o.gave) M
+            ∙ quiet-count (fold answered_step m.answered (A ++ o.notes ++ S ++ o.gave)) M (sents-quiet (length (segments_sent w place o) + 1) place o.messages)
+            ∙ fold-append answered_step m.answered (A ++ o.notes ++ S) o.gave
+            ∙ quiet-count (fold answered_step m.answered (A ++ o.notes ++ S)) o.gave gave_quiet
+            ∙ fold-append answered_step m.answered (A ++ o.notes) S
+            ∙ quiet-count (fold answered_step m.answered (A ++ o.notes)) S (sents-quiet (length w.net + 1) place o.segments)
+            ∙ fold-append answered_step m.answered A o.notes
+            ∙ ap (λ n. fold answered_step n o.notes) (uncounted m.answered)
+            ∙ still.counted m.answered
+            ∙ ap (λ n. n + o.answered) (sym put.answered);
+        told =
+            fold-append net_step [] w.journal (told_rows w e (behind e) place o)
+            ∙ ap (λ n. fold net_step n (told_rows w e (behind e) place o)) (ap net_of put.journal ∙ known)
+            ∙ fold-append net_step m.net (A ++ o.notes ++ S ++ o.gave ++ M) o.timers
+            ∙ ap (λ n. fold net_step n o.timers) to_messages
+            ∙ still-net (between ++ packets_of place o.messages) o.timers timers_still
+            ∙ ap (λ (n : List Packet). n ++ packets_of place o.segments ++ packets_of place o.messages) (sym put.net);
+        config = put.config;
+        files = put.files;
+        nodes = put.nodes;
+        jobs = put.jobs;
+      }
+
+  passed-after : (w : Machine) (e : Event) (r : Rec) → w.journal ≡ m.journal → w.events ≡ m.events → w.answered ≡ m.answered → HasOwn e (r ∷ []) → ((n : ℕ) → answered_step n r ≡ n) → w.config ≡ m.config → w.files ≡ m.files → w.nodes ≡ m.nodes → is_opening r ≡ false → net_step m.net r ≡ w.net → IsAfter m e (passed w e (r ∷ []))
+  passed-after w e r journal events answered has uncounted config files nodes inside net = record {
+    step = rec.Event (w.events + 1) e ∷ r ∷ [];
+    is = ap (λ (J : List Rec). J ++ rec.Event (w.events + 1) e ∷ r ∷ []) journal;
+    one = (refl, (inside, tt));
+    events = ap (λ i. i + 1) events;
+    follows = record { own = has.0; others = has.1; is = ap (λ (rs : List Rec). rec.Event (w.events + 1) e ∷ rs) has.2; own_are = has.3; alone = has.4 };
+    answered = uncounted m.answered ∙ sym answered;
+    told = fold-append net_step [] w.journal (rec.Event (w.events + 1) e ∷ r ∷ []) ∙ ap (λ n. net_step n r) (ap net_of journal ∙ known) ∙ net;
+    config = config;
+    files = files;
+    nodes = ap (λ ns. length ns) nodes;
+    jobs = λ h n s at. h n s (ap (λ ns. node_at ns n) (sym nodes) ∙ at);
+  }
+
+  shapes-after : Shapes m IsFine (λ e n. IsAfter m e n)
+  unfolding clocked
+  shapes-after = record {
+    one = λ w e place o c heads ns p act does. told-after w e place o act.put act.begins.still act.begins.uncounted act.first
+        (said-still place c o o.answered refl act.said (timers-still place c (part_of m c) p o.timers act.timers));
+    two = λ w e place a b rows c d heads p r act does too. told-after w e place (both_out a b rows) act.put act.begins.still act.begins.uncounted act.first
+        (both-still a b rows (said-still place c a a.answered refl act.said (timers-still place c (part_of m c) p a.timers act.timers))
+        (said-still place d (record b { answered = 0 }) 0 refl act.said_too (timers-still place d (part_of m d) r b.timers act.timers_too)) act.order);
+    nobody = λ k l at there. passed-after m (event.Deliver k) (rec.Got k) refl refl refl (own-alone (event.Deliver k) (rec.Got k ∷ []) refl) (λ n. refl) refl refl refl refl refl;
+    loses = λ k l at there. passed-after (record m { net = lose_at (k - 1) m.net }) (event.Lose k) (rec.Lost k) refl refl refl (own-alone (event.Lose k) (rec.Lost k ∷ []) refl) (λ n. refl) refl refl refl refl refl;
+    clocks = λ ms. passed-after (record m { now = m.now + ms }) (event.Clock ms) (rec.Clock (record { 0 = m.now + ms })) refl refl refl
+        (own-alone (event.Clock ms) (rec.Clock (record { 0 = m.now + ms }) ∷ []) (record { 0 = m.now + ms }, refl)) (λ n. refl) refl refl refl refl refl;
+  }
+
+pub step-after : (m : Machine) → IsViewed m → (e : Event) (n : Machine) → HasRule e → machine_step m e ≡ Ok n → IsAfter m e n
+step-after m view e n rule is = step-has m view IsFine (fine (setting_of m)) (λ d k. IsAfter m d k) (shapes-after m view.told) e n rule is

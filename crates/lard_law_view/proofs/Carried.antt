@@ -1,0 +1,109 @@
+-- A law of one connection is a law of each connection in every state that events lead to.
+use Rattle.std.proofs.Common.{◌≡◌, ℕ, List, [], ◌∷◌, ◌++◌, Some, None, Ok, refl, sym, ap, ◌∙◌, subst, inr, ⊎_elim}
+use Rattle.lard_base.specs.declared.config.Config.{Config}
+use Rattle.lard_base.specs.declared.event.Event.{Event}
+use Rattle.lard_rules.specs.declared.machine.Machine.{Machine}
+use Rattle.lard_rules.specs.Bounds.{HasRule, IsNumber}
+use Rattle.lard_rules.specs.Machine.{IsReached, machine_step, start}
+use Rattle.lard_law_view.specs.Carry.{MayMove, setting}
+use Rattle.lard_law_view.specs.Laws.{Carries, IsViewedAlways, StepsMove}
+use Rattle.lard_law_view.specs.View.{AreNumbered, Conn, Goes, IsSound, IsViewed, Move, Rules, Setting, blank, conn, grown, setting_of}
+use Rattle.lard_law_view.proofs.After.{IsAfter, step-after}
+use Rattle.lard_law_view.proofs.Fine.{IsFine, fine}
+use Rattle.lard_law_view.proofs.Runs.{length-replicated, of-nodes, passes-keep, passes-more, start-blank}
+use Rattle.lard_law_view.proofs.Stepping.{step-has}
+use Rattle.lard_law_view.proofs.Steps.{To, shapes-go}
+use Rattle.lard_files.specs.Files.{file_at}
+use Rattle.lard_rules.specs.declared.node.NodeState.{NodeState}
+use Rattle.lard_rules.specs.NodePlace.{no_stays}
+
+-- each connection stays, or makes one move of one rule
+pub step_moves : StepsMove
+step_moves m n e P view R rule is = step-has m view P R (λ d k. To m view P R k) (shapes-go m view P R) e n rule is
+
+-- ---- what the view rests on
+
+-- what holds of x, and of a connection where it goes
+pub gone : (Inv : Conn → Type 0) (P : Conn → Move → Type 0) (x y : Conn) → Inv x → ((v : Move) → P x v → Inv (grown x v)) → Goes P x y → Inv y
+gone Inv P x y held grows goes = ⊎_elim
+    (λ (same : y ≡ x). subst Inv (sym same) held)
+    (λ (k : (v : Move) × P x v × (y ≡ grown x v)). subst Inv (sym k.2) (grows k.0 k.1))
+    goes
+
+pub viewed-kept : (m n : Machine) (e : Event) → IsViewed m → HasRule e → machine_step m e ≡ Ok n → IsViewed n
+viewed-kept m n e view rule is =
+    let after : IsAfter m e n = step-after m view e n rule is in
+    let goes = step_moves m n e IsFine view (fine (setting_of m)) rule is in
+    record {
+      sound = λ q. gone IsSound (λ x v. IsNumber x.c × IsFine x v) (conn m q) (conn n q) (view.sound q) (λ v good. (good.1 good.0 (view.sound q)).1) (goes q);
+      told = after.told;
+      nodes = after.nodes ∙ view.nodes ∙ ap (λ (c : Config). c.nodes) (sym after.config);
+      jobs = after.jobs view.jobs;
+    }
+
+blank-sound : (c : ℕ) → IsSound (blank c)
+blank-sound c = record { number = inr refl; between = tt; client = λ s e. let no : None ≡ Some s = e in absurd cc; front = tt; kept = λ n. tt; fetches = λ n. tt }
+
+pub start-viewed : (config : Config) (files : List (List ℕ × List ℕ)) → IsViewed (start config files)
+start-viewed config files = record {
+  sound = λ q. subst IsSound (sym (start-blank config files q)) (blank-sound q);
+  told = refl;
+  nodes = length-replicated (no_stays config.cache) config.nodes;
+  jobs = λ n s at. of-nodes (λ o. o ≡ Some s → AreNumbered s.disk) config.nodes (no_stays config.cache)
+      (λ e. let no : None ≡ Some s = e in absurd cc)
+      (λ e. let same : no_stays config.cache ≡ s = cc in subst (λ (x : NodeState). AreNumbered x.disk) same tt)
+      n at;
+}
+
+pub reached-viewed : IsViewedAlways
+reached-viewed config files m r = passes-keep IsViewed viewed-kept r.0 (start config files) m r.1 (start-viewed config files)
+
+-- ---- laws
+
+module _ (config : Config) (files : List (List ℕ × List ℕ)) where
+  -- a state that events lead to, with the settings that it began with
+  pub record IsOn (m : Machine) : Type 0 where
+    pub reached : IsReached config files m
+    pub view : IsViewed m
+    pub config_is : m.config ≡ config
+    pub files_are : m.files ≡ files
+
+  pub on-setting : (m : Machine) → IsOn m → setting config files ≡ setting_of m
+  on-setting m on = λ i. record { files = file_at (sym on.files_are i); stream = (sym on.config_is i).stream; nodes = (sym on.config_is i).nodes }
+
+  on-more : (m n : Machine) (e : Event) → IsOn m → HasRule e → machine_step m e ≡ Ok n → IsOn n
+  on-more m n e on rule is = let after : IsAfter m e n = step-after m on.view e n rule is in record {
+    reached = (on.reached.0 ++ e ∷ [], passes-more on.reached.0 (start config files) m n e on.reached.1 rule is);
+    view = viewed-kept m n e on.view rule is;
+    config_is = after.config ∙ on.config_is;
+    files_are = after.files ∙ on.files_are;
+  }
+
+  on-start : IsOn (start config files)
+  on-start = record { reached = ([], refl); view = start-viewed config files; config_is = refl; files_are = refl }
+
+  -- what each step keeps of a state that events lead to
+  pub carried-keep : (P : Machine → Type 0) → P (start config files) → ((m n : Machine) (e : Event) → IsOn m → P m → HasRule e → machine_step m e ≡ Ok n → P n)
+      → (m : Machine) → IsReached config files m → P m
+  carried-keep P begins step m r = (passes-keep (λ k. IsOn k × P k)
+      (λ k n e h rule is. (on-more k n e h.0 rule is, step k n e h.0 h.1 rule is))
+      r.0 (start config files) m r.1 (on-start, begins)).1
+
+  -- each connection goes by a rule of the settings
+  pub goes-on : (P : Conn → Move → Type 0) → Rules (setting config files) P → (m n : Machine) (e : Event) → IsOn m → HasRule e → machine_step m e ≡ Ok n
+      → (q : ℕ) → Goes (λ x v. IsNumber x.c × P x v) (conn m q) (conn n q)
+  goes-on P R m n e on rule is q = step_moves m n e P on.view (subst (λ (s : Setting). Rules s P) (on-setting m on) R) rule is q
+
+-- what holds where a connection moves
+pub may-move : (Given : Conn → Type 0) (x : Conn) → IsNumber x.c → IsSound x → Given x → MayMove Given x
+may-move Given x number sound given = record { number = number; sound = sound; given = given }
+
+pub carried : Carries
+unfolding conn
+carried config files Given Inv law given m r = carried-keep config files (λ k. (q : ℕ) → Inv (conn k q))
+    (λ q. subst Inv (sym (start-blank config files q)) (law.begins q))
+    (λ k n e on h rule is q.
+    let P : Conn → Move → Type 0 = λ x v. MayMove Given x → Inv x → Inv (grown x v) in
+    gone Inv (λ x v. IsNumber x.c × P x v) (conn k q) (conn n q) (h q) (λ v does. does.1 (may-move Given (conn k q) does.0 (on.view.sound q) (given k on.reached q)) (h q))
+    (goes-on config files P law.moves k n e on rule is q))
+    m r

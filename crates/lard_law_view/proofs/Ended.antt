@@ -1,0 +1,139 @@
+-- Where a connection ended at its node, the front end acts on it, and on the head of the line as well where that is admitted.
+use Rattle.std.proofs.Common.{◌≡◌, ◌≢◌, ℕ, nat_lt, Bool, true, false, cond, List, ◌++◌, Option, Some, None, refl, sym, ap, ◌∙◌, inl, inr}
+use Rattle.std.specs.Prelude.{◌⊎◌}
+use Rattle.lard_base.specs.declared.event.Event.{Event}
+use Rattle.lard_base.specs.declared.place.Place.TheVariants.{Front}
+use Rattle.lard_rules.specs.declared.machine.Machine.{Machine}
+use Rattle.lard_rules.specs.Bounds.{IsNumber}
+use Rattle.lard_rules.specs.Machine.{front_gave, front_setting}
+use Rattle.lard_law_view.specs.View.{Conn, IsViewed, Move, Rules, conn, front_does, part_of, setting_of, timer_rows, with_front}
+use Rattle.lard_law_view.proofs.FrontActs.{front-acts, front-put}
+use Rattle.lard_law_view.proofs.Fronts.{IsAdmission, IsFrontDeed, admitted-turn}
+use Rattle.lard_law_view.proofs.Heads.{Begins}
+use Rattle.lard_law_view.proofs.Numbers.{row-number}
+use Rattle.lard_law_view.proofs.Parts.{front-mine, front-others}
+use Rattle.lard_law_view.proofs.Saying.{notes-other}
+use Rattle.lard_law_view.proofs.Shapes.{Shapes}
+use Rattle.lard_law_view.proofs.Turned.{sent-messages}
+use Rattle.lard_endpoint.specs.declared.control.moving.Final.{Final}
+use Rattle.lard_rules.specs.declared.front.FrontState.{FrontState}
+use Rattle.lard_rules.specs.declared.front.FrontTurn.{FrontTurn}
+use Rattle.lard_rules.specs.Front.{Deed, Drops, Says, Does, Did, FrontEnv, FrontPart, ended_by, front_admitted, front_ended}
+use Rattle.lard_rules.specs.FrontPlace.{admits, admits_too, ended_deed, front_env, front_part, front_put, in_order, joined, out_of, put_back, timers_of}
+use Rattle.lard_rules.proofs.FrontParts.{part_other, part_put}
+use Rattle.lard_dispatch.specs.Calls.{ended_answer}
+use Rattle.lard_handoff_front.specs.declared.row.FrontRow.{FrontRow}
+use Rattle.lard_handoff_front.specs.declared.table.OnEnded.{OnEnded}
+use Rattle.lard_handoff_front.specs.declared.table.OnEnded.TheVariants.{New, Again, Stale}
+use Rattle.lard_handoff_front.specs.Front.{end_answer}
+use Rattle.lard_history.specs.Laws.{AreOwn}
+use Rattle.lard_history.specs.Own.{Seen}
+use Rattle.lard_journal.specs.declared.rec.Rec.{Rec}
+use Rattle.lard_policy.specs.declared.first.FirstChoice.{FirstChoice}
+use Rattle.lard_law_ends.proofs.Firsts.{others_append}
+use Rattle.lard_law_ends.proofs.OwnRecords.{behind}
+
+-- ---- what ended does not wait
+
+-- the connection is not admitted as it is left
+abbrev pub IsLeft : Did → Type 0
+IsLeft x = (env : FrontEnv) (choice : FirstChoice) → front_admitted env x.part choice ≡ None
+
+abbrev pub Leaves : Deed → Type 0
+Leaves Drops = Unit {0}
+Leaves (Says t) = Unit {0}
+Leaves (Does x) = IsLeft x
+
+ended_by-leaves : (env : FrontEnv) (p : FrontPart) (from epoch : ℕ) (last : Final) (o : Option FrontRow) (given : OnEnded) → Leaves (ended_by env p from epoch last o given)
+ended_by-leaves env p from epoch last None given = tt
+ended_by-leaves env p from epoch last (Some row) (New next) = λ env choice. refl
+ended_by-leaves env p from epoch last (Some row) Again = tt
+ended_by-leaves env p from epoch last (Some row) Stale = tt
+
+pub ended-leaves : (env : FrontEnv) (p : FrontPart) (from epoch : ℕ) (last : Final) → Leaves (front_ended env p from epoch last)
+ended-leaves env p from epoch last = ended_by-leaves env p from epoch last p.row (end_answer epoch p.row)
+
+-- the head of the line has a row
+admitted-row : (env : FrontEnv) (p : FrontPart) (choice : FirstChoice) (y : FrontPart × FrontTurn) → front_admitted env p choice ≡ Some y → (row : FrontRow) × (p.row ≡ Some row)
+admitted-row env p choice y e = go p.row refl where
+  go : (o : Option FrontRow) → p.row ≡ o → (row : FrontRow) × (p.row ≡ Some row)
+  go None is = let no : ◌≡◌ {A = Option (FrontPart × FrontTurn)} None (Some y) = ap (λ (o : Option FrontRow). front_admitted env (record p { row = o }) choice) (sym is) ∙ e in absurd cc
+  go (Some row) is = (row, is)
+
+-- ---- the step
+
+module _ (m : Machine) (view : IsViewed m) (P : Conn → Move → Type 0) (R : Rules (setting_of m) P) (Q : Event → Machine → Type 0) (shapes : Shapes m P Q)
+    (e : Event) (c : ℕ) (heads : List Seen) (number : IsNumber c) (begins : Begins m e Front c heads) (own : AreOwn e (behind e)) where
+  -- connection c is put back so
+  module _ (x : Did) (of : IsFrontDeed c (front_part m.front c) (Does x)) (does : P (conn m c) (front_does (conn m c) heads (Does x))) (is_left : IsLeft x) where
+    abbrev s : FrontState
+    s = put_back m.front c x
+
+    abbrev cs : List Rec
+    cs = timers_of c (front_part m.front c) x.part
+
+    alone : Q e (front_gave m e (behind e) (s, out_of x.turn cs))
+    alone = front-acts m P Q shapes e c heads number begins own (Does x) of does
+
+    -- the head is another connection
+    apart : (d : ℕ) (env : FrontEnv) (choice : FirstChoice) (y : FrontPart × FrontTurn) → front_admitted env (front_part s d) choice ≡ Some y → d ≢ c
+    apart d env choice y e same =
+        let p : front_part s d ≡ x.part = ap (front_part s) same ∙ part_put m.front c x.part in
+        let no : ◌≡◌ {A = Option (FrontPart × FrontTurn)} None (Some y) = sym (is_left env choice) ∙ ap (λ (p : FrontPart). front_admitted env p choice) (sym p) ∙ e in absurd cc
+
+    -- the head is admitted as well
+    admitted : (d : ℕ) (choice : FirstChoice) (y : FrontPart × FrontTurn) → front_admitted (front_env (front_setting m) s d 0) (front_part s d) choice ≡ Some y
+        → Q e (front_gave m e (behind e) (front_put s d y.0, out_of (joined x.turn y.1) (in_order c d cs (timers_of d (front_part s d) y.0))))
+    unfolding conn part_of timer_rows
+    admitted d choice y e_ =
+        let env : FrontEnv = front_env (front_setting m) s d 0 in
+        let n : d ≢ c = apart d env choice y e_ in
+        let before : front_part s d ≡ front_part m.front d = part_other m.front c d x.part n in
+        let now : front_admitted env (front_part m.front d) choice ≡ Some y = ap (λ (p : FrontPart). front_admitted env p choice) (sym before) ∙ e_ in
+        let row = admitted-row env (front_part m.front d) choice y now in
+        let its : IsNumber d = row-number (conn m d) row.0 (view.sound d) row.1 in
+        let ds : List Rec = timers_of d (front_part s d) y.0 in
+        let kept = sent-messages (conn m d) Front (front_part m.front d).kept (view.sound d).between (view.sound d).front in
+        let admission : IsAdmission d (front_part m.front d) y = admitted-turn env refl its (front_part m.front d) kept choice y now in
+        shapes.two (record m { front = front_put s d y.0 }) e Front (out_of x.turn cs) (out_of y.1 ds) (in_order c d cs ds) c d heads (with_front (part_of m c) x.part) (with_front (part_of m d) y.0)
+        (record {
+          put = front-put m (front_put s d y.0);
+          number = number;
+          number_too = its;
+          apart = n;
+          begins = begins;
+          names = tt;
+          first = (behind e, x.turn.notes ++ y.1.notes, refl, own, others_append x.turn.notes y.1.notes (notes-other Front c x.turn.notes tt of.0.notes) (notes-other Front d y.1.notes tt admission.0.notes));
+          said = of.0;
+          said_too = admission.0;
+          order = ordered (nat_lt d c) ds;
+          timers = refl;
+          timers_too = ap (λ (p : FrontPart). timers_of d p y.0) before;
+          mine = front-mine m (front_put s d y.0) c x.part (part_other s d c y.0 (λ same. n (sym same)) ∙ part_put m.front c x.part);
+          mine_too = front-mine m (front_put s d y.0) d y.0 (part_put s d y.0);
+          others = λ q not_c not_d. front-others m (front_put s d y.0) q (part_other s d q y.0 not_d ∙ part_other m.front c q x.part not_c);
+        })
+        does (R.untouched.front.admitted (conn m d) env choice y (record { place = refl; number = refl; files = refl; stream = refl }) now) where
+          ordered : (b : Bool) (ds : List Rec) → (cond b (ds ++ cs) (cs ++ ds) ≡ cs ++ ds) ⊎ (cond b (ds ++ cs) (cs ++ ds) ≡ ds ++ cs)
+          ordered true ds = inr refl
+          ordered false ds = inl refl
+
+    -- what the books say of the line
+    too : (d : ℕ) (choice : FirstChoice) (o : Option (FrontPart × FrontTurn)) → front_admitted (front_env (front_setting m) s d 0) (front_part s d) choice ≡ o
+        → Q e (front_gave m e (behind e) (admits_too m.front s c x d o))
+    too d choice None is = alone
+    too d choice (Some y) is = admitted d choice y is
+
+    next : (o : Option (ℕ × FirstChoice)) → Q e (front_gave m e (behind e) (admits (front_setting m) m.front s c x o))
+    next None = alone
+    next (Some n) = too n.0 n.1 (front_admitted (front_env (front_setting m) s n.0 0) (front_part s n.0) n.1) refl
+
+    pub over : Q e (front_gave m e (behind e) (ended_deed (front_setting m) m.front c (Does x)))
+    over = next (ended_answer m.front.dispatch c (front_setting m).now)
+
+  -- a rule by which a connection may have ended
+  pub ended-acts : (deed : Deed) → Leaves deed → IsFrontDeed c (front_part m.front c) deed → P (conn m c) (front_does (conn m c) heads deed)
+      → Q e (front_gave m e (behind e) (ended_deed (front_setting m) m.front c deed))
+  ended-acts Drops leaves of does = front-acts m P Q shapes e c heads number begins own Drops of does
+  ended-acts (Says t) leaves of does = front-acts m P Q shapes e c heads number begins own (Says t) of does
+  ended-acts (Does x) leaves of does = over x of does leaves

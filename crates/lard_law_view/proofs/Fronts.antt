@@ -1,0 +1,333 @@
+-- What each rule of the front end says is of its connection.
+use Rattle.std.proofs.Common.{◌≡◌, ℕ, ◌+◌, nat_lt, ◌==◌, ◌&&◌, Bool, true, false, cond, List, [], ◌∷◌, ◌++◌, length, map, Option, Some, None, Result, Ok, Err, refl, sym, ap, ◌∙◌, subst, arith, inl}
+use Rattle.std.proofs.lemmas.Bool.{cond_both}
+use Rattle.std.proofs.lemmas.List.Sums.{fold-append}
+use Rattle.std.specs.List.{fold}
+use Rattle.lard_answers.specs.Answers.{good_path}
+use Rattle.lard_base.specs.declared.ids.Epoch.{Epoch}
+use Rattle.lard_base.specs.declared.place.Place.{Place}
+use Rattle.lard_base.specs.declared.place.Place.TheVariants.{Front}
+use Rattle.lard_base.specs.declared.place.TimerKind.TheVariants as kind
+use Rattle.lard_base.specs.declared.place.Via.TheVariants.{Own}
+use Rattle.lard_block.specs.declared.block.Found.{Found}
+use Rattle.lard_block.specs.declared.block.Found.TheVariants.{Block, More, TooLong}
+use Rattle.lard_block.specs.Blocks.{cut_of}
+use Rattle.lard_rules.specs.Bounds.{IsNumber}
+use Rattle.lard_law_view.proofs.Saying.{AreMessages, NotedAt}
+use Rattle.lard_law_view.proofs.Turned.{AreHeld, HeldBy, IsSaid, as-held, front-segments, spelled}
+use Rattle.lard_costs.specs.declared.later.LaterChoice.{LaterChoice}
+use Rattle.lard_dispatch.specs.declared.dispatch.Ask.{Ask}
+use Rattle.lard_dispatch.specs.declared.dispatch.First.{First}
+use Rattle.lard_dispatch.specs.declared.dispatch.First.TheVariants as first
+use Rattle.lard_dispatch.specs.declared.dispatch.Later.{Later}
+use Rattle.lard_endpoint.specs.declared.control.moving.Final.{Final}
+use Rattle.lard_endpoint.specs.Arriving.{on_segment}
+use Rattle.lard_endpoint.specs.Control.{ControlBlock, listening}
+use Rattle.lard_endpoint.specs.Leaving as leaving
+use Rattle.lard_endpoint.specs.Moving.{may_freeze}
+use Rattle.lard_rules.specs.declared.front.FrontRest.{FrontRest}
+use Rattle.lard_rules.specs.declared.front.FrontTurn.{FrontTurn}
+use Rattle.lard_rules.specs.Front.{Deed, Drops, Says, Does, FrontEnv, FrontPart, ack_sent, admitted_at, admitted_by, admitted_with, asked_by, assigned_notes, assigns, begun, ended_by, fired, fired_by, fires_at, forwarded, front_admitted, front_asked, front_ended, front_gets, front_hears, front_taken, front_timer, handed_off, heard, hears_at, holds, is_at, met, over_note, placed, rest_of, saying, settled_by, tag_sent, taken_by, turn_here, waits_on}
+use Rattle.lard_rules.specs.FrontReading.{Reading, block_at, left, reads, reads_block, reads_found, targeted, turn}
+use Rattle.lard_handoff_front.specs.declared.row.FrontConn.{FrontConn}
+use Rattle.lard_handoff_front.specs.declared.row.FrontConn.TheVariants as stage
+use Rattle.lard_handoff_front.specs.declared.row.FrontRow.{FrontRow}
+use Rattle.lard_handoff_front.specs.declared.table.OnEnded.{OnEnded}
+use Rattle.lard_handoff_front.specs.declared.table.OnEnded.TheVariants.{New, Again, Stale}
+use Rattle.lard_handoff_front.specs.Front.{asked_node, end_answer}
+use Rattle.lard_history.specs.Journal.{answered_step}
+use Rattle.lard_history.proofs.Each.{Each, Each-append}
+use Rattle.lard_journal.specs.declared.rec.Rec.{Rec}
+use Rattle.lard_journal.specs.declared.rec.Rec.TheVariants as rec
+use Rattle.lard_message.specs.declared.message.Body.TheVariants as body
+use Rattle.lard_policy.specs.declared.first.FirstChoice.{FirstChoice}
+use Rattle.lard_request.specs.declared.verdict.Code.TheVariants as code
+use Rattle.lard_request.specs.declared.verdict.Verdict.{Verdict}
+use Rattle.lard_request.specs.declared.verdict.Verdict.TheVariants.{Fault}
+use Rattle.lard_resend.specs.Pending.{sent_of}
+use Rattle.lard_resend.proofs.Ordered.{drop_all}
+use Rattle.lard_rules.specs.declared.places.Ending.{Ending}
+use Rattle.lard_rules.specs.declared.places.Turn.{Turn}
+use Rattle.lard_rules.specs.Tombstone.{is_plain_syn, last_words, tombstone}
+use Rattle.lard_rules.specs.Loop.{Step}
+use Rattle.lard_rules.specs.Loop as loop
+use Rattle.lard_rules.specs.Serving.{Service, consumed, may_read, ready_of, serving, settled, spoken}
+use Rattle.lard_rules.proofs.Runs.{runs_keep}
+use Rattle.lard_segment.specs.declared.fault.SegFault.{SegFault}
+use Rattle.lard_segment.specs.Segment.{Said}
+use Rattle.lard_law_ends.proofs.EndpointSends as endpoints
+use Rattle.lard_law_ends.proofs.PlaceTurns as turns
+use Rattle.lard_law_ends.proofs.PlaceTurns.{AreNoted, IsServingTurn, NotesServing}
+
+-- A turn is of connection c.
+abbrev pub IsFrontTurn : ℕ → FrontTurn → Type 0
+IsFrontTurn c t = IsSaid Front c t.notes t.segments t.gave t.messages t.answered
+
+-- A rule's turn is of connection c, and what is held then was held before or is sent in it.
+abbrev pub IsFrontDeed : ℕ → FrontPart → Deed → Type 0
+IsFrontDeed c p Drops = Unit {0}
+IsFrontDeed c p (Says t) = IsFrontTurn c t
+IsFrontDeed c p (Does x) = IsFrontTurn c x.turn × AreHeld x.turn.messages p.kept x.part.kept
+
+-- So is that of an admission, which answers nothing.
+abbrev pub IsAdmission : ℕ → FrontPart → FrontPart × FrontTurn → Type 0
+IsAdmission c p given = IsSaid Front c given.1.notes given.1.segments given.1.gave given.1.messages 0 × AreHeld given.1.messages p.kept given.0.kept
+
+-- The front end acts on connection c, whose number is one, and what it holds of it goes to nodes.
+module _ (env : FrontEnv) (own : env.serve.place ≡ Front) (number : IsNumber env.serve.c) where
+  abbrev N : Rec → Type 0
+  N r = NotedAt Front env.serve.c r
+
+  noting : NotesServing env.serve N
+  noting = record {
+    served = λ r code size via. subst (λ (p : Place). N (rec.Served p env.serve.c r code size via)) (sym own) refl;
+    reset = λ total. subst (λ (p : Place). N (rec.Reset p env.serve.c total)) (sym own) refl;
+  }
+
+  abbrev Noted : Service → Type 0
+  Noted w = AreNoted env.serve N noting w
+
+  abbrev IsOfFront : FrontTurn → Type 0
+  IsOfFront t = IsFrontTurn env.serve.c t
+
+  here-turn : (t : Turn) → IsServingTurn N env.serve.c t → IsOfFront (turn_here t)
+  here-turn t h = record { notes = h.notes; segments = front-segments env.serve.c t.segments h.to; gave = tt; messages = tt; counted = h.answered }
+
+  said-turn : (messages : List (Place × List ℕ)) → AreMessages env.serve.c Front messages → IsOfFront (saying messages)
+  said-turn messages of = record { notes = tt; segments = tt; gave = tt; messages = of; counted = λ n. omega arith }
+
+  -- ---- reading
+
+  abbrev NotedIn : Step Reading → Type 0
+  NotedIn (loop.More y) = Noted y.service
+  NotedIn (loop.Done y) = Noted y.service
+
+  targeted-noted : (path : List ℕ) (x : Reading) → Noted x.service → Noted (targeted path x).service
+  targeted-noted path x h = cond_both (may_freeze x.service.block) (record x { target = Some path }) x (λ y. Noted y.service) (λ t. h) (λ t. h)
+
+  block-noted : (x : Reading) (n : ℕ) (v : Verdict) (o : Option (List ℕ)) → Noted x.service → NotedIn (reads_block env.serve x n v o)
+  block-noted x n v None h = turns.answered-noted env.serve N noting Own v (consumed n x.service) h
+  block-noted x n v (Some path) h = targeted-noted path x h
+
+  found-noted : (x : Reading) (f : Found) → Noted x.service → NotedIn (reads_found env.serve x f)
+  found-noted x (More skip) h = turns.ended-noted env.serve N noting (consumed skip x.service) h
+  found-noted x (Block skip len) h = block-noted x (skip + len) (block_at x skip len) (good_path env.serve.files (block_at x skip len)) h
+  found-noted x (TooLong skip) h = turns.answered-noted env.serve N noting Own (Fault code.FieldsTooLarge) (consumed (length x.service.block.recv.unread) x.service) h
+
+  turn-noted : (x : Reading) → Noted x.service → NotedIn (turn env.serve x)
+  turn-noted x h = cond_both (may_read x.service) (reads_found env.serve x (cut_of x.service.block.recv.unread)) (loop.Done x) NotedIn
+      (λ t. found-noted x (cut_of x.service.block.recv.unread) h) (λ t. h)
+
+  reads-noted : (x : Reading) → Noted x.service → Noted (reads env.serve x).service
+  reads-noted x h = runs_keep (turn env.serve) left (λ y. Noted y.service) (record {
+    more = λ y z e p. subst NotedIn e (turn-noted y p);
+    done = λ y z e p. subst NotedIn e (turn-noted y p);
+  }) x h
+
+  -- nothing was noted yet
+  fresh : (b : ControlBlock) (count : ℕ) → Noted (serving b count [])
+  fresh b count = (tt, λ n. omega arith)
+
+  fired-turn : (rest : FrontRest) (b : ControlBlock) → IsServingTurn N env.serve.c (fired env rest b).1
+  fired-turn rest b = turns.spoken-turn env.serve N noting (serving (leaving.after_timer b) rest.count []) (ready_of env.serve (leaving.after_timer b) (leaving.timed b))
+      (endpoints.ready-to env.serve (leaving.after_timer b) (leaving.timed b)) (fresh (leaving.after_timer b) rest.count)
+
+  -- ---- what each rule comes to
+
+  module _ (p : FrontPart) (kept : AreMessages env.serve.c Front (map sent_of p.kept)) where
+    abbrev IsDeed : Deed → Type 0
+    IsDeed d = IsFrontDeed env.serve.c p d
+
+    as-before : (messages : List (Place × List ℕ)) → AreHeld messages p.kept p.kept
+    as-before messages = as-held messages p.kept
+
+    holds-deed : (row : FrontRow) (rest : FrontRest) (given : Ending × Turn) → IsServingTurn N env.serve.c given.1 → IsDeed (holds p row rest given)
+    holds-deed row rest given h = (here-turn given.1 h, as-before [])
+
+    waits-deed : (row : FrontRow) (rest : FrontRest) (given : Ending × Turn) → IsServingTurn N env.serve.c given.1 → IsDeed (waits_on env p row rest given)
+    waits-deed row rest given h = (here-turn given.1 h, as-before [])
+
+    handed-turn : (row : FrontRow) (w : Service) (path : List ℕ) (choice : FirstChoice) → Noted w
+        → IsOfFront (handed_off env row w path choice).1 × AreHeld (handed_off env row w path choice).1.messages p.kept (handed_off env row w path choice).0.kept
+    handed-turn row w path choice h = (
+      record {
+        notes = Each-append N w.notes (rec.Admitted env.serve.c ∷ rec.AssignedFirst env.serve.c (w.count + 1) path choice.node choice.add choice.remove ∷ []) h.0 (refl, (refl, tt));
+        segments = tt;
+        gave = (refl, tt);
+        messages = ((tt, spelled env.serve.c _ _ number), tt);
+        counted = λ n. fold-append answered_step n w.notes (rec.Admitted env.serve.c ∷ rec.AssignedFirst env.serve.c (w.count + 1) path choice.node choice.add choice.remove ∷ []) ∙ h.1 n;
+      },
+      (inl (inl refl), tt),
+    )
+
+    placed-deed : (row : FrontRow) (rest : FrontRest) (w : Service) (path : List ℕ) (f : First) → Noted w → IsDeed (Does (placed env p row rest w path f))
+    placed-deed row rest w path (first.Go choice) h = handed-turn row w path choice h
+    placed-deed row rest w path first.Waits h =
+        let v : Service = record w { notes = w.notes ++ rec.Waits env.serve.c ∷ [] } in
+        let given : Ending × Turn = spoken env.serve v [] in (
+          here-turn given.1 (record {
+            notes = Each-append N w.notes (rec.Waits env.serve.c ∷ []) h.0 (refl, tt);
+            to = (turns.spoken-turn env.serve N noting w [] tt h).to;
+            answered = λ n. fold-append answered_step n w.notes (rec.Waits env.serve.c ∷ []) ∙ h.1 n;
+          }),
+          as-before [],
+        )
+
+    settled-deed : (row : FrontRow) (rest : FrontRest) (w : Service) (o : Option (List ℕ)) → Noted w → IsDeed (settled_by env p row rest w o)
+    settled-deed row rest w None h = holds-deed row rest (settled env.serve w) (turns.settled-turn env.serve N noting w h)
+    settled-deed row rest w (Some path) h = placed-deed row rest w path (env.first path) h
+
+    heard-deed : (row : FrontRow) (rest : FrontRest) (b : ControlBlock) → IsDeed (heard env p row rest b)
+    heard-deed row rest b =
+        let x : Reading = record { service = serving b rest.count []; target = None } in
+        settled-deed row rest (reads env.serve x).service (reads env.serve x).target (reads-noted x (fresh b rest.count))
+
+    -- ---- segments
+
+    met-deed : (s : Said) → IsDeed (met env p s)
+    met-deed s =
+        let w : Service = serving (listening s env.iss) 0 (rec.Took Front env.serve.c (record { 0 = 1 }) ∷ []) in
+        cond_both (is_plain_syn s) (begun env p s) Drops IsDeed
+        (λ t. holds-deed (record { stage = stage.Lent; epoch = record { 0 = 1 }; ended_by = None }) (rest_of None) (spoken env.serve w [])
+        (turns.spoken-turn env.serve N noting w [] tt ((refl, tt), λ n. omega arith)))
+        (λ t. tt)
+
+    forwarded-deed : (node : ℕ) (epoch : Epoch) (bytes : List ℕ) → IsDeed (forwarded env node epoch bytes)
+    forwarded-deed node epoch bytes = said-turn _ ((tt, spelled env.serve.c epoch.0 (body.Forward bytes) number), tt)
+
+    tombstone-turn : (o : Option Said) → IsServingTurn N env.serve.c (tombstone env.serve o)
+    tombstone-turn None = record { notes = tt; to = tt; answered = λ n. omega arith }
+    tombstone-turn (Some s) = record { notes = tt; to = (refl, tt); answered = λ n. omega arith }
+
+    hears_at-deed : (row : FrontRow) (bytes : List ℕ) (s : Said) (x : FrontConn) → IsDeed (hears_at env p row bytes s x)
+    hears_at-deed row bytes s (stage.Held b) = heard-deed row (rest_of p.rest) (on_segment b s).1
+    hears_at-deed row bytes s (stage.Waiting b) = waits-deed row (rest_of p.rest) (spoken env.serve (serving (on_segment b s).1 (rest_of p.rest).count []) [])
+        (turns.spoken-turn env.serve N noting (serving (on_segment b s).1 (rest_of p.rest).count []) [] tt (fresh (on_segment b s).1 (rest_of p.rest).count))
+    hears_at-deed row bytes s stage.Lent = tt
+    hears_at-deed row bytes s (stage.Offering node epoch) = forwarded-deed node epoch bytes
+    hears_at-deed row bytes s (stage.Moved node epoch) = forwarded-deed node epoch bytes
+    hears_at-deed row bytes s (stage.Closed last) = here-turn _ (tombstone-turn (last_words last.reason last s))
+
+    hears-deed : (bytes : List ℕ) (s : Said) (o : Option FrontRow) → IsDeed (front_hears env p bytes s o)
+    hears-deed bytes s None = met-deed s
+    hears-deed bytes s (Some row) = hears_at-deed row bytes s row.stage
+
+    pub gets-deed : (bytes : List ℕ) (r : Result Said SegFault) → IsDeed (front_gets env p bytes r)
+    gets-deed bytes (Err fault) = tt
+    gets-deed bytes (Ok s) = hears-deed bytes s p.row
+
+    -- ---- timers
+
+    fires_at-deed : (row : FrontRow) (x : FrontConn) → IsDeed (fires_at env p row x)
+    fires_at-deed row (stage.Held b) = holds-deed row (rest_of p.rest) (fired env (rest_of p.rest) b) (fired-turn (rest_of p.rest) b)
+    fires_at-deed row (stage.Waiting b) = waits-deed row (rest_of p.rest) (fired env (rest_of p.rest) b) (fired-turn (rest_of p.rest) b)
+    fires_at-deed row stage.Lent = tt
+    fires_at-deed row (stage.Offering node epoch) = said-turn (map sent_of p.kept) kept
+    fires_at-deed row (stage.Moved node epoch) = tt
+    fires_at-deed row (stage.Closed last) = tt
+
+    fired-deed : (o : Option FrontRow) → IsDeed (fired_by env p o)
+    fired-deed None = tt
+    fired-deed (Some row) = fires_at-deed row row.stage
+
+    pub fires-deed : IsDeed (front_timer env p)
+    fires-deed = fired-deed p.row
+
+    -- ---- messages of nodes
+
+    taken_by-deed : (epoch : ℕ) (o : Option FrontRow) (asked : Option ℕ) → IsDeed (taken_by p epoch o asked)
+    taken_by-deed epoch None asked = tt
+    taken_by-deed epoch (Some row) None = tt
+    taken_by-deed epoch (Some row) (Some node) = (said-turn [] tt, drop_all (HeldBy [] p.kept) kind.Offer 0 p.kept (as-before []))
+
+    pub taken-deed : (epoch : ℕ) → IsDeed (front_taken p epoch)
+    taken-deed epoch = taken_by-deed epoch p.row (asked_node epoch p.row)
+
+    tags : (from epoch n : ℕ) (nodes : List ℕ) → AreMessages env.serve.c Front (tag_sent env from epoch n nodes)
+    tags from epoch n nodes = ((tt, spelled env.serve.c epoch (body.Tag n nodes) number), tt)
+
+    assigned-noted : (ask : Ask) (r : ℕ) (paths : List (List ℕ)) (choices : List LaterChoice) → Each N (assigned_notes env.serve.c ask r paths choices)
+    assigned-noted ask r [] choices = tt
+    assigned-noted ask r (path ∷ paths) [] = tt
+    assigned-noted ask r (path ∷ paths) (choice ∷ choices) = (refl, assigned-noted ask (r + 1) paths choices)
+
+    assigned-counted : (ask : Ask) (r : ℕ) (paths : List (List ℕ)) (choices : List LaterChoice) (n : ℕ) → fold answered_step n (assigned_notes env.serve.c ask r paths choices) ≡ n + 0
+    assigned-counted ask r [] choices n = omega arith
+    assigned-counted ask r (path ∷ paths) [] n = omega arith
+    assigned-counted ask r (path ∷ paths) (choice ∷ choices) n = assigned-counted ask (r + 1) paths choices n
+
+    over-noted : (b : Bool) → Each N (over_note env.serve.c b)
+    over-noted true = (refl, tt)
+    over-noted false = tt
+
+    over-counted : (b : Bool) (n : ℕ) → fold answered_step n (over_note env.serve.c b) ≡ n
+    over-counted true n = refl
+    over-counted false n = refl
+
+    assigns-deed : (rest : FrontRest) (from epoch : ℕ) (ask : Ask) (l : Later) → IsDeed (Does (assigns env p rest from epoch ask l))
+    assigns-deed rest from epoch ask l =
+        let assigned : List Rec = assigned_notes env.serve.c ask rest.assigned ask.paths l.choices in (
+          record {
+            notes = Each-append N (over_note env.serve.c l.over) assigned (over-noted l.over) (assigned-noted ask rest.assigned ask.paths l.choices);
+            segments = tt;
+            gave = tt;
+            messages = tags from epoch ask.number (map (λ x. x.node) l.choices);
+            counted = λ n. fold-append answered_step n (over_note env.serve.c l.over) assigned ∙ ap (λ k. fold answered_step k assigned) (over-counted l.over n)
+                ∙ assigned-counted ask rest.assigned ask.paths l.choices n;
+          },
+          as-before (tag_sent env from epoch ask.number (map (λ x. x.node) l.choices)),
+        )
+
+    asked_by-deed : (from epoch : ℕ) (ask : Ask) (o : Option FrontRest) → IsDeed (asked_by env p from epoch ask o)
+    asked_by-deed from epoch ask None = tt
+    asked_by-deed from epoch ask (Some rest) =
+        let again : Deed = Says (saying (tag_sent env from epoch rest.asks rest.tag)) in
+        cond_both (ask.number == rest.asks + 1) (Does (assigns env p rest from epoch ask (env.later ask))) (cond (ask.number == rest.asks && nat_lt 0 rest.asks) again Drops) IsDeed
+        (λ t. assigns-deed rest from epoch ask (env.later ask))
+        (λ t. cond_both (ask.number == rest.asks && nat_lt 0 rest.asks) again Drops IsDeed (λ u. said-turn _ (tags from epoch rest.asks rest.tag)) (λ u. tt))
+
+    pub asked-deed : (from epoch : ℕ) (ask : Ask) → IsDeed (front_asked env p from epoch ask)
+    asked-deed from epoch ask = cond_both (is_at from epoch p.row) (asked_by env p from epoch ask p.rest) Drops IsDeed (λ t. asked_by-deed from epoch ask p.rest) (λ t. tt)
+
+    acks : (from epoch : ℕ) → AreMessages env.serve.c Front (ack_sent env from epoch)
+    acks from epoch = ((tt, spelled env.serve.c epoch body.EndedAck number), tt)
+
+    ended_by-deed : (from epoch : ℕ) (last : Final) (o : Option FrontRow) (given : OnEnded) → IsDeed (ended_by env p from epoch last o given)
+    ended_by-deed from epoch last None given = tt
+    ended_by-deed from epoch last (Some row) (New next) = (
+      record { notes = (refl, (refl, tt)); segments = tt; gave = tt; messages = acks from epoch; counted = λ n. omega arith },
+      drop_all (HeldBy (ack_sent env from epoch) p.kept) kind.Offer 0 p.kept (as-before (ack_sent env from epoch)),
+    )
+    ended_by-deed from epoch last (Some row) Again = said-turn _ (acks from epoch)
+    ended_by-deed from epoch last (Some row) Stale = tt
+
+    pub ended-deed : (from epoch : ℕ) (last : Final) → IsDeed (front_ended env p from epoch last)
+    ended-deed from epoch last = ended_by-deed from epoch last p.row (end_answer epoch p.row)
+
+    -- ---- the head of the line
+
+    abbrev Admits : FrontPart × FrontTurn → Type 0
+    Admits given = IsAdmission env.serve.c p given
+
+    admitted_with-turn : (row : FrontRow) (rest : FrontRest) (b : ControlBlock) (choice : FirstChoice) (o : Option (List ℕ)) (given : FrontPart × FrontTurn)
+        → admitted_with env row rest b choice o ≡ Some given → Admits given
+    admitted_with-turn row rest b choice None given e = let no : ◌≡◌ {A = Option (FrontPart × FrontTurn)} None (Some given) = e in absurd cc
+    admitted_with-turn row rest b choice (Some path) given e =
+        let handed : FrontPart × FrontTurn = handed_off env row (serving b rest.count []) path choice in
+        let same : handed ≡ given = cc in
+        subst Admits same (handed-turn row (serving b rest.count []) path choice (fresh b rest.count))
+
+    admitted_at-turn : (choice : FirstChoice) (row : FrontRow) (x : FrontConn) (given : FrontPart × FrontTurn) → admitted_at env p choice row x ≡ Some given → Admits given
+    admitted_at-turn choice row (stage.Waiting b) given e = admitted_with-turn row (rest_of p.rest) b choice (rest_of p.rest).target given e
+    admitted_at-turn choice row (stage.Held b) given e = let no : ◌≡◌ {A = Option (FrontPart × FrontTurn)} None (Some given) = e in absurd cc
+    admitted_at-turn choice row stage.Lent given e = let no : ◌≡◌ {A = Option (FrontPart × FrontTurn)} None (Some given) = e in absurd cc
+    admitted_at-turn choice row (stage.Offering node epoch) given e = let no : ◌≡◌ {A = Option (FrontPart × FrontTurn)} None (Some given) = e in absurd cc
+    admitted_at-turn choice row (stage.Moved node epoch) given e = let no : ◌≡◌ {A = Option (FrontPart × FrontTurn)} None (Some given) = e in absurd cc
+    admitted_at-turn choice row (stage.Closed last) given e = let no : ◌≡◌ {A = Option (FrontPart × FrontTurn)} None (Some given) = e in absurd cc
+
+    admitted_by-turn : (choice : FirstChoice) (o : Option FrontRow) (given : FrontPart × FrontTurn) → admitted_by env p choice o ≡ Some given → Admits given
+    admitted_by-turn choice None given e = let no : ◌≡◌ {A = Option (FrontPart × FrontTurn)} None (Some given) = e in absurd cc
+    admitted_by-turn choice (Some row) given e = admitted_at-turn choice row row.stage given e
+
+    pub admitted-turn : (choice : FirstChoice) (given : FrontPart × FrontTurn) → front_admitted env p choice ≡ Some given → Admits given
+    admitted-turn choice given e = admitted_by-turn choice p.row given e

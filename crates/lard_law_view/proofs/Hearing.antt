@@ -1,0 +1,269 @@
+-- A packet comes to a place, which acts on the connection that it is of, or does nothing.
+use Rattle.std.proofs.Common.{◌≡◌, ℕ, false, List, [], ◌∷◌, map, Option, Some, None, Result, Ok, Err, refl, sym, ◌∙◌, subst, arith}
+use Rattle.std.proofs.lemmas.Bool.{cond_both}
+use Rattle.std.specs.FinMap as table
+use Rattle.std.specs.List.{list_any}
+use Rattle.lard_base.specs.declared.event.Event.TheVariants as event
+use Rattle.lard_base.specs.declared.place.Place.{Place}
+use Rattle.lard_base.specs.declared.place.Place.TheVariants.{Front, Node, Client}
+use Rattle.lard_base.specs.declared.event.Event.{Event}
+use Rattle.lard_cache.specs.Recency.{has}
+use Rattle.lard_rules.specs.declared.machine.Machine.{Machine}
+use Rattle.lard_rules.specs.Bounds.{IsNumber}
+use Rattle.lard_rules.specs.Machine.{front_gave, front_setting, node_at, node_gave, node_setting}
+use Rattle.lard_law_view.specs.View.{Conn, IsFrontEnv, IsNodeEnv, IsViewed, Move, Rules, Was, IsForFront, IsForNode, IsUnheard, conn, node_does, packet_seen, part_of, setting_of}
+use Rattle.lard_law_view.proofs.Ended.{ended-acts, ended-leaves}
+use Rattle.lard_law_view.proofs.FrontActs.{front-acts}
+use Rattle.lard_law_view.proofs.Fronts as fronts
+use Rattle.lard_law_view.proofs.Heads.{Begins, comes, was}
+use Rattle.lard_law_view.proofs.Naming.{Names, decoded-names}
+use Rattle.lard_law_view.proofs.NodeActs.{aside-acts, deed-acts}
+use Rattle.lard_law_view.proofs.Nodes as nodes
+use Rattle.lard_law_view.proofs.Nodes.{IsNodeDeed}
+use Rattle.lard_law_view.proofs.Nothing.{node-nothing, told-nothing}
+use Rattle.lard_law_view.proofs.Parts.{node-kept}
+use Rattle.lard_law_view.proofs.Saying.{AreMessages}
+use Rattle.lard_law_view.proofs.Shapes.{IsUnheardAt, Shapes}
+use Rattle.lard_law_view.proofs.Turned.{sent-messages, spelled}
+use Rattle.lard_disk.specs.Jobs.{is_for}
+use Rattle.lard_dispatch.specs.declared.dispatch.Ask.{Ask}
+use Rattle.lard_endpoint.specs.declared.control.moving.Final.{Final}
+use Rattle.lard_files.specs.Files.{file_at}
+use Rattle.lard_rules.specs.Front.{FrontEnv, FrontPart, ask_of, front_asked, front_ended, front_taken}
+use Rattle.lard_rules.specs.FrontPlace.{front_env, front_part, front_told, message_comes}
+use Rattle.lard_history.specs.Own.{Seen, conn_of}
+use Rattle.lard_journal.specs.declared.rec.Rec.TheVariants as rec
+use Rattle.lard_message.specs.declared.fault.MsgFault.{MsgFault}
+use Rattle.lard_message.specs.declared.kind.Kind.{Kind}
+use Rattle.lard_message.specs.declared.message.Body.{Body}
+use Rattle.lard_message.specs.declared.message.Body.TheVariants as body
+use Rattle.lard_message.specs.declared.message.Message.{Message}
+use Rattle.lard_message.specs.Message.{kind_of}
+use Rattle.lard_message.specs.Reading.{decoded_message}
+use Rattle.lard_net.specs.Net.{Packet, packet_at}
+use Rattle.lard_rules.specs.declared.node.NodeState.{NodeState}
+use Rattle.lard_rules.specs.declared.node.NodeTurn.{NodeTurn}
+use Rattle.lard_rules.specs.Node.{Deed, NodePart, node_acknowledged, node_content, node_forwarded, node_offered, node_tagged, saying}
+use Rattle.lard_rules.specs.NodePlace.{aside, content_sent, fetched, fetched_file, node_deed, node_env, node_gets, node_hears, node_part}
+use Rattle.lard_rules.specs.Stay.{NodeEnv}
+use Rattle.lard_resend.specs.Pending.{sent_of}
+use Rattle.lard_rules.specs.declared.places.Out.{Out}
+use Rattle.lard_rules.specs.Outs.{nothing_done}
+use Rattle.lard_segment.specs.declared.segment.Dir.TheVariants.{ToCluster}
+use Rattle.lard_segment.specs.Segment.{decoded}
+
+-- ---- a message comes to the front end, or to a node
+
+module _ (m : Machine) (view : IsViewed m) (P : Conn → Move → Type 0) (R : Rules (setting_of m) P) (Q : Event → Machine → Type 0) (shapes : Shapes m P Q)
+    (k : ℕ) (l : Packet) (at : packet_at m.net k ≡ Some l) (there : l.lost ≡ false) where
+  abbrev e : Event
+  e = event.Deliver k
+
+  -- nothing is done
+  front-silent : l.to ≡ Front → IsUnheardAt m l → Q e (front_gave m e (rec.Got k ∷ []) (m.front, nothing_done))
+  front-silent is-to unheard = subst (Q e) (sym (told-nothing m e (rec.Got k ∷ []) Front)) (shapes.nobody k l at (there, (λ c to. let no : Front ≡ Client c = sym is-to ∙ to in absurd cc), unheard))
+
+  ok-same : (x y : Message) → (let given : Result Message MsgFault = Ok x in given ≡ Ok y) → x ≡ y
+  ok-same x y f = cc
+
+  -- a message of a node that the front end does not hear, and one of the front end that no node hears
+  node-unheard : (from : ℕ) → l.from ≡ Node from → l.to ≡ Front → ((msg : Message) → decoded_message l.bytes ≡ Ok msg → IsForFront (kind_of msg.body) → ⊥) → IsUnheardAt m l
+  node-unheard from is-from is-to other d named =
+      subst (λ (f : Place). IsUnheard m.config.nodes (table.get m.clients d) f l.to l.bytes) (sym is-from)
+      (subst (λ (t : Place). IsUnheard m.config.nodes (table.get m.clients d) (Node from) t l.bytes) (sym is-to) other)
+
+  front-unheard : (n : ℕ) → l.from ≡ Front → l.to ≡ Node n → ((msg : Message) → decoded_message l.bytes ≡ Ok msg → IsForNode (kind_of msg.body) → ⊥) → IsUnheardAt m l
+  front-unheard n is-from is-to other d named =
+      subst (λ (f : Place). IsUnheard m.config.nodes (table.get m.clients d) f l.to l.bytes) (sym is-from)
+      (subst (λ (t : Place). IsUnheard m.config.nodes (table.get m.clients d) Front t l.bytes) (sym is-to) (λ msg is for. absurd (other msg is for)))
+
+  -- what another place sends to a node is of no such kind
+  else-unheard : (from : Place) (n : ℕ) → l.from ≡ from → l.to ≡ Node n → (from ≡ Front → ⊥) → IsUnheardAt m l
+  else-unheard from n is-from is-to other d named =
+      subst (λ (f : Place). IsUnheard m.config.nodes (table.get m.clients d) f l.to l.bytes) (sym is-from)
+      (subst (λ (t : Place). IsUnheard m.config.nodes (table.get m.clients d) from t l.bytes) (sym is-to) (one from other)) where
+        one : (from : Place) → (from ≡ Front → ⊥) → IsUnheard m.config.nodes (table.get m.clients d) from (Node n) l.bytes
+        one Front other = absurd (other refl)
+        one (Node i) other = tt
+        one (Client c) other = tt
+
+  -- one message is read alone
+  of-kind : (P : Kind → Type 0) (x : Message) → decoded_message l.bytes ≡ Ok x → (P (kind_of x.body) → ⊥) → (msg : Message) → decoded_message l.bytes ≡ Ok msg → P (kind_of msg.body) → ⊥
+  of-kind P x spells other msg is for = other (subst (λ (y : Message). P (kind_of y.body)) (sym (ok-same x msg (sym spells ∙ is))) for)
+
+  no-message : (P : Kind → Type 0) (fault : MsgFault) → decoded_message l.bytes ≡ Err fault → (msg : Message) → decoded_message l.bytes ≡ Ok msg → P (kind_of msg.body) → ⊥
+  no-message P fault spells msg is for = let no : (let given : Result Message MsgFault = Err fault in given ≡ Ok msg) = sym spells ∙ is in absurd cc
+
+  module _ (from : ℕ) (is-from : l.from ≡ Node from) (is-to : l.to ≡ Front) (c epoch : ℕ) (number : IsNumber c) (of : conn_of (Node from) Front l.bytes ≡ Some c) where
+    abbrev heads : List Seen
+    heads = packet_seen (Node from) Front l.bytes
+
+    abbrev env : FrontEnv
+    env = front_env (front_setting m) m.front c 0
+
+    abbrev p : FrontPart
+    p = front_part m.front c
+
+    begins : Begins m e Front c heads
+    begins = comes m k c l at (Node from) Front is-from is-to of there
+
+    sent : Was (conn m c) (Node from) Front l.bytes
+    sent = was m k c l at (Node from) Front is-from is-to of
+
+    is-env : IsFrontEnv (setting_of m) c env
+    is-env = record { place = refl; number = refl; files = refl; stream = refl }
+
+    kept : AreMessages c Front (map sent_of p.kept)
+    unfolding conn part_of
+    kept = sent-messages (conn m c) Front p.kept (view.sound c).between (view.sound c).front
+
+    told-acts : (b : Body) → decoded_message l.bytes ≡ Ok (record { c = c; epoch = record { 0 = epoch }; body = b })
+        → Q e (front_gave m e (rec.Got k ∷ []) (front_told (front_setting m) m.front from c epoch b))
+    unfolding conn part_of
+    told-acts body.Taken spells =
+        front-acts m P Q shapes e c heads number begins refl (front_taken p epoch) (fronts.taken-deed env refl number p kept epoch) (R.untouched.front.taken (conn m c) env from epoch l.bytes is-env spells sent)
+    told-acts (body.Ask n queue size paths) spells =
+        let ask : Ask = ask_of c from n queue size paths in
+        front-acts m P Q shapes e c heads number begins refl (front_asked env p from epoch ask) (fronts.asked-deed env refl number p kept from epoch ask)
+        (R.untouched.front.asked (conn m c) env from epoch n queue size paths l.bytes is-env spells sent)
+    told-acts (body.Ended reason snd rcv count) spells =
+        let last : Final = record { reason = reason; snd = record { 0 = snd }; rcv = record { 0 = rcv } } in
+        ended-acts m view P R Q shapes e c heads number begins refl (front_ended env p from epoch last) (ended-leaves env p from epoch last) (fronts.ended-deed env refl number p kept from epoch last)
+        (R.untouched.front.ended (conn m c) env from epoch reason snd rcv count l.bytes is-env spells sent)
+    told-acts (body.Offer parts) spells = front-silent is-to (node-unheard from is-from is-to (of-kind IsForFront _ spells (λ for. for)))
+    told-acts (body.Forward bytes) spells = front-silent is-to (node-unheard from is-from is-to (of-kind IsForFront _ spells (λ for. for)))
+    told-acts (body.Tag n ns) spells = front-silent is-to (node-unheard from is-from is-to (of-kind IsForFront _ spells (λ for. for)))
+    told-acts (body.Fetch r path) spells = front-silent is-to (node-unheard from is-from is-to (of-kind IsForFront _ spells (λ for. for)))
+    told-acts (body.Content r bytes) spells = front-silent is-to (node-unheard from is-from is-to (of-kind IsForFront _ spells (λ for. for)))
+    told-acts body.EndedAck spells = front-silent is-to (node-unheard from is-from is-to (of-kind IsForFront _ spells (λ for. for)))
+
+  -- a message of node from comes to the front end
+  pub front-message : (from : ℕ) → l.from ≡ Node from → l.to ≡ Front → (r : Result Message MsgFault) → decoded_message l.bytes ≡ r
+      → Q e (front_gave m e (rec.Got k ∷ []) (message_comes (front_setting m) m.front from r))
+  front-message from is-from is-to (Err fault) is = front-silent is-to (node-unheard from is-from is-to (no-message IsForFront fault is))
+  front-message from is-from is-to (Ok msg) is =
+      let of : Names l.bytes msg.c = decoded-names msg l.bytes is in
+      told-acts from is-from is-to msg.c msg.epoch.0 of.number of.named msg.body is
+
+  -- ---- to a node
+
+  module _ (n : ℕ) (s : NodeState) (here : node_at m.nodes n ≡ Some s) (is-to : l.to ≡ Node n) where
+    node-silent : IsUnheardAt m l → Q e (node_gave m e (rec.Got k ∷ []) n (s, nothing_done))
+    node-silent unheard = subst (Q e) (sym (node-nothing m e (rec.Got k ∷ []) n s here)) (shapes.nobody k l at (there, (λ c to. let no : Node n ≡ Client c = sym is-to ∙ to in absurd cc), unheard))
+
+    module _ (from : Place) (is-from : l.from ≡ from) (c epoch : ℕ) (number : IsNumber c) (of : conn_of from (Node n) l.bytes ≡ Some c) where
+      abbrev its_heads : List Seen
+      its_heads = packet_seen from (Node n) l.bytes
+
+      abbrev its_env : NodeEnv
+      its_env = node_env (node_setting m n) s c epoch
+
+      its-begins : Begins m e (Node n) c its_heads
+      its-begins = comes m k c l at from (Node n) is-from is-to of there
+
+      its-sent : Was (conn m c) from (Node n) l.bytes
+      its-sent = was m k c l at from (Node n) is-from is-to of
+
+      is-node-env : IsNodeEnv (setting_of m) c n epoch its_env
+      is-node-env = record { place = refl; number = refl; files = refl; stream = refl; node = refl; epoch_is = refl }
+
+      -- by this rule
+      hears : (rule : NodePart → Deed) → IsNodeDeed n c (node_part s c) (rule (node_part s c)) → P (conn m c) (node_does (conn m c) n its_heads (rule ((conn m c).part.nodes n)))
+          → Q e (node_gave m e (rec.Got k ∷ []) n (node_deed (node_setting m n) s c (rule (node_part s c))))
+      unfolding conn
+      hears rule good does = deed-acts m P Q shapes e c its_heads number n its-begins refl s here [] tt (λ j. refl) (λ rs. refl) s.cache s.disk (view.jobs n s here) (node_setting m n) (rule (node_part s c)) refl good
+          (subst (λ (p : NodePart). P (conn m c) (node_does (conn m c) n its_heads (rule p))) (node-kept m n s c here) does)
+
+    module _ (c epoch : ℕ) (number : IsNumber c) where
+      -- from the front end
+      front-hears : (is-from : l.from ≡ Front) (of : conn_of Front (Node n) l.bytes ≡ Some c) (b : Body) → decoded_message l.bytes ≡ Ok (record { c = c; epoch = record { 0 = epoch }; body = b })
+          → Q e (node_gave m e (rec.Got k ∷ []) n (node_hears (node_setting m n) s Front c epoch b))
+      unfolding conn
+      front-hears is-from of (body.Offer parts) spells =
+          let env : NodeEnv = its_env Front is-from c epoch number of in
+          hears Front is-from c epoch number of (λ p. node_offered env p parts) (nodes.offered-deed env refl number (node_part s c) parts)
+          (R.untouched.node.offered (conn m c) n epoch env parts l.bytes (is-node-env Front is-from c epoch number of) spells (its-sent Front is-from c epoch number of))
+      front-hears is-from of (body.Forward bytes) spells =
+          let env : NodeEnv = its_env Front is-from c epoch number of in
+          hears Front is-from c epoch number of (λ p. node_forwarded env p (decoded bytes c ToCluster)) (nodes.forwarded-deed env refl number (node_part s c) (decoded bytes c ToCluster))
+          (R.untouched.node.forwarded (conn m c) n epoch env bytes l.bytes (is-node-env Front is-from c epoch number of) spells (its-sent Front is-from c epoch number of))
+      front-hears is-from of (body.Tag x ns) spells =
+          let env : NodeEnv = its_env Front is-from c epoch number of in
+          hears Front is-from c epoch number of (λ p. node_tagged env p x ns) (nodes.tagged-deed env refl number (node_part s c) x ns)
+          (R.untouched.node.tagged (conn m c) n epoch x ns env l.bytes (is-node-env Front is-from c epoch number of) spells (its-sent Front is-from c epoch number of))
+      front-hears is-from of body.EndedAck spells =
+          let env : NodeEnv = its_env Front is-from c epoch number of in
+          hears Front is-from c epoch number of (λ p. node_acknowledged env p) (nodes.acknowledged-deed env refl number (node_part s c))
+          (R.untouched.node.acknowledged (conn m c) n epoch env l.bytes (is-node-env Front is-from c epoch number of) spells (its-sent Front is-from c epoch number of))
+      front-hears is-from of body.Taken spells = node-silent (front-unheard n is-from is-to (of-kind IsForNode _ spells (λ for. for)))
+      front-hears is-from of (body.Ask x queue size paths) spells = node-silent (front-unheard n is-from is-to (of-kind IsForNode _ spells (λ for. for)))
+      front-hears is-from of (body.Fetch r path) spells = node-silent (front-unheard n is-from is-to (of-kind IsForNode _ spells (λ for. for)))
+      front-hears is-from of (body.Content r bytes) spells = node-silent (front-unheard n is-from is-to (of-kind IsForNode _ spells (λ for. for)))
+      front-hears is-from of (body.Ended reason snd rcv count) spells = node-silent (front-unheard n is-from is-to (of-kind IsForNode _ spells (λ for. for)))
+
+      module _ (from : ℕ) (is-from : l.from ≡ Node from) (of : conn_of (Node from) (Node n) l.bytes ≡ Some c) where
+        -- a Fetch of a file
+        file-fetched : (r : ℕ) (path file : List ℕ) → file_at m.files path ≡ Some file → decoded_message l.bytes ≡ Ok (record { c = c; epoch = record { 0 = epoch }; body = body.Fetch r path })
+            → Q e (node_gave m e (rec.Got k ∷ []) n (aside s (fetched_file (node_setting m n) s from c epoch r path)))
+        unfolding conn
+        file-fetched r path file is spells =
+            let sent = its-sent (Node from) is-from c epoch number of in
+            let cached : NodeTurn = record (saying (content_sent (node_setting m n) from c epoch r path ∷ [])) { notes = rec.Hit n path ∷ [] } in
+            let queued : NodeTurn = record (saying []) { notes = rec.Queued n from c r path ∷ []; jobs = record { origin = from; c = c; epoch = record { 0 = epoch }; r = r; path = path } ∷ [] } in
+            let acts = aside-acts m P Q shapes e c (its_heads (Node from) is-from c epoch number of) number n (its-begins (Node from) is-from c epoch number of) refl s here [] tt (λ j. refl) (λ rs. refl) s.cache s.disk (view.jobs n s here) in
+            cond_both (has s.cache.entries path) cached queued (λ (u : NodeTurn). Q e (node_gave m e (rec.Got k ∷ []) n (aside s u)))
+            (λ t. acts cached (record { notes = (refl, tt); segments = tt; gave = tt; messages = ((tt, spelled c epoch (body.Content r _) number), tt); counted = λ n. omega arith }) tt
+            (R.untouched.node.answers (conn m c) n from epoch r path file l.bytes is spells sent))
+            (λ t. acts queued (record { notes = ((refl, refl), tt); segments = tt; gave = tt; messages = tt; counted = λ n. omega arith }) (number, tt)
+            (R.untouched.node.queues (conn m c) n from epoch r path file l.bytes is spells sent))
+
+        path-fetched : (r : ℕ) (path : List ℕ) (o : Option (List ℕ)) → file_at m.files path ≡ o → decoded_message l.bytes ≡ Ok (record { c = c; epoch = record { 0 = epoch }; body = body.Fetch r path })
+            → Q e (node_gave m e (rec.Got k ∷ []) n (fetched (node_setting m n) s from c epoch r path o))
+        path-fetched r path None is spells = node-silent (else-unheard (Node from) n is-from is-to (λ same. cc))
+        path-fetched r path (Some file) is spells =
+            cond_both (list_any (is_for c epoch r) s.disk) (s, nothing_done) (aside s (fetched_file (node_setting m n) s from c epoch r path)) (λ (x : NodeState × Out). Q e (node_gave m e (rec.Got k ∷ []) n x))
+            (λ t. (node-silent (else-unheard (Node from) n is-from is-to (λ same. cc)))) (λ t. file-fetched r path file is spells)
+
+        -- from another node
+        other-hears : (b : Body) → decoded_message l.bytes ≡ Ok (record { c = c; epoch = record { 0 = epoch }; body = b })
+            → Q e (node_gave m e (rec.Got k ∷ []) n (node_hears (node_setting m n) s (Node from) c epoch b))
+        unfolding conn
+        other-hears (body.Fetch r path) spells = path-fetched r path (file_at m.files path) refl spells
+        other-hears (body.Content r bytes) spells =
+            let env : NodeEnv = its_env (Node from) is-from c epoch number of in
+            hears (Node from) is-from c epoch number of (λ p. node_content env p from r) (nodes.content-deed env refl number (node_part s c) from r)
+            (R.untouched.node.content (conn m c) n from epoch r env bytes l.bytes (is-node-env (Node from) is-from c epoch number of) spells (its-sent (Node from) is-from c epoch number of))
+        other-hears (body.Offer parts) spells = node-silent (else-unheard (Node from) n is-from is-to (λ same. cc))
+        other-hears body.Taken spells = node-silent (else-unheard (Node from) n is-from is-to (λ same. cc))
+        other-hears (body.Forward bytes) spells = node-silent (else-unheard (Node from) n is-from is-to (λ same. cc))
+        other-hears (body.Ask x queue size paths) spells = node-silent (else-unheard (Node from) n is-from is-to (λ same. cc))
+        other-hears (body.Tag x ns) spells = node-silent (else-unheard (Node from) n is-from is-to (λ same. cc))
+        other-hears (body.Ended reason snd rcv count) spells = node-silent (else-unheard (Node from) n is-from is-to (λ same. cc))
+        other-hears body.EndedAck spells = node-silent (else-unheard (Node from) n is-from is-to (λ same. cc))
+
+      -- from a client, which sends none
+      client-hears : (d : ℕ) → l.from ≡ Client d → (b : Body) → Q e (node_gave m e (rec.Got k ∷ []) n (node_hears (node_setting m n) s (Client d) c epoch b))
+      client-hears d is-from (body.Offer parts) = node-silent (else-unheard (Client d) n is-from is-to (λ same. cc))
+      client-hears d is-from body.Taken = node-silent (else-unheard (Client d) n is-from is-to (λ same. cc))
+      client-hears d is-from (body.Forward bytes) = node-silent (else-unheard (Client d) n is-from is-to (λ same. cc))
+      client-hears d is-from (body.Ask x queue size paths) = node-silent (else-unheard (Client d) n is-from is-to (λ same. cc))
+      client-hears d is-from (body.Tag x ns) = node-silent (else-unheard (Client d) n is-from is-to (λ same. cc))
+      client-hears d is-from (body.Fetch r path) = node-silent (else-unheard (Client d) n is-from is-to (λ same. cc))
+      client-hears d is-from (body.Content r bytes) = node-silent (else-unheard (Client d) n is-from is-to (λ same. cc))
+      client-hears d is-from (body.Ended reason snd rcv count) = node-silent (else-unheard (Client d) n is-from is-to (λ same. cc))
+      client-hears d is-from body.EndedAck = node-silent (else-unheard (Client d) n is-from is-to (λ same. cc))
+
+    message-from : (from : Place) → l.from ≡ from → (msg : Message) → decoded_message l.bytes ≡ Ok msg
+        → Q e (node_gave m e (rec.Got k ∷ []) n (node_hears (node_setting m n) s from msg.c msg.epoch.0 msg.body))
+    message-from Front is-from msg is = let of : Names l.bytes msg.c = decoded-names msg l.bytes is in front-hears msg.c msg.epoch.0 of.number is-from of.named msg.body is
+    message-from (Node from) is-from msg is = let of : Names l.bytes msg.c = decoded-names msg l.bytes is in other-hears msg.c msg.epoch.0 of.number from is-from of.named msg.body is
+    message-from (Client d) is-from msg is = let of : Names l.bytes msg.c = decoded-names msg l.bytes is in client-hears msg.c msg.epoch.0 of.number d is-from msg.body
+
+    -- a message comes to node n
+    pub node-message : (r : Result Message MsgFault) → decoded_message l.bytes ≡ r → Q e (node_gave m e (rec.Got k ∷ []) n (node_gets (node_setting m n) s l.from r))
+    node-message (Err fault) is = node-silent (none-said l.from refl) where
+      none-said : (from : Place) → l.from ≡ from → IsUnheardAt m l
+      none-said Front is-from = front-unheard n is-from is-to (no-message IsForNode fault is)
+      none-said (Node i) is-from = else-unheard (Node i) n is-from is-to (λ same. cc)
+      none-said (Client c) is-from = else-unheard (Client c) n is-from is-to (λ same. cc)
+    node-message (Ok msg) is = message-from l.from refl msg is

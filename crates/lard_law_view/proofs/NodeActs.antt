@@ -1,0 +1,138 @@
+-- What a node does by a rule, or for another node, is an act on one connection.
+use Rattle.std.proofs.Common.{◌≡◌, ℕ, ◌-◌, cond, List, [], ◌++◌, map, Some, refl, sym, ap, ◌∙◌, subst, arith}
+use Rattle.std.specs.Prelude.{slice_set}
+use Rattle.std.proofs.lemmas.List.Sums.{fold-append}
+use Rattle.std.specs.List.{fold}
+use Rattle.lard_base.specs.declared.event.Event.{Event}
+use Rattle.lard_base.specs.declared.place.Place.{Place}
+use Rattle.lard_base.specs.declared.place.Place.TheVariants.{Node}
+use Rattle.lard_rules.specs.declared.machine.Machine.{Machine}
+use Rattle.lard_rules.specs.Bounds.{IsNumber}
+use Rattle.lard_rules.specs.Machine.{node_at, node_gave}
+use Rattle.lard_law_view.specs.View as view
+use Rattle.lard_law_view.specs.View.{AreNumbered, Conn, IsViewed, Move, Part, conn, named, node_does, nothing_said, part_of, stands, timer_rows, with_node}
+use Rattle.lard_law_view.proofs.Heads.{Begins}
+use Rattle.lard_law_view.proofs.Nodes.{IsNodeDeed}
+use Rattle.lard_law_view.proofs.Parts.{length-set, node-as-before, node-elsewhere, node-here, node-kept, node-mine, node-others, node-set}
+use Rattle.lard_law_view.proofs.Saying.{NotedAt, notes-mine, own-first}
+use Rattle.lard_law_view.proofs.Shapes.{HasJobs, IsPut, Shapes, move_of}
+use Rattle.lard_law_view.proofs.Timers.{timer_rows-same}
+use Rattle.lard_law_view.proofs.Turned.{IsSaid}
+use Rattle.lard_law_view.proofs.Works.{all-append}
+use Rattle.lard_cache.specs.Recency.{Recency}
+use Rattle.lard_disk.specs.declared.disk.Job.{Job}
+use Rattle.lard_history.specs.Journal.{answered_step}
+use Rattle.lard_history.specs.Laws.{AreOwn}
+use Rattle.lard_history.specs.Own.{Row, Seen}
+use Rattle.lard_history.proofs.Each.{Each, Each-append}
+use Rattle.lard_history.proofs.Seeing.{by_number, same_number}
+use Rattle.lard_journal.specs.declared.rec.Rec.{Rec}
+use Rattle.lard_rules.specs.declared.node.NodeState.{NodeState}
+use Rattle.lard_rules.specs.declared.node.NodeTurn.{NodeTurn}
+use Rattle.lard_rules.specs.Node.{Deed, Drops, Says, Does, NodePart, saying}
+use Rattle.lard_rules.specs.NodePlace as place
+use Rattle.lard_rules.specs.NodePlace.{NodeSetting, aside, node_deed, node_did, node_out, node_part, timers_of}
+use Rattle.lard_rules.specs.declared.places.Out.{Out}
+use Rattle.lard_rules.specs.Outs.{nothing_done}
+use Rattle.lard_law_ends.proofs.OwnRecords.{behind}
+
+-- ---- what a node keeps is put back
+
+module _ (m : Machine) (n : ℕ) (s t : NodeState) (at : node_at m.nodes n ≡ Some s) where
+  jobs-put : AreNumbered t.disk → HasJobs m → HasJobs (record m { nodes = slice_set m.nodes (n - 1) t })
+  jobs-put of jobs k u is = by_number (AreNumbered u.disk) k n
+      (λ same.
+      let one : Some t ≡ Some u = sym (node-set m.nodes n s t at) ∙ ap (node_at (slice_set m.nodes (n - 1) t)) (sym same) ∙ is in
+      let e : t ≡ u = cc in subst (λ (x : NodeState). AreNumbered x.disk) e of)
+      (λ other. jobs k u (sym (node-others m.nodes n k s t at other) ∙ is))
+
+  pub node-put : AreNumbered t.disk → IsPut m (record m { nodes = slice_set m.nodes (n - 1) t })
+  node-put of = record {
+    config = refl;
+    files = refl;
+    net = refl;
+    journal = refl;
+    events = refl;
+    answered = refl;
+    now = refl;
+    nodes = length-set m.nodes (n - 1) t;
+    jobs = jobs-put of;
+  }
+
+-- Node n acts on connection c, in the step of this event.
+module _ (m : Machine) (P : Conn → Move → Type 0) (Q : Event → Machine → Type 0) (shapes : Shapes m P Q) (e : Event) (c : ℕ) (heads : List Seen) (number : IsNumber c) (n : ℕ) (begins : Begins m e (Node n) c heads)
+    (own : AreOwn e (behind e)) (s : NodeState) (at : node_at m.nodes n ≡ Some s) where
+  -- what the node keeps of connections is as before
+  stands-acts : (t : NodeState) (o : Out) (ns : List Rec) → named o.notes ≡ ns → AreNumbered t.disk → ((q : ℕ) → node_part t q ≡ node_part s q)
+      → IsSaid (Node n) c o.notes o.segments o.gave o.messages o.answered → o.timers ≡ [] → P (conn m c) (move_of (Node n) heads ns o (conn m c).part) → Q e (node_gave m e (behind e) n (t, o))
+  unfolding conn
+  stands-acts t o ns names jobs same of none does = shapes.one (record m { nodes = slice_set m.nodes (n - 1) t }) e (Node n) o c heads ns (part_of m c)
+      (record {
+        put = node-put m n s t at jobs;
+        number = number;
+        begins = begins;
+        said = of;
+        first = own-first e (Node n) c o.notes tt own of.notes;
+        notes = λ net. notes-mine (Node n) c net o.notes of.notes ∙ ap (map Row) names;
+        timers = none ∙ sym (timer_rows-same (Node n) c (part_of m c));
+        mine = node-as-before m n s t at c (same c);
+        others = λ q other. node-as-before m n s t at q (same q);
+      }) does
+
+  -- what it keeps of connection c is put back
+  does-acts : (t : NodeState) (p : NodePart) (o : Out) (ns : List Rec) → named o.notes ≡ ns → AreNumbered t.disk → ((q : ℕ) → node_part t q ≡ node_part (place.node_put s c p) q)
+      → IsSaid (Node n) c o.notes o.segments o.gave o.messages o.answered → o.timers ≡ timers_of n c (node_part s c) p
+      → P (conn m c) (move_of (Node n) heads ns o (with_node (conn m c).part n p)) → Q e (node_gave m e (behind e) n (t, o))
+  unfolding conn timer_rows
+  does-acts t p o ns names jobs same of timers does =
+      let here : view.node_put (part_of m c).nodes n p n ≡ p = ap (λ b. cond b p ((part_of m c).nodes n)) (same_number n) in
+      shapes.one (record m { nodes = slice_set m.nodes (n - 1) t }) e (Node n) o c heads ns (with_node (part_of m c) n p)
+      (record {
+        put = node-put m n s t at jobs;
+        number = number;
+        begins = begins;
+        said = of;
+        first = own-first e (Node n) c o.notes tt own of.notes;
+        notes = λ net. notes-mine (Node n) c net o.notes of.notes ∙ ap (map Row) names;
+        timers = timers ∙ (λ i. timers_of n c (sym (node-kept m n s c at) i) (sym here i));
+        mine = node-mine m n s t at c p (same c ∙ node-here s c p);
+        others = λ q other. node-as-before m n s t at q (same q ∙ node-elsewhere s c q p other);
+      }) does
+
+  -- ---- a rule of the connection, behind these records, where the cache and the disk are so
+
+  module _ (fs : List Rec) (noted : Each (NotedAt (Node n) c) fs) (counted : (k : ℕ) → fold answered_step k fs ≡ k) (names : (rs : List Rec) → named (fs ++ rs) ≡ fs ++ named rs)
+      (cache : Recency) (disk : List Job) (jobs : AreNumbered disk) where
+    abbrev t : NodeState
+    t = record s { cache = cache; disk = disk }
+
+    abbrev pub with_firsts : NodeState × Out → NodeState × Out
+    with_firsts x = (x.0, record x.1 { notes = fs ++ x.1.notes })
+
+    abbrev pub first_in : Move → Move
+    first_in v = record v { said = record v.said { notes = fs ++ v.said.notes } }
+
+    firsts-said : (ns : List Rec) (ss : List (Place × List ℕ)) (gs : List Rec) (ms : List (Place × List ℕ)) (answered : ℕ) → IsSaid (Node n) c ns ss gs ms answered → IsSaid (Node n) c (fs ++ ns) ss gs ms answered
+    firsts-said ns ss gs ms answered of = record {
+      notes = Each-append (NotedAt (Node n) c) fs ns noted of.notes;
+      segments = of.segments;
+      gave = of.gave;
+      messages = of.messages;
+      counted = λ k. fold-append answered_step k fs ns ∙ ap (λ j. fold answered_step j ns) (counted k) ∙ of.counted k;
+    }
+
+    -- nothing that is kept of connections changes
+    pub aside-acts : (u : NodeTurn) → IsSaid (Node n) c u.notes [] [] u.messages 0 → AreNumbered u.jobs
+        → P (conn m c) (stands (conn m c) (Node n) heads (record { notes = fs ++ named u.notes; segments = []; gave = []; messages = u.messages })) → Q e (node_gave m e (behind e) n (with_firsts (aside t u)))
+    aside-acts u of more does = stands-acts (place.told t u) (record { notes = fs ++ u.notes; segments = []; gave = []; messages = u.messages; timers = []; answered = 0 }) (fs ++ named u.notes)
+        (names u.notes) (all-append (λ (job : Job). IsNumber job.c) disk u.jobs jobs more) (λ q. refl) (firsts-said u.notes [] [] u.messages 0 of) refl does
+
+    pub deed-acts : (k : NodeSetting) (deed : Deed) → k.n ≡ n → IsNodeDeed n c (node_part s c) deed → P (conn m c) (first_in (node_does (conn m c) n heads deed))
+        → Q e (node_gave m e (behind e) n (with_firsts (node_deed k t c deed)))
+    deed-acts k Drops same of does = stands-acts t (record nothing_done { notes = fs ++ [] }) (fs ++ []) (names []) jobs (λ q. refl)
+        (firsts-said [] [] [] [] 0 (record { notes = tt; segments = tt; gave = tt; messages = tt; counted = λ n. omega arith })) refl does
+    deed-acts k (Says messages) same of does = aside-acts (saying messages) (record { notes = tt; segments = tt; gave = tt; messages = of; counted = λ n. omega arith }) tt does
+    deed-acts k (Does x) same of does =
+        does-acts (place.told (place.node_put t c x.0) x.1) x.0 (record (node_out k.n c (node_part s c) x.0 x.1) { notes = fs ++ x.1.notes }) (fs ++ named x.1.notes)
+        (names x.1.notes) (all-append (λ (job : Job). IsNumber job.c) disk x.1.jobs jobs of.0.1) (λ q. refl) (firsts-said x.1.notes x.1.segments x.1.gave x.1.messages x.1.answered of.0.0)
+        (ap (λ i. timers_of i c (node_part s c) x.0) same) does

@@ -1,0 +1,96 @@
+-- The shapes of a step: a place acts on one connection, the front end acts on two, a packet comes and nothing is done, a packet is
+-- lost, or the time moves on.
+use Rattle.std.proofs.Common.{◌≡◌, ◌≢◌, ℕ, ◌-◌, List, [], ◌∷◌, ◌++◌, map, length, false, Some, None}
+use Rattle.std.specs.Prelude.{◌⊎◌}
+use Rattle.std.specs.FinMap as table
+use Rattle.lard_base.specs.declared.event.Event.{Event}
+use Rattle.lard_base.specs.declared.event.Event.TheVariants as event
+use Rattle.lard_base.specs.declared.place.Place.{Place}
+use Rattle.lard_base.specs.declared.place.Place.TheVariants.{Client}
+use Rattle.lard_rules.specs.declared.machine.Machine.{Machine}
+use Rattle.lard_rules.specs.Bounds.{IsNumber}
+use Rattle.lard_rules.specs.Machine.{clocked, node_at, passed, told}
+use Rattle.lard_law_view.specs.View.{AreNumbered, Conn, Move, Part, conn, part_of, timer_rows, IsUnheard}
+use Rattle.lard_law_view.proofs.Heads.{Begins}
+use Rattle.lard_law_view.proofs.Saying.{NamesAll}
+use Rattle.lard_law_view.proofs.Turned.{IsSaid}
+use Rattle.lard_history.specs.Own.{Seen, Row, seen_on, conn_of}
+use Rattle.lard_journal.specs.declared.rec.Rec.{Rec}
+use Rattle.lard_journal.specs.declared.rec.Rec.TheVariants as rec
+use Rattle.lard_net.specs.Net.{Packet, lose_at, packet_at}
+use Rattle.lard_rules.specs.declared.node.NodeState.{NodeState}
+use Rattle.lard_rules.specs.declared.places.Out.{Out}
+use Rattle.lard_law_ends.proofs.Firsts.{HasOwn}
+use Rattle.lard_law_ends.proofs.OwnRecords.{behind}
+
+-- each job of each disk is of a connection
+abbrev pub HasJobs : Machine → Type 0
+HasJobs m = (n : ℕ) (s : NodeState) → node_at m.nodes n ≡ Some s → AreNumbered s.disk
+
+-- w is m with what a place keeps put back.
+pub record IsPut (m w : Machine) : Type 0 where
+  pub config : w.config ≡ m.config
+  pub files : w.files ≡ m.files
+  pub net : w.net ≡ m.net
+  pub journal : w.journal ≡ m.journal
+  pub events : w.events ≡ m.events
+  pub answered : w.answered ≡ m.answered
+  pub now : w.now ≡ m.now
+  pub nodes : length w.nodes ≡ length m.nodes
+  pub jobs : HasJobs m → HasJobs w
+
+-- what a place does on one connection, whose notes are seen so
+abbrev pub move_of : Place → List Seen → List Rec → Out → Part → Move
+move_of place heads ns o p = record { place = place; heads = heads; said = record { notes = ns; segments = o.segments; gave = o.gave; messages = o.messages }; part = p }
+
+-- A place acts on connection c, which is left so.
+pub record ActsOn (m w : Machine) (e : Event) (place : Place) (o : Out) (c : ℕ) (heads : List Seen) (ns : List Rec) (p : Part) : Type 0 where
+  pub put : IsPut m w
+  pub number : IsNumber c
+  pub begins : Begins m e place c heads
+  pub said : IsSaid place c o.notes o.segments o.gave o.messages o.answered
+  pub first : HasOwn e (behind e ++ o.notes)
+  pub notes : (net : List Packet) → seen_on c net o.notes ≡ map Row ns
+  pub timers : o.timers ≡ timer_rows place c (part_of m c) p
+  pub mine : part_of w c ≡ p
+  pub others : (q : ℕ) → q ≢ c → part_of w q ≡ part_of m q
+
+-- what a place does on two connections, with the records of their timers
+abbrev pub both_out : Out → Out → List Rec → Out
+both_out a b timers = record { notes = a.notes ++ b.notes; segments = a.segments ++ b.segments; gave = a.gave ++ b.gave; messages = a.messages ++ b.messages; timers = timers; answered = a.answered }
+
+-- A place acts on connection c, and on another one, d, in the same step.
+pub record ActsOnTwo (m w : Machine) (e : Event) (place : Place) (a b : Out) (rows : List Rec) (c d : ℕ) (heads : List Seen) (p r : Part) : Type 0 where
+  pub put : IsPut m w
+  pub number : IsNumber c
+  pub number_too : IsNumber d
+  pub apart : d ≢ c
+  pub begins : Begins m e place c heads
+  pub names : NamesAll place
+  pub first : HasOwn e (behind e ++ (a.notes ++ b.notes))
+  pub said : IsSaid place c a.notes a.segments a.gave a.messages a.answered
+  pub said_too : IsSaid place d b.notes b.segments b.gave b.messages 0
+  pub order : (rows ≡ a.timers ++ b.timers) ⊎ (rows ≡ b.timers ++ a.timers)
+  pub timers : a.timers ≡ timer_rows place c (part_of m c) p
+  pub timers_too : b.timers ≡ timer_rows place d (part_of m d) r
+  pub mine : part_of w c ≡ p
+  pub mine_too : part_of w d ≡ r
+  pub others : (q : ℕ) → q ≢ c → q ≢ d → part_of w q ≡ part_of m q
+
+-- a packet that goes there comes to nobody who acts
+abbrev pub IsNobodyAt : Machine → Place → Type 0
+IsNobodyAt m to = (c : ℕ) → to ≡ Client c → table.get m.clients c ≡ None
+
+-- and no rule hears it
+abbrev pub IsUnheardAt : Machine → Packet → Type 0
+IsUnheardAt m l = (d : ℕ) → conn_of l.from l.to l.bytes ≡ Some d → IsUnheard m.config.nodes (table.get m.clients d) l.from l.to l.bytes
+
+-- Q is so of each shape that a step from m may have, where P is so of the moves that a place makes.
+pub record Shapes (m : Machine) (P : Conn → Move → Type 0) (Q : Event → Machine → Type 0) : Type 0 where
+  pub one : (w : Machine) (e : Event) (place : Place) (o : Out) (c : ℕ) (heads : List Seen) (ns : List Rec) (p : Part) → ActsOn m w e place o c heads ns p
+      → P (conn m c) (move_of place heads ns o p) → Q e (told w e (behind e) place o)
+  pub two : (w : Machine) (e : Event) (place : Place) (a b : Out) (rows : List Rec) (c d : ℕ) (heads : List Seen) (p r : Part) → ActsOnTwo m w e place a b rows c d heads p r
+      → P (conn m c) (move_of place heads a.notes a p) → P (conn m d) (move_of place [] b.notes b r) → Q e (told w e (behind e) place (both_out a b rows))
+  pub nobody : (k : ℕ) (l : Packet) → packet_at m.net k ≡ Some l → (l.lost ≡ false) × IsNobodyAt m l.to × IsUnheardAt m l → Q (event.Deliver k) (passed m (event.Deliver k) (rec.Got k ∷ []))
+  pub loses : (k : ℕ) (l : Packet) → packet_at m.net k ≡ Some l → l.lost ≡ false → Q (event.Lose k) (passed (record m { net = lose_at (k - 1) m.net }) (event.Lose k) (rec.Lost k ∷ []))
+  pub clocks : (ms : ℕ) → Q (event.Clock ms) (clocked m ms)

@@ -1,0 +1,12 @@
+pub mod Ways
+pub mod WaysUnder
+pub mod WaysState
+pub mod WaysRuns
+pub mod WaysContents
+pub mod WaysBefore
+pub mod BackingTold
+pub mod BackingRequests
+pub mod BackingJobs
+pub mod BackingState
+pub mod BackingRuns
+pub mod Sizes

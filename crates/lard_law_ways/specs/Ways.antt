@@ -1,0 +1,103 @@
+-- By which way each content came, and in which order requests are assigned, in words of the journal.
+use Rattle.std.specs.Prelude.{◌≡◌, ◌≢◌, ℕ, false, List, [], ◌∷◌, ◌++◌, length, map, take, Option, Some, None}
+use Rattle.std.specs.List.{slice_get}
+use Rattle.lard_answers.specs.Answers.{FilesAt, IsPrefix, good_path, goods, verdicts}
+use Rattle.lard_base.specs.declared.place.Place.{Place}
+use Rattle.lard_base.specs.declared.place.Place.TheVariants.{Node}
+use Rattle.lard_base.specs.declared.place.Via.{Via}
+use Rattle.lard_base.specs.declared.place.Via.TheVariants as via
+use Rattle.lard_history.specs.Journal.{assigned, is_touched, served, wrote}
+use Rattle.lard_history.specs.Laws.{EachMay}
+use Rattle.lard_journal.specs.declared.rec.Rec.{Rec}
+use Rattle.lard_journal.specs.declared.rec.Rec.TheVariants as rec
+use Rattle.lard_rules.specs.Stay.{and_path}
+use Rattle.lard_request.specs.declared.verdict.Verdict.{Verdict}
+
+-- ---- what is told of a connection's requests
+
+-- What its client wrote, how many responses were queued, and what was assigned, each by its path and node.
+pub record Marks : Type 0 where
+  pub wrote : List ℕ
+  pub served : ℕ
+  pub assigned : List (List ℕ × ℕ)
+
+abbrev pub marks : List Rec → ℕ → Marks
+marks J c = record { wrote = wrote J c; served = served J c; assigned = assigned J c }
+
+-- the paths of those that are for files
+abbrev pub good_paths : FilesAt → List Verdict → List (List ℕ)
+good_paths files [] = []
+good_paths files (v ∷ vs) = and_path (good_path files v) (good_paths files vs)
+
+-- of all requests that the client wrote, and of those that were answered
+abbrev pub paths_wanted : FilesAt → Marks → List (List ℕ)
+paths_wanted files m = good_paths files (verdicts m.wrote)
+
+abbrev pub paths_answered : FilesAt → Marks → List (List ℕ)
+paths_answered files m = good_paths files (take m.served (verdicts m.wrote))
+
+abbrev pub paths_assigned : Marks → List (List ℕ)
+paths_assigned m = map (λ a. a.0) m.assigned
+
+-- ---- the way of a content
+
+-- The content of a request that was assigned to this node: out of the home's own cache or from its disk where that is the node, and
+-- from the node where it is another one.
+abbrev pub ComesFrom : ℕ → ℕ → Via → Type 0
+ComesFrom home node via.Own = ⊥
+ComesFrom home node via.Cache = node ≡ home
+ComesFrom home node via.Disk = node ≡ home
+ComesFrom home node (via.Node from) = (from ≡ node) × (node ≢ home)
+
+-- The response to a good request goes with the next assignment: the k-th good one with the k-th. It is for the path of that request,
+-- the response is of the connection's home, which is the node of the first assignment, and its content came from where it was
+-- assigned.
+pub record GoesWith (files : FilesAt) (m : Marks) (path : List ℕ) (place : Place) (way : Via) : Type 0 where
+  pub first : List ℕ × ℕ
+  pub first_is : slice_get m.assigned 0 ≡ Some first
+  pub its : List ℕ × ℕ
+  pub its_is : slice_get m.assigned (length (paths_answered files m)) ≡ Some its
+  pub path_is : its.0 ≡ path
+  pub place_is : place ≡ Node first.1
+  pub comes : ComesFrom first.1 its.1 way
+
+-- the response to a request that is not good has the place's own content
+abbrev pub ComesAsAssigned : FilesAt → Marks → Place → Via → Option (List ℕ) → Type 0
+ComesAsAssigned files m place way None = way ≡ via.Own
+ComesAsAssigned files m place way (Some path) = GoesWith files m path place way
+
+-- it answers the next request, which is there
+abbrev pub AnswersBy : FilesAt → Marks → Place → Via → Option Verdict → Type 0
+AnswersBy files m place way None = ⊥
+AnswersBy files m place way (Some v) = ComesAsAssigned files m place way (good_path files v)
+
+abbrev pub AnswersNext : FilesAt → Marks → Place → Via → Type 0
+AnswersNext files m place way = AnswersBy files m place way (slice_get (verdicts m.wrote) m.served)
+
+-- so it is of each client whose connection the schedule did not touch
+abbrev pub MayCome : FilesAt → List Rec → Rec → Type 0
+MayCome files past (rec.Served place c r code size way) = is_touched past c ≡ false → AnswersNext files (marks past c) place way
+MayCome files past _ = Unit {0}
+
+abbrev pub ComeAsAssigned : FilesAt → List Rec → Type 0
+ComeAsAssigned files J = EachMay (MayCome files) [] J
+
+-- ---- the order of assignments
+
+-- the path is that of the next good request that has no node, the k-th in the k-th assignment
+abbrev pub IsNextGood : FilesAt → Marks → List ℕ → Type 0
+IsNextGood files m path = slice_get (paths_wanted files m) (length m.assigned) ≡ Some path
+
+abbrev pub MayBeAssigned : FilesAt → List Rec → Rec → Type 0
+MayBeAssigned files past (rec.AssignedFirst c r path n add remove) = is_touched past c ≡ false → IsNextGood files (marks past c) path
+MayBeAssigned files past (rec.AssignedLater c r path n add size queue) = is_touched past c ≡ false → IsNextGood files (marks past c) path
+MayBeAssigned files past _ = Unit {0}
+
+abbrev pub AreAssignedInOrder : FilesAt → List Rec → Type 0
+AreAssignedInOrder files J = EachMay (MayBeAssigned files) [] J
+
+-- At every moment, the paths that were assigned are a prefix of those of the good requests, as long as the schedule did not touch
+-- the connection.
+abbrev pub AssignsAPrefix : FilesAt → List Rec → Type 0
+AssignsAPrefix files J =
+    (past later : List Rec) (c : ℕ) → J ≡ past ++ later → is_touched past c ≡ false → IsPrefix (map (λ a. a.0) (assigned past c)) (map (λ g. g.1) (goods files (wrote past c)))

@@ -1,4 +1,0 @@
-pub mod Hearing
-pub mod Taking
-pub mod Journals
-pub mod Reached

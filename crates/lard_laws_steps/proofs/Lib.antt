@@ -1,4 +1,0 @@
-pub mod Changes
-pub mod Clients
-pub mod Fronts
-pub mod Timers

@@ -1,3 +1,0 @@
-pub mod Stay
-pub mod Node
-pub mod NodePlace

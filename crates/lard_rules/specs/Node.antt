@@ -1,0 +1,282 @@
+-- The rules of a node, each over what it keeps of one connection.
+use Rattle.std.specs.Prelude.{ℕ, Bool, true, false, ◌==◌, ◌&&◌, not, if◌then◌else◌, List, [], ◌∷◌, ◌++◌, length, map, Option, Some, None, is_some, Result, Ok, Err}
+use Rattle.std.specs.List.{find, list_any}
+use Rattle.lard_base.specs.declared.parts.EndpointParts.{EndpointParts}
+use Rattle.lard_base.specs.declared.place.Place.{Place}
+use Rattle.lard_base.specs.declared.place.Place.TheVariants as place
+use Rattle.lard_base.specs.declared.place.TimerKind.{TimerKind}
+use Rattle.lard_base.specs.declared.place.TimerKind.TheVariants as kind
+use Rattle.lard_endpoint.specs.declared.control.moving.Final.{Final}
+use Rattle.lard_endpoint.specs.Arriving.{on_segment}
+use Rattle.lard_endpoint.specs.Control.{ControlBlock}
+use Rattle.lard_endpoint.specs.Leaving.{timed, after_timer}
+use Rattle.lard_endpoint.specs.Moving.{adopted}
+use Rattle.lard_handoff_back.specs.declared.row.BackConn.TheVariants as stage
+use Rattle.lard_handoff_back.specs.declared.row.BackRow.{BackRow}
+use Rattle.lard_handoff_back.specs.declared.table.Adopt.{Adopt}
+use Rattle.lard_handoff_back.specs.declared.table.Adopt.TheVariants.{New, Again, Stale}
+use Rattle.lard_handoff_back.specs.Back.{awaits_ack, endpoint_of, offer_answer, staying}
+use Rattle.lard_journal.specs.declared.rec.Rec.{Rec}
+use Rattle.lard_journal.specs.declared.rec.Rec.TheVariants as rec
+use Rattle.lard_lateral.specs.Lateral.{fetch_kept, is_from}
+use Rattle.lard_message.specs.declared.message.Body.{Body}
+use Rattle.lard_message.specs.declared.message.Body.TheVariants as body
+use Rattle.lard_message.specs.Message.{spelled_message}
+use Rattle.lard_rules.specs.declared.node.NodeTurn.{NodeTurn}
+use Rattle.lard_rules.specs.declared.stay.Asked.{Asked}
+use Rattle.lard_rules.specs.declared.stay.Stay.{Stay}
+use Rattle.lard_rules.specs.declared.stay.Want.{Want}
+use Rattle.lard_rules.specs.Loop.{state_of}
+use Rattle.lard_rules.specs.Stay.{NodeEnv, Work, came_for, come_progress, goes_on, named_paths, read_progress, reads_batch, tagged}
+use Rattle.lard_resend.specs.declared.kept.Kept.{Kept}
+use Rattle.lard_resend.specs.Kept.{is_under, put_in, rank, without}
+use Rattle.lard_resend.specs.Pending.{sent_of}
+use Rattle.lard_rules.specs.declared.places.Ending.{Ending}
+use Rattle.lard_rules.specs.declared.places.Ending.TheVariants.{Here, Over}
+use Rattle.lard_rules.specs.declared.places.Turn.{Turn}
+use Rattle.lard_rules.specs.Serving.{ready_of, serving, settled, spoken}
+use Rattle.lard_segment.specs.declared.fault.SegFault.{SegFault}
+use Rattle.lard_segment.specs.Segment.{Said}
+use Rattle.lard_send.specs.Send.{is_clear}
+
+-- ---- what is kept of one connection
+
+pub record NodePart : Type 0 where
+  pub row : Option BackRow
+  pub stay : Option Stay
+  pub kept : List Kept  -- its Ask or its Ended, where one awaits its answer
+  pub fetches : List Kept  -- those whose contents are awaited, by the numbers of their requests
+
+-- What a rule comes to: it drops what came, or answers it and keeps what it kept, or the node does this and keeps that.
+pub data Deed : Type 0 where
+  Drops : Deed
+  Says : List (Place × List ℕ) → Deed
+  Does : NodePart × NodeTurn → Deed
+
+-- ---- messages
+
+abbrev pub message : ℕ → ℕ → Body → List ℕ
+message c epoch b = spelled_message (record { c = c; epoch = record { 0 = epoch }; body = b })
+
+abbrev pub ask_kept : ℕ → ℕ → Asked → Kept
+ask_kept c epoch a = record { kind = kind.Ask; r = 0; to = place.Front; bytes = message c epoch (body.Ask a.number a.queue a.size a.paths) }
+
+-- how many bytes a reset counted; an end of another kind carries 0
+abbrev pub count_of : Option ℕ → ℕ
+count_of None = 0
+count_of (Some total) = total
+
+abbrev pub ended_kept : ℕ → ℕ → Final → ℕ → Kept
+ended_kept c epoch last count = record { kind = kind.Ended; r = 0; to = place.Front; bytes = message c epoch (body.Ended last.reason last.snd.0 last.rcv.0 count) }
+
+-- a message takes the place of one of its kind and number that is held
+abbrev pub anew : Kept → List Kept → List Kept
+anew k ks = put_in k (without k.kind k.r ks)
+
+-- ---- what is in hand
+
+-- nothing was done in the turn yet
+abbrev pub work_of : ControlBlock → Stay → Work
+work_of b s = record { service = serving b s.served []; batch = s.batch; asks = s.asks; jobs = []; wants = []; asked = None }
+
+abbrev pub stay_after : ℕ → Work → Stay
+stay_after count w = record { served = count; batch = w.batch; asks = w.asks }
+
+-- ---- the end of a turn
+
+-- the Ask, where one was made, and how it is held until its Tag comes
+abbrev pub asked_kept : NodeEnv → Option Asked → List Kept → List Kept
+asked_kept env None ks = ks
+asked_kept env (Some a) ks = anew (ask_kept env.serve.c env.epoch a) ks
+
+abbrev pub asked_sent : NodeEnv → Option Asked → List (Place × List ℕ)
+asked_sent env None = []
+asked_sent env (Some a) = sent_of (ask_kept env.serve.c env.epoch a) ∷ []
+
+-- the Fetches of what is wanted, each held until its content comes
+abbrev pub fetch_of : NodeEnv → Want → Kept
+fetch_of env w = fetch_kept env.serve.c env.epoch w.r w.node w.path
+
+abbrev pub wants_kept : NodeEnv → List Want → List Kept → List Kept
+wants_kept env [] ks = ks
+wants_kept env (w ∷ ws) ks = wants_kept env ws (anew (fetch_of env w) ks)
+
+abbrev pub wants_sent : NodeEnv → List Want → List (Place × List ℕ)
+wants_sent env ws = map (λ w. sent_of (fetch_of env w)) ws
+
+abbrev pub all_sent : NodeEnv → List (Place × List ℕ) → Work → List (Place × List ℕ)
+all_sent env before w = before ++ asked_sent env w.asked ++ wants_sent env w.wants
+
+abbrev pub row_of : NodeEnv → Ending → BackRow
+row_of env (Here b count) = record { stage = stage.Here b; epoch = record { 0 = env.epoch } }
+row_of env (Over last) = record { stage = stage.Ended; epoch = record { 0 = env.epoch } }
+
+-- The connection stays, or the node gives it up and tells the front end why, until that acknowledges it. What it awaited of the
+-- connection is forgotten then; the jobs of its disk go on.
+abbrev pub kept_after : NodeEnv → NodePart → Work → Ending → NodePart
+kept_after env p w (Here b count) = record {
+  row = Some (row_of env (Here b count));
+  stay = Some (stay_after count w);
+  kept = asked_kept env w.asked p.kept;
+  fetches = wants_kept env w.wants p.fetches;
+}
+kept_after env p w (Over last) = record {
+  row = Some (row_of env (Over last));
+  stay = None;
+  kept = ended_kept env.serve.c env.epoch last (count_of w.service.over) ∷ [];
+  fetches = [];
+}
+
+abbrev pub gave_by : NodeEnv → Ending → List Rec
+gave_by env (Here b count) = []
+gave_by env (Over last) = rec.Gave (place.Node env.n) env.serve.c (record { 0 = env.epoch }) ∷ []
+
+abbrev pub ended_sent : NodeEnv → Option ℕ → Ending → List (Place × List ℕ)
+ended_sent env over (Here b count) = []
+ended_sent env over (Over last) = sent_of (ended_kept env.serve.c env.epoch last (count_of over)) ∷ []
+
+abbrev pub turn_by : NodeEnv → List (Place × List ℕ) → Work → Ending × Turn → NodeTurn
+turn_by env before w given = record {
+  notes = given.1.notes;
+  segments = given.1.segments;
+  gave = gave_by env given.0;
+  messages = all_sent env before w ++ ended_sent env w.service.over given.0;
+  jobs = w.jobs;
+  answered = given.1.answered;
+}
+
+-- these messages go out, then what the turn asks for; the endpoint says what it may, and the stay ends where it may or has to
+abbrev pub rests : NodeEnv → NodePart → List (Place × List ℕ) → Work → NodePart × NodeTurn
+rests env p before w = (kept_after env p w (settled env.serve w.service).0, turn_by env before w (settled env.serve w.service))
+
+-- ---- the rules of a stay
+
+-- the endpoint and the stay, where the connection is here
+abbrev pub both_of : Option ControlBlock → Option Stay → Option (ControlBlock × Stay)
+both_of None stay = None
+both_of (Some b) None = None
+both_of (Some b) (Some s) = Some (b, s)
+
+-- where it is here in the epoch
+abbrev pub here : ℕ → NodePart → Option (ControlBlock × Stay)
+here epoch p = both_of (staying epoch p.row) p.stay
+
+abbrev pub with_work : NodeEnv → NodePart → List (Place × List ℕ) → Work → Deed
+with_work env p before w = Does (rests env p before w)
+
+-- A segment that the front end forwarded comes to the endpoint. What does not decode is dropped.
+abbrev pub heard_by : NodeEnv → NodePart → Result Said SegFault → Option (ControlBlock × Stay) → Deed
+heard_by env p (Err fault) x = Drops
+heard_by env p (Ok s) None = Drops
+heard_by env p (Ok s) (Some x) = with_work env p [] (goes_on env (work_of (on_segment x.0 s).1 x.1))
+
+abbrev pub node_forwarded : NodeEnv → NodePart → Result Said SegFault → Deed
+node_forwarded env p given = heard_by env p given (here env.epoch p)
+
+-- A Tag comes. It counts where an Ask is awaited, has that number, and has a node for each of its paths.
+abbrev pub is_awaited : NodeEnv → ℕ → List ℕ → NodePart → Stay → Bool
+is_awaited env number nodes p s = is_some (find (is_under kind.Ask 0) p.kept) && (s.asks == number && length nodes == length (named_paths env.serve.files s.batch))
+
+abbrev pub tagged_by : NodeEnv → ℕ → List ℕ → NodePart → Option (ControlBlock × Stay) → Deed
+tagged_by env number nodes p None = Drops
+tagged_by env number nodes p (Some x) =
+    if is_awaited env number nodes p x.1
+    then with_work env (record p { kept = without kind.Ask 0 p.kept }) [] (goes_on env (tagged env nodes (work_of x.0 x.1)))
+    else Drops
+
+abbrev pub node_tagged : NodeEnv → NodePart → ℕ → List ℕ → Deed
+node_tagged env p number nodes = tagged_by env number nodes p (here env.epoch p)
+
+-- A content comes. It counts where it is awaited from this node, once; the files are the same everywhere, so its bytes are those
+-- that the request is answered with.
+abbrev pub come_by : NodeEnv → ℕ → ℕ → NodePart → Option (ControlBlock × Stay) → Deed
+come_by env from r p None = Drops
+come_by env from r p (Some x) =
+    if is_from from env.epoch (find (is_under kind.Fetch r) p.fetches)
+    then with_work env (record p { fetches = without kind.Fetch r p.fetches }) [] (goes_on env (came_for (come_progress from) r (work_of x.0 x.1)))
+    else Drops
+
+abbrev pub node_content : NodeEnv → NodePart → ℕ → ℕ → Deed
+node_content env p from r = come_by env from r p (here env.epoch p)
+
+-- A job of this node's disk was completed for a request.
+abbrev pub read_by : NodeEnv → ℕ → NodePart → Option (ControlBlock × Stay) → Deed
+read_by env r p None = Drops
+read_by env r p (Some x) = with_work env p [] (goes_on env (came_for read_progress r (work_of x.0 x.1)))
+
+abbrev pub node_read : NodeEnv → NodePart → ℕ → Deed
+node_read env p r = read_by env r p (here env.epoch p)
+
+-- ---- an Offer
+
+abbrev pub taken_sent : NodeEnv → List (Place × List ℕ)
+taken_sent env = (place.Front, message env.serve.c env.epoch body.Taken) ∷ []
+
+-- The node takes a connection that is new to it, and goes on where the front end stopped: it reads the first batch, whose first
+-- request for a file was assigned to it with the connection.
+abbrev pub begins : NodeEnv → EndpointParts → Work
+begins env parts = record {
+  service = serving (adopted parts) parts.served (rec.Took (place.Node env.n) env.serve.c (record { 0 = env.epoch }) ∷ []);
+  batch = [];
+  asks = 0;
+  jobs = [];
+  wants = [];
+  asked = None;
+}
+
+-- a message goes out, and nothing else is done
+abbrev pub saying : List (Place × List ℕ) → NodeTurn
+saying messages = record { notes = []; segments = []; gave = []; messages = messages; jobs = []; answered = 0 }
+
+-- an Offer that was decided is answered again, an old one is dropped
+abbrev pub offered_by : NodeEnv → EndpointParts → NodePart → Adopt → Deed
+offered_by env parts p New = with_work env p (taken_sent env) (goes_on env (state_of (reads_batch env true (begins env parts))))
+offered_by env parts p Again = Says (taken_sent env)
+offered_by env parts p Stale = Drops
+
+abbrev pub node_offered : NodeEnv → NodePart → EndpointParts → Deed
+node_offered env p parts = offered_by env parts p (offer_answer env.epoch p.row)
+
+-- ---- the end of a stay
+
+abbrev pub gone : Option BackRow → Option BackRow
+gone None = None
+gone (Some row) = Some (record row { stage = stage.Gone })
+
+-- The front end acknowledges the end: it is not told again.
+abbrev pub node_acknowledged : NodeEnv → NodePart → Deed
+node_acknowledged env p = if awaits_ack env.epoch p.row then Does (record p { row = gone p.row; kept = without kind.Ended 0 p.kept }, saying []) else Drops
+
+-- ---- timers
+
+-- all that awaits an answer: while the connection is here its Ask and then the Fetches, by number; else its Ended
+abbrev pub again_sent : NodePart → List (Place × List ℕ)
+again_sent p = map sent_of (p.kept ++ p.fetches)
+
+-- The endpoint's timer fires (RFC 9293, 3.10.8), and what awaits an answer is sent again.
+abbrev pub fired : NodeEnv → NodePart → ControlBlock × Stay → Ending × Turn → NodePart × NodeTurn
+fired env p x given = (kept_after env p (work_of (after_timer x.0) x.1) given.0, turn_by env (again_sent p) (work_of (after_timer x.0) x.1) given)
+
+abbrev pub fired_by : NodeEnv → NodePart → Option (ControlBlock × Stay) → Deed
+fired_by env p None = Says (again_sent p)
+fired_by env p (Some x) = Does (fired env p x (spoken env.serve (serving (after_timer x.0) x.1.served []) (ready_of env.serve (after_timer x.0) (timed x.0))))
+
+abbrev pub node_timer : NodeEnv → NodePart → Deed
+node_timer env p = fired_by env p (both_of (endpoint_of p.row) p.stay)
+
+-- ---- timers that run
+
+abbrev pub holds_kind : TimerKind → List Kept → Bool
+holds_kind k ks = list_any (λ x. rank x.kind == rank k) ks
+
+abbrev pub is_unsaid : Option ControlBlock → Bool
+is_unsaid None = false
+is_unsaid (Some b) = not (is_clear b.send)
+
+-- what is armed at the node for the connection; an Offer never is
+abbrev pub node_armed : NodePart → TimerKind → Bool
+node_armed p kind.Tcp = is_unsaid (endpoint_of p.row)
+node_armed p kind.Offer = false
+node_armed p kind.Ask = holds_kind kind.Ask p.kept
+node_armed p kind.Fetch = holds_kind kind.Fetch p.fetches
+node_armed p kind.Ended = holds_kind kind.Ended p.kept

@@ -1,6 +1,0 @@
--- By its lists of inner steps.
-use Rattle.lard_settle_laws.proofs.Whole.{settles-stop}
-use Rattle.lard_settle_laws.proofs.settles_stop_at_limits_alone.Goals as goal
-
-pub returns : goal.returns
-returns c = record { settles = settles-stop }

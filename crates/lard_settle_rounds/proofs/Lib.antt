@@ -1,5 +1,0 @@
-pub mod Told
-pub mod Left
-pub mod Coming
-pub mod Records
-pub mod Runs

@@ -1,3 +1,0 @@
-pub mod ToDo
-pub mod Rounds
-pub mod Laws

@@ -1,7 +1,0 @@
-pub mod Accepting
-pub mod Client
-pub mod Endpoint
-pub mod Growth
-pub mod Hearing
-pub mod Pieces
-pub mod Speaking
