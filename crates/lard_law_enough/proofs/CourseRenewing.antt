@@ -132,7 +132,10 @@ module _ (files : FilesAt) (p : Part) (st : Station) (c : ℕ) where
   -- an Offer that the front end makes
   module _ (n e : ℕ) where
     there-near : (count : ℕ) (q : NodePart) (b : BackConn) → NearOffer 3 n e (post_of files st.client (seat_there false n e count q b))
-    there-near count q _ = (refl, refl, omega arith)
+    there-near count q (back.Here b) = (refl, refl, omega arith)
+    there-near count q back.Out = (refl, refl, omega arith)
+    there-near count q back.Ended = (refl, refl, omega arith)
+    there-near count q back.Gone = (refl, refl, omega arith)
 
     decided-near : (count : ℕ) (q : NodePart) (o : Option BackRow) → NearOffer 3 n e (post_of files st.client (seat_decided false n e count q o))
     decided-near count q None = (refl, refl, omega arith)

@@ -257,13 +257,15 @@ module _ (k : Whole) (K : ℕ) (files : FilesAt) (p : Part) (st : Station) (y : 
   spoken-less Open Open on = let u : x.send.una ≤ y.send.una = turned.ahead.una in let s = shut in omega (arith, u, s)
   spoken-less Open Aborted (inl e) = absurd (let bad : Aborted ≡ Open = e in cc)
   spoken-less Open Aborted (inr e) = absurd (let bad : Aborted ≡ Reset = e.1 in cc)
+  spoken-less Open Reset on = omega arith
   spoken-less Aborted Open (inl e) = absurd (let bad : Open ≡ Aborted = e in cc)
   spoken-less Aborted Open (inr e) = absurd (let bad : Aborted ≡ Open = e.0 in cc)
   spoken-less Aborted Aborted on = omega arith
+  spoken-less Aborted Reset on = omega arith
   spoken-less Reset Open (inl e) = absurd (let bad : Open ≡ Reset = e in cc)
   spoken-less Reset Open (inr e) = absurd (let bad : Reset ≡ Open = e.0 in cc)
   spoken-less Reset Aborted on = omega arith
-  spoken-less _ Reset on = omega arith
+  spoken-less Reset Reset on = omega arith
 
   ended-less : (q r : Phase) → OnPhase q r → ended_left k y r ≤ ended_left k x q
   ended-less q Reset on = omega arith

@@ -126,10 +126,16 @@ abbrev pub Loses : ℕ → (Progress → Progress) → Type 0
 Loses n f = (p : Progress) → awaits p ≤ awaits (f p) + n
 
 pub read-loses : Loses 0 read_progress
-read-loses _ = omega arith
+read-loses progress.Named = omega arith
+read-loses progress.Reading = omega arith
+read-loses (progress.Awaited node) = omega arith
+read-loses (progress.Ready way) = omega arith
 
 pub come-loses : (from : ℕ) → Loses 1 (come_progress from)
-come-loses from _ = omega arith
+come-loses from progress.Named = omega arith
+come-loses from progress.Reading = omega arith
+come-loses from (progress.Ready way) = omega arith
+come-loses from (progress.Awaited node) = omega arith
 
 pub awaited-come : (n : ℕ) (f : Progress → Progress) → Loses n f → (i : ℕ) (es : List Entry) → awaited_in es ≤ awaited_in (come_on f i es) + n
 awaited-come n f loses i [] = omega arith

@@ -101,7 +101,15 @@ HasBytes (body.Content r bytes) = AreBytes bytes
 HasBytes _ = Unit {0}
 
 kind-byte : (k : Kind) → number_of k < 256
-kind-byte _ = omega arith
+kind-byte kind.Offer = omega arith
+kind-byte kind.Taken = omega arith
+kind-byte kind.Forward = omega arith
+kind-byte kind.Ask = omega arith
+kind-byte kind.Tag = omega arith
+kind-byte kind.Fetch = omega arith
+kind-byte kind.Content = omega arith
+kind-byte kind.Ended = omega arith
+kind-byte kind.EndedAck = omega arith
 
 bytes-header : (k : Kind) (c epoch len : ℕ) → AreBytes (header_bytes (version_of k) (number_of k) c epoch len)
 bytes-header k c epoch len =
@@ -131,7 +139,9 @@ bytes-numbers p =
     bytes-append (c ++ to_be_bytes w16 p.mss) (to_be_bytes w32 p.served) (bytes-append c (to_be_bytes w16 p.mss) in_c (bytes-16 p.mss)) (bytes-32 p.served)
 
 reason-small : (r : Reason) → reason_byte r < 256
-reason-small _ = omega arith
+reason-small reason.Closed = omega arith
+reason-small reason.Peer = omega arith
+reason-small reason.Limit = omega arith
 
 bytes-body : (b : Body) → HasBytes b → AreBytes (body_bytes b)
 bytes-body (body.Offer parts) h = bytes-append (parts_numbers parts) (counted parts.unread) (bytes-numbers parts) (bytes-counted parts.unread h)

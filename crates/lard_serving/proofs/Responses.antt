@@ -8,7 +8,12 @@ use Rattle.lard_request.specs.declared.verdict.Code.TheVariants.{Ok, BadRequest,
 use Rattle.lard_response.specs.Response.{number, reason, status_line, length_line, close_line, response, response_body}
 
 number-most : (code : Code) → number code ≤ 501
-number-most _ = omega arith
+number-most Ok = omega arith
+number-most BadRequest = omega arith
+number-most NotFound = omega arith
+number-most TooLarge = omega arith
+number-most FieldsTooLarge = omega arith
+number-most NotImplemented = omega arith
 
 reason-most : (code : Code) → length (reason code) ≤ 31
 reason-most _ = lit≤ tt
