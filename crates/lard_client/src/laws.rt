@@ -18,7 +18,8 @@ pub fn true_segments_are_accepted()
     ensures { TrueSegmentsAreAccepted }
 {}
 
-/// What is emitted lies in the window of the cluster, and no segment takes back the window that an earlier one told.
+/// What is emitted lies in the window of the cluster, and no segment takes back the window that an earlier one told
+/// (RFC 9293, 3.4 and 3.8.6).
 pub fn windows_are_kept()
     ensures sending { EmittedStaysInTheWindow }
     ensures receiving { WindowIsNotTakenBack }
