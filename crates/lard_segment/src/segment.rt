@@ -56,7 +56,7 @@ impl Flags {
     };
 }
 
-/// A segment, with its data at hand.
+/// A segment, with its data at hand (RFC 9293, 3.1).
 #[derive(Clone, Copy, Debug, PartialEq, Eq)]
 pub struct Segment<'a> {
     /// The sequence number of the first byte of data, or of the SYN.
@@ -72,7 +72,8 @@ pub struct Segment<'a> {
 }
 
 impl Segment<'_> {
-    /// A segment with no data, that names no maximum segment size: `<SEQ=seq><ACK=ack><CTL=flags>` and a window.
+    /// A segment with no data, that names no maximum segment size: `<SEQ=seq><ACK=ack><CTL=flags>` and a window in
+    /// bytes (RFC 9293, 3.1).
     pub fn control(seq: Seq, ack: Seq, flags: Flags, wnd: u16) -> Segment<'static>
         ensures { said result ≡ control_said seq.0 ack.0 flags wnd }
     {
@@ -106,7 +107,8 @@ pub struct Ready {
 }
 
 impl Ready {
-    /// A segment with no data, that names no maximum segment size; `at` queued bytes come before its number.
+    /// A segment with no data, that names no maximum segment size; and the place of its data, of which it has none:
+    /// `at` queued bytes come before its number.
     pub fn control(seq: Seq, ack: Seq, flags: Flags, wnd: u16, at: u32) -> Ready
         ensures { result ≡ control_ready seq.0 ack.0 flags wnd at }
     {
