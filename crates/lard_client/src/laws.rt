@@ -3,8 +3,8 @@
 ghost use Rattle.lard_client.specs.Laws.{ArrivalsAreInOrder, AcceptedStaysBounded, EndedTakesNothing, RepliesByTheirCause, TrueSegmentsAreAccepted, EmittedStaysInTheWindow, WindowIsNotTakenBack, SegmentsTellTheWindow};
 
 /// What a client accepts is exactly the part of each segment that begins at the awaited number and for which there is
-/// room, and it counts: nothing is left out and nothing is taken twice. No more than 2^30 bytes are accepted, and a client that
-/// was aborted or reset accepts nothing. Only one that was aborted replies.
+/// room, and it counts: nothing is left out and nothing is taken twice (RFC 9293, 3.10.7.4). No more than 2^30 bytes
+/// are accepted, and a client that was aborted or reset accepts nothing. Only one that was aborted replies.
 pub fn accepted_bytes_are_in_order()
     ensures order { ArrivalsAreInOrder }
     ensures bounded { AcceptedStaysBounded }
