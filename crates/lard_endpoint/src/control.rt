@@ -113,7 +113,8 @@ impl Endpoint {
         self.recv.consume(n);
     }
 
-    /// Drops what is unread, and from now on all that comes, which is acknowledged all the same.
+    /// Drops what is unread, and from now on all that comes, which is acknowledged all the same: as behind an answer
+    /// that closes the connection (RFC 9112, 9.6).
     pub fn discard_on(&mut self)
         ensures { self.new ≡ discarding_on self.old }
     {
@@ -127,14 +128,14 @@ impl Endpoint {
         self.recv.unread()
     }
 
-    /// Whether the peer's FIN was taken.
+    /// Whether the peer's FIN was taken (RFC 9293, 3.10.7.4, eighth).
     pub fn peer_done(&self) -> bool
         ensures { result ≡ self.now.recv.fin }
     {
         self.recv.finished()
     }
 
-    /// Whether the peer reset the connection. Nothing is sent then, and `end` ends it.
+    /// Whether the peer reset the connection (RFC 9293, 3.10.7.4, second). Nothing is sent then, and `end` ends it.
     pub fn was_reset(&self) -> bool
         ensures { result ≡ self.now.reset }
     {

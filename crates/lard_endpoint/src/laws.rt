@@ -13,7 +13,8 @@ pub fn ahead_is_in_the_window()
     ensures { AheadIsInTheWindow }
 {}
 
-/// Of a true segment exactly those bytes are taken that stand at the place that is awaited, and the FIN behind all bytes.
+/// Of a true segment exactly those bytes are taken that stand at the place that is awaited, and the FIN behind all
+/// bytes (RFC 9293, 3.10.7.4, seventh and eighth).
 pub fn what_is_taken_is_the_part()
     ensures bytes { FreshIsThePart }
     ensures fin { FinComesLast }
