@@ -115,7 +115,7 @@ impl BackTable {
         set_stage(&mut self.conns, c.number(), BackConn::Ended).spend();
     }
 
-    /// What is kept of a connection, lent; `None` where none was ever offered.
+    /// What is kept of a connection, lent; `None` where nothing is.
     pub fn row(&self, c: ConnId) -> Option<&BackRow>
         ensures { option_copied result ≡ map.get self.now c }
     {
