@@ -123,7 +123,8 @@ impl RecvHalf {
         self.unread.consume(n);
     }
 
-    /// Drops what is unread, and from now on all that comes, which is counted and acknowledged all the same.
+    /// Drops what is unread, and from now on all that comes, which is counted and acknowledged all the same: as behind
+    /// an answer that closes the connection (RFC 9112, 9.6).
     pub fn discard_on(&mut self)
         ensures { self.new ≡ discarded self.old }
     {
@@ -162,7 +163,7 @@ impl RecvHalf {
         self.got
     }
 
-    /// Whether the peer's FIN was taken.
+    /// Whether the peer's FIN was taken (RFC 9293, 3.10.7.4, eighth).
     pub fn finished(&self) -> bool
         ensures { result ≡ self.now.fin }
     {
