@@ -1,4 +1,4 @@
-//! Where the parts of a segment stand in its bytes.
+//! Where the parts of a segment stand in its bytes (RFC 9293, 3.1).
 
 ghost use Rattle.std.specs.Prelude.{◌≡◌, ◌+◌, ◌≤◌, length};
 ghost use Rattle.lard_segment.specs.Fields.{word_at, number_at, flags_of, flag_byte, source_port, target_port};
