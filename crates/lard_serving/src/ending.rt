@@ -133,8 +133,8 @@ fn limit_segment(last: Final) -> Segment<'static>
     Segment::control(last.snd, last.rcv, Flags::RST_ACK, 0)
 }
 
-/// The end of a turn in which requests were read: the stream limit ends the connection, else it goes on. `NoMemory` in
-/// the place of the turn where memory runs out.
+/// The end of a turn in which requests were read: the stream limit ends the connection by a RST (RFC 9293, 3.10.5),
+/// else it goes on. `NoMemory` in the place of the turn where memory runs out.
 pub fn settled(alloc: Global, env: &Env<'_>, endpoint: Endpoint, service: Service) -> Ends
     requires counted { IsCounted endpoint service }
     ensures turn { IfOk result.1 (λ turn. (result.0, turn) ≡ settled (env_seen env.now) (service_of endpoint service)) }
