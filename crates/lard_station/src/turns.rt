@@ -248,7 +248,7 @@ pub fn request(alloc: Global, path: &Path) -> Result<Bytes, NoMemory>
     Ok(Bytes::from_vec(text))
 }
 
-/// A client's bytes in all, once it wrote these.
+/// How many bytes a client has written once it writes these, which do not count where it writes no longer.
 pub fn written_len(client: &Client, bytes: &[u8]) -> u64
     ensures { result ≡ written_len client.now bytes.now }
 {
