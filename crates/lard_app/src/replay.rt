@@ -186,7 +186,8 @@ impl Replay {
         Ok(text)
     }
 
-    /// Does what an event does, a step or a settle, and writes the records that came of it, also where a limit ended a settle inside.
+    /// Does what an event does, a step or a settle, and writes the records that came of it, also where a limit ended a
+    /// settle inside.
     fn step<K: Sink>(&mut self, alloc: Global, sink: &mut K, event: Event) -> Result<(), Status>
         requires usable { self.old.world.spoiled ≡ false }
         requires agenda { IsAgendaOf self.old.agenda self.old.world.machine.journal }
