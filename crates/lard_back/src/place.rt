@@ -55,8 +55,8 @@ pub fn finish(state: NodeState) {
     fetches.finish();
 }
 
-/// What a node does with what comes to it. Its disk has fewer than 2^31 jobs. Without memory the state is of no use any
-/// more but to be spent.
+/// What a node does with what comes to it, on a state of `begin` or of steps that were done. Its disk has fewer than
+/// 2^31 jobs. Without memory the state is of no use any more but to be spent.
 pub fn step(
     state: &mut NodeState,
     alloc: Global,
