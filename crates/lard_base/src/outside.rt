@@ -17,8 +17,8 @@ pub trait Source {
     ghost faults: { Self → ℕ };
 
     /// Fills the front of the buffer with the next bytes, and answers how many they are. An answer of 0 for a buffer
-    /// that is not empty is the end of input. The count of faults rises where it fails, and in no other call. `Failed`
-    /// where it fails, which takes none of the bytes.
+    /// that is not empty is the end of input. The count of faults rises where it fails, and in no other call: it
+    /// answers `Failed`, and has taken no byte.
     fn read(&mut self, buf: &mut [u8]) -> Result<usize, Failed>
         ensures bound { ReadsAtMost result buf.new }
         ensures bytes { ReadConsumes (left self.old) (left self.new) result buf.new }
