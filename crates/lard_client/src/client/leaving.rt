@@ -13,8 +13,8 @@ use lard_seq::Seq;
 impl Client {
     /// The next segment that is to be sent, which then counts as sent (RFC 9293, 3.8): first the SYN; once that is
     /// acknowledged bytes and the FIN, at most a segment and as far as the cluster's window allows; else an ACK where
-    /// one is owed. `None` where there is nothing to send, which changes nothing, and where the client was aborted or
-    /// reset.
+    /// one is owed. `None` where there is nothing to send, as where the client was aborted or reset; nothing changes
+    /// then.
     #[tactic(auto, using(crate::proofs::Writable::writable_piece, crate::proofs::Emitting::told_falls))]
     pub fn emit(&mut self) -> Option<Ready>
         ensures ready { result ≡ emitted self.old }
