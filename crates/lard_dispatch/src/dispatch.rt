@@ -150,8 +150,8 @@ impl Dispatch {
     }
 
     /// An Ask of an admitted connection, its first time: the batch before it is over, and each path is assigned in
-    /// order, at the loads and the sets that those before it left. Without memory nothing changes. It asks for 1 to
-    /// `size` paths, `size` is at most 8, and `home` is the connection's node. No set was changed after `now`.
+    /// order, at the loads and the sets that those before it left. It asks for 1 to `size` paths, `size` is at most 8,
+    /// and `home` is the connection's node. No set was changed after `now`. Without memory nothing changes.
     pub fn later(&mut self, ask: &Ask, now: Millis) -> Result<Later, NoMemory>
         requires home { home_of self.old.books.loads ask.now.c ≡ Some ask.now.home }
         requires some { 1 ≤ length ask.now.paths }
@@ -182,8 +182,8 @@ impl Dispatch {
     }
 
     /// Releases an admitted connection, and admits the first of the line, with the choice for the target that it waits
-    /// with: the answer is both, or `None` where nobody waits. Without memory nothing changes. No set was changed after
-    /// `now`.
+    /// with: the answer is both, or `None` where nobody waits. No set was changed after `now`. Without memory nothing
+    /// changes.
     pub fn ended(
         &mut self,
         c: ConnId,
