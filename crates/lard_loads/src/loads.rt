@@ -78,8 +78,8 @@ impl Loads {
         self.free(c);
     }
 
-    /// Assigns a later request of a batch of so many, 1 to 8, of an admitted connection to a node. At its home it counts
-    /// nothing; elsewhere it opens a share, of which there are fewer than eight.
+    /// Assigns a later request of a batch of so many, 1 to 8, of an admitted connection to a node, which is one of
+    /// these. At its home it counts nothing; elsewhere it opens a share, of which there are fewer than eight.
     pub fn share(&mut self, c: ConnId, n: NodeId, size: u8)
         requires admitted { is_some (map.get self.old.standings c) ≡ true }
         requires node { n ≤ self.old.nodes }
