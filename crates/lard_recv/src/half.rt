@@ -132,8 +132,8 @@ impl RecvHalf {
         self.discarding = true;
     }
 
-    /// How many bytes may come: 16,384 less the unread ones, and no more than are left of 2^30: RCV.WND
-    /// (RFC 9293, 3.8.6).
+    /// How many bytes may come, RCV.WND (RFC 9293, 3.8.6): 16,384 less the unread ones, and no more than are left of
+    /// 2^30.
     pub fn window(&self) -> u32
         ensures { result ≡ room self.now }
     {
