@@ -107,8 +107,7 @@ pub struct Ready {
 }
 
 impl Ready {
-    /// A segment with no data, that names no maximum segment size; and the place of its data, of which it has none:
-    /// `at` queued bytes come before its number.
+    /// A segment with no data, that names no maximum segment size; `at` queued bytes come before its number.
     pub fn control(seq: Seq, ack: Seq, flags: Flags, wnd: u16, at: u32) -> Ready
         ensures { result ≡ control_ready seq.0 ack.0 flags wnd at }
     {
