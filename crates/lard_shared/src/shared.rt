@@ -37,7 +37,7 @@ impl Shared {
         Shared { bytes }
     }
 
-    /// The `len` bytes from `at` on, counted from 0, without a copy of them. There are so many. `NoMemory` where memory
+    /// The `len` bytes from `at` on, counted from 0, without a copy of them. They are there. `NoMemory` where memory
     /// runs out.
     pub fn part(&self, at: usize, len: usize) -> Result<Shared, NoMemory>
         requires { at + len ≤ length self.now }
