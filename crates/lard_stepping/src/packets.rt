@@ -19,8 +19,8 @@ use lard_seq::Seq;
 use lard_shared::Shared;
 use std::alloc::Global;
 
-/// The packet with this number comes to its place. After `NotSent` and `WasLost` everything is as it was. Without
-/// memory the journal is as it was.
+/// The packet with this number comes to its place. After `NotSent` and `WasLost`, where none was sent with it or it was
+/// lost, everything is as it was. Without memory the journal is as it was.
 #[tactic(auto, unfolding(lard_rules::specs::Machine::delivered))]
 pub fn deliver(machine: &mut Machine, alloc: Global, k: u32) -> Result<(), StepFault>
     requires room { HasRoom machine.old }
@@ -170,8 +170,8 @@ fn to_client(
     Ok(())
 }
 
-/// The packet with this number arrives no more from now on. After `NotSent` and `WasLost` everything is as it was.
-/// Without memory the journal is as it was.
+/// The packet with this number arrives no more from now on. After `NotSent` and `WasLost`, where none was sent with it
+/// or it was lost before, everything is as it was. Without memory the journal is as it was.
 #[tactic(auto, using(crate::proofs::Lent::lost_len, crate::proofs::Sound::net_sound), unfolding(lard_rules::specs::Machine::lost))]
 pub fn lose(machine: &mut Machine, alloc: Global, k: u32) -> Result<(), StepFault>
     requires room { HasRoom machine.old }
