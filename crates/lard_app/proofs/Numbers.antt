@@ -47,26 +47,18 @@ no_less m n h = grind (arith, nat_tests, h)
 -- ---- the ranges of the configuration's numbers
 
 pub fits : (key : Key) (value : ℕ) → is_in_range key value ≡ true → IsFit key value
-fits Nodes value h = (grind (arith, nat_tests, h), grind (arith, nat_tests, h))
-fits Low value h = (grind (arith, nat_tests, h), grind (arith, nat_tests, h))
-fits High value h = (grind (arith, nat_tests, h), grind (arith, nat_tests, h))
 fits Age value h = grind (arith, nat_tests, h)
 fits Idle value h = grind (arith, nat_tests, h)
 fits Over value h = grind (arith, nat_tests, h)
 fits Miss value h = grind (arith, nat_tests, h)
-fits Cache value h = (grind (arith, nat_tests, h), grind (arith, nat_tests, h))
-fits Stream value h = (grind (arith, nat_tests, h), grind (arith, nat_tests, h))
+fits _ value h = (grind (arith, nat_tests, h), grind (arith, nat_tests, h))
 
 ranges : (key : Key) (value : ℕ) → IsFit key value → is_in_range key value ≡ true
-ranges Nodes value h = grind (arith, nat_tests, h.0, h.1)
-ranges Low value h = grind (arith, nat_tests, h.0, h.1)
-ranges High value h = grind (arith, nat_tests, h.0, h.1)
 ranges Age value h = grind (arith, nat_tests, h)
 ranges Idle value h = grind (arith, nat_tests, h)
 ranges Over value h = grind (arith, nat_tests, h)
 ranges Miss value h = grind (arith, nat_tests, h)
-ranges Cache value h = grind (arith, nat_tests, h.0, h.1)
-ranges Stream value h = grind (arith, nat_tests, h.0, h.1)
+ranges _ value h = grind (arith, nat_tests, h.0, h.1)
 
 module _ (key : Key) (value : ℕ) where
   pub range-fault : (fault : ConfigFault) → range_check key value ≡ Err fault → (fault ≡ Range key value) × ¬ (IsFit key value)

@@ -176,9 +176,7 @@ module _ (env : NodeEnv) where
 
   by-noted : (e : Entry) (rest : List Entry) (w : Work) (p : Progress) → Noted w → Noted (serves_by env e rest w p)
   by-noted e rest w (Ready way) h = answered-noted way e.verdict (length w.jobs) w.service h
-  by-noted e rest w Named h = h
-  by-noted e rest w Reading h = h
-  by-noted e rest w (Awaited node) h = h
+  by-noted e rest w _ h = h
 
   first-served : (w : Work) (es : List Entry) → Noted w → Noted (serves_first env w es)
   first-served w [] h = h
@@ -294,26 +292,12 @@ module _ (k : NodeSetting) (s : NodeState) where
   front-grows c epoch body.EndedAck = deed-grows c (node_acknowledged (node_env k s c epoch) (node_part s c)) (acked-noted (node_env k s c epoch) (node_part s c))
 
   node-grows : (from c epoch : ℕ) (b : Body) → Grows s (node_hears k s (place.Node from) c epoch b)
-  node-grows from c epoch (body.Offer parts) = still
-  node-grows from c epoch body.Taken = still
-  node-grows from c epoch (body.Forward bytes) = still
-  node-grows from c epoch (body.Ask number queue size paths) = still
-  node-grows from c epoch (body.Tag number nodes) = still
   node-grows from c epoch (body.Fetch r path) = fetched-grows from c epoch r path (k.files path)
   node-grows from c epoch (body.Content r bytes) = deed-grows c (node_content (node_env k s c epoch) (node_part s c) from r) (come-noted (node_env k s c epoch) (node_part s c) from r (here epoch (node_part s c)))
-  node-grows from c epoch (body.Ended reason snd rcv count) = still
-  node-grows from c epoch body.EndedAck = still
+  node-grows from c epoch _ = still
 
   client-grows : (x c epoch : ℕ) (b : Body) → Grows s (node_hears k s (place.Client x) c epoch b)
-  client-grows x c epoch (body.Offer parts) = still
-  client-grows x c epoch body.Taken = still
-  client-grows x c epoch (body.Forward bytes) = still
-  client-grows x c epoch (body.Ask number queue size paths) = still
-  client-grows x c epoch (body.Tag number nodes) = still
-  client-grows x c epoch (body.Fetch r path) = still
-  client-grows x c epoch (body.Content r bytes) = still
-  client-grows x c epoch (body.Ended reason snd rcv count) = still
-  client-grows x c epoch body.EndedAck = still
+  client-grows x c epoch _ = still
 
   hears-grows : (from : Place) (c epoch : ℕ) (b : Body) → Grows s (node_hears k s from c epoch b)
   hears-grows place.Front c epoch b = front-grows c epoch b

@@ -73,10 +73,8 @@ seat_of p = seat_by p.front p.nodes p.front.row
 
 -- a node tells the end of its stay in this epoch until that is acknowledged
 abbrev pub telling : BackConn → ℕ → Option ℕ
-telling (back.Here b) e = None
-telling back.Out e = None
 telling back.Ended e = Some e
-telling back.Gone e = None
+telling _ e = None
 
 abbrev pub tells_end : Option BackRow → Option ℕ
 tells_end None = None

@@ -71,12 +71,7 @@ own-ungot (event.Deliver k) own o is = absurd o
 own-ungot (event.Lose k) own o is = subst (Each IsUngot) (sym is) (tt, tt)
 own-ungot (event.Inject c bytes) own o is = subst (Each IsUngot) (sym is) (tt, tt)
 own-ungot (event.Clock ms) own o is = subst (Each IsUngot) (sym is.1) (tt, tt)
-own-ungot (event.Shut c) own o is = subst (Each IsUngot) (sym is) tt
-own-ungot (event.Hold c) own o is = subst (Each IsUngot) (sym is) tt
-own-ungot (event.Take c) own o is = subst (Each IsUngot) (sym is) tt
-own-ungot (event.Timer p c) own o is = subst (Each IsUngot) (sym is) tt
-own-ungot (event.Disk n j) own o is = subst (Each IsUngot) (sym is) tt
-own-ungot (event.Settle rounds) own o is = subst (Each IsUngot) (sym is) tt
+own-ungot _ own o is = subst (Each IsUngot) (sym is) tt
 
 -- ---- what comes
 

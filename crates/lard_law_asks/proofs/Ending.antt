@@ -194,14 +194,7 @@ module _ (m n : Machine) (e : Event) (after : IsAfter m e n) (is : machine_step 
 
       by-body : (msg : Message) → decoded_message l.bytes ≡ Ok msg → (b : Body) → msg.body ≡ b → IsEnded
       by-body msg reads (body.Ask number queue size paths) says = by-ask msg reads number queue size paths says
-      by-body msg reads (body.Offer parts) says = no-ask (on-is (Ok msg) reads ∙ ap (λ b. ask_from i (Ok (record msg { body = b }))) says)
-      by-body msg reads body.Taken says = no-ask (on-is (Ok msg) reads ∙ ap (λ b. ask_from i (Ok (record msg { body = b }))) says)
-      by-body msg reads (body.Forward bytes) says = no-ask (on-is (Ok msg) reads ∙ ap (λ b. ask_from i (Ok (record msg { body = b }))) says)
-      by-body msg reads (body.Tag number nodes) says = no-ask (on-is (Ok msg) reads ∙ ap (λ b. ask_from i (Ok (record msg { body = b }))) says)
-      by-body msg reads (body.Fetch r path) says = no-ask (on-is (Ok msg) reads ∙ ap (λ b. ask_from i (Ok (record msg { body = b }))) says)
-      by-body msg reads (body.Content r bytes) says = no-ask (on-is (Ok msg) reads ∙ ap (λ b. ask_from i (Ok (record msg { body = b }))) says)
-      by-body msg reads (body.Ended reason snd rcv count) says = no-ask (on-is (Ok msg) reads ∙ ap (λ b. ask_from i (Ok (record msg { body = b }))) says)
-      by-body msg reads body.EndedAck says = no-ask (on-is (Ok msg) reads ∙ ap (λ b. ask_from i (Ok (record msg { body = b }))) says)
+      by-body msg reads _ says = no-ask (on-is (Ok msg) reads ∙ ap (λ b. ask_from i (Ok (record msg { body = b }))) says)
 
       by-reading : (r : Result Message MsgFault) → decoded_message l.bytes ≡ r → IsEnded
       by-reading (Err fault) reads = no-ask (on-is (Err fault) reads)

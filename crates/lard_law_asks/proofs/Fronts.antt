@@ -61,15 +61,8 @@ use Rattle.lard_law_ends.proofs.EndpointSends.{AllTo, ready-to}
 -- ---- messages
 
 is-not-tag : (k : Kind) (e : ℕ) → (k ≡ kind.Tag → ⊥) → is_tag (Some (head k e)) ≡ false
-is-not-tag kind.Offer e other = refl
-is-not-tag kind.Taken e other = refl
-is-not-tag kind.Forward e other = refl
-is-not-tag kind.Ask e other = refl
 is-not-tag kind.Tag e other = absurd (other refl)
-is-not-tag kind.Fetch e other = refl
-is-not-tag kind.Content e other = refl
-is-not-tag kind.Ended e other = refl
-is-not-tag kind.EndedAck e other = refl
+is-not-tag _ e other = refl
 
 -- one of another kind is no Tag
 pub not-tagged : (n c e : ℕ) (b : Body) → (kind_of b ≡ kind.Tag → ⊥) → tag_to (rec.Sent 0 Front (Node n) (message c e b)) ≡ None
@@ -200,10 +193,8 @@ module _ (k : Setting) (x : Conn) (told : Told x) (known : IsKnown x) (heads : L
       let w : Service = serving (after_timer b) (rest_of p.rest).count [] in
       ends-answers row (rest_of p.rest) stage.Waiting (λ d o c. tt) (fired env (rest_of p.rest) b) (leaves_by env.serve.c (fired env (rest_of p.rest) b).0) tt
       (spoken-to env.serve w (ready_of env.serve (after_timer b) (timed b)) (ready-to env.serve (after_timer b) (timed b)))
-  fires-at row stage.Lent = drops-answers
   fires-at row (stage.Offering n d) = says-answers (saying (map sent_of p.kept)) refl tt (resent-none p.kept known.kept)
-  fires-at row (stage.Moved n d) = drops-answers
-  fires-at row (stage.Closed last) = drops-answers
+  fires-at row _ = drops-answers
 
   fires-by : (o : Option FrontRow) → Goes (fired_by env p o)
   fires-by None = drops-answers
@@ -223,11 +214,7 @@ module _ (k : Setting) (x : Conn) (told : Told x) (known : IsKnown x) (heads : L
     go : (b : Bool) → Goes (taken_by p epoch (Some row) (cond b (Some n) None))
     go true = turn-answers _ (saying []) tt tt refl there
     go false = drops-answers
-  taken-at epoch row found (stage.Held b) at = drops-answers
-  taken-at epoch row found (stage.Waiting b) at = drops-answers
-  taken-at epoch row found stage.Lent at = drops-answers
-  taken-at epoch row found (stage.Moved n d) at = drops-answers
-  taken-at epoch row found (stage.Closed last) at = drops-answers
+  taken-at epoch row found _ at = drops-answers
 
   taken-by : (epoch : ℕ) (o : Option FrontRow) → p.row ≡ o → Goes (taken_by p epoch o (asked_node epoch o))
   taken-by epoch None found = drops-answers
@@ -264,11 +251,7 @@ module _ (k : Setting) (x : Conn) (told : Told x) (known : IsKnown x) (heads : L
 
     admitted-at : (row : FrontRow) (st : FrontConn) → admitted_at env p choice row st ≡ Some given → Admitted given
     admitted-at row (stage.Waiting b) e = admitted-with row b (rest_of p.rest).target e
-    admitted-at row (stage.Held b) e = let no : None ≡ Some given = e in absurd cc
-    admitted-at row stage.Lent e = let no : None ≡ Some given = e in absurd cc
-    admitted-at row (stage.Offering n d) e = let no : None ≡ Some given = e in absurd cc
-    admitted-at row (stage.Moved n d) e = let no : None ≡ Some given = e in absurd cc
-    admitted-at row (stage.Closed last) e = let no : None ≡ Some given = e in absurd cc
+    admitted-at row _ e = let no : None ≡ Some given = e in absurd cc
 
     admitted-by : (o : Option FrontRow) → admitted_by env p choice o ≡ Some given → Admitted given
     admitted-by None e = let no : None ≡ Some given = e in absurd cc

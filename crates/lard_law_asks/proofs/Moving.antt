@@ -30,12 +30,9 @@ IsTold d (Some rest) = (rest.asks ≡ d.last) × (rest.tag ≡ d.nodes) × (rest
 
 -- so it is while the connection is away
 abbrev pub StageTold : Answered → Option FrontRest → FrontConn → Type 0
-StageTold d rest (stage.Held b) = Unit {0}
-StageTold d rest (stage.Waiting b) = Unit {0}
-StageTold d rest stage.Lent = Unit {0}
 StageTold d rest (stage.Offering n e) = IsTold d rest
 StageTold d rest (stage.Moved n e) = IsTold d rest
-StageTold d rest (stage.Closed last) = Unit {0}
+StageTold d rest _ = Unit {0}
 
 abbrev pub RowTold : Answered → Option FrontRest → Option FrontRow → Type 0
 RowTold d rest None = Unit {0}

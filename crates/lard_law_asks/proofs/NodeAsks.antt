@@ -61,9 +61,7 @@ module _ (c n : ℕ) (last : ℕ → Option (List ℕ)) (env : NodeEnv) (number 
         fresh = λ e less. h.fresh e (let at_row : epoch_in p ≡ row.epoch.0 = ap (λ (o : Option BackRow). epoch_in (record p { row = o })) found in omega (arith, less, same, at_row));
       }
   in-stage row same (back.Here d) at None stays found b s is = let no : ◌≡◌ {A = Option (ControlBlock × Stay)} None (Some (b, s)) = is in absurd cc
-  in-stage row same back.Out at o stays found b s is = let no : ◌≡◌ {A = Option (ControlBlock × Stay)} None (Some (b, s)) = is in absurd cc
-  in-stage row same back.Ended at o stays found b s is = let no : ◌≡◌ {A = Option (ControlBlock × Stay)} None (Some (b, s)) = is in absurd cc
-  in-stage row same back.Gone at o stays found b s is = let no : ◌≡◌ {A = Option (ControlBlock × Stay)} None (Some (b, s)) = is in absurd cc
+  in-stage row same _ at o stays found b s is = let no : ◌≡◌ {A = Option (ControlBlock × Stay)} None (Some (b, s)) = is in absurd cc
 
   here-asks : (b : ControlBlock) (s : Stay) → here env.epoch p ≡ Some (b, s) → HereAsks s
   here-asks b s is = go p.row refl is where

@@ -98,9 +98,7 @@ module _ (m n : Machine) (view : IsViewed m) (placed : (c : ℕ) → IsPlaced (c
   acts-moved (event.Hold c) acts is = let no : Some (Client c) ≡ Some (Node i) = acts [] in absurd cc
   acts-moved (event.Take c) acts is = let no : Some (Client c) ≡ Some (Node i) = acts [] in absurd cc
   acts-moved (event.Inject c bytes) acts is = let no : Some (Client c) ≡ Some (Node i) = acts [] in absurd cc
-  acts-moved (event.Lose k) acts is = let no : None ≡ Some (Node i) = acts [] in absurd cc
-  acts-moved (event.Clock ms) acts is = let no : None ≡ Some (Node i) = acts [] in absurd cc
-  acts-moved (event.Settle rounds) acts is = let no : None ≡ Some (Node i) = acts [] in absurd cc
+  acts-moved _ acts is = let no : None ≡ Some (Node i) = acts [] in absurd cc
 
 -- ---- what a connection sees of the Asks
 

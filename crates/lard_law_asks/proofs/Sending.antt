@@ -54,9 +54,7 @@ no-last last k none e is = absurd (both_ways (is_ask e (head_of k.bytes)) (none 
 abbrev pub StageAsks : ℕ → ℕ → Option (List ℕ) → Option Stay → BackConn → Type 0
 StageAsks c e last None (back.Here b) = Unit {0}
 StageAsks c e last (Some s) (back.Here b) = IsNumbered c e last s.asks
-StageAsks c e last stay back.Out = Unit {0}
-StageAsks c e last stay back.Ended = Unit {0}
-StageAsks c e last stay back.Gone = Unit {0}
+StageAsks c e last stay _ = Unit {0}
 
 abbrev pub RowAsks : ℕ → (ℕ → Option (List ℕ)) → Option Stay → Option BackRow → Type 0
 RowAsks c last stay None = Unit {0}
@@ -109,15 +107,8 @@ pub in-append : (n e : ℕ) (xs ys : List (Place × List ℕ)) → asks_in n e (
 in-append n e xs ys = ap (pick (ask_by n e)) (map-append (sending (Node n)) xs ys) ∙ pick-append (ask_by n e) (map (sending (Node n)) xs) (map (sending (Node n)) ys)
 
 is-no-ask : (k : Kind) (e d : ℕ) → (k ≡ kind.Ask → ⊥) → is_ask e (Some (head k d)) ≡ false
-is-no-ask kind.Offer e d other = refl
-is-no-ask kind.Taken e d other = refl
-is-no-ask kind.Forward e d other = refl
 is-no-ask kind.Ask e d other = absurd (other refl)
-is-no-ask kind.Tag e d other = refl
-is-no-ask kind.Fetch e d other = refl
-is-no-ask kind.Content e d other = refl
-is-no-ask kind.Ended e d other = refl
-is-no-ask kind.EndedAck e d other = refl
+is-no-ask _ e d other = refl
 
 other-kind : (e c d : ℕ) (b : Body) → (kind_of b ≡ kind.Ask → ⊥) → is_ask e (head_of (message c d b)) ≡ false
 other-kind e c d b other = ap (is_ask e) (spelled-some _) ∙ is-no-ask (kind_of b) e (epoch_at (message c d b)) other

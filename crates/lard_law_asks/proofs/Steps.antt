@@ -191,33 +191,15 @@ module _ (m : Machine) (view : IsViewed m) (placed : (c : ℕ) → IsPlaced (con
       front-hears is-from (body.Forward bytes) says = forwarded msg.c msg.epoch.0 number s.cache s.disk bytes
       front-hears is-from (body.Tag tag ns) says = tagged msg.c msg.epoch.0 number s.cache s.disk tag ns
       front-hears is-from body.EndedAck says = acknowledged msg.c msg.epoch.0 number s.cache s.disk
-      front-hears is-from body.Taken says = nothing-told s
-      front-hears is-from (body.Ask n queue size paths) says = nothing-told s
-      front-hears is-from (body.Fetch r path) says = nothing-told s
-      front-hears is-from (body.Content r bytes) says = nothing-told s
-      front-hears is-from (body.Ended reason snd rcv count) says = nothing-told s
+      front-hears is-from _ says = nothing-told s
 
       node-hears : (from : ℕ) (b : Body) → Tells (node_hears (node_setting m i) s (Node from) msg.c msg.epoch.0 b)
       node-hears from (body.Fetch r path) = fetched-told from msg.c msg.epoch.0 r path ((node_setting m i).files path)
       node-hears from (body.Content r bytes) = content msg.c msg.epoch.0 number s.cache s.disk from r
-      node-hears from (body.Offer parts) = nothing-told s
-      node-hears from (body.Forward bytes) = nothing-told s
-      node-hears from (body.Tag tag ns) = nothing-told s
-      node-hears from body.EndedAck = nothing-told s
-      node-hears from body.Taken = nothing-told s
-      node-hears from (body.Ask n queue size paths) = nothing-told s
-      node-hears from (body.Ended reason snd rcv count) = nothing-told s
+      node-hears from _ = nothing-told s
 
       client-hears : (d : ℕ) (b : Body) → Tells (node_hears (node_setting m i) s (Client d) msg.c msg.epoch.0 b)
-      client-hears d (body.Fetch r path) = nothing-told s
-      client-hears d (body.Content r bytes) = nothing-told s
-      client-hears d (body.Offer parts) = nothing-told s
-      client-hears d (body.Forward bytes) = nothing-told s
-      client-hears d (body.Tag tag ns) = nothing-told s
-      client-hears d body.EndedAck = nothing-told s
-      client-hears d body.Taken = nothing-told s
-      client-hears d (body.Ask n queue size paths) = nothing-told s
-      client-hears d (body.Ended reason snd rcv count) = nothing-told s
+      client-hears d _ = nothing-told s
 
     hears-from : (from : Place) → l.from ≡ from → (msg : Message) → decoded_message l.bytes ≡ Ok msg → Tells (node_hears (node_setting m i) s from msg.c msg.epoch.0 msg.body)
     hears-from Front is-from msg reads = front-hears msg reads is-from msg.body refl

@@ -142,9 +142,7 @@ module _ (env : NodeEnv) (was : ℕ) where
       let with_over : (s : Service) → IsAsking (serves_with s e rest w) = λ s. on-batch w s (left_by s.over e rest) w.asked (λ some. served-named e rest way s.over at (subst HasNamed is some)) h in
       cond_both (nat_lt env.serve.stream (w.service.block.send.total + length bytes)) (passed_over env.serve (w.service.block.send.total + length bytes) w.service) (queued env.serve way e.verdict bytes w.service)
       (λ (s : Service). IsAsking (serves_with s e rest w)) (λ t. with_over (passed_over env.serve (w.service.block.send.total + length bytes) w.service)) (λ t. with_over (queued env.serve way e.verdict bytes w.service))
-  serves-so w e rest progress.Named is at h = h
-  serves-so w e rest progress.Reading is at h = h
-  serves-so w e rest (progress.Awaited node) is at h = h
+  serves-so w e rest _ is at h = h
 
   first-so : (w : Work) (es : List Entry) → w.batch ≡ es → IsAsking w → IsAsking (serves_first env w es)
   first-so w [] is h = h

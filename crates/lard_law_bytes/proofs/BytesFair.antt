@@ -54,24 +54,11 @@ module _ (k l : Talk) (c : ℕ) (p q : Part) (on : GoesOnFairly k l p q) where
   front-on : (n e : ℕ) (bytes : List ℕ) (b : Body) → FrontSaid p n e (kind_of b) → FrontTells k c p n e bytes b → FrontTells l c q n e bytes b
   front-on n e bytes (body.Offer parts) said told = offer-on n e bytes said told
   front-on n e bytes (body.Forward segment) said told = (told.0, told.1, word-later k.w l.w told.0 on.talk.w told.2)
-  front-on n e bytes body.Taken said told = tt
-  front-on n e bytes (body.Ask number queue size paths) said told = tt
-  front-on n e bytes (body.Tag number nodes) said told = tt
-  front-on n e bytes (body.Fetch r path) said told = tt
-  front-on n e bytes (body.Content r file) said told = tt
-  front-on n e bytes (body.Ended reason snd rcv count) said told = tt
-  front-on n e bytes body.EndedAck said told = tt
+  front-on n e bytes _ said told = tt
 
   node-on : (n e : ℕ) (bytes : List ℕ) (b : Body) → NodeSaid (p.nodes n).row e (kind_of b) → NodeTells p n e bytes b → NodeTells q n e bytes b
   node-on n e bytes (body.Ended reason snd rcv count) said told = end-on n e bytes said told
-  node-on n e bytes (body.Offer parts) said told = tt
-  node-on n e bytes (body.Forward segment) said told = tt
-  node-on n e bytes body.Taken said told = tt
-  node-on n e bytes (body.Ask number queue size paths) said told = tt
-  node-on n e bytes (body.Tag number nodes) said told = tt
-  node-on n e bytes (body.Fetch r path) said told = tt
-  node-on n e bytes (body.Content r file) said told = tt
-  node-on n e bytes body.EndedAck said told = tt
+  node-on n e bytes _ said told = tt
 
   fair-on : (from to : Place) (bytes : List ℕ) → MaySay p from to (head_of bytes) → IsFairOn k c p from to bytes → IsFairOn l c q from to bytes
   fair-on (Client d) Front bytes may f = (f.0, f.1, word-later k.w l.w f.0 on.talk.w f.2)

@@ -122,10 +122,7 @@ module _ (k : Setting) (small : k.stream ≤ 2 ^ 30) (x : Conn) (s : Station) (t
       → StageAgrees l.w l.out l.vs pend l.was_reset x.c (with_front x.part (record p { rest = rest })) e d
   away-seat rest n epoch e (stage.Offering i f) w h = h
   away-seat rest n epoch e (stage.Moved i f) w h = h
-  away-seat rest n epoch e (stage.Held b) w h = let no : false ≡ true = w in absurd cc
-  away-seat rest n epoch e (stage.Waiting b) w h = let no : false ≡ true = w in absurd cc
-  away-seat rest n epoch e stage.Lent w h = let no : false ≡ true = w in absurd cc
-  away-seat rest n epoch e (stage.Closed last) w h = let no : false ≡ true = w in absurd cc
+  away-seat rest n epoch e _ w h = let no : false ≡ true = w in absurd cc
 
   row-seat : (rest : Option FrontRest) (n epoch : ℕ) (row : Option FrontRow) → is_at n epoch row ≡ true → SeatAgrees l.w l.out l.vs pend l.was_reset x.c x.part row
       → SeatAgrees l.w l.out l.vs pend l.was_reset x.c (with_front x.part (record p { rest = rest })) row
@@ -215,10 +212,7 @@ module _ (k : Setting) (small : k.stream ≤ 2 ^ 30) (x : Conn) (s : Station) (t
         let seat : IsDecided row.epoch.0 (x.part.nodes n).row × NodeAgrees l.w l.out l.vs pend l.was_reset x.c (x.part.nodes n) =
         subst (StageAgrees l.w l.out l.vs pend l.was_reset x.c x.part row.epoch.0) at (subst (SeatAgrees l.w l.out l.vs pend l.was_reset x.c x.part) found o.seat) in
         end-at row n found same sits.2 sits.3 over seat.1
-    end-stage row (stage.Held b) found at away over help = let no : false ≡ true = away in absurd cc
-    end-stage row (stage.Waiting b) found at away over help = let no : false ≡ true = away in absurd cc
-    end-stage row stage.Lent found at away over help = let no : false ≡ true = away in absurd cc
-    end-stage row (stage.Closed f) found at away over help = let no : false ≡ true = away in absurd cc
+    end-stage row _ found at away over help = let no : false ≡ true = away in absurd cc
 
     end-row : (over : IsOver epoch here.row) (row : Option FrontRow) → p.row ≡ row → Goes (ended_by env p m epoch last row (end_answer epoch row))
     end-row over None found = drops-goes k small x s there l pend o heads (quiet Drops)
@@ -231,9 +225,7 @@ module _ (k : Setting) (small : k.stream ≤ 2 ^ 30) (x : Conn) (s : Station) (t
 -- ---- two rules
 
 packet-quiet : (x : Conn) (n : ℕ) (bytes : List ℕ) (d : Deed) → bytes_of (tale_before x (front_does x (packet_seen (Node n) Front bytes) d)) ≡ bytes_of (tale_at x)
-packet-quiet x n bytes Drops = refl
-packet-quiet x n bytes (Says turn) = refl
-packet-quiet x n bytes (Does did) = refl
+packet-quiet x n bytes _ = refl
 
 module _ (k : Setting) (small : k.stream ≤ 2 ^ 30) where
   pub asked-stays : (x : Conn) (env : FrontEnv) (n epoch number queue size : ℕ) (paths : List (List ℕ)) (bytes : List ℕ) → IsFrontEnv k x.c env → Spells x.c epoch (body.Ask number queue size paths) bytes → Was x (Node n) Front bytes

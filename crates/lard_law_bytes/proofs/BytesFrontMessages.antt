@@ -82,11 +82,7 @@ module _ (k : Setting) (small : k.stream ≤ 2 ^ 30) (x : Conn) (s : Station) (t
       go : (b : Bool) → (d.0 == epoch) ≡ b → Goes (taken_by p epoch (Some row) (cond b (Some n) None))
       go true e = taken-moves row n d epoch m found at (eqb-true d.0 epoch e) decided
       go false e = drops-goes k small x s there l pend o heads (quiet Drops)
-    taken-at row epoch m found decided (stage.Held b) at = drops-goes k small x s there l pend o heads (quiet Drops)
-    taken-at row epoch m found decided (stage.Waiting b) at = drops-goes k small x s there l pend o heads (quiet Drops)
-    taken-at row epoch m found decided stage.Lent at = drops-goes k small x s there l pend o heads (quiet Drops)
-    taken-at row epoch m found decided (stage.Moved n d) at = drops-goes k small x s there l pend o heads (quiet Drops)
-    taken-at row epoch m found decided (stage.Closed last) at = drops-goes k small x s there l pend o heads (quiet Drops)
+    taken-at row epoch m found decided _ at = drops-goes k small x s there l pend o heads (quiet Drops)
 
     taken-row : (epoch m : ℕ) → IsDecided epoch (x.part.nodes m).row → (row : Option FrontRow) → p.row ≡ row → Goes (taken_by p epoch row (elim row [ None ↦ None | Some r ↦ offered_to epoch r.stage ]))
     taken-row epoch m decided None found = drops-goes k small x s there l pend o heads (quiet Drops)
@@ -156,11 +152,7 @@ module _ (k : Setting) (small : k.stream ≤ 2 ^ 30) where
     by-stage row found (stage.Waiting b) at e =
         let opened = opened-at k.files x h (λ u. let no : Some row ≡ None = sym found ∙ u.front in absurd cc) in
         admits-row x env choice given opened.0 opened.1 is admitted h.talk h.pend (open-at k.files x opened.0 opened.1 h) row b found at help
-    by-stage row found (stage.Held b) at e = let no : None ≡ Some given = e in absurd cc
-    by-stage row found stage.Lent at e = let no : None ≡ Some given = e in absurd cc
-    by-stage row found (stage.Offering n d) at e = let no : None ≡ Some given = e in absurd cc
-    by-stage row found (stage.Moved n d) at e = let no : None ≡ Some given = e in absurd cc
-    by-stage row found (stage.Closed last) at e = let no : None ≡ Some given = e in absurd cc
+    by-stage row found _ at e = let no : None ≡ Some given = e in absurd cc
 
     by-row : (o : Option FrontRow) → x.part.front.row ≡ o → admitted_by env x.part.front choice o ≡ Some given → Admits
     by-row None found e = let no : None ≡ Some given = e in absurd cc

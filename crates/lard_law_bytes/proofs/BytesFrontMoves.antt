@@ -56,13 +56,7 @@ use Rattle.lard_law_ends.proofs.Speaking.{speaks-stream}
 tells-kind : (k : Talk) (c : ℕ) (p : Part) (n e : ℕ) (bytes : List ℕ) (b : Body) → SaysOfKind p.front bytes (kind_of b) → FrontTells k c p n e bytes b
 tells-kind k c p n e bytes (body.Offer parts) h = inr h
 tells-kind k c p n e bytes (body.Forward segment) h = absurd h
-tells-kind k c p n e bytes body.Taken h = tt
-tells-kind k c p n e bytes (body.Ask number queue size paths) h = tt
-tells-kind k c p n e bytes (body.Tag number nodes) h = tt
-tells-kind k c p n e bytes (body.Fetch r path) h = tt
-tells-kind k c p n e bytes (body.Content r file) h = tt
-tells-kind k c p n e bytes (body.Ended reason snd rcv count) h = tt
-tells-kind k c p n e bytes body.EndedAck h = tt
+tells-kind k c p n e bytes _ h = tt
 
 says-fair : (k : Talk) (c : ℕ) (p : Part) (s : Place × List ℕ) → FrontSays c p.front s → IsFair k c p (letter Front s)
 says-fair k c p s h =
@@ -92,12 +86,9 @@ forward-fair k c p n e bytes s is word m d = go m.body refl (kinds-same (record 
 
 -- the front end has it, or it ended, or nobody has it yet
 abbrev pub IsOurs : FrontConn → Type 0
-IsOurs (stage.Held b) = Unit {0}
-IsOurs (stage.Waiting b) = Unit {0}
-IsOurs stage.Lent = Unit {0}
 IsOurs (stage.Offering n d) = ⊥
 IsOurs (stage.Moved n d) = ⊥
-IsOurs (stage.Closed last) = Unit {0}
+IsOurs _ = Unit {0}
 
 abbrev pub RowIsOurs : Option FrontRow → Type 0
 RowIsOurs None = Unit {0}
@@ -139,12 +130,9 @@ module _ (w out : Stream) (vs pend : List Verdict) (r : Bool) (c : ℕ) (p : Par
 
   -- and back, where no node has it
   front-stage : (e : ℕ) (d : FrontConn) (own : Owning) → StageSits e own p.nodes d → ArePast 1 p.nodes → FrontStageAgrees w out vs r c e p.front d → StageAgrees w out vs [] r c p e d
-  front-stage e (stage.Held b) own sits past h = h
-  front-stage e (stage.Waiting b) own sits past h = h
-  front-stage e stage.Lent own sits past h = h
   front-stage e (stage.Offering n d) own sits past h = inl (past-later 1 e (p.nodes n).row (omega (arith, sits.0)) (past n), h)
   front-stage e (stage.Moved n d) own sits past h = absurd h
-  front-stage e (stage.Closed last) own sits past h = h
+  front-stage e _ own sits past h = h
 
   pub front-seat : (o : Option FrontRow) (own : Owning) → Sits own p.nodes o → ArePast 1 p.nodes → FrontRowAgrees w out vs r c p.front o → SeatAgrees w out vs [] r c p o
   front-seat None own sits past h = (h.0, refl, h.1)
@@ -324,11 +312,9 @@ module _ (k : Setting) (small : k.stream ≤ 2 ^ 30) (x : Conn) (s : Station) (t
     fires-stage : (row : FrontRow) (d : FrontConn) → q.row ≡ Some row → row.stage ≡ d → Fires (fires_at env q row d)
     fires-stage row (stage.Held b) found at help = fires-home row (stage.Held b) found at tt tt tt help
     fires-stage row (stage.Waiting b) found at help = fires-home row (stage.Waiting b) found at tt tt tt help
-    fires-stage row stage.Lent found at help = drops-goes k small x s there l pend o heads (quiet Drops) help
     fires-stage row (stage.Offering n d) found at help =
         says-goes k small x s there l pend o heads (saying (map sent_of q.kept)) (quiet (Says (saying (map sent_of q.kept)))) refl tt (again-fair q.kept help.sound.front) help
-    fires-stage row (stage.Moved n d) found at help = drops-goes k small x s there l pend o heads (quiet Drops) help
-    fires-stage row (stage.Closed last) found at help = drops-goes k small x s there l pend o heads (quiet Drops) help
+    fires-stage row _ found at help = drops-goes k small x s there l pend o heads (quiet Drops) help
 
     fires-row : (row : Option FrontRow) → q.row ≡ row → Fires (fired_by env q row)
     fires-row None found help = drops-goes k small x s there l pend o heads (quiet Drops) help

@@ -230,10 +230,8 @@ module _ (env : FrontEnv) (w out : Stream) (vs : List Verdict) (was_reset : Bool
         waits-turn p row rest (fired env rest b) (fired-ends env.serve w out vs talk.says [] b rest.count h.0.holds was_reset)
         (spoken-serves env.serve v (ready_of env.serve (after_timer b) (timed b)) (timer-serves rest.count b h.0.serves))
         (spoken-idle env.serve v (ready_of env.serve (after_timer b) (timed b)) (timer-idle b (idle-of b h.1 h.0.serves.sent)))
-    fires-keep row stage.Lent h = tt
     fires-keep row (stage.Offering node epoch) h = (refl, tt)
-    fires-keep row (stage.Moved node epoch) h = tt
-    fires-keep row (stage.Closed last) h = tt
+    fires-keep row _ h = tt
 
     timer-keep : (o : Option FrontRow) → FrontRowAgrees w out vs was_reset env.serve.c p o → Keeps (fired_by env p o)
     timer-keep None h = tt
@@ -263,11 +261,7 @@ module _ (env : FrontEnv) (w out : Stream) (vs : List Verdict) (was_reset : Bool
 
     admits-keep : (choice : FirstChoice) (row : FrontRow) (at : FrontConn) → FrontStageAgrees w out vs was_reset env.serve.c row.epoch.0 p at → AdmittedKeeps env.serve.files env.serve.c w out vs was_reset (admitted_at env p choice row at)
     admits-keep choice row (stage.Waiting b) h = with-keep row b choice h (rest_of p.rest).target
-    admits-keep choice row (stage.Held b) h = tt
-    admits-keep choice row stage.Lent h = tt
-    admits-keep choice row (stage.Offering node epoch) h = tt
-    admits-keep choice row (stage.Moved node epoch) h = tt
-    admits-keep choice row (stage.Closed last) h = tt
+    admits-keep choice row _ h = tt
 
     head-keeps : (choice : FirstChoice) (o : Option FrontRow) → FrontRowAgrees w out vs was_reset env.serve.c p o → AdmittedKeeps env.serve.files env.serve.c w out vs was_reset (admitted_by env p choice o)
     head-keeps choice None h = tt

@@ -52,14 +52,7 @@ use Rattle.lard_law_ends.proofs.Growth.{goes_on-same}
 
 ends-kind : (p : Part) (n e : ℕ) (bytes : List ℕ) (b : Body) → EndsOfKind (p.nodes n) bytes (kind_of b) → NodeTells p n e bytes b
 ends-kind p n e bytes (body.Ended reason snd rcv count) h = inr h
-ends-kind p n e bytes (body.Offer parts) h = tt
-ends-kind p n e bytes (body.Forward segment) h = tt
-ends-kind p n e bytes body.Taken h = tt
-ends-kind p n e bytes (body.Ask number queue size paths) h = tt
-ends-kind p n e bytes (body.Tag number nodes) h = tt
-ends-kind p n e bytes (body.Fetch r path) h = tt
-ends-kind p n e bytes (body.Content r file) h = tt
-ends-kind p n e bytes body.EndedAck h = tt
+ends-kind p n e bytes _ h = tt
 
 node-fair : (k : Talk) (c n : ℕ) (p : Part) (s : Place × List ℕ) → NodeSays c (p.nodes n) s → IsFair k c p (letter (Node n) s)
 node-fair k c n p s h = ⊎_elim
@@ -89,10 +82,7 @@ module _ (x : Conn) (n : ℕ) (q : NodePart) where
   stage-with : (w out : Stream) (vs pend : List Verdict) (r : Bool) (e : ℕ) (d : FrontConn) → IsAt n d → IsDecided e q.row → NodeAgrees w out vs pend r x.c q → StageAgrees w out vs pend r x.c (with_node x.part n q) e d
   stage-with w out vs pend r e (stage.Offering m d) at decided h = inr (subst (λ (p : NodePart). IsDecided e p.row × NodeAgrees w out vs pend r x.c p) (sym (put-at m at)) (decided, h))
   stage-with w out vs pend r e (stage.Moved m d) at decided h = subst (λ (p : NodePart). IsDecided e p.row × NodeAgrees w out vs pend r x.c p) (sym (put-at m at)) (decided, h)
-  stage-with w out vs pend r e (stage.Held b) at decided h = absurd at
-  stage-with w out vs pend r e (stage.Waiting b) at decided h = absurd at
-  stage-with w out vs pend r e stage.Lent at decided h = absurd at
-  stage-with w out vs pend r e (stage.Closed last) at decided h = absurd at
+  stage-with w out vs pend r e _ at decided h = absurd at
 
   pub seat-with : (w out : Stream) (vs pend : List Verdict) (r : Bool) (row : FrontRow) → x.part.front.row ≡ Some row → IsAt n row.stage → IsDecided row.epoch.0 q.row → NodeAgrees w out vs pend r x.c q
       → SeatAgrees w out vs pend r x.c (with_node x.part n q) x.part.front.row
@@ -165,10 +155,8 @@ module _ (x : Conn) (l : Talk) (pend : List Verdict) (seat : SeatAgrees l.w l.ou
           decided = decided-here row.epoch.0 (sym same);
           agrees = subst (λ (i : ℕ). NodeAgrees l.w l.out l.vs pend l.was_reset x.c (x.part.nodes i)) mine h.1;
         }
-    at-stage row found (stage.Held c) at sits h = absurd (not-past row.epoch.0 (sits.1.1 n))
-    at-stage row found (stage.Waiting c) at sits h = absurd (not-past row.epoch.0 (sits.1.1 n))
     at-stage row found stage.Lent at sits h = absurd sits
-    at-stage row found (stage.Closed last) at sits h = absurd (not-past row.epoch.0 (sits.1.1 n))
+    at-stage row found _ at sits h = absurd (not-past row.epoch.0 (sits.1.1 n))
 
     at-row : (o : Option FrontRow) → x.part.front.row ≡ o → Sits own x.part.nodes o → SeatAgrees l.w l.out l.vs pend l.was_reset x.c x.part o → HasIt back_row.epoch.0
     at-row None found sits h = absurd (not-past 0 (sits.1 n))

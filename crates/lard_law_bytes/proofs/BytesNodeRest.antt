@@ -84,14 +84,11 @@ module _ (k : Setting) (small : k.stream ≤ 2 ^ 30) (x : Conn) (s : Station) (t
       go false same = h
 
     stage-put : (e : ℕ) → row.epoch.0 < e → (d : FrontConn) → StageAgrees l.w l.out l.vs pend l.was_reset x.c x.part e d → StageAgrees l.w l.out l.vs pend l.was_reset x.c (with_node x.part n q) e d
-    stage-put e less (stage.Held b) h = h
-    stage-put e less (stage.Waiting b) h = h
-    stage-put e less stage.Lent h = h
     stage-put e less (stage.Offering m d) h = ⊎_elim
         (λ (a : IsPast e (x.part.nodes m).row × IsOffering l.w l.out l.vs pend x.c m e x.part.front.kept). inl (past-put m e less a.0, a.1))
         (λ (a : IsDecided e (x.part.nodes m).row × NodeAgrees l.w l.out l.vs pend l.was_reset x.c (x.part.nodes m)). inr (has-put m e less a)) h
     stage-put e less (stage.Moved m d) h = has-put m e less h
-    stage-put e less (stage.Closed last) h = h
+    stage-put e less _ h = h
 
     row-put : (r : Option FrontRow) → HasEnded row.epoch.0 r → SeatAgrees l.w l.out l.vs pend l.was_reset x.c x.part r → SeatAgrees l.w l.out l.vs pend l.was_reset x.c (with_node x.part n q) r
     row-put None less h = absurd less
@@ -194,14 +191,10 @@ pub front-opens : (x : Conn) (n : ℕ) (bytes : List ℕ) → Was x Front (Node 
 front-opens x n bytes was u = (has-fair IsInner (record { from = Front; to = Node n; bytes = bytes }) x.letters was u.inner).0
 
 node-quiet : (x : Conn) (from : Place) (n : ℕ) (bytes : List ℕ) (d : Deed) → bytes_of (tale_before x (node_does x n (packet_seen from (Node n) bytes) d)) ≡ bytes_of (tale_at x)
-node-quiet x from n bytes Drops = refl
-node-quiet x from n bytes (Says messages) = refl
-node-quiet x from n bytes (Does given) = refl
+node-quiet x from n bytes _ = refl
 
 event-quiet : (x : Conn) (n : ℕ) (d : Deed) → bytes_of (tale_before x (node_does x n (event_seen (event.Timer (Node n) x.c)) d)) ≡ bytes_of (tale_at x)
-event-quiet x n Drops = refl
-event-quiet x n (Says messages) = refl
-event-quiet x n (Does given) = refl
+event-quiet x n _ = refl
 
 module _ (k : Setting) (small : k.stream ≤ 2 ^ 30) where
   -- by whether its client opened

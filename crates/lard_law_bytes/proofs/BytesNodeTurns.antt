@@ -105,9 +105,7 @@ module _ (k : Setting) (small : k.stream ≤ 2 ^ 30) (x : Conn) (s : Station) (t
   -- where its endpoint is here
   row-has : (row : BackRow) → p.row ≡ Some row → (d : BackConn) → row.stage ≡ d → (b : ControlBlock) → held_in d ≡ Some b → It row.epoch.0
   row-has row found (back.Here c) at b e = λ placed. (has-it x l pend o.seat placed n row c found at, known x l pend o.seat placed n row c found at)
-  row-has row found back.Out at b e = let no : None ≡ Some b = e in absurd cc
-  row-has row found back.Ended at b e = let no : None ≡ Some b = e in absurd cc
-  row-has row found back.Gone at b e = let no : None ≡ Some b = e in absurd cc
+  row-has row found _ at b e = let no : None ≡ Some b = e in absurd cc
 
   stage-or : (row : BackRow) → p.row ≡ Some row → (h : Option ControlBlock) → held_in row.stage ≡ h → row.epoch.0 ≡ env.epoch → (both_of h p.stay ≡ None) ⊎ It env.epoch
   stage-or row found None e same = inl refl
@@ -214,11 +212,7 @@ module _ (k : Setting) (small : k.stream ≤ 2 ^ 30) (x : Conn) (s : Station) (t
 
     offer-stage : (row : FrontRow) → x.part.front.row ≡ Some row → (d : FrontConn) → row.stage ≡ d → Offers n epoch d → (IsDecided epoch p.row → ⊥) → ((f : ℕ) → IsOver f p.row → f < env.epoch) → Goes heads (node_offered env p parts)
     offer-stage row found (stage.Offering m d) at f not less = offer-at row m d found at f.0 f.1 not less
-    offer-stage row found (stage.Held b) at f not less = absurd f
-    offer-stage row found (stage.Waiting b) at f not less = absurd f
-    offer-stage row found stage.Lent at f not less = absurd f
-    offer-stage row found (stage.Moved m d) at f not less = absurd f
-    offer-stage row found (stage.Closed last) at f not less = absurd f
+    offer-stage row found _ at f not less = absurd f
 
     offer-row : (row : Option FrontRow) → x.part.front.row ≡ row → IsOffered n epoch row → (IsDecided epoch p.row → ⊥) → ((f : ℕ) → IsOver f p.row → f < env.epoch) → Goes heads (node_offered env p parts)
     offer-row None found f not less = absurd f

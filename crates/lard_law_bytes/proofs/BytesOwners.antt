@@ -139,9 +139,7 @@ module _ (x : Conn) (heads : List Seen) (quiet : Each IsHead heads) where
   owner_now = (tale_at x).owner
 
   front-known : (d : front.Deed) → OwnerServes x.c owner_now (notes_of d) → Known x (front_does x heads d)
-  front-known front.Drops h = record { heads = quiet; serves = h }
-  front-known (front.Says turn) h = record { heads = quiet; serves = h }
-  front-known (front.Does did) h = record { heads = quiet; serves = h }
+  front-known _ h = record { heads = quiet; serves = h }
 
   front-noted : (d : front.Deed) → IsItsOwn x (front_does x heads d) → Each (NotedAt Front x.c) (notes_of d)
   front-noted front.Drops own = tt
@@ -209,12 +207,7 @@ module _ (x : Conn) (heads : List Seen) (quiet : Each IsHead heads) where
 
     -- its timers, and what nodes say, serve nothing
     fires-none : (row : FrontRow) (d : FrontConn) → notes_of (fires_at env p row d) ≡ []
-    fires-none row (stage.Held b) = refl
-    fires-none row (stage.Waiting b) = refl
-    fires-none row stage.Lent = refl
-    fires-none row (stage.Offering n e) = refl
-    fires-none row (stage.Moved n e) = refl
-    fires-none row (stage.Closed last) = refl
+    fires-none row _ = refl
 
     timer-none : (row : Option FrontRow) → notes_of (fired_by env p row) ≡ []
     timer-none None = refl
@@ -267,11 +260,7 @@ module _ (env : FrontEnv) (p : FrontPart) where
 
   at-silent : (choice : FirstChoice) (row : FrontRow) (d : FrontConn) → GivenSilent (admitted_at env p choice row d)
   at-silent choice row (stage.Waiting b) = with-silent row (rest_of p.rest) b choice (rest_of p.rest).target
-  at-silent choice row (stage.Held b) = tt
-  at-silent choice row stage.Lent = tt
-  at-silent choice row (stage.Offering n e) = tt
-  at-silent choice row (stage.Moved n e) = tt
-  at-silent choice row (stage.Closed last) = tt
+  at-silent choice row _ = tt
 
   admitted-silent : (choice : FirstChoice) (o : Option FrontRow) → GivenSilent (admitted_by env p choice o)
   admitted-silent choice None = tt
@@ -292,9 +281,7 @@ module _ (k : Setting) (x : Conn) (heads : List Seen) (quiet : Each IsHead heads
   ours = x.part.nodes n
 
   node-known : (d : node.Deed) → OwnerServes x.c now (notes_at d) → Known x (node_does x n heads d)
-  node-known node.Drops h = record { heads = quiet; serves = h }
-  node-known (node.Says messages) h = record { heads = quiet; serves = h }
-  node-known (node.Does given) h = record { heads = quiet; serves = h }
+  node-known _ h = record { heads = quiet; serves = h }
 
   node-noted : (d : node.Deed) → IsItsOwn x (node_does x n heads d) → Each (NotedAt (Node n) x.c) (notes_at d)
   node-noted node.Drops own = tt

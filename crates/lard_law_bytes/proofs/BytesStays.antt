@@ -150,9 +150,7 @@ module _ (env : NodeEnv) (w out : Stream) (vs : List Verdict) (was_reset : Bool)
 
     of-stage : (p : NodePart) (c e : ℕ) (d : BackConn) → BackAgrees w out vs pend was_reset c e p d → StayComesOn env.serve.files p.stay → P (both_of (held_in d) p.stay)
     of-stage p c e (back.Here b) h ways = of-stay b p.stay h ways
-    of-stage p c e back.Out h ways = none
-    of-stage p c e back.Ended h ways = none
-    of-stage p c e back.Gone h ways = none
+    of-stage p c e _ h ways = none
 
     pub at-endpoint : (p : NodePart) (c : ℕ) (o : Option BackRow) → RowAgrees w out vs pend was_reset c p o → StayComesOn env.serve.files p.stay → P (both_of (endpoint_of o) p.stay)
     at-endpoint p c None h ways = absurd h

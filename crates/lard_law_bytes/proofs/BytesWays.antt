@@ -42,15 +42,11 @@ module _ (files : FilesAt) where
 
   pub read_progress-on : (v : Verdict) (p : Progress) → ComesOn files v p → ComesOn files v (read_progress p)
   read_progress-on v progress.Reading h = way-of files v via.Disk h (λ e. cc)
-  read_progress-on v progress.Named h = h
-  read_progress-on v (progress.Awaited node) h = h
-  read_progress-on v (progress.Ready way) h = h
+  read_progress-on v _ h = h
 
   pub come_progress-on : (from : ℕ) (v : Verdict) (p : Progress) → ComesOn files v p → ComesOn files v (come_progress from p)
   come_progress-on from v (progress.Awaited node) h = cond_both (node == from) (progress.Ready (via.Node from)) (progress.Awaited node) (ComesOn files v) (λ t. way-of files v (via.Node from) h (λ e. cc)) (λ t. h)
-  come_progress-on from v progress.Named h = h
-  come_progress-on from v progress.Reading h = h
-  come_progress-on from v (progress.Ready way) h = h
+  come_progress-on from v _ h = h
 
   abbrev pub KeepsWay : (Progress → Progress) → Type 0
   KeepsWay f = (v : Verdict) (p : Progress) → ComesOn files v p → ComesOn files v (f p)
@@ -134,9 +130,7 @@ module _ (env : NodeEnv) where
 
   serves-right : (w : Work) (e : Entry) (rest : List Entry) → w.batch ≡ e ∷ rest → So w → (p : Progress) → So (serves_by env e rest w p)
   serves-right w e rest is h (progress.Ready way) = left-right (answered env.serve way e.verdict w.service).over e rest (subst (AreOnTheWay files) is h)
-  serves-right w e rest is h progress.Named = h
-  serves-right w e rest is h progress.Reading = h
-  serves-right w e rest is h (progress.Awaited node) = h
+  serves-right w e rest is h _ = h
 
   order-right : (w : Work) → So w → (es : List Entry) → w.batch ≡ es → So (serves_first env w es)
   order-right w h [] is = h
@@ -161,9 +155,7 @@ module _ (env : NodeEnv) where
   -- what an Ask names is for a file
   named-good : (e : Entry) (p : Progress) (path : List ℕ) → path_in files e p ≡ Some path → good_path files e.verdict ≢ None
   named-good e progress.Named path is = some-good (good_path files e.verdict) path is
-  named-good e progress.Reading path is = let no : None ≡ Some path = is in absurd cc
-  named-good e (progress.Awaited node) path is = let no : None ≡ Some path = is in absurd cc
-  named-good e (progress.Ready way) path is = let no : None ≡ Some path = is in absurd cc
+  named-good e _ path is = let no : None ≡ Some path = is in absurd cc
 
   named-right : (node r : ℕ) (e : Entry) (w : Work) (o : Option (List ℕ)) → named_path files e ≡ o → ComesOn files e.verdict e.progress → So w → So (starts_named env node r e w o).1
   named-right node r e w None is on h = entered-right e w h on

@@ -218,9 +218,7 @@ module _ (env : NodeEnv) (w out : Stream) (vs : List Verdict) where
             → So env.serve w out vs (answered env.serve way e.verdict k.service) (verdicts_of (left_by o e rest))
         left-so None g = g
         left-so (Some total) g = g
-  serves-so most k e rest is may h progress.Named on = h
-  serves-so most k e rest is may h progress.Reading on = h
-  serves-so most k e rest is may h (progress.Awaited node) on = h
+  serves-so most k e rest is may h _ on = h
 
   -- and each request of the batch is answered as it may be
   abbrev pub Right : Work → Type 0

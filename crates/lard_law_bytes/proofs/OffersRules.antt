@@ -163,10 +163,8 @@ module _ (k : Setting) (small : k.stream ≤ 2 ^ 30) (x : Conn) (number : IsNumb
     fires-stage : AreSent x Front p.kept → (row : FrontRow) (d : FrontConn) → p.row ≡ Some row → row.stage ≡ d → Speaks (fires_at env p row d)
     fires-stage sent row (stage.Held b) found at = mute-speaks (fires_at env p row (stage.Held b)) refl (fires-home row (stage.Held b) found at tt)
     fires-stage sent row (stage.Waiting b) found at = mute-speaks (fires_at env p row (stage.Waiting b)) refl (fires-home row (stage.Waiting b) found at tt)
-    fires-stage sent row stage.Lent found at = (tt, tt)
     fires-stage sent row (stage.Offering n d) found at = (tt, again-goes _ p.kept sent)
-    fires-stage sent row (stage.Moved n d) found at = (tt, tt)
-    fires-stage sent row (stage.Closed last) found at = (tt, tt)
+    fires-stage sent row _ found at = (tt, tt)
 
     fires-row : AreSent x Front p.kept → (row : Option FrontRow) → p.row ≡ row → Speaks (fired_by env p row)
     fires-row sent None found = (tt, tt)
@@ -284,11 +282,7 @@ module _ (k : Setting) (small : k.stream ≤ 2 ^ 30) where
         let o = open-at k.files x s opened.1 h in
         let talk = talk-of k small x (same x s env is) (same-is x s env is) s h.talk h.pend o refl in
         admits-waiting k small x number s opened.1 h.talk h.pend o (same x s env is) (same-is x s env is) talk choice given whole row b found at e
-    admits-stage row found (stage.Held b) at whole e = let no : None ≡ Some given = e in absurd cc
-    admits-stage row found stage.Lent at whole e = let no : None ≡ Some given = e in absurd cc
-    admits-stage row found (stage.Offering n d) at whole e = let no : None ≡ Some given = e in absurd cc
-    admits-stage row found (stage.Moved n d) at whole e = let no : None ≡ Some given = e in absurd cc
-    admits-stage row found (stage.Closed last) at whole e = let no : None ≡ Some given = e in absurd cc
+    admits-stage row found _ at whole e = let no : None ≡ Some given = e in absurd cc
 
     admits-row : (row : Option FrontRow) → x.part.front.row ≡ row → front_admitted env x.part.front choice ≡ Some given → admitted_by env x.part.front choice row ≡ Some given → SaysTruth k.files x (front_admits x given)
     admits-row None found whole e = let no : None ≡ Some given = e in absurd cc

@@ -62,14 +62,7 @@ replies-to c w out r (s ∷ ss) h = (subst IsToClient (sym h.0) tt, replies-to c
 
 pub no-offer : (files : FilesAt) (J : List Rec) (c : ℕ) (b : Body) → kind_of b ≢ kind.Offer → BodyCarries files J c b
 no-offer files J c (body.Offer parts) n = absurd (n refl)
-no-offer files J c body.Taken n = tt
-no-offer files J c (body.Forward bytes) n = tt
-no-offer files J c (body.Ask number queue size paths) n = tt
-no-offer files J c (body.Tag number nodes) n = tt
-no-offer files J c (body.Fetch r path) n = tt
-no-offer files J c (body.Content r file) n = tt
-no-offer files J c (body.Ended reason snd rcv count) n = tt
-no-offer files J c body.EndedAck n = tt
+no-offer files J c _ n = tt
 
 pub other-goes : (files : FilesAt) (x : Conn) (b : Bytes) (n c e : ℕ) (y : Body) → kind_of y ≢ kind.Offer → MayGo files x b (Node n) (message c e y)
 other-goes files x b n c e y other = inr (λ J is m d. no-offer files J x.c m.body (λ k. other (kinds-same (record { c = c; epoch = record { 0 = e }; body = y }) m d ∙ k)))

@@ -116,9 +116,7 @@ StayAgrees w out vs pend b (Some s) = (pend ≡ map (λ e. e.verdict) s.batch) �
 -- A request that is ready is answered as it may be; one that awaits its content, or its node, is for a file.
 abbrev pub ComesOn : FilesAt → Verdict → Progress → Type 0
 ComesOn files v (progress.Ready way) = IsWay files v way
-ComesOn files v progress.Named = good_path files v ≢ None
-ComesOn files v progress.Reading = good_path files v ≢ None
-ComesOn files v (progress.Awaited node) = good_path files v ≢ None
+ComesOn files v _ = good_path files v ≢ None
 
 abbrev pub AreOnTheWay : FilesAt → List Entry → Type 0
 AreOnTheWay files es = Each (λ e. ComesOn files e.verdict e.progress) es

@@ -25,12 +25,7 @@ AreFiles files = (path : List ℕ) → IfSome (files path) IsContent
 
 -- a code has three digits
 pub number-small : (c : Code) → number c < 1000
-number-small code.Ok = omega arith
-number-small code.BadRequest = omega arith
-number-small code.NotFound = omega arith
-number-small code.TooLarge = omega arith
-number-small code.FieldsTooLarge = omega arith
-number-small code.NotImplemented = omega arith
+number-small _ = omega arith
 
 -- and so has the code of each answer
 pub code-small : (files : FilesAt) (v : Verdict) → answer_code files v < 1000

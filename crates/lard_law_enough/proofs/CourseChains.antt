@@ -159,21 +159,12 @@ module _ (t : Spot) where
   offer-never k i (OnOffer n e) h = none 1 (omega arith) h.2
   offer-never k i (AtNode told n e ends a) h = unaware-never told h.2
   offer-never k i (Left told n e) h = unaware-never told h.2
-  offer-never k i Nowhere h = h
-  offer-never k i (AtFront e) h = h
-  offer-never k i InLine h = h
-  offer-never k i (Ended last taken) h = h
+  offer-never k i _ h = h
 
   taken-never : (i : ℕ) (p : Post) → NearTaken 0 i p → ⊥
   taken-never i (AtNode false n e ends a) h = none 1 (omega arith) h.1
-  taken-never i (AtNode true n e ends a) h = h
   taken-never i (Left false n e) h = none 1 (omega arith) h.1
-  taken-never i (Left true n e) h = h
-  taken-never i Nowhere h = h
-  taken-never i (AtFront e) h = h
-  taken-never i InLine h = h
-  taken-never i (OnOffer n e) h = h
-  taken-never i (Ended last taken) h = h
+  taken-never i _ h = h
 
   forward-never : (k i : ℕ) (r : Result Said SegFault) (p : Post) → NearForward t 0 k i r p → ⊥
   forward-never k i (Ok s) (AtNode told n e ends a) h = held-never ends s t.phase h.2
@@ -188,44 +179,25 @@ module _ (t : Spot) where
   ending-never : (k i : ℕ) (p : Post) → NearEnding t 0 k i p → ⊥
   ending-never k i (Left told n e) h = none 1 (omega arith) h.1
   ending-never k i (Ended last taken) h = none 2 (omega arith) h.1
-  ending-never k i Nowhere h = h
-  ending-never k i (AtFront e) h = h
-  ending-never k i InLine h = h
-  ending-never k i (OnOffer n e) h = h
-  ending-never k i (AtNode told n e ends a) h = h
+  ending-never k i _ h = h
 
   told-never : (c k i : ℕ) (b : Body) → NearTold t c 0 k i b → ⊥
   told-never c k i (body.Offer parts) h = offer-never k i t.post h
   told-never c k i (body.Forward segment) h = forward-never k i (decoded segment c ToCluster) t.post h
   told-never c k i (body.Tag number nodes) h = none 1 (omega arith) h.1
   told-never c k i body.EndedAck h = none 1 (omega arith) h.1
-  told-never c k i body.Taken h = h
-  told-never c k i (body.Ask number queue size paths) h = h
-  told-never c k i (body.Ended why snd rcv count) h = h
-  told-never c k i (body.Fetch r path) h = h
-  told-never c k i (body.Content r bytes) h = h
+  told-never c k i _ h = h
 
   said-never : (k i : ℕ) (b : Body) → NearSaid t 0 k i b → ⊥
   said-never k i body.Taken h = taken-never i t.post h
   said-never k i (body.Ask number queue size paths) h = none 2 (omega arith) h.1
   said-never k i (body.Ended why snd rcv count) h = ending-never k i t.post h
-  said-never k i (body.Offer parts) h = h
-  said-never k i (body.Forward segment) h = h
-  said-never k i (body.Tag number nodes) h = h
-  said-never k i body.EndedAck h = h
-  said-never k i (body.Fetch r path) h = h
-  said-never k i (body.Content r bytes) h = h
+  said-never k i _ h = h
 
   aside-never : (files : FilesAt) (n k i : ℕ) (b : Body) → NearAside files t 0 n k i b → ⊥
   aside-never files n k i (body.Fetch r path) h = none 2 (omega arith) h.2
   aside-never files n k i (body.Content r bytes) h = none 1 (omega arith) h.1
-  aside-never files n k i (body.Offer parts) h = h
-  aside-never files n k i (body.Forward segment) h = h
-  aside-never files n k i (body.Tag number nodes) h = h
-  aside-never files n k i body.EndedAck h = h
-  aside-never files n k i body.Taken h = h
-  aside-never files n k i (body.Ask number queue size paths) h = h
-  aside-never files n k i (body.Ended why snd rcv count) h = h
+  aside-never files n k i _ h = h
 
 message-never : (P : Message → Type 0) → ((m : Message) → P m → ⊥) → (r : Result Message MsgFault) → OfMessage P r → ⊥
 message-never P never (Err fault) h = h

@@ -132,12 +132,7 @@ pub wanted-home : (files : FilesAt) (x : ClientBlock) (z : Seat) (h e from r : �
 wanted-home files x (Here told n i b s) h e from r w =
     let at : Here told n i b s ≡ Here told h e b s = λ j. Here told (w.0 j) (w.1 j) b s in
     record { told = told; block = b; staying = s; seat = at; wanted = subst (λ (k : ℕ). is_from from k (find (is_under kind.Fetch r) s.fetches) ≡ true) w.1 (subst (λ (k : ℕ). is_from from k (find (is_under kind.Fetch r) s.fetches) ≡ true) (sym w.1) w.2) }
-wanted-home files x Unborn h e from r w = absurd w
-wanted-home files x (Held b count) h e from r w = absurd w
-wanted-home files x (Waiting b count) h e from r w = absurd w
-wanted-home files x (Offered n i count) h e from r w = absurd w
-wanted-home files x (Gone told n i) h e from r w = absurd w
-wanted-home files x (Over last) h e from r w = absurd w
+wanted-home files x _ h e from r w = absurd w
 
 pub spot-home : (files : FilesAt) (x : Conn) (t : Spot) (h e from r : ℕ) → spot_at files x ≡ Some t → IsWanted h e from r t.post → IsHome (seat_of x.part) h e from r
 unfolding spot_of

@@ -42,12 +42,9 @@ of_conn c e b = record { c = c; epoch = record { 0 = e }; body = b }
 
 -- An Offer is kept exactly while the connection is on its way. One that waits has said all.
 abbrev pub OfferKept : ℕ → List Kept → FrontConn → Type 0
-OfferKept c ks (stage.Held b) = ks ≡ []
-OfferKept c ks (stage.Waiting b) = ks ≡ []
 OfferKept c ks stage.Lent = ⊥
 OfferKept c ks (stage.Offering n e) = (parts : EndpointParts) × (ks ≡ record { kind = kind.Offer; r = 0; to = Node n; bytes = message c e.0 (body.Offer parts) } ∷ []) × IsMessage (of_conn c e.0 (body.Offer parts))
-OfferKept c ks (stage.Moved n e) = ks ≡ []
-OfferKept c ks (stage.Closed last) = ks ≡ []
+OfferKept c ks _ = ks ≡ []
 
 abbrev pub RowKept : ℕ → List Kept → Option FrontRow → Type 0
 RowKept c ks None = ks ≡ []
@@ -135,10 +132,7 @@ module _ (files : FilesAt) (p : Part) (st : Station) (c : ℕ) where
   -- an Offer that the front end makes
   module _ (n e : ℕ) where
     there-near : (count : ℕ) (q : NodePart) (b : BackConn) → NearOffer 3 n e (post_of files st.client (seat_there false n e count q b))
-    there-near count q (back.Here b) = (refl, refl, omega arith)
-    there-near count q back.Out = (refl, refl, omega arith)
-    there-near count q back.Ended = (refl, refl, omega arith)
-    there-near count q back.Gone = (refl, refl, omega arith)
+    there-near count q _ = (refl, refl, omega arith)
 
     decided-near : (count : ℕ) (q : NodePart) (o : Option BackRow) → NearOffer 3 n e (post_of files st.client (seat_decided false n e count q o))
     decided-near count q None = (refl, refl, omega arith)

@@ -49,17 +49,7 @@ pub made-rule : (m : Machine) (e : Event) → IsMade m e → HasRule e
 made-rule m (event.Deliver k) h = tt
 made-rule m (event.Disk i j) h = tt
 made-rule m (event.Timer p c) h = h
-made-rule m (event.Open c isn iss wnd mss) h = absurd h
-made-rule m (event.Get c path) h = absurd h
-made-rule m (event.Write c bytes) h = absurd h
-made-rule m (event.Shut c) h = absurd h
-made-rule m (event.Abort c) h = absurd h
-made-rule m (event.Hold c) h = absurd h
-made-rule m (event.Take c) h = absurd h
-made-rule m (event.Lose k) h = absurd h
-made-rule m (event.Clock ms) h = absurd h
-made-rule m (event.Settle n) h = absurd h
-made-rule m (event.Inject c bytes) h = absurd h
+made-rule m _ h = absurd h
 
 -- ---- what is known
 
@@ -117,17 +107,7 @@ module _ (Given : Conn → Type 0) (Came : Conn → Move → Type 0) (all : ℕ 
   stocks m n (event.Disk i j) good one is =
       subst (λ (x : ℕ). Stocks all m (event.Disk i x) n) (sym one) (job-stocks all m n i (subst (λ (x : ℕ). machine_step m (event.Disk i x) ≡ Ok n) one is))
   stocks m n (event.Timer p c) good has is = timer-stocks all m n p c is
-  stocks m n (event.Open c isn iss wnd mss) good made is = absurd made
-  stocks m n (event.Get c path) good made is = absurd made
-  stocks m n (event.Write c bytes) good made is = absurd made
-  stocks m n (event.Shut c) good made is = absurd made
-  stocks m n (event.Abort c) good made is = absurd made
-  stocks m n (event.Hold c) good made is = absurd made
-  stocks m n (event.Take c) good made is = absurd made
-  stocks m n (event.Lose k) good made is = absurd made
-  stocks m n (event.Clock ms) good made is = absurd made
-  stocks m n (event.Settle more) good made is = absurd made
-  stocks m n (event.Inject c bytes) good made is = absurd made
+  stocks m n _ good made is = absurd made
 
   -- ---- a packet
 

@@ -74,9 +74,7 @@ module _ (k : Setting) (w : Whole) (x : Conn) (st : Station) (is : x.part.statio
   front-armed : (p : FrontPart) (kd : TimerKind) → front_armed p kd ≡ true → (row_armed p.row ≡ true) ⊎ (p.kept ≡ [] → ⊥)
   front-armed p kind.Tcp on = inl on
   front-armed p kind.Offer on = inr (λ none. both_ways false refl (sym (ap (list_any (λ k. rank k.kind == rank kind.Offer)) none) ∙ on))
-  front-armed p kind.Ask on = absurd (both_ways false refl on)
-  front-armed p kind.Fetch on = absurd (both_ways false refl on)
-  front-armed p kind.Ended on = absurd (both_ways false refl on)
+  front-armed p _ on = absurd (both_ways false refl on)
 
   module _ (env : FrontEnv) (renews : Renews k.files x) where
     abbrev p : FrontPart

@@ -83,20 +83,8 @@ event-written J k e rows nots plain =
 
 -- an event that the machine does is no settle
 rule-plain : (e : Event) → HasRule e → is_settle e ≡ false
-rule-plain (event.Open c isn iss wnd mss) h = refl
-rule-plain (event.Get c path) h = refl
-rule-plain (event.Write c bytes) h = refl
-rule-plain (event.Shut c) h = refl
-rule-plain (event.Abort c) h = refl
-rule-plain (event.Hold c) h = refl
-rule-plain (event.Take c) h = refl
-rule-plain (event.Deliver k) h = refl
-rule-plain (event.Lose k) h = refl
-rule-plain (event.Timer p c) h = refl
-rule-plain (event.Disk n j) h = refl
-rule-plain (event.Clock ms) h = refl
 rule-plain (event.Settle rounds) h = absurd h
-rule-plain (event.Inject c bytes) h = refl
+rule-plain _ h = refl
 
 module _ (config : Config) (files : List (List ℕ × List ℕ)) where
   abbrev pub Is : Machine → Type 0

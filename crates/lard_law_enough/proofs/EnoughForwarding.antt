@@ -151,10 +151,8 @@ module _ (env : FrontEnv) (W : List ℕ → Type 0) where
     fires-at-has : Each (IsOffer c) p.kept → (row : FrontRow) (st : FrontConn) → HasDeed (fires_at env p row st)
     fires-at-has h row (stage.Held b) = record { segments = fired-has (rest_of p.rest) b; messages = tt }
     fires-at-has h row (stage.Waiting b) = record { segments = fired-has (rest_of p.rest) b; messages = tt }
-    fires-at-has h row stage.Lent = tt
     fires-at-has h row (stage.Offering n e) = record { segments = tt; messages = offers-said p.kept h }
-    fires-at-has h row (stage.Moved n e) = tt
-    fires-at-has h row (stage.Closed last) = tt
+    fires-at-has h row _ = tt
 
     pub fires-has : Each (IsOffer c) p.kept → HasDeed (front_timer env p)
     fires-has h = go p.row where

@@ -151,9 +151,7 @@ module _ (c : ℕ) (number : IsNumber c) where
     -- the paths of an Ask are paths of files
     path-named : (y : Entry) (a : Progress) → IfSome (path_in files y a) IsNamed
     path-named y progress.Named = verdict-named files named y.verdict
-    path-named y progress.Reading = tt
-    path-named y (progress.Awaited to) = tt
-    path-named y (progress.Ready way) = tt
+    path-named y _ = tt
 
     paths-are : (es : List Entry) → Each IsPath (named_paths files es)
     paths-are [] = tt

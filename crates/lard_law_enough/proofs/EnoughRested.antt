@@ -70,32 +70,13 @@ inner-settles (event.Take c) h = tt
 inner-settles (event.Deliver k) h = tt
 inner-settles (event.Disk n j) h = h
 inner-settles (event.Timer p c) h = h
-inner-settles (event.Open c isn iss wnd mss) h = absurd h
-inner-settles (event.Get c path) h = absurd h
-inner-settles (event.Write c bytes) h = absurd h
-inner-settles (event.Shut c) h = absurd h
-inner-settles (event.Abort c) h = absurd h
-inner-settles (event.Hold c) h = absurd h
-inner-settles (event.Lose k) h = absurd h
-inner-settles (event.Clock ms) h = absurd h
-inner-settles (event.Settle rounds) h = absurd h
-inner-settles (event.Inject c bytes) h = absurd h
+inner-settles _ h = absurd h
 
 made-rounds : (m : Machine) (e : Event) → IsMade m e → IsRounds e
 made-rounds m (event.Deliver k) h = tt
 made-rounds m (event.Disk n j) h = h
 made-rounds m (event.Timer p c) h = h
-made-rounds m (event.Take c) h = absurd h
-made-rounds m (event.Open c isn iss wnd mss) h = absurd h
-made-rounds m (event.Get c path) h = absurd h
-made-rounds m (event.Write c bytes) h = absurd h
-made-rounds m (event.Shut c) h = absurd h
-made-rounds m (event.Abort c) h = absurd h
-made-rounds m (event.Hold c) h = absurd h
-made-rounds m (event.Lose k) h = absurd h
-made-rounds m (event.Clock ms) h = absurd h
-made-rounds m (event.Settle rounds) h = absurd h
-made-rounds m (event.Inject c bytes) h = absurd h
+made-rounds m _ h = absurd h
 
 made-ready : (m : Machine) (e : Event) → IsMade m e → IsReady m e
 made-ready m (event.Deliver k) h = h

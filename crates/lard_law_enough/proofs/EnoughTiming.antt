@@ -44,19 +44,11 @@ reached-written config files m r =
 -- ---- where it waits
 
 abbrev waits_in : Seat → Bool
-waits_in Unborn = false
-waits_in (Held b count) = false
 waits_in (Waiting b count) = true
-waits_in (Offered n e count) = false
-waits_in (Here told n e b s) = false
-waits_in (Gone told n e) = false
-waits_in (Over last) = false
+waits_in _ = false
 
 there-not : (told : Bool) (n e count : ℕ) (p : NodePart) (s : BackConn) → waits_in (seat_there told n e count p s) ≡ false
-there-not told n e count p (back.Here b) = refl
-there-not told n e count p back.Out = refl
-there-not told n e count p back.Ended = refl
-there-not told n e count p back.Gone = refl
+there-not told n e count p _ = refl
 
 away-not : (told : Bool) (n e count : ℕ) (p : NodePart) → waits_in (seat_away told n e count p) ≡ false
 away-not told n e count p = go p.row where
@@ -65,12 +57,10 @@ away-not told n e count p = go p.row where
   go (Some row) = cond_both (row.epoch.0 == e) (seat_there told n e count p row.stage) (Offered n e count) (λ z. waits_in z ≡ false) (λ t. there-not told n e count p row.stage) (λ t. refl)
 
 in-waits : (f : FrontPart) (nodes : ℕ → NodePart) (s : FrontConn) → waits_in (seat_in f nodes s) ≡ true → is_waiting s ≡ true
-in-waits f nodes (stage.Held b) h = h
 in-waits f nodes (stage.Waiting b) h = refl
-in-waits f nodes stage.Lent h = h
 in-waits f nodes (stage.Offering n e) h = absurd (both_ways (waits_in (seat_in f nodes (stage.Offering n e))) (away-not false n e.0 (rest_of f.rest).count (nodes n)) h)
 in-waits f nodes (stage.Moved n e) h = absurd (both_ways (waits_in (seat_in f nodes (stage.Moved n e))) (away-not true n e.0 (rest_of f.rest).count (nodes n)) h)
-in-waits f nodes (stage.Closed last) h = h
+in-waits f nodes _ h = h
 
 by-waits : (f : FrontPart) (nodes : ℕ → NodePart) (o : Option FrontRow) → waits_in (seat_by f nodes o) ≡ true → waits_there o ≡ true
 by-waits f nodes None h = h

@@ -26,14 +26,7 @@ module _ (x : Conn) (st : Station) (there : x.part.station ≡ Some st) (named :
 
   body-warm : (b : Body) → ((segment : List ℕ) → b ≡ body.Forward segment → AreWordsOf x segment) → IsWarmBody st.client b
   body-warm (body.Forward segment) h = segment-warm segment (h segment refl)
-  body-warm (body.Offer parts) h = tt
-  body-warm body.Taken h = tt
-  body-warm (body.Ask number queue size paths) h = tt
-  body-warm (body.Tag number nodes) h = tt
-  body-warm (body.Fetch r path) h = tt
-  body-warm (body.Content r file) h = tt
-  body-warm (body.Ended reason snd rcv count) h = tt
-  body-warm body.EndedAck h = tt
+  body-warm _ h = tt
 
   message-warm : (bytes : List ℕ) → Forwards x bytes → IsWarmMessage st.client (decoded_message bytes)
   message-warm bytes h = go (decoded_message bytes) refl where
@@ -48,9 +41,7 @@ module _ (x : Conn) (st : Station) (there : x.part.station ≡ Some st) (named :
   between-warm Front Front l h = tt
   between-warm Front (Client d) l h = tt
   between-warm Front (Node n) l h = message-warm l.bytes h
-  between-warm (Node n) Front l h = tt
-  between-warm (Node n) (Client d) l h = tt
-  between-warm (Node n) (Node j) l h = tt
+  between-warm (Node n) _ l h = tt
 
 pub second-warm : (x : Conn) → IsSound x → (l : Letter) → Second x l → IsWarm x l
 second-warm x sound l h = go x.part.station refl where
@@ -66,14 +57,7 @@ module _ (x : Conn) (st : Station) (there : x.part.station ≡ Some st) where
 
   body-late : (b : Body) → ((segment : List ℕ) → b ≡ body.Forward segment → AreWordsOf x segment) → IsLateBody x.c b
   body-late (body.Forward segment) h = word-late segment (h segment refl)
-  body-late (body.Offer parts) h = tt
-  body-late body.Taken h = tt
-  body-late (body.Ask number queue size paths) h = tt
-  body-late (body.Tag number nodes) h = tt
-  body-late (body.Fetch r path) h = tt
-  body-late (body.Content r file) h = tt
-  body-late (body.Ended reason snd rcv count) h = tt
-  body-late body.EndedAck h = tt
+  body-late _ h = tt
 
   between-late : (from to : Place) (bytes : List ℕ) → SecondOn x from to bytes → IsLateBetween x.c from to bytes
   between-late (Client d) Front bytes h = word-late bytes h
@@ -82,9 +66,7 @@ module _ (x : Conn) (st : Station) (there : x.part.station ≡ Some st) where
   between-late Front Front bytes h = tt
   between-late Front (Client d) bytes h = tt
   between-late Front (Node n) bytes h = λ m is. body-late m.body (λ segment same. h m segment is same)
-  between-late (Node n) Front bytes h = tt
-  between-late (Node n) (Client d) bytes h = tt
-  between-late (Node n) (Node j) bytes h = tt
+  between-late (Node n) _ bytes h = tt
 
 pub second-late : (x : Conn) (l : Letter) → Second x l → IsLateOn x l
 second-late x l h st there = between-late x st there l.from l.to l.bytes h

@@ -101,9 +101,7 @@ module _ (x y : Conn) (stay : (bytes : List ℕ) → AreWordsOf x bytes → AreW
   first-on Front Front bytes h = tt
   first-on Front (Client d) bytes h = tt
   first-on Front (Node n) bytes h = tt
-  first-on (Node n) Front bytes h = tt
-  first-on (Node n) (Client d) bytes h = tt
-  first-on (Node n) (Node j) bytes h = tt
+  first-on (Node n) _ bytes h = tt
 
   second-on : (from to : Place) (bytes : List ℕ) → SecondOn x from to bytes → SecondOn y from to bytes
   second-on (Client d) Front bytes h = stay bytes h
@@ -112,9 +110,7 @@ module _ (x y : Conn) (stay : (bytes : List ℕ) → AreWordsOf x bytes → AreW
   second-on Front Front bytes h = tt
   second-on Front (Client d) bytes h = tt
   second-on Front (Node n) bytes h = λ m segment d is. stay segment (h m segment d is)
-  second-on (Node n) Front bytes h = tt
-  second-on (Node n) (Client d) bytes h = tt
-  second-on (Node n) (Node j) bytes h = tt
+  second-on (Node n) _ bytes h = tt
 
 same-words : (x : Conn) (v : Move) → v.part.station ≡ x.part.station → (bytes : List ℕ) → AreWordsOf x bytes → AreWordsOf (grown x v) bytes
 same-words x v same bytes h st at = h st (sym same ∙ at)
@@ -211,14 +207,10 @@ clients-warm k = record {
 
 -- of packets of the front end and of nodes the first says nothing, and the second of nothing that a node sends
 machine-first : (y : Conn) (from to : Place) (bytes : List ℕ) → (d : Place) → FirstOn y Front to bytes × ((n : ℕ) → FirstOn y (Node n) to bytes)
-machine-first y from Front bytes d = (tt, λ n. tt)
-machine-first y from (Client e) bytes d = (tt, λ n. tt)
-machine-first y from (Node j) bytes d = (tt, λ n. tt)
+machine-first y from _ bytes d = (tt, λ n. tt)
 
 node-second : (y : Conn) (n : ℕ) (to : Place) (bytes : List ℕ) → SecondOn y (Node n) to bytes
-node-second y n Front bytes = tt
-node-second y n (Client e) bytes = tt
-node-second y n (Node j) bytes = tt
+node-second y n _ bytes = tt
 
 -- a move whose place is a node's, or that says nothing
 pub node-warms : (x : Conn) (v : Move) (n : ℕ) → v.place ≡ Node n → v.part.station ≡ x.part.station → Warms First Second x v
@@ -258,14 +250,7 @@ body-fine y body.EndedAck bytes segment h c e m d is = let bad : kind.EndedAck �
 
 body-more : (W V : List ℕ → Type 0) → ((bytes : List ℕ) → W bytes → V bytes) → (b : Body) → BodyHas W b → BodyHas V b
 body-more W V f (body.Forward segment) h = f segment h
-body-more W V f (body.Offer parts) h = tt
-body-more W V f body.Taken h = tt
-body-more W V f (body.Ask number queue size paths) h = tt
-body-more W V f (body.Tag number nodes) h = tt
-body-more W V f (body.Fetch r path) h = tt
-body-more W V f (body.Content r file) h = tt
-body-more W V f (body.Ended reason snd rcv count) h = tt
-body-more W V f body.EndedAck h = tt
+body-more W V f _ h = tt
 
 module _ (x : Conn) (v : Move) (place : v.place ≡ Front) (same : v.part.station ≡ x.part.station) (c d : ℕ) where
   abbrev y : Conn

@@ -85,10 +85,7 @@ module _ (files : FilesAt) (stream : ℕ) (x : Conn) (st : Station) (at : x.part
       let h : acts.heard ≡ seq_offset last.rcv.0 st.client.send.iss = act.0 in
       let c : seq_offset last.rcv.0 st.client.send.iss ≡ symbols st.client.send = ((closed last eq).all m open_).1 in
       omega (arith, h, c)
-  heard-within Unborn eq open_ m = absurd m
-  heard-within (Waiting b count) eq open_ m = absurd m
-  heard-within (Offered n e count) eq open_ m = absurd m
-  heard-within (Gone told n e) eq open_ m = absurd m
+  heard-within _ eq open_ m = absurd m
 
   -- a refusal has the number of what was acknowledged
   refused : (from : Place) (bytes : List ℕ) (s : Said) → IsCluster from → Was x from (Client x.c) bytes → decoded bytes x.c ToClient ≡ Ok s → Refuses st.iss (taken st.client) s
@@ -153,10 +150,7 @@ module _ (files : FilesAt) (stream : ℕ) (x : Conn) (st : Station) (at : x.part
         let has : SeatHas x.part (Here told n e b s) = subst (SeatHas x.part) eq (seat-has x.part) in
         (tells-of st b (talks-at n e b has), met-there (λ una. met.there open_ una n e b has))
     tells (Over last) eq open_ = at-end last eq open_ last.reason refl
-    tells Unborn eq open_ = tt
-    tells (Waiting b count) eq open_ = tt
-    tells (Offered n e count) eq open_ = tt
-    tells (Gone told n e) eq open_ = tt
+    tells _ eq open_ = tt
 
     may : (from : Place) (bytes : List ℕ) (s : Said) → IsCluster from → Was x from (Client x.c) bytes → decoded bytes x.c ToClient ≡ Ok s → MayReply st (seat_of x.part) acts.heard s
     may from bytes s cluster was read = record {

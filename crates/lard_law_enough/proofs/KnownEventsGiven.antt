@@ -91,16 +91,7 @@ module _ (m n : Machine) (view : IsViewed m) (nodes : IsNumber m.config.nodes) w
       (delivers k (packet_at m.net k) refl few.0 parts.1, tt)
   event-given (event.Disk i j) h is = ((completed i j (below m n (event.Disk i j) is).1, omega (arith, h)), tt)
   event-given (event.Timer p c) h is = (fires p c h (table.get m.clients c) refl (below m n (event.Timer p c) is).1, tt)
-  event-given (event.Open c isn iss wnd mss) h is = absurd h
-  event-given (event.Get c path) h is = absurd h
-  event-given (event.Write c bytes) h is = absurd h
-  event-given (event.Shut c) h is = absurd h
-  event-given (event.Abort c) h is = absurd h
-  event-given (event.Hold c) h is = absurd h
-  event-given (event.Lose k) h is = absurd h
-  event-given (event.Clock ms) h is = absurd h
-  event-given (event.Settle rounds) h is = absurd h
-  event-given (event.Inject c bytes) h is = absurd h
+  event-given _ h is = absurd h
 
 -- ---- every run
 

@@ -33,12 +33,10 @@ use Rattle.lard_rules.specs.declared.places.Station.{Station}
 
 -- the front end placed it: it waits, or goes to a node, or is there
 abbrev pub IsPlacing : FrontConn → Type 0
-IsPlacing (stage.Held b) = ⊥
 IsPlacing (stage.Waiting b) = Unit {0}
-IsPlacing stage.Lent = ⊥
 IsPlacing (stage.Offering n e) = Unit {0}
 IsPlacing (stage.Moved n e) = Unit {0}
-IsPlacing (stage.Closed last) = ⊥
+IsPlacing _ = ⊥
 
 module _ (files : FilesAt) (x : Conn) (st : Station) (k : Talk) (pend : List Verdict) (o : IsOpen files x k pend st) (acts : OpenActs x st) (stream : ℕ) (counts : IsCounted stream x)
     (w : Whole) (is : w ≡ whole_of files k.w.bytes) (asks : (row : FrontRow) → x.part.front.row ≡ Some row → IsPlacing row.stage → 1 ≤ w.requests) where

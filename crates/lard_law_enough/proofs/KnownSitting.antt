@@ -47,15 +47,13 @@ module _ (w : Owning) (nodes : ℕ → NodePart) where
       (cases_eq m n)
 
   stage-fresh : (e : ℕ) (s : FrontConn) → StageSits e w nodes s → (m : ℕ) → IsWithin e (nodes m).row
-  stage-fresh e (stage.Held b) h m = past-within e (nodes m).row (h.1.1 m)
-  stage-fresh e (stage.Waiting b) h m = past-within e (nodes m).row (h.1.1 m)
   stage-fresh e stage.Lent h m = absurd h
   stage-fresh e (stage.Offering n d) h m = away-fresh n e h.2 (⊎_elim
       (λ (c : IsComing e w (nodes n).row). past-within e (nodes n).row c.2)
       (λ (t : IsThere n e w (nodes n).row). there-within n e w (nodes n).row t)
       h.3) m
   stage-fresh e (stage.Moved n d) h m = away-fresh n e h.2 (there-within n e w (nodes n).row h.3) m
-  stage-fresh e (stage.Closed last) h m = past-within e (nodes m).row (h.1.1 m)
+  stage-fresh e _ h m = past-within e (nodes m).row (h.1.1 m)
 
   pub sits-fresh : (o : Option FrontRow) → Sits w nodes o → IsFresh nodes o
   sits-fresh None h = tt
@@ -77,8 +75,6 @@ module _ (w : Owning) (f : FrontPart) (nodes : ℕ → NodePart) (sits : Sits w 
   coming-none m d same h = past-none d e b (nodes m).row (ap (λ i. (nodes i).row) same ∙ is) h.2
 
   at-stage : (row : FrontRow) → f.row ≡ Some row → (s : FrontConn) → row.stage ≡ s → StageSits row.epoch.0 w nodes s → IsAt f n e
-  at-stage row at (stage.Held c) eq h = absurd (past-none row.epoch.0 e b (nodes n).row is (h.1.1 n))
-  at-stage row at (stage.Waiting c) eq h = absurd (past-none row.epoch.0 e b (nodes n).row is (h.1.1 n))
   at-stage row at stage.Lent eq h = absurd h
   at-stage row at (stage.Offering m d) eq h =
       let same = its-node m row.epoch.0 h.2 in
@@ -90,7 +86,7 @@ module _ (w : Owning) (f : FrontPart) (nodes : ℕ → NodePart) (sits : Sits w 
       let there = there-epoch m row.epoch.0 same h.3 in
       let epoch : d.0 ≡ e = h.1 ∙ sym there in
       record { told = true; row = row; front = at; with_ = eq ∙ (λ i. stage.Moved (same i) (record { 0 = epoch i })) }
-  at-stage row at (stage.Closed last) eq h = absurd (past-none row.epoch.0 e b (nodes n).row is (h.1.1 n))
+  at-stage row at _ eq h = absurd (past-none row.epoch.0 e b (nodes n).row is (h.1.1 n))
 
   pub sits-at : IsAt f n e
   sits-at = go f.row refl sits where
@@ -128,8 +124,6 @@ module _ (w : Owning) (p : Part) (n e : ℕ) (over : IsOver e (p.nodes n).row) w
       over-gone w told m d (rest_of p.front.rest).count (p.nodes m) (p.nodes m).row there o
 
   gone-stage : (row : FrontRow) → p.front.row ≡ Some row → (s : FrontConn) → row.stage ≡ s → StageSits row.epoch.0 w p.nodes s → is_away e s ≡ true → IsGone (seat_of p)
-  gone-stage row at (stage.Held b) is h t = absurd (let bad : false ≡ true = t in cc)
-  gone-stage row at (stage.Waiting b) is h t = absurd (let bad : false ≡ true = t in cc)
   gone-stage row at stage.Lent is h t = absurd h
   gone-stage row at (stage.Offering m d) is h t =
       let same : e ≡ d.0 = sym (eqb-true d.0 e t) in
@@ -146,7 +140,7 @@ module _ (w : Owning) (p : Part) (n e : ℕ) (over : IsOver e (p.nodes n).row) w
       let eq = over-node m d.0 same others in
       let there : IsThere m d.0 w (p.nodes m).row = subst (λ i. IsThere m i w (p.nodes m).row) (sym h.1) h.3 in
       record { told = true; n = m; e = d.0; is = seat-at p row (stage.Moved m d) at is ∙ over-seat true m d.0 same eq there }
-  gone-stage row at (stage.Closed last) is h t = absurd (let bad : false ≡ true = t in cc)
+  gone-stage row at _ is h t = absurd (let bad : false ≡ true = t in cc)
 
   pub sits-gone : (row : FrontRow) → p.front.row ≡ Some row → Sits w p.nodes p.front.row → is_away e row.stage ≡ true → IsGone (seat_of p)
   sits-gone row at sits t = let h : Sits w p.nodes (Some row) = subst (Sits w p.nodes) at sits in gone-stage row at row.stage refl h.0 t
@@ -176,11 +170,7 @@ pub record IsOfferedAt (f : FrontPart) (n e : ℕ) : Type 0 where
 
 offers-stage : (f : FrontPart) (n e : ℕ) (row : FrontRow) → f.row ≡ Some row → (s : FrontConn) → row.stage ≡ s → Offers n e s → IsOfferedAt f n e
 offers-stage f n e row at (stage.Offering m d) is h = record { row = row; front = at; with_ = is ∙ (λ i. stage.Offering (h.0 i) (record { 0 = h.1 i })) }
-offers-stage f n e row at (stage.Held b) is h = absurd h
-offers-stage f n e row at (stage.Waiting b) is h = absurd h
-offers-stage f n e row at stage.Lent is h = absurd h
-offers-stage f n e row at (stage.Moved m d) is h = absurd h
-offers-stage f n e row at (stage.Closed last) is h = absurd h
+offers-stage f n e row at _ is h = absurd h
 
 pub said-offered : (f : FrontPart) (n e : ℕ) (o : Option BackRow) → offer_answer e o ≡ New → IsDecided e o ⊎ IsOffered n e f.row → IsOfferedAt f n e
 said-offered f n e o new h = ⊎_elim

@@ -102,12 +102,8 @@ module _ (env : ServeEnv) where
 -- ---- what is kept
 
 abbrev pub StageSmall : ℕ → FrontConn → Type 0
-StageSmall count (stage.Held b) = Unit {0}
-StageSmall count (stage.Waiting b) = Unit {0}
-StageSmall count stage.Lent = Unit {0}
 StageSmall count (stage.Offering n e) = count < 2 ^ 32
-StageSmall count (stage.Moved n e) = Unit {0}
-StageSmall count (stage.Closed last) = Unit {0}
+StageSmall count _ = Unit {0}
 
 abbrev pub RowSmall : ℕ → Option FrontRow → Type 0
 RowSmall count None = Unit {0}
@@ -125,10 +121,7 @@ DeedSmall (Does did) = IsSmall did.part
 abbrev StageFew : ℕ → FrontConn → Type 0
 StageFew count (stage.Held b) = (count ≤ 2 ^ 30) × IsControlBlock b
 StageFew count (stage.Waiting b) = count ≤ 2 ^ 30
-StageFew count stage.Lent = Unit {0}
-StageFew count (stage.Offering n e) = Unit {0}
-StageFew count (stage.Moved n e) = Unit {0}
-StageFew count (stage.Closed last) = Unit {0}
+StageFew count _ = Unit {0}
 
 held-small : (f : FrontPart) (row : FrontRow) (rest : FrontRest) (e : Ending) → IsSmall (rests f row rest stage.Held e)
 held-small f row rest (ending.Here b n) = tt
@@ -162,10 +155,7 @@ module _ (p : FrontPart) (few : (row : FrontRow) → p.row ≡ Some row → Stag
   hears-small : (env : FrontEnv) (bytes : List ℕ) (s : Said) (row : FrontRow) (z : FrontConn) → StageFew (rest_of p.rest).count z → DeedSmall (hears_at env p row bytes s z)
   hears-small env bytes s row (stage.Held b) h = heard-small env bytes s row b h.0 h.1
   hears-small env bytes s row (stage.Waiting b) h = waits-small p row (rest_of p.rest) (spoken env.serve (serving (on_segment b s).1 (rest_of p.rest).count []) []).0
-  hears-small env bytes s row stage.Lent h = tt
-  hears-small env bytes s row (stage.Offering n e) h = tt
-  hears-small env bytes s row (stage.Moved n e) h = tt
-  hears-small env bytes s row (stage.Closed last) h = tt
+  hears-small env bytes s row _ h = tt
 
   meets-small : (env : FrontEnv) (s : Said) → DeedSmall (met env p s)
   meets-small env s = cond_both (is_plain_syn s) (begun env p s) Drops DeedSmall (λ t. held-small p (record { stage = stage.Lent; epoch = record { 0 = 1 }; ended_by = None }) (rest_of None) (spoken env.serve (serving (listening s env.iss) 0 []) []).0) (λ t. tt)
@@ -257,10 +247,7 @@ holds-few k pend b count h =
 stage-few : (x : Conn) (k : Talk) (pend : List Verdict) (e : ℕ) (z : FrontConn) → StageAgrees k.w k.out k.vs pend k.was_reset x.c x.part e z → StageFew (rest_of x.part.front.rest).count z
 stage-few x k pend e (stage.Held b) h = (holds-few k pend b (rest_of x.part.front.rest).count h, h.holds.sound)
 stage-few x k pend e (stage.Waiting b) h = holds-few k pend b (rest_of x.part.front.rest).count h.0
-stage-few x k pend e stage.Lent h = tt
-stage-few x k pend e (stage.Offering n d) h = tt
-stage-few x k pend e (stage.Moved n d) h = tt
-stage-few x k pend e (stage.Closed last) h = tt
+stage-few x k pend e _ h = tt
 
 truth-few : (files : FilesAt) (x : Conn) → IsTruthful files x → (row : FrontRow) → x.part.front.row ≡ Some row → StageFew (rest_of x.part.front.rest).count row.stage
 truth-few files x truth row at = go x.part.station truth.agrees where
@@ -284,9 +271,7 @@ module _ (k : Setting) where
   front-deed x heads (Does did) h small = h
 
   node-deed : (x : Conn) (n : ℕ) (heads : List Seen) (d : node.Deed) → IsSmall x.part.front → IsSmall (node_does x n heads d).part.front
-  node-deed x n heads node.Drops small = small
-  node-deed x n heads (node.Says messages) small = small
-  node-deed x n heads (node.Does given) small = small
+  node-deed x n heads _ small = small
 
   few-of : (x : Conn) → MayMove Given x → (tale_at x).touched ≡ false → (row : FrontRow) → x.part.front.row ≡ Some row → StageFew (rest_of x.part.front.rest).count row.stage
   few-of x m free = truth-few k.files x (m.given free)

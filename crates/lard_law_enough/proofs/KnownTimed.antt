@@ -51,13 +51,10 @@ pub record Speaking (st : Station) (b : ControlBlock) : Type 0 where
 
 -- so it is wherever there is one; one that waits has nothing more to say
 abbrev pub SpeaksAt : Station → Seat → Type 0
-SpeaksAt st Unborn = Unit {0}
 SpeaksAt st (Held b count) = Speaking st b
 SpeaksAt st (Waiting b count) = is_clear b.send ≡ true
-SpeaksAt st (Offered n e count) = Unit {0}
 SpeaksAt st (Here told n e b s) = Speaking st b
-SpeaksAt st (Gone told n e) = Unit {0}
-SpeaksAt st (Over last) = Unit {0}
+SpeaksAt st _ = Unit {0}
 
 module _ (files : FilesAt) (x : Conn) (st : Station) (k : Talk) (pend : List Verdict) (o : IsOpen files x k pend st) (acts : OpenActs x st) where
   -- ---- its client
@@ -133,9 +130,7 @@ module _ (files : FilesAt) (x : Conn) (st : Station) (k : Talk) (pend : List Ver
           (λ (r : RowAgrees k.w k.out k.vs pend k.was_reset x.c q q.row). subst (BackAgrees k.w k.out k.vs pend k.was_reset x.c row.epoch.0 q) eq (subst (RowAgrees k.w k.out k.vs pend k.was_reset x.c q) at r))
           node in
           by-stay b q.stay agrees known.2
-      there row at back.Out eq = λ known. tt
-      there row at back.Ended eq = λ known. tt
-      there row at back.Gone eq = λ known. tt
+      there row at _ eq = λ known. tt
 
       decided : (r : Option BackRow) → q.row ≡ r → Tells (seat_decided told n e count q r)
       decided None at = λ known. tt

@@ -99,10 +99,7 @@ module _ (env : FrontEnv) (p : FrontPart) where
       let x : Reading = reads env.serve (record { service = serving (on_segment b said).1 (rest_of p.rest).count []; target = None }) in
       settled-fits row (rest_of p.rest) x.service x.target
   hears-fit row bytes said (stage.Waiting b) = waits-fit row (rest_of p.rest) (spoken env.serve (serving (on_segment b said).1 (rest_of p.rest).count []) [])
-  hears-fit row bytes said stage.Lent = tt
-  hears-fit row bytes said (stage.Offering node epoch) = tt
-  hears-fit row bytes said (stage.Moved node epoch) = tt
-  hears-fit row bytes said (stage.Closed last) = tt
+  hears-fit row bytes said _ = tt
 
   gets-fit : (bytes : List ℕ) (r : Result Said SegFault) → DeedFits (front_gets env p bytes r)
   gets-fit bytes (Err fault) = tt
@@ -214,12 +211,7 @@ module _ (k : FrontSetting) (s : FrontState) (sound : IsFrontSound s) where
       (asked-keeps s.dispatch (front_env k s c 0) (env-of c 0) (front_part s c) epoch (ask_of c from number queue size paths) refl (record { some = table.1; within = table.2; few = table.0 }) (sound.tags c) (sound.each c))
       (asked-fits (front_env k s c 0) (front_part s c) s.dispatch (env-of c 0) from epoch number queue size paths table.1 table.2)
   told-calls from c epoch (body.Ended reason snd rcv count) table = ended-calls c from epoch (record { reason = reason; snd = record { 0 = snd }; rcv = record { 0 = rcv } })
-  told-calls from c epoch (body.Offer parts) table = still-calls _
-  told-calls from c epoch (body.Forward bytes) table = still-calls _
-  told-calls from c epoch (body.Tag number nodes) table = still-calls _
-  told-calls from c epoch (body.Fetch r path) table = still-calls _
-  told-calls from c epoch (body.Content r bytes) table = still-calls _
-  told-calls from c epoch body.EndedAck table = still-calls _
+  told-calls from c epoch _ table = still-calls _
 
   message-calls : (from : ℕ) (r : Result Message MsgFault) → IsTold r → Calls (message_comes k s from r)
   message-calls from (Err e) told = still-calls _

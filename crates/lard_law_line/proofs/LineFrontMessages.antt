@@ -26,11 +26,7 @@ use Rattle.lard_policy.specs.declared.first.FirstChoice.{FirstChoice}
 
 offered-counts : (s : Stand) (epoch node : ℕ) (at : FrontConn) → offered_to epoch at ≡ Some node → StageStands s at → Counts s false 1 true
 offered-counts s epoch node (stage.Offering n e) is h = h
-offered-counts s epoch node (stage.Held b) is h = let no : None ≡ Some node = is in absurd cc
-offered-counts s epoch node (stage.Waiting b) is h = let no : None ≡ Some node = is in absurd cc
-offered-counts s epoch node stage.Lent is h = let no : None ≡ Some node = is in absurd cc
-offered-counts s epoch node (stage.Moved n e) is h = let no : None ≡ Some node = is in absurd cc
-offered-counts s epoch node (stage.Closed last) is h = let no : None ≡ Some node = is in absurd cc
+offered-counts s epoch node _ is h = let no : None ≡ Some node = is in absurd cc
 
 pub taken-stands : (c : ℕ) (s : Stand) (p : FrontPart) (epoch : ℕ) → RowStands s p.row → DeedStands c s p (front_taken p epoch)
 taken-stands c s p epoch h = go p.row (asked_node epoch p.row) refl refl where
@@ -74,10 +70,7 @@ module _ (env : FrontEnv) (p : FrontPart) (s : Stand) (h : RowStands s p.row) wh
   pub away-counts : (epoch : ℕ) (at : FrontConn) → is_away epoch at ≡ true → StageStands s at → Counts s false 1 true
   away-counts epoch (stage.Offering n e) is k = k
   away-counts epoch (stage.Moved n e) is k = k
-  away-counts epoch (stage.Held b) is k = let no : false ≡ true = is in absurd cc
-  away-counts epoch (stage.Waiting b) is k = let no : false ≡ true = is in absurd cc
-  away-counts epoch stage.Lent is k = let no : false ≡ true = is in absurd cc
-  away-counts epoch (stage.Closed last) is k = let no : false ≡ true = is in absurd cc
+  away-counts epoch _ is k = let no : false ≡ true = is in absurd cc
 
   pub ended-stands : (from epoch : ℕ) (last : Final) → DeedStands c s p (front_ended env p from epoch last)
   ended-stands from epoch last = go p.row refl where

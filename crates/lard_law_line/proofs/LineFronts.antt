@@ -289,10 +289,7 @@ module _ (env : FrontEnv) (p : FrontPart) (s : Stand) where
       waits-stands here s [] (fired env (rest_of p.rest) b)
       (waiting-ends here s.told w b (serve.ready_of env.serve (after_timer b) (timed b) ++ (speaks here (after_timer b)).0, (speaks here (after_timer b)).1) h.1.held.open_ h.1.freezes
       (timer-spoken env.serve s.told b h.1.held.sound h.1.held.told_is)) h.0
-  fires-stands row stage.Lent is found h = subst (RowStands s) (sym found) (subst (StageStands s) (sym is) h)
-  fires-stands row (stage.Offering node epoch) is found h = subst (RowStands s) (sym found) (subst (StageStands s) (sym is) h)
-  fires-stands row (stage.Moved node epoch) is found h = subst (RowStands s) (sym found) (subst (StageStands s) (sym is) h)
-  fires-stands row (stage.Closed last) is found h = subst (RowStands s) (sym found) (subst (StageStands s) (sym is) h)
+  fires-stands row _ is found h = subst (RowStands s) (sym found) (subst (StageStands s) (sym is) h)
 
   pub timer-stands : RowStands s p.row → DeedStands here s p (front_timer env p)
   timer-stands h = go p.row refl h where

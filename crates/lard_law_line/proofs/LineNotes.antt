@@ -49,11 +49,7 @@ was s held = record { waits = s.waits; inside = s.inside; held = held }
 
 abbrev pub is_held : FrontConn → Bool
 is_held (stage.Held b) = true
-is_held (stage.Waiting b) = false
-is_held stage.Lent = false
-is_held (stage.Offering node epoch) = false
-is_held (stage.Moved node epoch) = false
-is_held (stage.Closed last) = false
+is_held _ = false
 
 abbrev pub held_there : Option FrontRow → Bool
 held_there None = false

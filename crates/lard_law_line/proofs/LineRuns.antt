@@ -103,9 +103,7 @@ stage-waits : (e : ℕ) (rest : Option FrontRest) (kept : List Kept) (at : Stand
 stage-waits e rest kept at s (stage.Held b) h k = let few = k.0.times in (ap (λ (x : Standing). x.waits) h.2 ∙ sym k.0.waits_is, omega (arith, few))
 stage-waits e rest kept at s (stage.Waiting b) h k = (ap (λ (x : Standing). x.waits) h.2 ∙ sym k.0.waits_is, k.0.times)
 stage-waits e rest kept at s stage.Lent h k = absurd h
-stage-waits e rest kept at s (stage.Offering n by) h k = (ap (λ (x : Standing). x.waits) h ∙ sym k.waits_is, k.times)
-stage-waits e rest kept at s (stage.Moved n by) h k = (ap (λ (x : Standing). x.waits) h ∙ sym k.waits_is, k.times)
-stage-waits e rest kept at s (stage.Closed last) h k = (ap (λ (x : Standing). x.waits) h ∙ sym k.waits_is, k.times)
+stage-waits e rest kept at s _ h k = (ap (λ (x : Standing). x.waits) h ∙ sym k.waits_is, k.times)
 
 row-waits : (rest : Option FrontRest) (kept : List Kept) (at : Standing) (s : Stand) (o : Option FrontRow) → IsRowSound rest kept at o → RowStands s o → (at.waits ≡ s.waits) × (s.times ≤ 1)
 row-waits rest kept at s None h k = let few = k.times in (ap (λ (x : Standing). x.waits) h.1 ∙ sym k.waits_is, omega (arith, few))
@@ -147,10 +145,7 @@ line-is-kept config files m checked r = line-kept config files checked m r
 stage-so : (s : Stand) (at : FrontConn) → StageStands s at → s.waits ≡ is_waiting at
 stage-so s (stage.Held b) k = k.0.waits_is
 stage-so s (stage.Waiting b) k = k.0.waits_is
-stage-so s stage.Lent k = k.waits_is
-stage-so s (stage.Offering n epoch) k = k.waits_is
-stage-so s (stage.Moved n epoch) k = k.waits_is
-stage-so s (stage.Closed last) k = k.waits_is
+stage-so s _ k = k.waits_is
 
 row-so : (s : Stand) (o : Option FrontRow) → RowStands s o → s.waits ≡ waits_there o
 row-so s None k = k.waits_is

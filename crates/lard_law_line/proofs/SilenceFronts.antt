@@ -121,10 +121,8 @@ module _ (env : FrontEnv) (P R : ControlBlock → Type 0) (Word : Said → Type 
   fires-at row found (stage.Waiting b) at =
       let given : Ending × Turn = fired env (rest_of p.rest) b in
       rests-has row (rest_of p.rest) stage.Waiting (λ Q b q. q) given (leaves_by env.serve.c given.0) (fired-has env.serve P R Word Reply k b (rest_of p.rest).count (row-has row (stage.Waiting b) found at))
-  fires-at row found stage.Lent at = tt
   fires-at row found (stage.Offering n e) at = λ d. tt
-  fires-at row found (stage.Moved n e) at = tt
-  fires-at row found (stage.Closed last) at = tt
+  fires-at row found _ at = tt
 
   fires-has : (q : Option FrontRow) → p.row ≡ q → Goes (fired_by env p q)
   fires-has None found = tt
@@ -179,11 +177,7 @@ module _ (R : ControlBlock → Type 0) (Reply : ControlBlock → Said → Type 0
 
     admitted-at : (row : FrontRow) (st : FrontConn) → admitted_at env p choice row st ≡ Some given → Admits given
     admitted-at row (stage.Waiting b) e = admitted-with row b (rest_of p.rest).target e
-    admitted-at row (stage.Held b) e = let no : None ≡ Some given = e in absurd cc
-    admitted-at row stage.Lent e = let no : None ≡ Some given = e in absurd cc
-    admitted-at row (stage.Offering n d) e = let no : None ≡ Some given = e in absurd cc
-    admitted-at row (stage.Moved n d) e = let no : None ≡ Some given = e in absurd cc
-    admitted-at row (stage.Closed last) e = let no : None ≡ Some given = e in absurd cc
+    admitted-at row _ e = let no : None ≡ Some given = e in absurd cc
 
     admitted-by : (q : Option FrontRow) → admitted_by env p choice q ≡ Some given → Admits given
     admitted-by None e = let no : None ≡ Some given = e in absurd cc

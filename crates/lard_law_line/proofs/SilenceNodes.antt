@@ -69,9 +69,7 @@ module _ (env : NodeEnv) (P R Q : ControlBlock → Type 0) (Word : Said → Type
 
       of-stage : (d : BackConn) (o : Option Stay) → BackStageHas R Q d o → G (both_of (held_in d) o)
       of-stage (back.Here b) o r = of-stay b o r
-      of-stage back.Out o r = none
-      of-stage back.Ended o r = none
-      of-stage back.Gone o r = none
+      of-stage _ o r = none
 
       at-endpoint : (q : Option BackRow) → BackHas R Q q p.stay → G (both_of (endpoint_of q) p.stay)
       at-endpoint None r = none

@@ -15,10 +15,7 @@ module _ (P Q : ControlBlock → Type 0) (w : (b : ControlBlock) → P b → Q b
   stage-weaker : (st : FrontConn) → FrontStageHas P st → FrontStageHas Q st
   stage-weaker (stage.Held b) h = w b h
   stage-weaker (stage.Waiting b) h = w b h
-  stage-weaker stage.Lent h = tt
-  stage-weaker (stage.Offering n e) h = tt
-  stage-weaker (stage.Moved n e) h = tt
-  stage-weaker (stage.Closed last) h = tt
+  stage-weaker _ h = tt
 
   pub front-weaker : (q : Option FrontRow) → FrontHas P q → FrontHas Q q
   front-weaker None h = tt
@@ -39,9 +36,7 @@ module _ (P Q R : ControlBlock → Type 0) (w : (b : ControlBlock) → P b → Q
 
   back-weaker : (d : BackConn) (o : Option Stay) → BackStageHas P R d o → BackStageHas Q R d o
   back-weaker (back.Here b) o h = here-weaker b o h
-  back-weaker back.Out o h = tt
-  back-weaker back.Ended o h = tt
-  back-weaker back.Gone o h = tt
+  back-weaker _ o h = tt
 
   row-weaker : (q : Option BackRow) (o : Option Stay) → BackHas P R q o → BackHas Q R q o
   row-weaker None o h = tt

@@ -15,10 +15,7 @@ use Rattle.lard_rules.specs.Node.{NodePart}
 abbrev pub FrontStageHas : (ControlBlock → Type 0) → FrontConn → Type 0
 FrontStageHas P (stage.Held b) = P b
 FrontStageHas P (stage.Waiting b) = P b
-FrontStageHas P stage.Lent = Unit {0}
-FrontStageHas P (stage.Offering n e) = Unit {0}
-FrontStageHas P (stage.Moved n e) = Unit {0}
-FrontStageHas P (stage.Closed last) = Unit {0}
+FrontStageHas P _ = Unit {0}
 
 abbrev pub FrontHas : (ControlBlock → Type 0) → Option FrontRow → Type 0
 FrontHas P None = Unit {0}
@@ -37,9 +34,7 @@ HereHas P Q b (Some s) = P b
 
 abbrev pub BackStageHas : (ControlBlock → Type 0) → (ControlBlock → Type 0) → BackConn → Option Stay → Type 0
 BackStageHas P Q (back.Here b) o = HereHas P Q b o
-BackStageHas P Q back.Out o = Unit {0}
-BackStageHas P Q back.Ended o = Unit {0}
-BackStageHas P Q back.Gone o = Unit {0}
+BackStageHas P Q _ o = Unit {0}
 
 abbrev pub BackHas : (ControlBlock → Type 0) → (ControlBlock → Type 0) → Option BackRow → Option Stay → Type 0
 BackHas P Q None o = Unit {0}

@@ -67,9 +67,7 @@ use Rattle.lard_law_ends.proofs.EndpointSends.{AllTo, ready-to}
 
 left-counts : (stream : ℕ) (v : Served) (st : BackConn) → IsLeft st → BackCounts stream v (Some (record { stage = st; epoch = record { 0 = 0 } }))
 left-counts stream v (back.Here b) h = absurd h
-left-counts stream v back.Out h = tt
-left-counts stream v back.Ended h = tt
-left-counts stream v back.Gone h = tt
+left-counts stream v _ h = tt
 
 pub past-counts : (stream : ℕ) (v : Served) (e : ℕ) (o : Option BackRow) → IsPast e o → BackCounts stream v o
 past-counts stream v e None h = tt
@@ -304,10 +302,8 @@ module _ (k : Setting) (most : k.stream ≤ 2 ^ 30) (x : Conn) (sound_x : IsSoun
       let before : List (Place × List ℕ) = ready_of env.serve (after_timer b) (timed b) in
       says-waiting (ours-at row (stage.Waiting b) found at tt) row (rest_of p.rest) b (after_timer b) before (timer-many b) (after_timer-sound b c.0.sound)
       (spoken-idle env.serve (serving (after_timer b) (rest_of p.rest).count []) before (timer-idle b (idle-of b c.1 c.0.sound.sending.queued))) (ready-to env.serve (after_timer b) (timed b)) c.0
-  fires-at row found stage.Lent at = dropped
   fires-at row found (stage.Offering n e) at = says (map sent_of p.kept) (resent-letters p.kept sound_x.front)
-  fires-at row found (stage.Moved n e) at = dropped
-  fires-at row found (stage.Closed last) at = dropped
+  fires-at row found _ at = dropped
 
   fires : (o : Option FrontRow) → p.row ≡ o → Stays (fired_by env p o)
   fires None found = dropped
@@ -388,11 +384,7 @@ module _ (k : Setting) (most : k.stream ≤ 2 ^ 30) (x : Conn) (sound_x : IsSoun
 
     admitted-at : (row : FrontRow) (st : FrontConn) → p.row ≡ Some row → row.stage ≡ st → admitted_at env p choice row st ≡ Some given → Admitted given
     admitted-at row (stage.Waiting b) found at e = admitted-with row b (rest_of p.rest).target found at e
-    admitted-at row (stage.Held b) found at e = let no : None ≡ Some given = e in absurd cc
-    admitted-at row stage.Lent found at e = let no : None ≡ Some given = e in absurd cc
-    admitted-at row (stage.Offering n d) found at e = let no : None ≡ Some given = e in absurd cc
-    admitted-at row (stage.Moved n d) found at e = let no : None ≡ Some given = e in absurd cc
-    admitted-at row (stage.Closed last) found at e = let no : None ≡ Some given = e in absurd cc
+    admitted-at row _ found at e = let no : None ≡ Some given = e in absurd cc
 
     admitted-by : (o : Option FrontRow) → p.row ≡ o → admitted_by env p choice o ≡ Some given → Admitted given
     admitted-by None found e = let no : None ≡ Some given = e in absurd cc

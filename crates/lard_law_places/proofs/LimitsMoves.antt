@@ -80,14 +80,7 @@ module _ (stream : ℕ) (w v : Served) (p q : Part) (grows : Grows p q) (old : (
 
   body-on : (n e : ℕ) (b : Body) → MaySay p Front (Node n) (Some (head (kind_of b) e)) → BodyCounts stream w e (p.nodes n).row b → BodyCounts stream v e (q.nodes n).row b
   body-on n e (body.Offer parts) said h = offer-on n e (parts.una - 1) said h
-  body-on n e (body.Forward segment) said h = tt
-  body-on n e body.Taken said h = tt
-  body-on n e (body.Ask number queue size paths) said h = tt
-  body-on n e (body.Tag number nodes) said h = tt
-  body-on n e (body.Fetch r path) said h = tt
-  body-on n e (body.Content r file) said h = tt
-  body-on n e (body.Ended reason snd rcv count) said h = tt
-  body-on n e body.EndedAck said h = tt
+  body-on n e _ said h = tt
 
   letter-on : (from to : Place) (bytes : List ℕ) → MaySay p from to (head_of bytes) → LetterCountsOn stream w p from to bytes → LetterCountsOn stream v q from to bytes
   letter-on Front (Node n) bytes said h = λ m d. body-on n m.epoch.0 m.body (subst (MaySay p Front (Node n)) (decoded-head bytes m d) said) (h m d)

@@ -127,9 +127,7 @@ module _ (k : Setting) (x : Conn) (at_place : IsPlaced x) (h : IsLimited k.strea
 
   held-stage : (st : BackConn) (b : ControlBlock) → held_in st ≡ Some b → st ≡ back.Here b
   held-stage (back.Here c) b e = let same : c ≡ b = cc in ap back.Here same
-  held-stage back.Out b e = let no : None ≡ Some b = e in absurd cc
-  held-stage back.Ended b e = let no : None ≡ Some b = e in absurd cc
-  held-stage back.Gone b e = let no : None ≡ Some b = e in absurd cc
+  held-stage _ b e = let no : None ≡ Some b = e in absurd cc
 
   has-row : (n : ℕ) (row : BackRow) (b : ControlBlock) → (nodes n).row ≡ Some row → held_in row.stage ≡ Some b → HasIt n row.epoch.0 b
   has-row n row b is held =

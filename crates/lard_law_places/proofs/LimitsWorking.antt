@@ -97,9 +97,7 @@ module _ (env : NodeEnv) (P : Service → Type 0) (kept : KeptByServing env.serv
 
   serves-by : (e : Entry) (rest : List Entry) (k : Work) (p : Progress) → may_read k.service ≡ true → Works k → Works (serves_by env e rest k p)
   serves-by e rest k (progress.Ready way) may h = kept.answers k.service way e.verdict may h
-  serves-by e rest k progress.Named may h = h
-  serves-by e rest k progress.Reading may h = h
-  serves-by e rest k (progress.Awaited node) may h = h
+  serves-by e rest k _ may h = h
 
   serves-so : (k : Work) (es : List Entry) → may_read k.service ≡ true → Works k → Works (serves_first env k es)
   serves-so k [] may h = h

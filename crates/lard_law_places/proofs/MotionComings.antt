@@ -57,15 +57,8 @@ assigned-still c ask r (path ∷ paths) (choice ∷ choices) = (tt, assigned-sti
 -- ---- messages
 
 pub is-not-forward : (k : Kind) (e : ℕ) → (k ≡ kind.Forward → ⊥) → is_forward (Some (head k e)) ≡ false
-is-not-forward kind.Offer e other = refl
-is-not-forward kind.Taken e other = refl
 is-not-forward kind.Forward e other = absurd (other refl)
-is-not-forward kind.Ask e other = refl
-is-not-forward kind.Tag e other = refl
-is-not-forward kind.Fetch e other = refl
-is-not-forward kind.Content e other = refl
-is-not-forward kind.Ended e other = refl
-is-not-forward kind.EndedAck e other = refl
+is-not-forward _ e other = refl
 
 -- one of another kind is no Forward
 pub not-forwarded : (n c e : ℕ) (b : Body) → (kind_of b ≡ kind.Forward → ⊥) → forward_to (rec.Sent 0 Front (Node n) (message c e b)) ≡ None

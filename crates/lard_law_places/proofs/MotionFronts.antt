@@ -380,10 +380,8 @@ module _ (k : Setting) (x : Conn) (at_place : IsPlaced x) (known : IsKnown x) (h
           let given : Ending × Turn = fired env (rest_of p.rest) b in
           ends-move row found h (rest_of p.rest) stage.Waiting (λ c. held-behind h) given (leaves_by env.serve.c given.0) tt
           (spoken-to env.serve (serving (after_timer b) (rest_of p.rest).count []) (ready_of env.serve (after_timer b) (timed b)) (ready-to env.serve (after_timer b) (timed b)))
-      fires-at row found stage.Lent at = nothing-drops no_segments no_syn
       fires-at row found (stage.Offering n d) at = nothing-says no_segments no_syn (map sent_of p.kept) (resent-none p.kept known.kept)
-      fires-at row found (stage.Moved n d) at = nothing-drops no_segments no_syn
-      fires-at row found (stage.Closed last) at = nothing-drops no_segments no_syn
+      fires-at row found _ at = nothing-drops no_segments no_syn
 
       fires : (o : Option FrontRow) → p.row ≡ o → Goes (fired_by env p o)
       fires None found = nothing-drops no_segments no_syn
@@ -406,11 +404,7 @@ module _ (k : Setting) (x : Conn) (at_place : IsPlaced x) (known : IsKnown x) (h
         go : (b : Bool) → (d.0 == epoch) ≡ b → Goes (taken_by p epoch (Some row) (cond b (Some n) None))
         go true e = taken-row row n d epoch found at (eqb-true d.0 epoch e)
         go false e = nothing-drops no_segments no_syn
-      taken-at epoch row found (stage.Held b) at = nothing-drops no_segments no_syn
-      taken-at epoch row found (stage.Waiting b) at = nothing-drops no_segments no_syn
-      taken-at epoch row found stage.Lent at = nothing-drops no_segments no_syn
-      taken-at epoch row found (stage.Moved n d) at = nothing-drops no_segments no_syn
-      taken-at epoch row found (stage.Closed last) at = nothing-drops no_segments no_syn
+      taken-at epoch row found _ at = nothing-drops no_segments no_syn
 
       taken-by : (epoch : ℕ) (o : Option FrontRow) → p.row ≡ o → Goes (taken_by p epoch o (asked_node epoch o))
       taken-by epoch None found = nothing-drops no_segments no_syn
@@ -549,10 +543,7 @@ module _ (k : Setting) (x : Conn) (at_place : IsPlaced x) (known : IsKnown x) (h
     away-by : (last : Final) (row : FrontRow) → p.row ≡ Some row → (st : FrontConn) → row.stage ≡ st → is_away epoch st ≡ true → StageSits row.epoch.0 own nodes st → Goes (Does (ends env p n epoch last row (next_epoch row)))
     away-by last row found (stage.Offering m d) at away sits = away-ends last row found m d (subst (StageKnown t) at (row-of row found).2) (eqb-true d.0 epoch away) (sym sits.1)
     away-by last row found (stage.Moved m d) at away sits = away-ends last row found m d (subst (StageKnown t) at (row-of row found).2) (eqb-true d.0 epoch away) (sym sits.1)
-    away-by last row found (stage.Held b) at away sits = let no : false ≡ true = away in absurd cc
-    away-by last row found (stage.Waiting b) at away sits = let no : false ≡ true = away in absurd cc
-    away-by last row found stage.Lent at away sits = let no : false ≡ true = away in absurd cc
-    away-by last row found (stage.Closed f) at away sits = let no : false ≡ true = away in absurd cc
+    away-by last row found _ at away sits = let no : false ≡ true = away in absurd cc
 
     ended-row : (last : Final) (row : FrontRow) → p.row ≡ Some row → Goes (ended_by env p n epoch last (Some row) (end_answer epoch (Some row)))
     ended-row last row found = go (is_away epoch row.stage) refl (ended_with epoch row.ended_by) where
@@ -585,11 +576,7 @@ module _ (k : Setting) (x : Conn) (at_place : IsPlaced x) (known : IsKnown x) (h
 
     admitted-at : (row : FrontRow) (st : FrontConn) → p.row ≡ Some row → row.stage ≡ st → admitted_at env p choice row st ≡ Some given → Admitted given
     admitted-at row (stage.Waiting b) found at e = admitted-with row b (rest_of p.rest).target found at e
-    admitted-at row (stage.Held b) found at e = let no : None ≡ Some given = e in absurd cc
-    admitted-at row stage.Lent found at e = let no : None ≡ Some given = e in absurd cc
-    admitted-at row (stage.Offering m d) found at e = let no : None ≡ Some given = e in absurd cc
-    admitted-at row (stage.Moved m d) found at e = let no : None ≡ Some given = e in absurd cc
-    admitted-at row (stage.Closed last) found at e = let no : None ≡ Some given = e in absurd cc
+    admitted-at row _ found at e = let no : None ≡ Some given = e in absurd cc
 
     admitted-by : (o : Option FrontRow) → p.row ≡ o → admitted_by env p choice o ≡ Some given → Admitted given
     admitted-by None found e = let no : None ≡ Some given = e in absurd cc

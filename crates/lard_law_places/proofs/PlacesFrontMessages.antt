@@ -126,11 +126,7 @@ module _ (k : Setting) (x : Conn) (heads : List Seen) (quiet : IsQuiet x heads) 
     go : (b : Bool) → (d.0 == epoch) ≡ b → Owed (taken_by p epoch (Some row) (cond b (Some n) None))
     go true e = taken-owes row n d epoch m found at (eqb-true d.0 epoch e) decided
     go false e = dropped
-  taken-at epoch m row found decided (stage.Held b) at = dropped
-  taken-at epoch m row found decided (stage.Waiting b) at = dropped
-  taken-at epoch m row found decided stage.Lent at = dropped
-  taken-at epoch m row found decided (stage.Moved n d) at = dropped
-  taken-at epoch m row found decided (stage.Closed last) at = dropped
+  taken-at epoch m row found decided _ at = dropped
 
   taken-by : (epoch m : ℕ) → IsDecided epoch (nodes m).row → (o : Option FrontRow) → p.row ≡ o → Owed (taken_by p epoch o (elim o [ None ↦ None | Some row ↦ offered_to epoch row.stage ]))
   taken-by epoch m decided None e = dropped
@@ -229,10 +225,7 @@ module _ (k : Setting) (x : Conn) (heads : List Seen) (quiet : IsQuiet x heads) 
       let sits : StageSits row.epoch.0 w nodes (stage.Moved n d) = subst (StageSits row.epoch.0 w nodes) at (find-row row found).0 in
       then n (record { two = sits.0; others = sits.2; at = inr sits.3 }) (sym sits.1 ∙ eqb-true d.0 epoch away)
       (λ i e offers. absurd (subst (Offers i e) at offers))
-  with-node row found epoch (stage.Held b) at away P then = let no : false ≡ true = away in absurd cc
-  with-node row found epoch (stage.Waiting b) at away P then = let no : false ≡ true = away in absurd cc
-  with-node row found epoch stage.Lent at away P then = let no : false ≡ true = away in absurd cc
-  with-node row found epoch (stage.Closed last) at away P then = let no : false ≡ true = away in absurd cc
+  with-node row found epoch _ at away P then = let no : false ≡ true = away in absurd cc
 
   -- it ended before, and is acknowledged again
   again-owes : (row : FrontRow) (m epoch : ℕ) → p.row ≡ Some row → ended_with epoch row.ended_by ≡ true → Owed (Says (saying (ack_sent env m epoch)))
@@ -286,11 +279,7 @@ module _ (k : Setting) (x : Conn) (held : IsPlaced x) (env : FrontEnv) (is : IsF
   admitted-at : (row : FrontRow) (given : FrontPart × FrontTurn) (st : FrontConn) → x.part.front.row ≡ Some row → row.stage ≡ st → admitted_at env x.part.front choice row st ≡ Some given
       → Owes x (front_admits x given)
   admitted-at row given (stage.Waiting b) found at e = admitted-with row b given (rest_of x.part.front.rest).target found at e
-  admitted-at row given (stage.Held b) found at e = let no : None ≡ Some given = e in absurd cc
-  admitted-at row given stage.Lent found at e = let no : None ≡ Some given = e in absurd cc
-  admitted-at row given (stage.Offering n d) found at e = let no : None ≡ Some given = e in absurd cc
-  admitted-at row given (stage.Moved n d) found at e = let no : None ≡ Some given = e in absurd cc
-  admitted-at row given (stage.Closed last) found at e = let no : None ≡ Some given = e in absurd cc
+  admitted-at row given _ found at e = let no : None ≡ Some given = e in absurd cc
 
   admitted-by : (given : FrontPart × FrontTurn) (o : Option FrontRow) → x.part.front.row ≡ o → admitted_by env x.part.front choice o ≡ Some given → Owes x (front_admits x given)
   admitted-by given None found e = let no : None ≡ Some given = e in absurd cc

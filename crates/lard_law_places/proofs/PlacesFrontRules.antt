@@ -178,11 +178,9 @@ module _ (k : Setting) (x : Conn) (heads : List Seen) (quiet : IsQuiet x heads) 
         let sits : StageSits row.epoch.0 w nodes (stage.Waiting b) = subst (StageSits row.epoch.0 w nodes) at h.0 in
         says-owe x heads quiet env is.number row found sits.0 sits.1 h.1 (λ n e. subst (λ (q : FrontConn). Offers n e q → ⊥) (sym at) (λ o. o)) (rest_of p.rest) stage.Waiting
         (serving (after_timer b) (rest_of p.rest).count []) (ready_of env.serve (after_timer b) (timed b)) (leaves_by env.serve.c (fired env (rest_of p.rest) b).0) (λ b home. (sits.0, home)) tt (ready-to env.serve (after_timer b) (timed b))
-    fires-at row found stage.Lent at = dropped
     fires-at row found (stage.Offering n e) at =
         messages-owe x heads quiet placed (map sent_of p.kept) (resent-machines x Front p.kept sound.front) (resent-tells x Front p.kept placed.letters sound.front)
-    fires-at row found (stage.Moved n e) at = dropped
-    fires-at row found (stage.Closed last) at = dropped
+    fires-at row found _ at = dropped
 
     fires : (o : Option FrontRow) → p.row ≡ o → Owed (fired_by env p o)
     fires None e = dropped

@@ -161,9 +161,7 @@ module _ (P : List Rec → Type 0) (more : (ns rs : List Rec) → Each IsPlain r
 
   serves_by-notes : (env : NodeEnv) (e : Entry) (rest : List Entry) (w : Work) (p : Progress) → WorksSo w → WorksSo (serves_by env e rest w p)
   serves_by-notes env e rest w (progress.Ready way) h = answered-notes env.serve way e.verdict w.service h
-  serves_by-notes env e rest w progress.Named h = h
-  serves_by-notes env e rest w progress.Reading h = h
-  serves_by-notes env e rest w (progress.Awaited node) h = h
+  serves_by-notes env e rest w _ h = h
 
   serves-notes : (env : NodeEnv) (w : Work) (es : List Entry) → WorksSo w → WorksSo (serves_first env w es)
   serves-notes env w [] h = h

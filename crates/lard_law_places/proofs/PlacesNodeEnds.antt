@@ -75,8 +75,6 @@ module _ (x : Conn) (held : IsPlaced x) (n : ℕ) (row : BackRow) (found : (x.pa
   )
 
   stage-gone : (f : FrontRow) → x.part.front.row ≡ Some f → (st : FrontConn) → StageSits f.epoch.0 w nodes st → StageSits f.epoch.0 w (node_put nodes n q) st
-  stage-gone f at (stage.Held b) s = (s.0, (s.1.0, all-past f.epoch.0 s.1.1))
-  stage-gone f at (stage.Waiting b) s = (s.0, (s.1.0, all-past f.epoch.0 s.1.1))
   stage-gone f at stage.Lent s = absurd s
   stage-gone f at (stage.Offering m d) s = (
     s.0,
@@ -86,7 +84,7 @@ module _ (x : Conn) (held : IsPlaced x) (n : ℕ) (row : BackRow) (found : (x.pa
         (λ (there : IsThere m f.epoch.0 w (nodes m).row). inr (other-there m f.epoch.0 (not-there m f.epoch.0 f at refl there) there)) s.3,
   )
   stage-gone f at (stage.Moved m d) s = (s.0, s.1, others-past m f.epoch.0 s.2, other-there m f.epoch.0 (not-there m f.epoch.0 f at refl s.3) s.3)
-  stage-gone f at (stage.Closed last) s = (s.0, (s.1.0, all-past f.epoch.0 s.1.1))
+  stage-gone f at _ s = (s.0, (s.1.0, all-past f.epoch.0 s.1.1))
 
   row-gone : (o : Option FrontRow) → x.part.front.row ≡ o → Sits w nodes o → Sits w (node_put nodes n q) o
   row-gone None at h = (h.0, all-past 0 h.1)

@@ -46,10 +46,7 @@ pub record EndpointCounts (stream : ℕ) (w : Served) (b : ControlBlock) : Type 
 abbrev pub FrontStageCounts : ℕ → Served → FrontConn → Type 0
 FrontStageCounts stream w (stage.Held b) = EndpointCounts stream w b
 FrontStageCounts stream w (stage.Waiting b) = EndpointCounts stream w b × (may_freeze b ≡ true)
-FrontStageCounts stream w stage.Lent = Unit {0}
-FrontStageCounts stream w (stage.Offering n d) = Unit {0}
-FrontStageCounts stream w (stage.Moved n d) = Unit {0}
-FrontStageCounts stream w (stage.Closed last) = Unit {0}
+FrontStageCounts stream w _ = Unit {0}
 
 -- before the front end knows a connection, nothing was served on it
 abbrev pub FrontCounts : ℕ → Served → Option FrontRow → Type 0
@@ -58,9 +55,7 @@ FrontCounts stream w (Some row) = FrontStageCounts stream w row.stage
 
 abbrev pub BackStageCounts : ℕ → Served → BackConn → Type 0
 BackStageCounts stream w (back.Here b) = Counts stream w b.send.total
-BackStageCounts stream w back.Out = Unit {0}
-BackStageCounts stream w back.Ended = Unit {0}
-BackStageCounts stream w back.Gone = Unit {0}
+BackStageCounts stream w _ = Unit {0}
 
 abbrev pub BackCounts : ℕ → Served → Option BackRow → Type 0
 BackCounts stream w None = Unit {0}

@@ -268,10 +268,8 @@ module _ (d : Dispatcher) (ins : List ℕ) (in_ : AreIn ins d.books.loads.standi
     fires-tells : (row : FrontRow) (at : FrontConn) → IsStageSound row.epoch.0 p.rest p.kept (standing d env.serve.c) at → TellsOf (fires_at env p row at)
     fires-tells row (stage.Held b) h = holds-tells env.serve.c env.now p row (rest_of p.rest) (fired env (rest_of p.rest) b) (ap (λ (x : Standing). x.waits) h.2) tt
     fires-tells row (stage.Waiting b) h = waits-tells env p row (fired env (rest_of p.rest) b) tt
-    fires-tells row stage.Lent h = tt
     fires-tells row (stage.Offering node epoch) h = record { notes = refl; gave = refl }
-    fires-tells row (stage.Moved node epoch) h = tt
-    fires-tells row (stage.Closed last) h = tt
+    fires-tells row _ h = tt
 
     pub timer-tells : IsPartSound p (standing d env.serve.c) → TellsOf (front_timer env p)
     timer-tells h = go p.row h where

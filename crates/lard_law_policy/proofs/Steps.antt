@@ -272,12 +272,7 @@ module _ (k : FrontSetting) (s : FrontState) (sound : IsFrontSound s) (lined : A
       deed-tells c (front_asked (front_env k s c 0) (front_part s c) from epoch (ask_of c from number queue size paths))
       (asked-tells s.dispatch ins in_ sound.books (front_env k s c 0) (env-of c 0) (front_part s c) from epoch number queue size paths table.1 (sound.each c))
   told-tells from c epoch (body.Ended reason snd rcv count) table = ended-tells c from epoch (record { reason = reason; snd = record { 0 = snd }; rcv = record { 0 = rcv } })
-  told-tells from c epoch (body.Offer parts) table = still-tells
-  told-tells from c epoch (body.Forward bytes) table = still-tells
-  told-tells from c epoch (body.Tag number nodes) table = still-tells
-  told-tells from c epoch (body.Fetch r path) table = still-tells
-  told-tells from c epoch (body.Content r bytes) table = still-tells
-  told-tells from c epoch body.EndedAck table = still-tells
+  told-tells from c epoch _ table = still-tells
 
   message-tells : (from : ℕ) (r : Result Message MsgFault) → IsTold r → Fine (message_comes k s from r)
   message-tells from (Err e) told = still-tells

@@ -38,11 +38,7 @@ module _ (files : FilesAt) (p : Part) (st : Station) (env : FrontEnv) (choice : 
 
     at-stage : (c : FrontConn) → row.stage ≡ c → admitted_at env p.front choice row c ≡ Some given → ⊥
     at-stage (stage.Waiting b) is e = with-target (stage.Waiting b) is (rest_of p.front.rest).target (b, refl) e
-    at-stage (stage.Held b) is e = none-given given e
-    at-stage stage.Lent is e = none-given given e
-    at-stage (stage.Offering n d) is e = none-given given e
-    at-stage (stage.Moved n d) is e = none-given given e
-    at-stage (stage.Closed last) is e = none-given given e
+    at-stage _ is e = none-given given e
 
   pub admitted-moves : IsFresh p.nodes p.front.row → front_admitted env p.front choice ≡ Some given → ⊥
   admitted-moves fresh e = go p.front.row refl fresh e where

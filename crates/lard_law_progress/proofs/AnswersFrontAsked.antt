@@ -69,13 +69,8 @@ module _ (k : Setting) (w : Whole) (x : Conn) (env : FrontEnv) (is_env : IsFront
     count : length paths ≡ length (named_paths k.files stay.stay.batch)
 
   awaiting : (st : Station) (z : Seat) → NearAsk 2 n epoch number (length paths) (post_of k.files st.client z) → IsAwaiting z
-  awaiting st Unborn near = absurd near
-  awaiting st (Held b c) near = absurd near
-  awaiting st (Waiting b c) near = absurd near
-  awaiting st (Offered m e c) near = absurd near
   awaiting st (Here told m e b s) near = record { told = told; block = b; stay = s; seat = λ i. Here told (near.0 i) (near.1 i) b s; kept = near.2.0; number_of = near.2.1; count = near.2.2 }
-  awaiting st (Gone told m e) near = absurd near
-  awaiting st (Over last) near = absurd near
+  awaiting st _ near = absurd near
 
   -- and what the front end knows of it
   known : (z : Seat) → seat_of x.part ≡ z → (h : IsAwaiting z) → IsAsked k.files h.stay x.part.front.rest

@@ -95,12 +95,10 @@ IsOnlyRefusal x l = (s : Said) → decoded l.bytes x.c ToCluster ≡ Ok s → s.
 -- ---- what the front end keeps
 
 abbrev pub IsStage : FrontConn → Type 0
-IsStage (stage.Held b) = Unit {0}
-IsStage (stage.Waiting b) = Unit {0}
 IsStage stage.Lent = ⊥
 IsStage (stage.Offering n e) = e.0 < 2 ^ 16
 IsStage (stage.Moved n e) = e.0 < 2 ^ 16
-IsStage (stage.Closed last) = Unit {0}
+IsStage _ = Unit {0}
 
 -- the Tag of the last Ask that was answered may be sent
 pub record HasTag (rest : FrontRest) : Type 0 where

@@ -53,12 +53,10 @@ gone-home p row told n e is seat = at row.stage (sym (seat-row p (Some row) is) 
 
 -- its epoch fits a message
 pub at-small : (n e : ℕ) (c : FrontConn) → IsStage c → is_with n e c ≡ true → e < 2 ^ 16
-at-small n e (stage.Held d) h f = absurd cc
-at-small n e (stage.Waiting d) h f = absurd cc
 at-small n e stage.Lent h f = absurd h
 at-small n e (stage.Offering m d) h f = let p = and_parts (m == n) (d.0 == e) f in let s : d.0 ≡ e = eqb-true d.0 e p.1 in omega (arith, s, h)
 at-small n e (stage.Moved m d) h f = let p = and_parts (m == n) (d.0 == e) f in let s : d.0 ≡ e = eqb-true d.0 e p.1 in omega (arith, s, h)
-at-small n e (stage.Closed last) h f = absurd cc
+at-small n e _ h f = absurd cc
 
 pub small-at : (n e : ℕ) (o : Option FrontRow) → ((row : FrontRow) → o ≡ Some row → IsStage row.stage) → is_at n e o ≡ true → e < 2 ^ 16
 small-at n e None h f = absurd cc

@@ -37,16 +37,13 @@ module _ (k : Setting) (w : Whole) (x : Conn) (given : FrontGiven k.files w x) (
 
   -- nor where it is not offered
   unawaited : (xc : ClientBlock) (c : FrontConn) → offered_to epoch c ≡ None → (d : ℕ) → NearTaken d epoch (post_of k.files xc (seat_in x.part.front x.part.nodes c)) → ⊥
-  unawaited xc (stage.Held b) none d near = near
-  unawaited xc (stage.Waiting b) none d near = near
-  unawaited xc stage.Lent none d near = near
   unawaited xc (stage.Offering m e) none d near =
       away-cases false m e.0 (rest_of x.part.front.rest).count (x.part.nodes m) (λ (z : Seat). NearTaken d epoch (post_of k.files xc z) → ⊥) (λ near. near) (λ b near. differ near.0) (λ near. differ near.0) near
     where
       differ : e.0 ≡ epoch → ⊥
       differ same = let t : offered_to epoch (stage.Offering m e) ≡ Some m = ap (λ (t : Bool). cond t (Some m) None) (eq-eqb e.0 epoch same) in let bad : Some m ≡ None = sym t ∙ none in cc
   unawaited xc (stage.Moved m e) none d near = never xc m e.0 (rest_of x.part.front.rest).count (x.part.nodes m) d near
-  unawaited xc (stage.Closed last) none d near = near
+  unawaited xc _ none d near = near
 
   taken-near : (t : Spot) (d : ℕ) → Near k.files t x.c d (l k w x n bytes) → NearTaken d epoch t.post
   taken-near t d near = subst (OfMessage (λ m. NearSaid t d n m.epoch.0 m.body)) spells near

@@ -52,15 +52,9 @@ JobOwes k w x v = units w k.nodes x ≤ units w k.nodes (grown x v) → Every (�
 -- ---- a content, whatever it is of
 
 content-kind : (b : Body) → kind_of b ≡ kind.Content → aside_chain b ≡ 0
-content-kind (body.Content r file) e = refl
 content-kind (body.Offer parts) e = absurd (let bad : kind.Offer ≡ kind.Content = e in cc)
-content-kind body.Taken e = refl
-content-kind (body.Forward segment) e = refl
-content-kind (body.Ask number queue size paths) e = refl
-content-kind (body.Tag number nodes) e = refl
 content-kind (body.Fetch r path) e = absurd (let bad : kind.Fetch ≡ kind.Content = e in cc)
-content-kind (body.Ended why snd rcv count) e = refl
-content-kind body.EndedAck e = refl
+content-kind _ e = refl
 
 nothing-comes : (t : Spot) (c n to e r : ℕ) (file : List ℕ) → chain t c (content_letter n to c e r file) ≡ 0
 nothing-comes t c n to e r file = go (decoded_message (spelled_message m)) refl where

@@ -257,15 +257,13 @@ module _ (k : Whole) (K : ℕ) (files : FilesAt) (p : Part) (st : Station) (y : 
   spoken-less Open Open on = let u : x.send.una ≤ y.send.una = turned.ahead.una in let s = shut in omega (arith, u, s)
   spoken-less Open Aborted (inl e) = absurd (let bad : Aborted ≡ Open = e in cc)
   spoken-less Open Aborted (inr e) = absurd (let bad : Aborted ≡ Reset = e.1 in cc)
-  spoken-less Open Reset on = omega arith
   spoken-less Aborted Open (inl e) = absurd (let bad : Open ≡ Aborted = e in cc)
   spoken-less Aborted Open (inr e) = absurd (let bad : Aborted ≡ Open = e.0 in cc)
   spoken-less Aborted Aborted on = omega arith
-  spoken-less Aborted Reset on = omega arith
   spoken-less Reset Open (inl e) = absurd (let bad : Open ≡ Reset = e in cc)
   spoken-less Reset Open (inr e) = absurd (let bad : Reset ≡ Open = e.0 in cc)
   spoken-less Reset Aborted on = omega arith
-  spoken-less Reset Reset on = omega arith
+  spoken-less _ Reset on = omega arith
 
   ended-less : (q r : Phase) → OnPhase q r → ended_left k y r ≤ ended_left k x q
   ended-less q Reset on = omega arith
@@ -288,13 +286,9 @@ module _ (k : Whole) (K : ℕ) (files : FilesAt) (p : Part) (st : Station) (y : 
   heard-less (Over last) = ended-less x.phase y.phase turned.takes.phase
 
   seat-same : (z : Seat) → seat_left k y z ≡ seat_left k x z
-  seat-same Unborn = refl
   seat-same (Held b count) = ap (λ w. 1 + hand_off k.requests + one_if_not (b.send.wnd == w)) turned.takes.wnd
-  seat-same (Waiting b count) = refl
-  seat-same (Offered n e count) = refl
   seat-same (Here told n e b s) = ap (λ w. 3 + one_if_not told + one_if_not (b.send.wnd == w)) turned.takes.wnd
-  seat-same (Gone told n e) = refl
-  seat-same (Over last) = refl
+  seat-same _ = refl
 
   abbrev left_by : ClientBlock → Seat → ℕ
   left_by u z = client_left k u + heard_left k u z + (seat_left k u z + tellers p.nodes K) + requests_left k z

@@ -159,10 +159,8 @@ came-on f k r w =
 
 -- a job that makes nothing ready leaves the batch as it is
 ready-is : (p : Progress) → progress_left p ≤ progress_left (read_progress p) → read_progress p ≡ p
-ready-is progress.Named e = refl
 ready-is progress.Reading e = absurd (omega arith)
-ready-is (progress.Awaited node) e = refl
-ready-is (progress.Ready way) e = refl
+ready-is _ e = refl
 
 still-batch : (i : ℕ) (es : List Entry) → batch_left es ≤ batch_left (come_on read_progress i es) → come_on read_progress i es ≡ es
 still-batch i [] e = refl

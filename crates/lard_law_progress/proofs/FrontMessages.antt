@@ -66,11 +66,7 @@ module _ (w : Whole) (K : ℕ) (files : FilesAt) (p : Part) (st : Station) where
   taken-by : (epoch : ℕ) (row : FrontRow) → p.front.row ≡ Some row → (s : FrontConn) → row.stage ≡ s → Owes (taken_by p.front epoch (Some row) (offered_to epoch s))
   taken-by epoch row at (stage.Offering n d) is =
       cond_both (d.0 == epoch) (Some n) None (λ (o : Option ℕ). Owes (taken_by p.front epoch (Some row) o)) (λ t. taken-at row n d epoch at is (eqb-true d.0 epoch t)) (λ t. tt)
-  taken-by epoch row at (stage.Held b) is = tt
-  taken-by epoch row at (stage.Waiting b) is = tt
-  taken-by epoch row at stage.Lent is = tt
-  taken-by epoch row at (stage.Moved n d) is = tt
-  taken-by epoch row at (stage.Closed last) is = tt
+  taken-by epoch row at _ is = tt
 
   pub taken-lasts : (epoch : ℕ) → Owes (front_taken p.front epoch)
   taken-lasts epoch = go p.front.row refl where

@@ -47,9 +47,7 @@ module _ (k : Whole) (K : ℕ) (files : FilesAt) (p : Part) (st : Station) where
   To p' = Lasting k K files p st p' st
 
   ended-untaken : (ph : Phase) → ended_left k x ph ≤ untaken k x
-  ended-untaken phase.Open = omega arith
-  ended-untaken phase.Aborted = omega arith
-  ended-untaken phase.Reset = omega arith
+  ended-untaken _ = omega arith
 
   ended-block : (b : ControlBlock) → b.send.una ≤ taken x → (ph : Phase) → ended_left k x ph ≤ block_left k x b
   ended-block b una phase.Open = omega (arith, una)

@@ -74,11 +74,7 @@ module _ (w : Whole) (K : ℕ) (files : FilesAt) (p : Part) (st : Station) where
   admits-at : (env : FrontEnv) (choice : FirstChoice) (given : FrontPart × FrontTurn) (row : FrontRow) → p.front.row ≡ Some row → SeatKnown w st.client (seat_of p) → IsFresh p.nodes (Some row)
       → (s : FrontConn) → row.stage ≡ s → admitted_at env p.front choice row s ≡ Some given → To given.0
   admits-at env choice given row at known fresh (stage.Waiting b) is e = admits-with row b at is known env choice given fresh (rest_of p.front.rest).target e
-  admits-at env choice given row at known fresh (stage.Held b) is e = absurd (let bad : ◌≡◌ {A = Option (FrontPart × FrontTurn)} None (Some given) = e in cc)
-  admits-at env choice given row at known fresh stage.Lent is e = absurd (let bad : ◌≡◌ {A = Option (FrontPart × FrontTurn)} None (Some given) = e in cc)
-  admits-at env choice given row at known fresh (stage.Offering n d) is e = absurd (let bad : ◌≡◌ {A = Option (FrontPart × FrontTurn)} None (Some given) = e in cc)
-  admits-at env choice given row at known fresh (stage.Moved n d) is e = absurd (let bad : ◌≡◌ {A = Option (FrontPart × FrontTurn)} None (Some given) = e in cc)
-  admits-at env choice given row at known fresh (stage.Closed last) is e = absurd (let bad : ◌≡◌ {A = Option (FrontPart × FrontTurn)} None (Some given) = e in cc)
+  admits-at env choice given row at known fresh _ is e = absurd (let bad : ◌≡◌ {A = Option (FrontPart × FrontTurn)} None (Some given) = e in cc)
 
   pub admitted-lasts : (env : FrontEnv) (choice : FirstChoice) (given : FrontPart × FrontTurn) → SeatKnown w st.client (seat_of p) → IsFresh p.nodes p.front.row → front_admitted env p.front choice ≡ Some given → To given.0
   admitted-lasts env choice given known fresh = go p.front.row refl fresh where

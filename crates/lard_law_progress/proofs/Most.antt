@@ -37,9 +37,7 @@ module _ (k : Whole) (x : ClientBlock) where
   spoken-most phase.Reset = omega arith
 
   ended-most : (p : Phase) → ended_left k x p ≤ k.answers + 2
-  ended-most phase.Open = omega arith
-  ended-most phase.Aborted = omega arith
-  ended-most phase.Reset = omega arith
+  ended-most _ = omega arith
 
   heard-most : (z : Seat) → heard_left k x z ≤ k.answers + 3
   heard-most Unborn = omega arith

@@ -57,9 +57,7 @@ module _ (e : ℕ) (q : NodePart) (P : Option (ControlBlock × Stay) → Type 0)
   by-stage row at same (back.Here b) is =
       let now : ◌≡◌ {A = Option BackRow} (Some row) (Some (record { stage = back.Here b; epoch = record { 0 = e } })) = λ i. Some (record { stage = is i; epoch = record { 0 = same i } }) in
       by-stay b (at ∙ now) q.stay refl
-  by-stage row at same back.Out is = none
-  by-stage row at same back.Ended is = none
-  by-stage row at same back.Gone is = none
+  by-stage row at same _ is = none
 
   pub by-here : P (here e q)
   by-here = go q.row refl where
@@ -95,15 +93,11 @@ gone-tells back.Ended e t = absurd (let bad : false ≡ true = t in cc)
 
 ended-tells : (s : BackConn) (e : ℕ) → is_ended s ≡ true → telling s e ≡ Some e
 ended-tells back.Ended e t = refl
-ended-tells (back.Here b) e t = absurd (let bad : false ≡ true = t in cc)
-ended-tells back.Out e t = absurd (let bad : false ≡ true = t in cc)
-ended-tells back.Gone e t = absurd (let bad : false ≡ true = t in cc)
+ended-tells _ e t = absurd (let bad : false ≡ true = t in cc)
 
 ended-there : (told : Bool) (n e count : ℕ) (q : NodePart) (s : BackConn) → is_ended s ≡ true → seat_there told n e count q s ≡ Gone told n e
 ended-there told n e count q back.Ended t = refl
-ended-there told n e count q (back.Here b) t = absurd (let bad : false ≡ true = t in cc)
-ended-there told n e count q back.Out t = absurd (let bad : false ≡ true = t in cc)
-ended-there told n e count q back.Gone t = absurd (let bad : false ≡ true = t in cc)
+ended-there told n e count q _ t = absurd (let bad : false ≡ true = t in cc)
 
 -- an Offer that is new to its node was not decided, and the node tells no end
 new-row : (n e count : ℕ) (q : NodePart) (o : Option BackRow) → offer_answer e o ≡ New → (seat_decided false n e count q o ≡ Offered n e count) × (◌≡◌ {A = ℕ} (cond (is_some (tells_end o)) 1 0) 0)
@@ -239,12 +233,9 @@ module _ (w : Whole) (K : ℕ) (files : FilesAt) (p : Part) (st : Station) (n : 
         (λ t. refl)
 
     same-stage : (s : FrontConn) → seat_in p.front (node_put p.nodes n z) s ≡ seat_in p.front p.nodes s
-    same-stage (stage.Held b) = refl
-    same-stage (stage.Waiting b) = refl
-    same-stage stage.Lent = refl
     same-stage (stage.Offering m d) = same-away false m d.0 (rest_of p.front.rest).count
     same-stage (stage.Moved m d) = same-away true m d.0 (rest_of p.front.rest).count
-    same-stage (stage.Closed last) = refl
+    same-stage _ = refl
 
     same-seat : seat_of (with_node p n z) ≡ seat_of p
     unfolding seat_of

@@ -157,10 +157,7 @@ module _ (w : Whole) (K : ℕ) (files : FilesAt) (p : Part) (st : Station) where
     hears-at : (env : FrontEnv) (bytes : List ℕ) (s : Said) → IsWarmWord x s x.phase → (row : FrontRow) → p.front.row ≡ Some row → (z : FrontConn) → row.stage ≡ z → FrontLasts w K files p st (hears_at env p.front row bytes s z)
     hears-at env bytes s warm row at (stage.Held b) is = held-hears row b at is known heard_all (subst (IsFresh p.nodes) at fresh) env bytes s warm
     hears-at env bytes s warm row at (stage.Waiting b) is = line-hears w K files p st row b at is known env bytes s
-    hears-at env bytes s warm row at stage.Lent is = tt
-    hears-at env bytes s warm row at (stage.Offering n e) is = tt
-    hears-at env bytes s warm row at (stage.Moved n e) is = tt
-    hears-at env bytes s warm row at (stage.Closed last) is = tt
+    hears-at env bytes s warm row at _ is = tt
 
     hears-by : (env : FrontEnv) (bytes : List ℕ) (s : Said) → IsWarmWord x s x.phase → (o : Option FrontRow) → p.front.row ≡ o → FrontLasts w K files p st (front_hears env p.front bytes s o)
     hears-by env bytes s warm None at = meets env s at (subst (SeatKnown w x) (seat-none p at) known)
@@ -173,10 +170,7 @@ module _ (w : Whole) (K : ℕ) (files : FilesAt) (p : Part) (st : Station) where
     fires-at : (env : FrontEnv) (row : FrontRow) → p.front.row ≡ Some row → (z : FrontConn) → row.stage ≡ z → FrontLasts w K files p st (fires_at env p.front row z)
     fires-at env row at (stage.Held b) is = held-fires row b at is known heard_all (subst (IsFresh p.nodes) at fresh) env
     fires-at env row at (stage.Waiting b) is = line-fires w K files p st row b at is known env
-    fires-at env row at stage.Lent is = tt
-    fires-at env row at (stage.Offering n e) is = tt
-    fires-at env row at (stage.Moved n e) is = tt
-    fires-at env row at (stage.Closed last) is = tt
+    fires-at env row at _ is = tt
 
     pub fires-lasts : (env : FrontEnv) → FrontLasts w K files p st (front_timer env p.front)
     fires-lasts env = go p.front.row refl where

@@ -198,10 +198,7 @@ module _ (env : NodeEnv) (kept fetches : List Kept) where
   left-push (x ∷ es) e = let rest = left-push es e in omega arith
 
   two-at-most : (p : Progress) → progress_left p ≤ 2
-  two-at-most progress.Named = omega arith
-  two-at-most progress.Reading = omega arith
-  two-at-most (progress.Awaited node) = omega arith
-  two-at-most (progress.Ready way) = omega arith
+  two-at-most _ = omega arith
 
   one-entered : (e : Entry) (w : Work) → Entered 1 w (entered e w)
   one-entered e w = record {

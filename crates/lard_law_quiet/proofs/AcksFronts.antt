@@ -77,9 +77,7 @@ use Rattle.lard_law_ends.proofs.Speaking.{speaks-stream}
 
 left-acts : (b : Bounds) (st : BackConn) → IsLeft st → BackActs b (Some (record { stage = st; epoch = record { 0 = 0 } }))
 left-acts b (back.Here block) h = absurd h
-left-acts b back.Out h = tt
-left-acts b back.Ended h = tt
-left-acts b back.Gone h = tt
+left-acts b _ h = tt
 
 pub past-acts : (b : Bounds) (e : ℕ) (o : Option BackRow) → IsPast e o → BackActs b o
 past-acts b e None h = tt
@@ -388,10 +386,8 @@ module _ (k : Setting) (small : k.stream ≤ 2 ^ 30) (x : Conn) (sound_x : IsSou
         let given : Ending × Turn = spoken env.serve (serving (after_timer b) (rest_of p.rest).count []) (ready_of env.serve (after_timer b) (timed b)) in
         waits-act (ours-at row (stage.Waiting b) found at tt) row (rest_of p.rest) given (leaves_by env.serve.c given.0)
         (fired-act b (rest_of p.rest).count (goes-here b (rest_of p.rest).count (acts-row row (stage.Waiting b) found at) (agrees-row row (stage.Waiting b) found at).0))
-    fires-at row found stage.Lent at = dropped
     fires-at row found (stage.Offering n e) at = says (map sent_of p.kept) (resent-letters p.kept sound_x.front)
-    fires-at row found (stage.Moved n e) at = dropped
-    fires-at row found (stage.Closed last) at = dropped
+    fires-at row found _ at = dropped
 
     fires : (q : Option FrontRow) → p.row ≡ q → Stays (fired_by env p q)
     fires None found = dropped
@@ -433,10 +429,7 @@ module _ (k : Setting) (small : k.stream ≤ 2 ^ 30) (x : Conn) (sound_x : IsSou
     away-epoch : (e : ℕ) (row_epoch : ℕ) (st : FrontConn) → StageSits row_epoch own nodes st → is_away e st ≡ true → row_epoch ≡ e
     away-epoch e row_epoch (stage.Offering n f) sits away = sym sits.1 ∙ eqb-true f.0 e away
     away-epoch e row_epoch (stage.Moved n f) sits away = sym sits.1 ∙ eqb-true f.0 e away
-    away-epoch e row_epoch (stage.Held b) sits away = let no : false ≡ true = away in absurd cc
-    away-epoch e row_epoch (stage.Waiting b) sits away = let no : false ≡ true = away in absurd cc
-    away-epoch e row_epoch stage.Lent sits away = let no : false ≡ true = away in absurd cc
-    away-epoch e row_epoch (stage.Closed last) sits away = let no : false ≡ true = away in absurd cc
+    away-epoch e row_epoch _ sits away = let no : false ≡ true = away in absurd cc
 
     module _ (n epoch : ℕ) (last : Final) (told : HasEnded epoch p.row ⊎ EndActs bounds (ending.Over last)) where
       ended-new : (row : FrontRow) → p.row ≡ Some row → is_away epoch row.stage ≡ true → Stays (ended_by env p n epoch last (Some row) (New (next_epoch row)))
@@ -476,11 +469,7 @@ module _ (k : Setting) (small : k.stream ≤ 2 ^ 30) (x : Conn) (sound_x : IsSou
 
       admitted-at : (row : FrontRow) (st : FrontConn) → p.row ≡ Some row → row.stage ≡ st → admitted_at env p choice row st ≡ Some given → Admitted given
       admitted-at row (stage.Waiting b) found at e = admitted-with row b (rest_of p.rest).target found at e
-      admitted-at row (stage.Held b) found at e = let no : None ≡ Some given = e in absurd cc
-      admitted-at row stage.Lent found at e = let no : None ≡ Some given = e in absurd cc
-      admitted-at row (stage.Offering n d) found at e = let no : None ≡ Some given = e in absurd cc
-      admitted-at row (stage.Moved n d) found at e = let no : None ≡ Some given = e in absurd cc
-      admitted-at row (stage.Closed last) found at e = let no : None ≡ Some given = e in absurd cc
+      admitted-at row _ found at e = let no : None ≡ Some given = e in absurd cc
 
       admitted-by : (q : Option FrontRow) → p.row ≡ q → admitted_by env p choice q ≡ Some given → Admitted given
       admitted-by None found e = let no : None ≡ Some given = e in absurd cc

@@ -81,9 +81,7 @@ module _ (b d : Bounds) (w : Widens b d) where
 
     back-stage-more : (st : BackConn) → BackActs b (Some (record { stage = st; epoch = record { 0 = 0 } })) → BackActs d (Some (record { stage = st; epoch = record { 0 = 0 } }))
     back-stage-more (back.Here block) h = end-more (ending.Here block 0) h
-    back-stage-more back.Out h = tt
-    back-stage-more back.Ended h = tt
-    back-stage-more back.Gone h = tt
+    back-stage-more _ h = tt
 
     pub back-more : (o : Option BackRow) → BackActs b o → BackActs d o
     back-more None h = tt
@@ -126,24 +124,11 @@ module _ (c : ℕ) (b d : Bounds) (p q : Part) (on : GoesOn b d p q) where
   front-body-on : (n e : ℕ) (a : Body) → FrontSaid p n e (kind_of a) → FrontBodyActs c b e (p.nodes n).row a → FrontBodyActs c d e (q.nodes n).row a
   front-body-on n e (body.Offer parts) said h = offer-on n e parts said h
   front-body-on n e (body.Forward segment) said h = words-more b d on.widens c segment h
-  front-body-on n e body.Taken said h = tt
-  front-body-on n e (body.Ask number queue size paths) said h = tt
-  front-body-on n e (body.Tag number nodes) said h = tt
-  front-body-on n e (body.Fetch r path) said h = tt
-  front-body-on n e (body.Content r file) said h = tt
-  front-body-on n e (body.Ended reason snd rcv count) said h = tt
-  front-body-on n e body.EndedAck said h = tt
+  front-body-on n e _ said h = tt
 
   node-body-on : (n e : ℕ) (a : Body) → NodeSaid (p.nodes n).row e (kind_of a) → NodeBodyActs b e p.front.row a → NodeBodyActs d e q.front.row a
   node-body-on n e (body.Ended reason snd rcv count) said h = end-on n e (ending.Over (record { reason = reason; snd = record { 0 = snd }; rcv = record { 0 = rcv } })) said h
-  node-body-on n e (body.Offer parts) said h = tt
-  node-body-on n e (body.Forward segment) said h = tt
-  node-body-on n e body.Taken said h = tt
-  node-body-on n e (body.Ask number queue size paths) said h = tt
-  node-body-on n e (body.Tag number nodes) said h = tt
-  node-body-on n e (body.Fetch r path) said h = tt
-  node-body-on n e (body.Content r file) said h = tt
-  node-body-on n e body.EndedAck said h = tt
+  node-body-on n e _ said h = tt
 
   letter-on : (from to : Place) (bytes : List ℕ) → MaySay p from to (head_of bytes) → LetterActsOn c b p from to bytes → LetterActsOn c d q from to bytes
   letter-on (Client e) Front bytes said h = words-more b d on.widens c bytes h

@@ -171,9 +171,7 @@ module _ (k : Setting) (small : k.stream ≤ 2 ^ 30) (x : Conn) (number : IsNumb
 
     held-stage : (st : BackConn) (b : ControlBlock) → held_in st ≡ Some b → st ≡ back.Here b
     held-stage (back.Here c) b e = let same : c ≡ b = cc in ap back.Here same
-    held-stage back.Out b e = let no : None ≡ Some b = e in absurd cc
-    held-stage back.Ended b e = let no : None ≡ Some b = e in absurd cc
-    held-stage back.Gone b e = let no : None ≡ Some b = e in absurd cc
+    held-stage _ b e = let no : None ≡ Some b = e in absurd cc
 
     stay-between : (b : ControlBlock) (t : Option Stay) → StayAgrees l.w l.out l.vs pend b t → IsBetween l.w l.out b
     stay-between b None agrees = absurd agrees
@@ -486,11 +484,7 @@ module _ (k : Setting) (small : k.stream ≤ 2 ^ 30) (x : Conn) (number : IsNumb
             let it : IsHere n f.epoch.0 = here-at f n found (stage.Offering m d) at (λ v. tt) (subst (λ (j : ℕ). OthersArePast j f.epoch.0 nodes) offers.0 sits.2) (λ i g q. (sym q.0 ∙ offers.0, omega (arith, q.1, sits.1)))
             (λ d over. subst (HasEnded d) (sym found) (let under = less d over in omega (arith, under, now))) in
             took-act not (subst (IsHere n) now it) (offer-between f m d found at offers.0 offers.1 not)
-        offered-stage f found (stage.Held b) at offers not less = absurd offers
-        offered-stage f found (stage.Waiting b) at offers not less = absurd offers
-        offered-stage f found stage.Lent at offers not less = absurd offers
-        offered-stage f found (stage.Moved m d) at offers not less = absurd offers
-        offered-stage f found (stage.Closed last) at offers not less = absurd offers
+        offered-stage f found _ at offers not less = absurd offers
 
         offered-front : (q : Option FrontRow) → x.part.front.row ≡ q → IsOffered n epoch q → (IsDecided epoch ours.row → ⊥) → ((d : ℕ) → IsOver d ours.row → d < env.epoch) → Stays (offered_by env parts ours New)
         offered-front None found offered not less = absurd offered

@@ -110,11 +110,7 @@ module _ (P : Final → Type 0) (x : Conn) (h : TellsEnds P x) (heads : List See
 
       admitted-at : (row : FrontRow) (st : FrontConn) → admitted_at env p choice row st ≡ Some given → RowEnds P given.0.row
       admitted-at row (stage.Waiting b) e = admitted-with row b (rest_of p.rest).target e
-      admitted-at row (stage.Held b) e = let no : None ≡ Some given = e in absurd cc
-      admitted-at row stage.Lent e = let no : None ≡ Some given = e in absurd cc
-      admitted-at row (stage.Offering n d) e = let no : None ≡ Some given = e in absurd cc
-      admitted-at row (stage.Moved n d) e = let no : None ≡ Some given = e in absurd cc
-      admitted-at row (stage.Closed last) e = let no : None ≡ Some given = e in absurd cc
+      admitted-at row _ e = let no : None ≡ Some given = e in absurd cc
 
       admitted-by : (q : Option FrontRow) → admitted_by env p choice q ≡ Some given → RowEnds P given.0.row
       admitted-by None e = let no : None ≡ Some given = e in absurd cc
@@ -130,10 +126,7 @@ module _ (P : Final → Type 0) (x : Conn) (h : TellsEnds P x) (heads : List See
       away-epoch : (row_epoch : ℕ) (st : FrontConn) → StageSits row_epoch (owning (tale_at x)) x.part.nodes st → is_away epoch st ≡ true → row_epoch ≡ epoch
       away-epoch row_epoch (stage.Offering m f) sits away = sym sits.1 ∙ eqb-true f.0 epoch away
       away-epoch row_epoch (stage.Moved m f) sits away = sym sits.1 ∙ eqb-true f.0 epoch away
-      away-epoch row_epoch (stage.Held b) sits away = let no : false ≡ true = away in absurd cc
-      away-epoch row_epoch (stage.Waiting b) sits away = let no : false ≡ true = away in absurd cc
-      away-epoch row_epoch stage.Lent sits away = let no : false ≡ true = away in absurd cc
-      away-epoch row_epoch (stage.Closed f) sits away = let no : false ≡ true = away in absurd cc
+      away-epoch row_epoch _ sits away = let no : false ≡ true = away in absurd cc
 
       -- what the front end does not know yet was told truly
       new-end : (row : FrontRow) → p.row ≡ Some row → is_away epoch row.stage ≡ true → P last
@@ -232,10 +225,7 @@ module _ (env : FrontEnv) (most : env.serve.stream ≤ 2 ^ 30) (x : Conn) (s : S
         let waits : FrontWaits l.w l.out l.vs pend b (rest_of q.rest).count = agrees-at row (stage.Waiting b) found at in
         let w : Service = serving (on_segment b sd).1 (rest_of q.rest).count [] in
         waiting-stage (spoken env.serve w []).0 (open-turn w [] (segment-closes b sd ∙ frozen-open b waits.1))
-    hears-at row found bytes stage.Lent at = tt
-    hears-at row found bytes (stage.Offering n e) at = tt
-    hears-at row found bytes (stage.Moved n e) at = tt
-    hears-at row found bytes (stage.Closed last) at = tt
+    hears-at row found bytes _ at = tt
 
     hears : (bytes : List ℕ) (r : Option FrontRow) → q.row ≡ r → Goes (front_hears env q bytes sd r)
     hears bytes None found = met-ends
@@ -259,10 +249,7 @@ module _ (env : FrontEnv) (most : env.serve.stream ≤ 2 ^ 30) (x : Conn) (s : S
       let w : Service = serving (after_timer b) (rest_of q.rest).count [] in
       let before : List (Place × List ℕ) = ready_of env.serve (after_timer b) (timed b) in
       waiting-stage (spoken env.serve w before).0 (open-turn w before ((timer-same b).3 ∙ frozen-open b waits.1))
-  fires-at row found stage.Lent at = tt
-  fires-at row found (stage.Offering n e) at = tt
-  fires-at row found (stage.Moved n e) at = tt
-  fires-at row found (stage.Closed last) at = tt
+  fires-at row found _ at = tt
 
   fires : (r : Option FrontRow) → q.row ≡ r → Goes (fired_by env q r)
   fires None found = tt

@@ -48,11 +48,7 @@ ends-on files w v iss g last h = λ why.
 module _ (P Q : Final → Type 0) (on : (last : Final) → P last → Q last) where
   stage-on : (st : FrontConn) → StageEnds P st → StageEnds Q st
   stage-on (stage.Closed last) h = on last h
-  stage-on (stage.Held b) h = tt
-  stage-on (stage.Waiting b) h = tt
-  stage-on stage.Lent h = tt
-  stage-on (stage.Offering n e) h = tt
-  stage-on (stage.Moved n e) h = tt
+  stage-on _ h = tt
 
   pub row-on : (o : Option FrontRow) → RowEnds P o → RowEnds Q o
   row-on None h = tt
@@ -63,14 +59,7 @@ module _ (P Q : Final → Type 0) (on : (last : Final) → P last → Q last) wh
     body-on e (body.Ended why snd rcv count) h = ⊎_elim
         (λ (known : HasEnded e row). inl (ended-grows nodes e row next grows known))
         (λ (was : P (record { reason = why; snd = record { 0 = snd }; rcv = record { 0 = rcv } })). inr (on _ was)) h
-    body-on e (body.Offer parts) h = tt
-    body-on e (body.Forward segment) h = tt
-    body-on e body.Taken h = tt
-    body-on e (body.Ask number queue size paths) h = tt
-    body-on e (body.Tag number nodes) h = tt
-    body-on e (body.Fetch r path) h = tt
-    body-on e (body.Content r file) h = tt
-    body-on e body.EndedAck h = tt
+    body-on e _ h = tt
 
     letter-on : (from to : Place) (bytes : List ℕ) → LetterEndsOn P row from to bytes → LetterEndsOn Q next from to bytes
     letter-on (Node n) Front bytes h = λ m e. body-on m.epoch.0 m.body (h m e)

@@ -179,9 +179,7 @@ module _ (env : NodeEnv) (most : env.serve.stream ≤ 2 ^ 30) (x : Conn) (sound_
       let stays : StayStops b t.batch = subst (λ (st : BackConn). BackStageStops st (Some t)) at rests in
       subst (λ (z : ControlBlock × Stay). IsStay z.0 z.1) (some-same (b, t) y e) (record { pend_is = agrees.0; holds = agrees.1; ways = subst (StayComesOn env.serve.files) is (o.ways n); stays = stays })
   stage-stay r found (back.Here b) at None is y e = let no : ◌≡◌ {A = Option (ControlBlock × Stay)} None (Some y) = e in absurd cc
-  stage-stay r found back.Out at t is y e = let no : ◌≡◌ {A = Option (ControlBlock × Stay)} None (Some y) = e in absurd cc
-  stage-stay r found back.Ended at t is y e = let no : ◌≡◌ {A = Option (ControlBlock × Stay)} None (Some y) = e in absurd cc
-  stage-stay r found back.Gone at t is y e = let no : ◌≡◌ {A = Option (ControlBlock × Stay)} None (Some y) = e in absurd cc
+  stage-stay r found _ at t is y e = let no : ◌≡◌ {A = Option (ControlBlock × Stay)} None (Some y) = e in absurd cc
 
   row-stay : (r : Option BackRow) → ours.row ≡ r → (y : ControlBlock × Stay) → both_of (endpoint_of r) ours.stay ≡ Some y → IsStay y.0 y.1
   row-stay None found y e = let no : ◌≡◌ {A = Option (ControlBlock × Stay)} None (Some y) = e in absurd cc
@@ -298,11 +296,7 @@ module _ (env : NodeEnv) (most : env.serve.stream ≤ 2 ^ 30) (x : Conn) (sound_
     -- where the node has not decided
     offered-stage : (f : FrontRow) → row ≡ Some f → (st : FrontConn) → f.stage ≡ st → Offers n epoch st → (IsDecided epoch ours.row → ⊥) → Goes (offered_by env parts ours New)
     offered-stage f found (stage.Offering m d) at offers not = took-ends (offer-is env.serve.files x number at_place s l pend o n epoch parts bytes spells was f m d found at offers.0 offers.1 not)
-    offered-stage f found (stage.Held b) at offers not = absurd offers
-    offered-stage f found (stage.Waiting b) at offers not = absurd offers
-    offered-stage f found stage.Lent at offers not = absurd offers
-    offered-stage f found (stage.Moved m d) at offers not = absurd offers
-    offered-stage f found (stage.Closed last) at offers not = absurd offers
+    offered-stage f found _ at offers not = absurd offers
 
     offered-front : (q : Option FrontRow) → row ≡ q → IsOffered n epoch q → (IsDecided epoch ours.row → ⊥) → Goes (offered_by env parts ours New)
     offered-front None found offered not = absurd offered

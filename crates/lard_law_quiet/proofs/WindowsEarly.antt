@@ -273,11 +273,7 @@ module _ (isn : ℕ) where
     module _ (small : isn < 2 ^ 32) (s : Said) (seq_small : s.seq < 2 ^ 32) (within : seq_offset s.seq isn + seg_len s ≤ 1) (plain : s.flags.rst ≡ false) (greets : s.flags.syn ≡ true → s.seq ≡ isn) where
       hears-at-early : (bytes : List ℕ) (row : FrontRow) (st : FrontConn) → StageIsFresh isn st → DeedIsEarly c (hears_at env p row bytes s st)
       hears-at-early bytes row (stage.Held b) h = heard-early row (rest_of p.rest) (on_segment b s).1 (segment-fresh isn small s seq_small within plain b h)
-      hears-at-early bytes row (stage.Waiting b) h = absurd h
-      hears-at-early bytes row stage.Lent h = absurd h
-      hears-at-early bytes row (stage.Offering n e) h = absurd h
-      hears-at-early bytes row (stage.Moved n e) h = absurd h
-      hears-at-early bytes row (stage.Closed last) h = absurd h
+      hears-at-early bytes row _ h = absurd h
 
       pub hears-early : (bytes : List ℕ) (q : Option FrontRow) → RowIsFresh isn q → DeedIsEarly c (front_hears env p bytes s q)
       hears-early bytes None h = cond_both (is_plain_syn s) (begun env p s) Drops (DeedIsEarly c)
@@ -293,11 +289,7 @@ module _ (isn : ℕ) where
       go : (o : Option Ready) → timed b ≡ o → AreTold c (AcksFirst isn) (ready_of env.serve (after_timer b) o)
       go None e = tt
       go (Some r) e = ((refl, (filled (after_timer b) r, refl, λ a. (timed-tells b r e).ack ∙ next-number b h)), tt)
-    fires-at-early row (stage.Waiting b) h = absurd h
-    fires-at-early row stage.Lent h = absurd h
-    fires-at-early row (stage.Offering n e) h = absurd h
-    fires-at-early row (stage.Moved n e) h = absurd h
-    fires-at-early row (stage.Closed last) h = absurd h
+    fires-at-early row _ h = absurd h
 
     pub fires-early : (q : Option FrontRow) → RowIsFresh isn q → DeedIsEarly c (fired_by env p q)
     fires-early None h = tt

@@ -99,11 +99,9 @@ module _ (c : ℕ) (ls : List Letter) where
       hears-at-was row (stage.Held b) =
           let x : Reading = reads env.serve (record { service = serving (on_segment b s).1 (rest_of p.rest).count []; target = None }) in
           settled-was row (rest_of p.rest) x.service x.target
-      hears-at-was row (stage.Waiting b) = tt
-      hears-at-was row stage.Lent = tt
       hears-at-was row (stage.Offering n e) = (forward-was env.serve.c e.0 bytes has, tt)
       hears-at-was row (stage.Moved n e) = (forward-was env.serve.c e.0 bytes has, tt)
-      hears-at-was row (stage.Closed last) = tt
+      hears-at-was row _ = tt
 
       hears-was : (q : Option FrontRow) → DeedWas (front_hears env p bytes s q)
       hears-was None = cond_both (is_plain_syn s) (begun env p s) Drops DeedWas (λ t. tt) (λ t. tt)
@@ -114,12 +112,8 @@ module _ (c : ℕ) (ls : List Letter) where
     gets-was bytes (Ok s) has = hears-was bytes s has p.row
 
     fires-at-was : (row : FrontRow) (st : FrontConn) → Sent (map sent_of p.kept) → DeedWas (fires_at env p row st)
-    fires-at-was row (stage.Held b) h = tt
-    fires-at-was row (stage.Waiting b) h = tt
-    fires-at-was row stage.Lent h = tt
     fires-at-was row (stage.Offering n e) h = h
-    fires-at-was row (stage.Moved n e) h = tt
-    fires-at-was row (stage.Closed last) h = tt
+    fires-at-was row _ h = tt
 
     fires-was : (q : Option FrontRow) → Sent (map sent_of p.kept) → DeedWas (fired_by env p q)
     fires-was None h = tt
@@ -161,11 +155,7 @@ module _ (c : ℕ) (ls : List Letter) where
 
       admitted-at-was : (row : FrontRow) (st : FrontConn) → admitted_at env p choice row st ≡ Some given → Sent given.1.messages
       admitted-at-was row (stage.Waiting b) e = admitted-with-was row b (rest_of p.rest).target e
-      admitted-at-was row (stage.Held b) e = let no : None ≡ Some given = e in absurd cc
-      admitted-at-was row stage.Lent e = let no : None ≡ Some given = e in absurd cc
-      admitted-at-was row (stage.Offering n d) e = let no : None ≡ Some given = e in absurd cc
-      admitted-at-was row (stage.Moved n d) e = let no : None ≡ Some given = e in absurd cc
-      admitted-at-was row (stage.Closed last) e = let no : None ≡ Some given = e in absurd cc
+      admitted-at-was row _ e = let no : None ≡ Some given = e in absurd cc
 
       admitted-by-was : (q : Option FrontRow) → admitted_by env p choice q ≡ Some given → Sent given.1.messages
       admitted-by-was None e = let no : None ≡ Some given = e in absurd cc

@@ -176,11 +176,7 @@ module _ (files : FilesAt) (x : Conn) (number : IsNumber x.c) (at_place : IsPlac
   by-stage : (f : FrontRow) → x.part.front.row ≡ Some f → (d : FrontConn) → f.stage ≡ d → Offers n epoch d → Adopts
   by-stage f found (stage.Offering m e) at offers =
       of-offer (offer-is files x number at_place s l pend o n epoch parts bytes spells was f m e found at offers.0 offers.1 undecided) (offered-alone x at_place n f m e found at offers.0)
-  by-stage f found (stage.Held b) at offers = absurd offers
-  by-stage f found (stage.Waiting b) at offers = absurd offers
-  by-stage f found stage.Lent at offers = absurd offers
-  by-stage f found (stage.Moved m e) at offers = absurd offers
-  by-stage f found (stage.Closed last) at offers = absurd offers
+  by-stage f found _ at offers = absurd offers
 
   by-row : (q : Option FrontRow) → x.part.front.row ≡ q → IsOffered n epoch q → Adopts
   by-row None found offers = absurd offers

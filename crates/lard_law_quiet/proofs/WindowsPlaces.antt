@@ -58,10 +58,7 @@ module _ (P R : ControlBlock → Type 0) (q : Option FrontRow) (w : (row : Front
 abbrev stage_sent : FrontConn → ℕ
 stage_sent (stage.Held b) = b.send.nxt
 stage_sent (stage.Waiting b) = b.send.nxt
-stage_sent stage.Lent = 0
-stage_sent (stage.Offering n e) = 0
-stage_sent (stage.Moved n e) = 0
-stage_sent (stage.Closed last) = 0
+stage_sent _ = 0
 
 abbrev pub front_sent : Option FrontRow → ℕ
 front_sent None = 0
@@ -72,9 +69,7 @@ front-sent q row b found at = ap front_sent found ∙ ⊎_elim (λ (e : row.stag
 
 abbrev back_sent : BackConn → ℕ
 back_sent (back.Here b) = b.send.nxt
-back_sent back.Out = 0
-back_sent back.Ended = 0
-back_sent back.Gone = 0
+back_sent _ = 0
 
 abbrev pub node_sent : Option BackRow → ℕ
 node_sent None = 0
@@ -119,12 +114,9 @@ front-alone P Q nodes alone n = past-has P Q alone.0 (nodes n) (alone.1 n)
 
 -- while a node has it, the front end gave it away, and all other stays are over
 abbrev pub IsAway : FrontConn → Type 0
-IsAway (stage.Held b) = ⊥
-IsAway (stage.Waiting b) = ⊥
-IsAway stage.Lent = ⊥
 IsAway (stage.Offering n e) = Unit {0}
 IsAway (stage.Moved n e) = Unit {0}
-IsAway (stage.Closed last) = ⊥
+IsAway _ = ⊥
 
 abbrev pub RowIsAway : Option FrontRow → Type 0
 RowIsAway None = ⊥

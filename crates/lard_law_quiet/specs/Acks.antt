@@ -58,9 +58,7 @@ FrontActs b (Some row) = FrontStageActs b row.stage
 
 abbrev pub BackStageActs : Bounds → BackConn → Type 0
 BackStageActs b (back.Here block) = EndActs b (ending.Here block 0)
-BackStageActs b back.Out = Unit {0}
-BackStageActs b back.Ended = Unit {0}
-BackStageActs b back.Gone = Unit {0}
+BackStageActs b _ = Unit {0}
 
 abbrev pub BackActs : Bounds → Option BackRow → Type 0
 BackActs b None = Unit {0}

@@ -26,11 +26,7 @@ pub record IsFresh (isn : ℕ) (b : ControlBlock) : Type 0 where
 -- if any, the front end holds it
 abbrev pub StageIsFresh : ℕ → FrontConn → Type 0
 StageIsFresh isn (stage.Held b) = IsFresh isn b
-StageIsFresh isn (stage.Waiting b) = ⊥
-StageIsFresh isn stage.Lent = ⊥
-StageIsFresh isn (stage.Offering n e) = ⊥
-StageIsFresh isn (stage.Moved n e) = ⊥
-StageIsFresh isn (stage.Closed last) = ⊥
+StageIsFresh isn _ = ⊥
 
 abbrev pub RowIsFresh : ℕ → Option FrontRow → Type 0
 RowIsFresh isn None = Unit {0}

@@ -14,53 +14,17 @@ use Rattle.lard_settling.specs.Written.{is_settle}
 -- an event that is no settle does its step
 pub plain-step : (m : Machine) (e : Event) → is_settle e ≡ false → event_step m e ≡ stepped_from m (machine_step m e)
 unfolding event_step
-plain-step m (event.Open c isn iss wnd mss) h = refl
-plain-step m (event.Get c path) h = refl
-plain-step m (event.Write c bytes) h = refl
-plain-step m (event.Shut c) h = refl
-plain-step m (event.Abort c) h = refl
-plain-step m (event.Hold c) h = refl
-plain-step m (event.Take c) h = refl
-plain-step m (event.Deliver k) h = refl
-plain-step m (event.Lose k) h = refl
-plain-step m (event.Timer p c) h = refl
-plain-step m (event.Disk n j) h = refl
-plain-step m (event.Clock ms) h = refl
 plain-step m (event.Settle rounds) h = cc
-plain-step m (event.Inject c bytes) h = refl
+plain-step m _ h = refl
 
 -- a settle, or not
 pub either-kind : (e : Event) → (is_settle e ≡ false) ⊎ ((rounds : ℕ) × (e ≡ event.Settle rounds))
-either-kind (event.Open c isn iss wnd mss) = inl refl
-either-kind (event.Get c path) = inl refl
-either-kind (event.Write c bytes) = inl refl
-either-kind (event.Shut c) = inl refl
-either-kind (event.Abort c) = inl refl
-either-kind (event.Hold c) = inl refl
-either-kind (event.Take c) = inl refl
-either-kind (event.Deliver k) = inl refl
-either-kind (event.Lose k) = inl refl
-either-kind (event.Timer p c) = inl refl
-either-kind (event.Disk n j) = inl refl
-either-kind (event.Clock ms) = inl refl
 either-kind (event.Settle rounds) = inr (rounds, refl)
-either-kind (event.Inject c bytes) = inl refl
+either-kind _ = inl refl
 
 pub plain-rule : (e : Event) → is_settle e ≡ false → MayCome e → HasRule e
-plain-rule (event.Open c isn iss wnd mss) h r = r
-plain-rule (event.Get c path) h r = r
-plain-rule (event.Write c bytes) h r = r
-plain-rule (event.Shut c) h r = r
-plain-rule (event.Abort c) h r = r
-plain-rule (event.Hold c) h r = r
-plain-rule (event.Take c) h r = r
-plain-rule (event.Deliver k) h r = r
-plain-rule (event.Lose k) h r = r
-plain-rule (event.Timer p c) h r = r
-plain-rule (event.Disk n j) h r = r
-plain-rule (event.Clock ms) h r = r
 plain-rule (event.Settle rounds) h r = cc
-plain-rule (event.Inject c bytes) h r = r
+plain-rule _ h r = r
 
 plain-ok : (m : Machine) (x : Result Machine StepFault) (n : Machine) → stepped_from m x ≡ Ok n → x ≡ Ok n
 plain-ok m (Ok k) n is = let same : k ≡ n = cc in ap (λ (q : Machine). Ok q) same

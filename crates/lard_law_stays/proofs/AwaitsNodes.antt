@@ -85,9 +85,7 @@ module _ (env : NodeEnv) where
 
       of-stage : (d : BackConn) → StageComes files p d → P (both_of (held_in d) p.stay)
       of-stage (back.Here b) k = of-stay b p.stay k
-      of-stage back.Out k = none
-      of-stage back.Ended k = none
-      of-stage back.Gone k = none
+      of-stage _ k = none
 
       at-endpoint : (q : Option BackRow) → RowComes files p q → P (both_of (endpoint_of q) p.stay)
       at-endpoint None k = none

@@ -119,9 +119,7 @@ module _ (env : NodeEnv) (kept0 fetches0 : List Kept) where
       let bytes = answer files e.verdict in
       let total = k.service.block.send.total + length bytes in
       cond_both (nat_lt env.serve.stream total) (passed_over env.serve total k.service) (queued env.serve way e.verdict bytes k.service) (λ (s : Service). Comes (serves_with s e rest k)) (λ t. h) (λ t. h.1)
-  serves-by e rest k progress.Named same h = same
-  serves-by e rest k progress.Reading same h = same
-  serves-by e rest k (progress.Awaited node) same h = same
+  serves-by e rest k _ same h = same
 
   serves-come : (k : Work) (es : List Entry) → Comes k → BatchComes files (kept_then k) (fetches_then k) (k.service.count + 1) es → Comes (serves_first env k es)
   serves-come k [] same h = same

@@ -34,9 +34,7 @@ good-file files (verdict.Serve p head close) path is = go (is_some (files p)) re
 
 pub named-file : (files : FilesAt) (e : Entry) (p : Progress) (path : List ℕ) → path_in files e p ≡ Some path → is_some (files path) ≡ true
 named-file files e progress.Named path is = good-file files e.verdict path is
-named-file files e progress.Reading path is = let no : None ≡ Some path = is in absurd cc
-named-file files e (progress.Awaited node) path is = let no : None ≡ Some path = is in absurd cc
-named-file files e (progress.Ready way) path is = let no : None ≡ Some path = is in absurd cc
+named-file files e _ path is = let no : None ≡ Some path = is in absurd cc
 
 -- no path is named by the first of them, and none behind it
 none-of : (o : Option (List ℕ)) (paths : List (List ℕ)) → and_path o paths ≡ [] → (o ≡ None) × (paths ≡ [])
@@ -54,10 +52,7 @@ abbrev pub IsCalm : FilesAt → (Progress → Progress) → Type 0
 IsCalm files f = (e : Entry) (p : Progress) → path_in files (record e { progress = f p }) (f p) ≡ path_in files e p
 
 pub read-calm : (files : FilesAt) → IsCalm files read_progress
-read-calm files e progress.Named = refl
-read-calm files e progress.Reading = refl
-read-calm files e (progress.Awaited node) = refl
-read-calm files e (progress.Ready way) = refl
+read-calm files e _ = refl
 
 pub come-calm : (files : FilesAt) (from : ℕ) → IsCalm files (come_progress from)
 come-calm files from e progress.Named = refl
@@ -131,16 +126,10 @@ abbrev pub Loses : ℕ → (Progress → Progress) → Type 0
 Loses n f = (p : Progress) → awaits p ≤ awaits (f p) + n
 
 pub read-loses : Loses 0 read_progress
-read-loses progress.Named = omega arith
-read-loses progress.Reading = omega arith
-read-loses (progress.Awaited node) = omega arith
-read-loses (progress.Ready way) = omega arith
+read-loses _ = omega arith
 
 pub come-loses : (from : ℕ) → Loses 1 (come_progress from)
-come-loses from progress.Named = omega arith
-come-loses from progress.Reading = omega arith
-come-loses from (progress.Ready way) = omega arith
-come-loses from (progress.Awaited node) = omega arith
+come-loses from _ = omega arith
 
 pub awaited-come : (n : ℕ) (f : Progress → Progress) → Loses n f → (i : ℕ) (es : List Entry) → awaited_in es ≤ awaited_in (come_on f i es) + n
 awaited-come n f loses i [] = omega arith

@@ -86,10 +86,7 @@ module _ (env : FrontEnv) where
     hears-at row bytes s (stage.Held b) k = heard-keeps p row (rest_of p.rest) k.1 (on_segment b s).1
     hears-at row bytes s (stage.Waiting b) k =
         waiting-rests env.serve.c p row (rest_of p.rest) k.1 (has-target p.rest k.0) (spoken env.serve (serving (on_segment b s).1 (rest_of p.rest).count []) []).0
-    hears-at row bytes s stage.Lent k = tt
-    hears-at row bytes s (stage.Offering node epoch) k = tt
-    hears-at row bytes s (stage.Moved node epoch) k = tt
-    hears-at row bytes s (stage.Closed last) k = tt
+    hears-at row bytes s _ k = tt
 
     hears-by : (bytes : List ℕ) (s : Said) (o : Option FrontRow) → FrontRowKeeps env.serve.c p o → Keeps (front_hears env p bytes s o)
     hears-by bytes s None k = cond_both (is_plain_syn s) (begun env p s) Drops Keeps (λ t. held-rests env.serve.c p (record { stage = stage.Lent; epoch = record { 0 = 1 }; ended_by = None }) (rest_of None) k
@@ -105,10 +102,7 @@ module _ (env : FrontEnv) where
     fires-at : (row : FrontRow) (st : FrontConn) → FrontStageKeeps env.serve.c p st → Keeps (fires_at env p row st)
     fires-at row (stage.Held b) k = held-rests env.serve.c p row (rest_of p.rest) k.1 (fired env (rest_of p.rest) b).0
     fires-at row (stage.Waiting b) k = waiting-rests env.serve.c p row (rest_of p.rest) k.1 (has-target p.rest k.0) (fired env (rest_of p.rest) b).0
-    fires-at row stage.Lent k = tt
-    fires-at row (stage.Offering node epoch) k = tt
-    fires-at row (stage.Moved node epoch) k = tt
-    fires-at row (stage.Closed last) k = tt
+    fires-at row _ k = tt
 
     fires-by : (o : Option FrontRow) → FrontRowKeeps env.serve.c p o → Keeps (fired_by env p o)
     fires-by None k = tt
@@ -120,13 +114,9 @@ module _ (env : FrontEnv) where
     -- ---- messages of nodes
 
     taken-at : (epoch : ℕ) (row : FrontRow) (st : FrontConn) → FrontStageKeeps env.serve.c p st → Keeps (taken_by p epoch (Some row) (offered_to epoch st))
-    taken-at epoch row (stage.Held b) k = tt
-    taken-at epoch row (stage.Waiting b) k = tt
-    taken-at epoch row stage.Lent k = tt
     taken-at epoch row (stage.Offering node e) k =
         cond_both (e.0 == epoch) (Some node) None (λ o. Keeps (taken_by p epoch (Some row) o)) (λ t. (k.0, ap (without kind.Offer 0) k.1.1)) (λ t. tt)
-    taken-at epoch row (stage.Moved node e) k = tt
-    taken-at epoch row (stage.Closed last) k = tt
+    taken-at epoch row _ k = tt
 
     taken-by : (epoch : ℕ) (o : Option FrontRow) → FrontRowKeeps env.serve.c p o → Keeps (taken_by p epoch o (asked_node epoch o))
     taken-by epoch None k = tt
@@ -186,11 +176,7 @@ module _ (env : FrontEnv) where
 
   admitted-stage : (p : FrontPart) (choice : FirstChoice) (row : FrontRow) (st : FrontConn) → AdmittedKeeps env.serve.c (admitted_at env p choice row st)
   admitted-stage p choice row (stage.Waiting b) = admitted-path row (rest_of p.rest) b choice (rest_of p.rest).target
-  admitted-stage p choice row (stage.Held b) = tt
-  admitted-stage p choice row stage.Lent = tt
-  admitted-stage p choice row (stage.Offering node epoch) = tt
-  admitted-stage p choice row (stage.Moved node epoch) = tt
-  admitted-stage p choice row (stage.Closed last) = tt
+  admitted-stage p choice row _ = tt
 
   admitted-row : (p : FrontPart) (choice : FirstChoice) (o : Option FrontRow) → AdmittedKeeps env.serve.c (admitted_by env p choice o)
   admitted-row p choice None = tt

@@ -122,9 +122,7 @@ module _ (N : ℕ → Type 0) (env : NodeEnv) where
 
       of-stage : (e : ℕ) (d : BackConn) → e ≡ env.epoch → StageKeeps e d → P (both_of (held_in d) p.stay)
       of-stage e (back.Here b) same k = of-stay e b p.stay same k
-      of-stage e back.Out same k = none
-      of-stage e back.Ended same k = none
-      of-stage e back.Gone same k = none
+      of-stage e _ same k = none
 
       at-epoch : (q : Option BackRow) → RowKeeps q → P (both_of (staying env.epoch q) p.stay)
       at-epoch None k = none

@@ -174,9 +174,7 @@ module _ (N : ℕ → Type 0) (env : NodeEnv) (kept0 fetches0 : List Kept) (asks
         subst (λ (ps : List (List ℕ)). Follows asks0 named0 w.asked w.asks ps) same h.2,
         subst (λ (n : ℕ). length (fetches_then w) ≤ n) (served-awaited w e rest way s.over is at) h.3,
       )
-  serves-await w e rest progress.Named is at h = h
-  serves-await w e rest progress.Reading is at h = h
-  serves-await w e rest (progress.Awaited node) is at h = h
+  serves-await w e rest _ is at h = h
 
   first-awaits : (w : Work) (es : List Entry) → w.batch ≡ es → Awaits w → Awaits (serves_first env w es)
   first-awaits w [] is h = h

@@ -1,4 +1,3 @@
-pub mod StopsFalling
 pub mod StopsFronts
 pub mod StopsNodes
 pub mod StopsRuns

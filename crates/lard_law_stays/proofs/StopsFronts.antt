@@ -180,10 +180,7 @@ module _ (env : FrontEnv) (p : FrontPart) (h : FrontStops env.serve.files p.row)
   hears-at-stops : (row : FrontRow) → p.row ≡ Some row → (bytes : List ℕ) (s : Said) (st : FrontConn) → row.stage ≡ st → Goes (hears_at env p row bytes s st)
   hears-at-stops row found bytes s (stage.Held b) at = heard-stops row (rest_of p.rest) (on_segment b s).1 (arrived-stops b s (held-row row (stage.Held b) found at))
   hears-at-stops row found bytes s (stage.Waiting b) at = stage-waiting _
-  hears-at-stops row found bytes s stage.Lent at = tt
-  hears-at-stops row found bytes s (stage.Offering n e) at = tt
-  hears-at-stops row found bytes s (stage.Moved n e) at = tt
-  hears-at-stops row found bytes s (stage.Closed last) at = tt
+  hears-at-stops row found bytes s _ at = tt
 
   hears-stops : (bytes : List ℕ) (s : Said) (q : Option FrontRow) → p.row ≡ q → Goes (front_hears env p bytes s q)
   hears-stops bytes s None found = met-stops s
@@ -200,10 +197,7 @@ module _ (env : FrontEnv) (p : FrontPart) (h : FrontStops env.serve.files p.row)
       holds-stop row (rest_of p.rest) (fired env (rest_of p.rest) b) (spoken-stops env.serve (serving (after_timer b) (rest_of p.rest).count []) (ready_of env.serve (after_timer b) (timed b)) (λ calm.
       ⊎_elim (λ (t : HasStopped b). inl (same-stopped b (after_timer b) same t)) (λ (t : IsHeldBack own b). inr (same-held own b (after_timer b) same t)) held.1))
   fires-at-stops row found (stage.Waiting b) at = stage-waiting _
-  fires-at-stops row found stage.Lent at = tt
-  fires-at-stops row found (stage.Offering n e) at = tt
-  fires-at-stops row found (stage.Moved n e) at = tt
-  fires-at-stops row found (stage.Closed last) at = tt
+  fires-at-stops row found _ at = tt
 
   fires-stops : (q : Option FrontRow) → p.row ≡ q → Goes (fired_by env p q)
   fires-stops None found = tt
@@ -239,11 +233,7 @@ module _ (env : FrontEnv) (p : FrontPart) (h : FrontStops env.serve.files p.row)
 
     admitted-at : (row : FrontRow) (st : FrontConn) → admitted_at env p choice row st ≡ Some given → FrontStops own given.0.row
     admitted-at row (stage.Waiting b) e = admitted-with row b (rest_of p.rest).target e
-    admitted-at row (stage.Held b) e = let no : None ≡ Some given = e in absurd cc
-    admitted-at row stage.Lent e = let no : None ≡ Some given = e in absurd cc
-    admitted-at row (stage.Offering n d) e = let no : None ≡ Some given = e in absurd cc
-    admitted-at row (stage.Moved n d) e = let no : None ≡ Some given = e in absurd cc
-    admitted-at row (stage.Closed last) e = let no : None ≡ Some given = e in absurd cc
+    admitted-at row _ e = let no : None ≡ Some given = e in absurd cc
 
     admitted-by : (q : Option FrontRow) → admitted_by env p choice q ≡ Some given → FrontStops own given.0.row
     admitted-by None e = let no : None ≡ Some given = e in absurd cc

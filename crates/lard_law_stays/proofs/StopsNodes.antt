@@ -11,7 +11,7 @@ use Rattle.lard_block.specs.declared.block.Found.{Found}
 use Rattle.lard_block.specs.declared.block.Found.TheVariants as found
 use Rattle.lard_block.specs.Blocks.{blocks, cut_of}
 use Rattle.lard_law_stays.specs.Stops.{BackStageStops, HereStops, IsAwaited, NodeStops, ReadingStops, RowStops, StayStops}
-use Rattle.lard_law_stays.proofs.StopsFalling.{falls}
+use Rattle.lard_rules.proofs.StayFalling.{falls}
 use Rattle.lard_law_stays.proofs.StopsSame.{Same, Stays, answered-closes, closed-there, ended-stopped, none-behind, rested-stays, same-stopped, segment-closes, speaks-same, timer-same}
 use Rattle.lard_law_view.specs.View.{Conn, node_does, grown}
 use Rattle.lard_law_view.proofs.Parts.{put-each}
@@ -217,9 +217,7 @@ module _ (env : NodeEnv) where
   serves-by e rest k (progress.Ready way) may h = λ closed.
       let d = answered-closes env.serve way e.verdict k.service (unfinished-there k.service may) closed in
       (stopped-discarding (answered env.serve way e.verdict k.service).block d, λ keeps. absurd (both_ways (answered env.serve way e.verdict k.service).block.recv.discarding keeps d))
-  serves-by e rest k progress.Named may h = h
-  serves-by e rest k progress.Reading may h = h
-  serves-by e rest k (progress.Awaited node) may h = h
+  serves-by e rest k _ may h = h
 
   serves-at : (k : Work) (es : List Entry) → may_read k.service ≡ true → MayRest k → MayRest (serves_first env k es)
   serves-at k [] may h = h
@@ -287,9 +285,7 @@ module _ (env : NodeEnv) where
 
       of-stage : (d : BackConn) (o : Option Stay) → BackStageStops d o → P (both_of (held_in d) o)
       of-stage (back.Here b) o k = of-stay b o k
-      of-stage back.Out o k = none
-      of-stage back.Ended o k = none
-      of-stage back.Gone o k = none
+      of-stage _ o k = none
 
       at-endpoint : (q : Option BackRow) → RowStops q p.stay → P (both_of (endpoint_of q) p.stay)
       at-endpoint None k = none

@@ -43,9 +43,7 @@ StayComes files p (Some s) = BatchComes files p.kept p.fetches (s.served + 1) s.
 
 abbrev pub StageComes : FilesAt → NodePart → BackConn → Type 0
 StageComes files p (back.Here b) = StayComes files p p.stay
-StageComes files p back.Out = Unit {0}
-StageComes files p back.Ended = Unit {0}
-StageComes files p back.Gone = Unit {0}
+StageComes files p _ = Unit {0}
 
 abbrev pub RowComes : FilesAt → NodePart → Option BackRow → Type 0
 RowComes files p None = Unit {0}

@@ -73,10 +73,8 @@ pub record IsFetch (N : ℕ → Type 0) (files : FilesAt) (c e n : ℕ) (k : Kep
 
 -- how many requests await a content of another node
 abbrev pub awaits : Progress → ℕ
-awaits progress.Named = 0
-awaits progress.Reading = 0
 awaits (progress.Awaited node) = 1
-awaits (progress.Ready way) = 0
+awaits _ = 0
 
 abbrev pub awaited_in : List Entry → ℕ
 awaited_in [] = 0

@@ -40,11 +40,7 @@ HeldStops files b = (b.reset ≡ false) × (HasStopped b ⊎ IsHeldBack files b)
 
 abbrev pub FrontStageStops : FilesAt → FrontConn → Type 0
 FrontStageStops files (stage.Held b) = HeldStops files b
-FrontStageStops files (stage.Waiting b) = Unit {0}
-FrontStageStops files stage.Lent = Unit {0}
-FrontStageStops files (stage.Offering n e) = Unit {0}
-FrontStageStops files (stage.Moved n e) = Unit {0}
-FrontStageStops files (stage.Closed last) = Unit {0}
+FrontStageStops files _ = Unit {0}
 
 abbrev pub FrontStops : FilesAt → Option FrontRow → Type 0
 FrontStops files None = Unit {0}
@@ -70,9 +66,7 @@ HereStops b (Some s) = StayStops b s.batch
 
 abbrev pub BackStageStops : BackConn → Option Stay → Type 0
 BackStageStops (back.Here b) o = HereStops b o
-BackStageStops back.Out o = Unit {0}
-BackStageStops back.Ended o = Unit {0}
-BackStageStops back.Gone o = Unit {0}
+BackStageStops _ o = Unit {0}
 
 abbrev pub RowStops : Option BackRow → Option Stay → Type 0
 RowStops None o = Unit {0}

@@ -182,9 +182,7 @@ module _ (env : NodeEnv) where
 
   serves_by-counts : (e : Entry) (rest : List Entry) (w : Work) (x : Progress) → w.batch ≡ e ∷ rest → IsCounted w → IsCounted (serves_by env e rest w x)
   serves_by-counts e rest w (Ready way) is h = served-counts way e rest w is h
-  serves_by-counts e rest w Named is h = h
-  serves_by-counts e rest w Reading is h = h
-  serves_by-counts e rest w (Awaited to) is h = h
+  serves_by-counts e rest w _ is h = h
 
   serves-counts : (w : Work) (es : List Entry) → w.batch ≡ es → IsCounted w → IsCounted (serves_first env w es)
   serves-counts w [] is h = h

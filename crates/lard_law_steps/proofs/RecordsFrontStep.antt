@@ -128,12 +128,7 @@ module _ (k : FrontSetting) (small : k.stream ≤ 2 ^ 30) (named : AreNamed k.fi
       let number = message-number _ is in
       let last : Final = record { reason = reason; snd = record { 0 = snd }; rcv = record { 0 = rcv } } in
       ended-fits c (front_ended (front_env k s c 0) (front_part s c) from epoch last) number (front.ended-deed (front_env k s c 0) refl number small named (front_part s c) (held c) from epoch last n is.epoch)
-  told-fits from c epoch (body.Offer parts) n is paths = still
-  told-fits from c epoch (body.Forward bytes) n is paths = still
-  told-fits from c epoch (body.Tag z nodes) n is paths = still
-  told-fits from c epoch (body.Fetch r path) n is paths = still
-  told-fits from c epoch (body.Content r bytes) n is paths = still
-  told-fits from c epoch body.EndedAck n is paths = still
+  told-fits from c epoch _ n is paths = still
 
   message-fits : (from : ℕ) (bytes : List ℕ) (r : Result Message MsgFault) → IsNumber from → AreBytes bytes → SaysPaths bytes → decoded_message bytes ≡ r → StepFits (message_comes k s from r)
   message-fits from bytes (Err fault) n h says is = still

@@ -407,13 +407,11 @@ module _ (env : FrontEnv) (own : env.serve.place ≡ place.Front) (conn : cluste
     fires_at-fits row (stage.Held b) k = holds-fits row (rest_of p.rest) (fired env (rest_of p.rest) b) k.0 held.rest (fired-fits (rest_of p.rest) b k.1) (fired-serves (rest_of p.rest) b k.2)
     fires_at-fits row (stage.Waiting b) k = waits-fits row (rest_of p.rest) (fired env (rest_of p.rest) b) k.0 held.rest (fired-fits (rest_of p.rest) b k.1) (fired-serves (rest_of p.rest) b k.2)
         (spoken-idle env.serve (serving (after_timer b) (rest_of p.rest).count []) (ready_of env.serve (after_timer b) (timed b)) (timer-idle b (idle-of b k.3 k.2.sent)))
-    fires_at-fits row stage.Lent k = tt
     fires_at-fits row (stage.Offering node epoch) k =
         let few = held.few in
         let as_many = length-held p.kept in
         sends place.Front (map sent_of p.kept) (held-sent place.Front p.kept held.kept) (omega (arith, few, as_many))
-    fires_at-fits row (stage.Moved node epoch) k = tt
-    fires_at-fits row (stage.Closed last) k = tt
+    fires_at-fits row _ k = tt
 
     fired_by-fits : (o : Option FrontRow) → RowKeeps c (rest_of p.rest).count o → Fits (fired_by env p o)
     fired_by-fits None k = tt
@@ -437,11 +435,7 @@ module _ (env : FrontEnv) (own : env.serve.place ≡ place.Front) (conn : cluste
       go : (b : Bool) → cond b (Some n) None ≡ Some node → (e ≤ 2) × IsNode node
       go true same = let one : n ≡ node = cc in (k.0, subst IsNode one k.1)
       go false none = let no : None ≡ Some node = none in absurd cc
-    offered-node e count epoch (stage.Held b) node k is = let no : None ≡ Some node = is in absurd cc
-    offered-node e count epoch (stage.Waiting b) node k is = let no : None ≡ Some node = is in absurd cc
-    offered-node e count epoch stage.Lent node k is = let no : None ≡ Some node = is in absurd cc
-    offered-node e count epoch (stage.Moved n d) node k is = let no : None ≡ Some node = is in absurd cc
-    offered-node e count epoch (stage.Closed last) node k is = let no : None ≡ Some node = is in absurd cc
+    offered-node e count epoch _ node k is = let no : None ≡ Some node = is in absurd cc
 
     taken_by-fits : (epoch : ℕ) → epoch < 2 ^ 16 → (o : Option FrontRow) (asked : Option ℕ) → asked_node epoch o ≡ asked → RowKeeps c (rest_of p.rest).count o → Fits (taken_by p epoch o asked)
     taken_by-fits epoch early None asked is k = tt
@@ -459,10 +453,7 @@ module _ (env : FrontEnv) (own : env.serve.place ≡ place.Front) (conn : cluste
     with-fits : (e count from epoch : ℕ) (x : FrontConn) → StageKeeps e count x → is_with from epoch x ≡ true → IsNode from
     with-fits e count from epoch (stage.Offering n d) k is = subst IsNode (eqb-true n from (and_parts (n == from) (d.0 == epoch) is).0) k.1
     with-fits e count from epoch (stage.Moved n d) k is = subst IsNode (eqb-true n from (and_parts (n == from) (d.0 == epoch) is).0) k.1
-    with-fits e count from epoch (stage.Held b) k is = let no : false ≡ true = is in absurd cc
-    with-fits e count from epoch (stage.Waiting b) k is = let no : false ≡ true = is in absurd cc
-    with-fits e count from epoch stage.Lent k is = let no : false ≡ true = is in absurd cc
-    with-fits e count from epoch (stage.Closed last) k is = let no : false ≡ true = is in absurd cc
+    with-fits e count from epoch _ k is = let no : false ≡ true = is in absurd cc
 
     -- the node that asks is one
     at-fits : (from epoch : ℕ) (o : Option FrontRow) → RowKeeps c (rest_of p.rest).count o → is_at from epoch o ≡ true → IsNode from
@@ -534,10 +525,7 @@ module _ (env : FrontEnv) (own : env.serve.place ≡ place.Front) (conn : cluste
     away-early : (e count epoch : ℕ) (x : FrontConn) → StageKeeps e count x → is_away epoch x ≡ true → e ≤ 2
     away-early e count epoch (stage.Offering n d) k is = k.0
     away-early e count epoch (stage.Moved n d) k is = k.0
-    away-early e count epoch (stage.Held b) k is = let no : false ≡ true = is in absurd cc
-    away-early e count epoch (stage.Waiting b) k is = let no : false ≡ true = is in absurd cc
-    away-early e count epoch stage.Lent k is = let no : false ≡ true = is in absurd cc
-    away-early e count epoch (stage.Closed last) k is = let no : false ≡ true = is in absurd cc
+    away-early e count epoch _ k is = let no : false ≡ true = is in absurd cc
 
     acks : (from epoch : ℕ) → IsNumber from → epoch < 2 ^ 16 → FrontTurnFits (saying (ack_sent env from epoch))
     acks from epoch n early = sends place.Front (ack_sent env from epoch) ((n, bytes-message c epoch body.EndedAck tt, tt, spells c epoch body.EndedAck conn early tt tt), tt) (omega arith)
@@ -566,11 +554,7 @@ module _ (env : FrontEnv) (own : env.serve.place ≡ place.Front) (conn : cluste
 
       admitted_at-fits : (row : FrontRow) (x : FrontConn) → StageKeeps row.epoch.0 (rest_of p.rest).count x → AdmissionFits c (admitted_at env p choice row x)
       admitted_at-fits row (stage.Waiting b) k = admitted_with-fits row b (rest_of p.rest).target k.0 k.1 k.2 k.3 held.rest.target
-      admitted_at-fits row (stage.Held b) k = tt
-      admitted_at-fits row stage.Lent k = tt
-      admitted_at-fits row (stage.Offering node epoch) k = tt
-      admitted_at-fits row (stage.Moved node epoch) k = tt
-      admitted_at-fits row (stage.Closed last) k = tt
+      admitted_at-fits row _ k = tt
 
       admitted_by-fits : (o : Option FrontRow) → RowKeeps c (rest_of p.rest).count o → AdmissionFits c (admitted_by env p choice o)
       admitted_by-fits None k = tt

@@ -93,25 +93,15 @@ conn-number c n = let most = n.1 in omega (arith, most)
 
 abbrev pub HasBytes : Body → Type 0
 HasBytes (body.Offer parts) = AreBytes parts.unread
-HasBytes body.Taken = Unit {0}
 HasBytes (body.Forward bytes) = AreBytes bytes
 HasBytes (body.Ask number queue size paths) = (size < 256) × (length paths < 256) × Each AreBytes paths
 HasBytes (body.Tag number nodes) = (length nodes < 256) × AreBytes nodes
 HasBytes (body.Fetch r path) = AreBytes path
 HasBytes (body.Content r bytes) = AreBytes bytes
-HasBytes (body.Ended reason snd rcv count) = Unit {0}
-HasBytes body.EndedAck = Unit {0}
+HasBytes _ = Unit {0}
 
 kind-byte : (k : Kind) → number_of k < 256
-kind-byte kind.Offer = omega arith
-kind-byte kind.Taken = omega arith
-kind-byte kind.Forward = omega arith
-kind-byte kind.Ask = omega arith
-kind-byte kind.Tag = omega arith
-kind-byte kind.Fetch = omega arith
-kind-byte kind.Content = omega arith
-kind-byte kind.Ended = omega arith
-kind-byte kind.EndedAck = omega arith
+kind-byte _ = omega arith
 
 bytes-header : (k : Kind) (c epoch len : ℕ) → AreBytes (header_bytes (version_of k) (number_of k) c epoch len)
 bytes-header k c epoch len =
@@ -141,9 +131,7 @@ bytes-numbers p =
     bytes-append (c ++ to_be_bytes w16 p.mss) (to_be_bytes w32 p.served) (bytes-append c (to_be_bytes w16 p.mss) in_c (bytes-16 p.mss)) (bytes-32 p.served)
 
 reason-small : (r : Reason) → reason_byte r < 256
-reason-small reason.Closed = omega arith
-reason-small reason.Peer = omega arith
-reason-small reason.Limit = omega arith
+reason-small _ = omega arith
 
 bytes-body : (b : Body) → HasBytes b → AreBytes (body_bytes b)
 bytes-body (body.Offer parts) h = bytes-append (parts_numbers parts) (counted parts.unread) (bytes-numbers parts) (bytes-counted parts.unread h)

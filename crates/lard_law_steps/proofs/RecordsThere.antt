@@ -158,9 +158,7 @@ module _ (m : Machine) where
     happens-there (event.Hold c) h = absurd (no-client c (h []))
     happens-there (event.Take c) h = absurd (no-client c (h []))
     happens-there (event.Inject c bytes) h = absurd (no-client c (h []))
-    happens-there (event.Lose j) h = let no : None ≡ Some (Node k) = h [] in absurd cc
-    happens-there (event.Clock ms) h = let no : None ≡ Some (Node k) = h [] in absurd cc
-    happens-there (event.Settle rounds) h = let no : None ≡ Some (Node k) = h [] in absurd cc
+    happens-there _ h = let no : None ≡ Some (Node k) = h [] in absurd cc
 
   unless-gives : (p : Place) (o : Option What) (r : Result Machine StepFault) → Gives p r → Gives p (unless_limit o r)
   unless-gives p None r h = h

@@ -188,9 +188,7 @@ module _ (env : NodeEnv) (own : env.serve.place ≡ Node env.n) (node : IsNumber
   -- the paths that an Ask names
   in-named : (e : Entry) (x : Progress) → IfSome (path_in env.serve.files e x) IsNamed
   in-named e Named = verdict-named env.serve.files files e.verdict
-  in-named e Reading = tt
-  in-named e (Awaited to) = tt
-  in-named e (Ready way) = tt
+  in-named e _ = tt
 
   paths-named : (es : List Entry) → Each IsNamed (named_paths env.serve.files es) × (length (named_paths env.serve.files es) ≤ length es)
   paths-named [] = (tt, omega arith)
@@ -258,9 +256,7 @@ module _ (env : NodeEnv) (own : env.serve.place ≡ Node env.n) (node : IsNumber
   serves_by-works : (j : ℕ) (e : Entry) (rest : List Entry) (w : Work) (x : Progress) → w.batch ≡ e ∷ rest → w.service.block.send.finished ≡ false → ProgressFits x → IsAtWork 8 j w → IsAtWork 8 j (serves_by env e rest w x)
   serves_by-works j e rest w (Ready way) is open_ n h =
       served-works j (answered env.serve way e.verdict w.service) e rest w is (answered-serves env.serve number small (contents env.serve.files files) at way e.verdict w.service n open_ h.service) h
-  serves_by-works j e rest w Named is open_ n h = h
-  serves_by-works j e rest w Reading is open_ n h = h
-  serves_by-works j e rest w (Awaited to) is open_ n h = h
+  serves_by-works j e rest w _ is open_ n h = h
 
   serves-works : (j : ℕ) (w : Work) (es : List Entry) → w.batch ≡ es → w.service.block.send.finished ≡ false → IsAtWork 8 j w → IsAtWork 8 j (serves_first env w es)
   serves-works j w [] is open_ h = h

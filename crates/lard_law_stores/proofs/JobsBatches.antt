@@ -22,9 +22,7 @@ use Rattle.lard_rules.specs.Stay.{come_on, come_progress, read_progress}
 module _ (Q R : ℕ → Type 0) where
   pub by-more : (r : ℕ) (p : Progress) → (Q r → R r) → ReadsBy Q r p → ReadsBy R r p
   by-more r progress.Reading more h = more h
-  by-more r progress.Named more h = tt
-  by-more r (progress.Awaited node) more h = tt
-  by-more r (progress.Ready way) more h = tt
+  by-more r _ more h = tt
 
   pub reads-more : (r : ℕ) (es : List Entry) → ((i : ℕ) → Q i → R i) → BatchReads Q r es → BatchReads R r es
   reads-more r [] more h = tt
@@ -36,9 +34,7 @@ module _ (Q R : ℕ → Type 0) where
 
   pub stage-more : (o : Option Stay) (stage : BackConn) → ((i : ℕ) → Q i → R i) → StageReads Q o stage → StageReads R o stage
   stage-more o (back.Here b) more h = stay-more o more h
-  stage-more o back.Out more h = tt
-  stage-more o back.Ended more h = tt
-  stage-more o back.Gone more h = tt
+  stage-more o _ more h = tt
 
 pub row-more : (Q R : ℕ → ℕ → Type 0) (stay : Option Stay) (o : Option BackRow) → ((e i : ℕ) → Q e i → R e i) → RowReads Q stay o → RowReads R stay o
 row-more Q R stay None more h = tt
@@ -72,10 +68,7 @@ module _ (Q : ℕ → Type 0) where
   But one r = Q r ⊎ (r ≡ one)
 
   but-done : (one r : ℕ) (p : Progress) → ReadsBy Q r (read_progress p)
-  but-done one r progress.Reading = tt
-  but-done one r progress.Named = tt
-  but-done one r (progress.Awaited node) = tt
-  but-done one r (progress.Ready way) = tt
+  but-done one r _ = tt
 
   -- that one is not among these
   pub reads-behind : (one r : ℕ) (es : List Entry) → ((i : ℕ) → r + i ≡ one → ⊥) → BatchReads (But one) r es → BatchReads Q r es

@@ -88,9 +88,7 @@ module _ (env : NodeEnv) (disk : List Job) (p : NodePart) where
 
       of-stage : (d : BackConn) → StageReads (Jobs env.epoch) p.stay d → P (both_of (held_in d) p.stay)
       of-stage (back.Here b) k = of-stay b p.stay k
-      of-stage back.Out k = none
-      of-stage back.Ended k = none
-      of-stage back.Gone k = none
+      of-stage _ k = none
 
       at-endpoint : (q : Option BackRow) → ((row : BackRow) → q ≡ Some row → row.epoch.0 ≡ env.epoch) → RowReads Jobs p.stay q → P (both_of (endpoint_of q) p.stay)
       at-endpoint None is k = none
@@ -179,9 +177,7 @@ module _ (env : NodeEnv) (disk : List Job) (p : NodePart) where
 
     done-stage : (o : Option Stay) (stage : BackConn) → StageReads (But (Jobs env.epoch) one) o stage → Done o stage (read_by env one p (both_of (held_in stage) o))
     done-stage o (back.Here b) h = done-stay b o h
-    done-stage o back.Out h = tt
-    done-stage o back.Ended h = tt
-    done-stage o back.Gone h = tt
+    done-stage o _ h = tt
 
     of-epoch : (o : Option Stay) (row : BackRow) (d : Deed) → row.epoch.0 ≡ env.epoch → Done o row.stage d → DeedReads env.n env.serve.c disk o (Some row) d
     of-epoch o row Drops same h = subst (λ (e : ℕ). StageReads (Jobs e) o row.stage) (sym same) h

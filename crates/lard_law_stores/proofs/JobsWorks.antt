@@ -134,9 +134,7 @@ module _ (env : NodeEnv) (disk : List Job) where
       let bytes = answer env.serve.files e.verdict in
       let total = w.service.block.send.total + length bytes in
       cond_both (nat_lt env.serve.stream total) (passed_over env.serve total w.service) (queued env.serve way e.verdict bytes w.service) (λ (s : Service). Reads (serves_with s e rest w)) (λ t. h) (λ t. h.1)
-  serves-by e rest w progress.Named same h = same
-  serves-by e rest w progress.Reading same h = same
-  serves-by e rest w (progress.Awaited node) same h = same
+  serves-by e rest w _ same h = same
 
   serves-read : (w : Work) (es : List Entry) → Reads w → BatchReads (Job_for w.jobs) (w.service.count + 1) es → Reads (serves_first env w es)
   serves-read w [] same h = same

@@ -108,9 +108,7 @@ module _ (env : NodeEnv) where
 
   serves_by-works : (e : Entry) (rest : List Entry) (w : Work) (x : Progress) → IsAtWork w → IsAtWork (serves_by env e rest w x)
   serves_by-works e rest w (Ready way) h = answered-told w.jobs way e.verdict w.service h
-  serves_by-works e rest w Named h = h
-  serves_by-works e rest w Reading h = h
-  serves_by-works e rest w (Awaited node) h = h
+  serves_by-works e rest w _ h = h
 
   serves-works : (w : Work) (es : List Entry) → IsAtWork w → IsAtWork (serves_first env w es)
   serves-works w [] h = h

@@ -21,9 +21,7 @@ HasJob n c disk epoch r = (job : Job) × Has job disk × (job.origin ≡ n) × (
 -- Q is so of the number of each request of a batch that is read, the first with number r
 abbrev pub ReadsBy : (ℕ → Type 0) → ℕ → Progress → Type 0
 ReadsBy Q r progress.Reading = Q r
-ReadsBy Q r progress.Named = Unit {0}
-ReadsBy Q r (progress.Awaited node) = Unit {0}
-ReadsBy Q r (progress.Ready way) = Unit {0}
+ReadsBy Q r _ = Unit {0}
 
 abbrev pub BatchReads : (ℕ → Type 0) → ℕ → List Entry → Type 0
 BatchReads Q r [] = Unit {0}
@@ -35,9 +33,7 @@ StayReads Q (Some s) = BatchReads Q (s.served + 1) s.batch
 
 abbrev pub StageReads : (ℕ → Type 0) → Option Stay → BackConn → Type 0
 StageReads Q stay (back.Here b) = StayReads Q stay
-StageReads Q stay back.Out = Unit {0}
-StageReads Q stay back.Ended = Unit {0}
-StageReads Q stay back.Gone = Unit {0}
+StageReads Q stay _ = Unit {0}
 
 -- Q, of an epoch and a number, is so of each request that is read for the connection where it is here
 abbrev pub RowReads : (ℕ → ℕ → Type 0) → Option Stay → Option BackRow → Type 0

@@ -77,10 +77,7 @@ module _ (nodes : ℕ → NodePart) (p : FrontPart) where
   hears-at : (env : FrontEnv) (row : FrontRow) (bytes : List ℕ) (s : Said) (st : FrontConn) → StageHomes nodes row.ended_by st → DeedHomes (hears_at env p row bytes s st)
   hears-at env row bytes s (stage.Held b) h = heard-homes row h env (rest_of p.rest) (on_segment b s).1
   hears-at env row bytes s (stage.Waiting b) h = waiting-rests row h (rest_of p.rest) (spoken env.serve (serving (on_segment b s).1 (rest_of p.rest).count []) []).0
-  hears-at env row bytes s stage.Lent h = tt
-  hears-at env row bytes s (stage.Offering node epoch) h = tt
-  hears-at env row bytes s (stage.Moved node epoch) h = tt
-  hears-at env row bytes s (stage.Closed last) h = tt
+  hears-at env row bytes s _ h = tt
 
   hears-by : (env : FrontEnv) (bytes : List ℕ) (s : Said) (o : Option FrontRow) → RowHomes nodes o → DeedHomes (front_hears env p bytes s o)
   hears-by env bytes s None h = cond_both (is_plain_syn s) (begun env p s) Drops DeedHomes
@@ -92,10 +89,7 @@ module _ (nodes : ℕ → NodePart) (p : FrontPart) where
   fires-at : (env : FrontEnv) (row : FrontRow) (st : FrontConn) → StageHomes nodes row.ended_by st → DeedHomes (fires_at env p row st)
   fires-at env row (stage.Held b) h = held-rests row h (rest_of p.rest) (fired env (rest_of p.rest) b).0
   fires-at env row (stage.Waiting b) h = waiting-rests row h (rest_of p.rest) (fired env (rest_of p.rest) b).0
-  fires-at env row stage.Lent h = tt
-  fires-at env row (stage.Offering node epoch) h = tt
-  fires-at env row (stage.Moved node epoch) h = tt
-  fires-at env row (stage.Closed last) h = tt
+  fires-at env row _ h = tt
 
   fires-by : (env : FrontEnv) (o : Option FrontRow) → RowHomes nodes o → DeedHomes (fired_by env p o)
   fires-by env None h = tt
@@ -104,13 +98,9 @@ module _ (nodes : ℕ → NodePart) (p : FrontPart) where
   -- ---- messages of nodes
 
   taken-at : (epoch : ℕ) (row : FrontRow) (st : FrontConn) → StageHomes nodes row.ended_by st → DeedHomes (taken_by p epoch (Some row) (offered_to epoch st))
-  taken-at epoch row (stage.Held b) h = tt
-  taken-at epoch row (stage.Waiting b) h = tt
-  taken-at epoch row stage.Lent h = tt
   taken-at epoch row (stage.Offering node e) h =
       cond_both (e.0 == epoch) (Some node) None (λ o. DeedHomes (taken_by p epoch (Some row) o)) (λ t. (h.0, subst (λ (d : ℕ). KnowsOf d (nodes node).row) (eqb-true e.0 epoch t) h.1)) (λ t. tt)
-  taken-at epoch row (stage.Moved node e) h = tt
-  taken-at epoch row (stage.Closed last) h = tt
+  taken-at epoch row _ h = tt
 
   taken-by : (epoch : ℕ) (o : Option FrontRow) → RowHomes nodes o → DeedHomes (taken_by p epoch o (asked_node epoch o))
   taken-by epoch None h = tt
@@ -124,12 +114,10 @@ module _ (nodes : ℕ → NodePart) (p : FrontPart) where
       (λ t. cond_both (ask.number == rest.asks && nat_lt 0 rest.asks) (Says (saying (tag_sent env n epoch rest.asks rest.tag))) Drops DeedHomes (λ t. tt) (λ t. tt))
 
   was-away : (epoch : ℕ) (by : Option Epoch) (st : FrontConn) → is_away epoch st ≡ true → StageHomes nodes by st → WasAt nodes (Some (record { 0 = epoch }))
-  was-away epoch by (stage.Held b) away h = let no : false ≡ true = away in absurd cc
-  was-away epoch by (stage.Waiting b) away h = let no : false ≡ true = away in absurd cc
   was-away epoch by stage.Lent away h = absurd h
   was-away epoch by (stage.Offering node e) away h = (node, h.0, subst (λ (d : ℕ). KnowsOf d (nodes node).row) (eqb-true e.0 epoch away) h.1)
   was-away epoch by (stage.Moved node e) away h = (node, h.0, subst (λ (d : ℕ). KnowsOf d (nodes node).row) (eqb-true e.0 epoch away) h.1)
-  was-away epoch by (stage.Closed last) away h = let no : false ≡ true = away in absurd cc
+  was-away epoch by _ away h = let no : false ≡ true = away in absurd cc
 
   ended-by : (env : FrontEnv) (n epoch : ℕ) (last : Final) (o : Option FrontRow) → RowHomes nodes o → DeedHomes (ended_by env p n epoch last o (end_answer epoch o))
   ended-by env n epoch last None h = tt
@@ -146,11 +134,7 @@ module _ (nodes : ℕ → NodePart) (p : FrontPart) where
 
   admitted-stage : (env : FrontEnv) (choice : FirstChoice) (row : FrontRow) (st : FrontConn) → StageHomes nodes row.ended_by st → AdmittedHomes (admitted_at env p choice row st)
   admitted-stage env choice row (stage.Waiting b) h = admitted-path env row (rest_of p.rest) b choice h (rest_of p.rest).target
-  admitted-stage env choice row (stage.Held b) h = tt
-  admitted-stage env choice row stage.Lent h = tt
-  admitted-stage env choice row (stage.Offering node epoch) h = tt
-  admitted-stage env choice row (stage.Moved node epoch) h = tt
-  admitted-stage env choice row (stage.Closed last) h = tt
+  admitted-stage env choice row _ h = tt
 
   admitted-row : (env : FrontEnv) (choice : FirstChoice) (o : Option FrontRow) → RowHomes nodes o → AdmittedHomes (admitted_by env p choice o)
   admitted-row env choice None h = tt

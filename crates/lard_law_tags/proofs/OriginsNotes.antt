@@ -146,9 +146,7 @@ module _ (env : NodeEnv) where
 
   serves-own : (w : Work) (e : Entry) (rest : List Entry) (p : Progress) → Own w → Own (serves_by env e rest w p)
   serves-own w e rest (progress.Ready way) h = answered-own way e.verdict w.service h
-  serves-own w e rest progress.Named h = h
-  serves-own w e rest progress.Reading h = h
-  serves-own w e rest (progress.Awaited node) h = h
+  serves-own w e rest _ h = h
 
   first-served : (w : Work) (es : List Entry) → Own w → Own (serves_first env w es)
   first-served w [] h = h

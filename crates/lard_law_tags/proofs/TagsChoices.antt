@@ -59,12 +59,9 @@ home-there d sound c n is = go (table.get d.books.loads.standings c) (sound.at_n
 
 -- the node with which a connection is, is its home
 stage-home : (epoch n e : ℕ) (rest : Option FrontRest) (kept : List Kept) (at : Standing) (st : FrontConn) → IsStageSound epoch rest kept at st → is_with n e st ≡ true → at.home ≡ Some n
-stage-home epoch n e rest kept at (stage.Held b) h is = let no : false ≡ true = is in absurd cc
-stage-home epoch n e rest kept at (stage.Waiting b) h is = let no : false ≡ true = is in absurd cc
-stage-home epoch n e rest kept at stage.Lent h is = let no : false ≡ true = is in absurd cc
 stage-home epoch n e rest kept at (stage.Offering node d) h is = ap (λ (a : Standing). a.home) h ∙ ap Some (eqb-true node n (and_parts (node == n) (d.0 == e) is).0)
 stage-home epoch n e rest kept at (stage.Moved node d) h is = ap (λ (a : Standing). a.home) h ∙ ap Some (eqb-true node n (and_parts (node == n) (d.0 == e) is).0)
-stage-home epoch n e rest kept at (stage.Closed last) h is = let no : false ≡ true = is in absurd cc
+stage-home epoch n e rest kept at _ h is = let no : false ≡ true = is in absurd cc
 
 row-home : (n e : ℕ) (rest : Option FrontRest) (kept : List Kept) (at : Standing) (o : Option FrontRow) → IsRowSound rest kept at o → is_at n e o ≡ true → at.home ≡ Some n
 row-home n e rest kept at None h is = let no : false ≡ true = is in absurd cc

@@ -112,10 +112,7 @@ module _ (N : ℕ → Type 0) (files : FilesAt) (x : Conn) (facts : Facts files 
   hears-at : (env : FrontEnv) (row : FrontRow) (bytes : List ℕ) (s : Said) (st : FrontConn) → Sits_in row.epoch.0 st → DeedFits (hears_at env p row bytes s st)
   hears-at env row bytes s (stage.Held b) k = heard-fits env row row.epoch.0 k.1.1 (on_segment b s).1
   hears-at env row bytes s (stage.Waiting b) k = waiting-rests row (rest_of p.rest) mine (spoken env.serve (serving (on_segment b s).1 (rest_of p.rest).count []) []).0
-  hears-at env row bytes s stage.Lent k = tt
-  hears-at env row bytes s (stage.Offering node epoch) k = tt
-  hears-at env row bytes s (stage.Moved node epoch) k = tt
-  hears-at env row bytes s (stage.Closed last) k = tt
+  hears-at env row bytes s _ k = tt
 
   hears-by : (env : FrontEnv) (bytes : List ℕ) (s : Said) (o : Option FrontRow) → p.row ≡ o → DeedFits (front_hears env p bytes s o)
   hears-by env bytes s None is = cond_both (is_plain_syn s) (begun env p s) Drops DeedFits (λ t. held-rests (record { stage = stage.Lent; epoch = record { 0 = 1 }; ended_by = None }) (rest_of None) tt _) (λ t. tt)
@@ -130,10 +127,7 @@ module _ (N : ℕ → Type 0) (files : FilesAt) (x : Conn) (facts : Facts files 
   fires-at : (env : FrontEnv) (row : FrontRow) (st : FrontConn) → DeedFits (fires_at env p row st)
   fires-at env row (stage.Held b) = held-rests row (rest_of p.rest) mine (fired env (rest_of p.rest) b).0
   fires-at env row (stage.Waiting b) = waiting-rests row (rest_of p.rest) mine (fired env (rest_of p.rest) b).0
-  fires-at env row stage.Lent = tt
-  fires-at env row (stage.Offering node epoch) = tt
-  fires-at env row (stage.Moved node epoch) = tt
-  fires-at env row (stage.Closed last) = tt
+  fires-at env row _ = tt
 
   fires-by : (env : FrontEnv) (o : Option FrontRow) → DeedFits (fired_by env p o)
   fires-by env None = tt
@@ -188,11 +182,7 @@ module _ (N : ℕ → Type 0) (files : FilesAt) (x : Conn) (facts : Facts files 
 
   admitted-stage : (env : FrontEnv) (choice : FirstChoice) (row : FrontRow) (st : FrontConn) → Sits_in row.epoch.0 st → AdmittedFits (admitted_at env p choice row st)
   admitted-stage env choice row (stage.Waiting b) k = admitted-path env row (rest_of p.rest) b choice row.epoch.0 k.1.1 (rest_of p.rest).target
-  admitted-stage env choice row (stage.Held b) k = tt
-  admitted-stage env choice row stage.Lent k = tt
-  admitted-stage env choice row (stage.Offering node epoch) k = tt
-  admitted-stage env choice row (stage.Moved node epoch) k = tt
-  admitted-stage env choice row (stage.Closed last) k = tt
+  admitted-stage env choice row _ k = tt
 
   admitted-row : (env : FrontEnv) (choice : FirstChoice) (o : Option FrontRow) → p.row ≡ o → AdmittedFits (admitted_by env p choice o)
   admitted-row env choice None is = tt

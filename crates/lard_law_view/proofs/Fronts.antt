@@ -221,10 +221,8 @@ module _ (env : FrontEnv) (own : env.serve.place ≡ Front) (number : IsNumber e
     fires_at-deed : (row : FrontRow) (x : FrontConn) → IsDeed (fires_at env p row x)
     fires_at-deed row (stage.Held b) = holds-deed row (rest_of p.rest) (fired env (rest_of p.rest) b) (fired-turn (rest_of p.rest) b)
     fires_at-deed row (stage.Waiting b) = waits-deed row (rest_of p.rest) (fired env (rest_of p.rest) b) (fired-turn (rest_of p.rest) b)
-    fires_at-deed row stage.Lent = tt
     fires_at-deed row (stage.Offering node epoch) = said-turn (map sent_of p.kept) kept
-    fires_at-deed row (stage.Moved node epoch) = tt
-    fires_at-deed row (stage.Closed last) = tt
+    fires_at-deed row _ = tt
 
     fired-deed : (o : Option FrontRow) → IsDeed (fired_by env p o)
     fired-deed None = tt
@@ -319,11 +317,7 @@ module _ (env : FrontEnv) (own : env.serve.place ≡ Front) (number : IsNumber e
 
     admitted_at-turn : (choice : FirstChoice) (row : FrontRow) (x : FrontConn) (given : FrontPart × FrontTurn) → admitted_at env p choice row x ≡ Some given → Admits given
     admitted_at-turn choice row (stage.Waiting b) given e = admitted_with-turn row (rest_of p.rest) b choice (rest_of p.rest).target given e
-    admitted_at-turn choice row (stage.Held b) given e = let no : ◌≡◌ {A = Option (FrontPart × FrontTurn)} None (Some given) = e in absurd cc
-    admitted_at-turn choice row stage.Lent given e = let no : ◌≡◌ {A = Option (FrontPart × FrontTurn)} None (Some given) = e in absurd cc
-    admitted_at-turn choice row (stage.Offering node epoch) given e = let no : ◌≡◌ {A = Option (FrontPart × FrontTurn)} None (Some given) = e in absurd cc
-    admitted_at-turn choice row (stage.Moved node epoch) given e = let no : ◌≡◌ {A = Option (FrontPart × FrontTurn)} None (Some given) = e in absurd cc
-    admitted_at-turn choice row (stage.Closed last) given e = let no : ◌≡◌ {A = Option (FrontPart × FrontTurn)} None (Some given) = e in absurd cc
+    admitted_at-turn choice row _ given e = let no : ◌≡◌ {A = Option (FrontPart × FrontTurn)} None (Some given) = e in absurd cc
 
     admitted_by-turn : (choice : FirstChoice) (o : Option FrontRow) (given : FrontPart × FrontTurn) → admitted_by env p choice o ≡ Some given → Admits given
     admitted_by-turn choice None given e = let no : ◌≡◌ {A = Option (FrontPart × FrontTurn)} None (Some given) = e in absurd cc

@@ -130,12 +130,7 @@ module _ (m : Machine) (view : IsViewed m) (P : Conn → Move → Type 0) (R : R
         let last : Final = record { reason = reason; snd = record { 0 = snd }; rcv = record { 0 = rcv } } in
         ended-acts m view P R Q shapes e c heads number begins refl (front_ended env p from epoch last) (ended-leaves env p from epoch last) (fronts.ended-deed env refl number p kept from epoch last)
         (R.untouched.front.ended (conn m c) env from epoch reason snd rcv count l.bytes is-env spells sent)
-    told-acts (body.Offer parts) spells = front-silent is-to (node-unheard from is-from is-to (of-kind IsForFront _ spells (λ for. for)))
-    told-acts (body.Forward bytes) spells = front-silent is-to (node-unheard from is-from is-to (of-kind IsForFront _ spells (λ for. for)))
-    told-acts (body.Tag n ns) spells = front-silent is-to (node-unheard from is-from is-to (of-kind IsForFront _ spells (λ for. for)))
-    told-acts (body.Fetch r path) spells = front-silent is-to (node-unheard from is-from is-to (of-kind IsForFront _ spells (λ for. for)))
-    told-acts (body.Content r bytes) spells = front-silent is-to (node-unheard from is-from is-to (of-kind IsForFront _ spells (λ for. for)))
-    told-acts body.EndedAck spells = front-silent is-to (node-unheard from is-from is-to (of-kind IsForFront _ spells (λ for. for)))
+    told-acts _ spells = front-silent is-to (node-unheard from is-from is-to (of-kind IsForFront _ spells (λ for. for)))
 
   -- a message of node from comes to the front end
   pub front-message : (from : ℕ) → l.from ≡ Node from → l.to ≡ Front → (r : Result Message MsgFault) → decoded_message l.bytes ≡ r
@@ -195,11 +190,7 @@ module _ (m : Machine) (view : IsViewed m) (P : Conn → Move → Type 0) (R : R
           let env : NodeEnv = its_env Front is-from c epoch number of in
           hears Front is-from c epoch number of (λ p. node_acknowledged env p) (nodes.acknowledged-deed env refl number (node_part s c))
           (R.untouched.node.acknowledged (conn m c) n epoch env l.bytes (is-node-env Front is-from c epoch number of) spells (its-sent Front is-from c epoch number of))
-      front-hears is-from of body.Taken spells = node-silent (front-unheard n is-from is-to (of-kind IsForNode _ spells (λ for. for)))
-      front-hears is-from of (body.Ask x queue size paths) spells = node-silent (front-unheard n is-from is-to (of-kind IsForNode _ spells (λ for. for)))
-      front-hears is-from of (body.Fetch r path) spells = node-silent (front-unheard n is-from is-to (of-kind IsForNode _ spells (λ for. for)))
-      front-hears is-from of (body.Content r bytes) spells = node-silent (front-unheard n is-from is-to (of-kind IsForNode _ spells (λ for. for)))
-      front-hears is-from of (body.Ended reason snd rcv count) spells = node-silent (front-unheard n is-from is-to (of-kind IsForNode _ spells (λ for. for)))
+      front-hears is-from of _ spells = node-silent (front-unheard n is-from is-to (of-kind IsForNode _ spells (λ for. for)))
 
       module _ (from : ℕ) (is-from : l.from ≡ Node from) (of : conn_of (Node from) (Node n) l.bytes ≡ Some c) where
         -- a Fetch of a file
@@ -233,25 +224,11 @@ module _ (m : Machine) (view : IsViewed m) (P : Conn → Move → Type 0) (R : R
             let env : NodeEnv = its_env (Node from) is-from c epoch number of in
             hears (Node from) is-from c epoch number of (λ p. node_content env p from r) (nodes.content-deed env refl number (node_part s c) from r)
             (R.untouched.node.content (conn m c) n from epoch r env bytes l.bytes (is-node-env (Node from) is-from c epoch number of) spells (its-sent (Node from) is-from c epoch number of))
-        other-hears (body.Offer parts) spells = node-silent (else-unheard (Node from) n is-from is-to (λ same. cc))
-        other-hears body.Taken spells = node-silent (else-unheard (Node from) n is-from is-to (λ same. cc))
-        other-hears (body.Forward bytes) spells = node-silent (else-unheard (Node from) n is-from is-to (λ same. cc))
-        other-hears (body.Ask x queue size paths) spells = node-silent (else-unheard (Node from) n is-from is-to (λ same. cc))
-        other-hears (body.Tag x ns) spells = node-silent (else-unheard (Node from) n is-from is-to (λ same. cc))
-        other-hears (body.Ended reason snd rcv count) spells = node-silent (else-unheard (Node from) n is-from is-to (λ same. cc))
-        other-hears body.EndedAck spells = node-silent (else-unheard (Node from) n is-from is-to (λ same. cc))
+        other-hears _ spells = node-silent (else-unheard (Node from) n is-from is-to (λ same. cc))
 
       -- from a client, which sends none
       client-hears : (d : ℕ) → l.from ≡ Client d → (b : Body) → Q e (node_gave m e (rec.Got k ∷ []) n (node_hears (node_setting m n) s (Client d) c epoch b))
-      client-hears d is-from (body.Offer parts) = node-silent (else-unheard (Client d) n is-from is-to (λ same. cc))
-      client-hears d is-from body.Taken = node-silent (else-unheard (Client d) n is-from is-to (λ same. cc))
-      client-hears d is-from (body.Forward bytes) = node-silent (else-unheard (Client d) n is-from is-to (λ same. cc))
-      client-hears d is-from (body.Ask x queue size paths) = node-silent (else-unheard (Client d) n is-from is-to (λ same. cc))
-      client-hears d is-from (body.Tag x ns) = node-silent (else-unheard (Client d) n is-from is-to (λ same. cc))
-      client-hears d is-from (body.Fetch r path) = node-silent (else-unheard (Client d) n is-from is-to (λ same. cc))
-      client-hears d is-from (body.Content r bytes) = node-silent (else-unheard (Client d) n is-from is-to (λ same. cc))
-      client-hears d is-from (body.Ended reason snd rcv count) = node-silent (else-unheard (Client d) n is-from is-to (λ same. cc))
-      client-hears d is-from body.EndedAck = node-silent (else-unheard (Client d) n is-from is-to (λ same. cc))
+      client-hears d is-from _ = node-silent (else-unheard (Client d) n is-from is-to (λ same. cc))
 
     message-from : (from : Place) → l.from ≡ from → (msg : Message) → decoded_message l.bytes ≡ Ok msg
         → Q e (node_gave m e (rec.Got k ∷ []) n (node_hears (node_setting m n) s from msg.c msg.epoch.0 msg.body))

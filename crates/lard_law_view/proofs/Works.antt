@@ -112,9 +112,7 @@ module _ (env : NodeEnv) (own : env.serve.place ≡ Node env.n) (number : IsNumb
 
   serves_by-works : (e : Entry) (rest : List Entry) (w : Work) (x : Progress) → IsAtWork w → IsAtWork (serves_by env e rest w x)
   serves_by-works e rest w (Ready way) h = (turns.answered-noted env.serve N noting way e.verdict w.service h.0, h.1)
-  serves_by-works e rest w Named h = h
-  serves_by-works e rest w Reading h = h
-  serves_by-works e rest w (Awaited node) h = h
+  serves_by-works e rest w _ h = h
 
   serves-works : (w : Work) (es : List Entry) → IsAtWork w → IsAtWork (serves_first env w es)
   serves-works w [] h = h

@@ -133,19 +133,7 @@ module _ (past : List Rec) (n m c r : ℕ) (path : List ℕ) where
         queued_of : Rec → Rec
         queued_of (rec.Read k a b d p) = rec.Queued k a b d p
         queued_of x = x
-  completed-queued (event.Open d isn iss wnd mss) rs h has = absurd (read-not n m c r path rs h has)
-  completed-queued (event.Get d p) rs h has = absurd (read-not n m c r path rs h has)
-  completed-queued (event.Write d bytes) rs h has = absurd (read-not n m c r path rs h has)
-  completed-queued (event.Shut d) rs h has = absurd (read-not n m c r path rs h has)
-  completed-queued (event.Abort d) rs h has = absurd (read-not n m c r path rs h has)
-  completed-queued (event.Hold d) rs h has = absurd (read-not n m c r path rs h has)
-  completed-queued (event.Take d) rs h has = absurd (read-not n m c r path rs h has)
-  completed-queued (event.Deliver k) rs h has = absurd (read-not n m c r path rs h has)
-  completed-queued (event.Timer place d) rs h has = absurd (read-not n m c r path rs h has)
-  completed-queued (event.Inject d bytes) rs h has = absurd (read-not n m c r path rs h has)
-  completed-queued (event.Lose k) rs h has = absurd (read-not n m c r path rs h has)
-  completed-queued (event.Clock ms) rs h has = absurd (read-not n m c r path rs h has)
-  completed-queued (event.Settle rounds) rs h has = absurd (read-not n m c r path rs h has)
+  completed-queued _ rs h has = absurd (read-not n m c r path rs h has)
 
   read-queued : (s : List Rec) → Opens s → MustRead past s → Has read s → Has queued past
   read-queued [] o h has = absurd o

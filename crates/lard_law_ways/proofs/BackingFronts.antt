@@ -195,10 +195,8 @@ module _ (k : Setting) (small : k.stream ≤ 2 ^ 30) (x : Conn) (s : Station) (t
     fires-stage : (d : FrontConn) → Goal (fires_at env p row d)
     fires-stage (stage.Held b) = front-makes files x (front_does x heads (fires_at env p row (stage.Held b))) refl tt
     fires-stage (stage.Waiting b) = front-makes files x (front_does x heads (fires_at env p row (stage.Waiting b))) refl tt
-    fires-stage stage.Lent = still
     fires-stage (stage.Offering n e) = front-makes files x (front_does x heads (fires_at env p row (stage.Offering n e))) refl tt
-    fires-stage (stage.Moved n e) = still
-    fires-stage (stage.Closed last) = still
+    fires-stage _ = still
 
   begins-makes : (heads : List Seen) (sd : Said) → Keeps files x (front_does x heads (met env p sd))
   begins-makes heads sd = go (is_plain_syn sd) where
@@ -274,10 +272,7 @@ module _ (env : FrontEnv) (x : Conn) (heads : List Seen) where
   stage-some : (n epoch e : ℕ) (d : FrontConn) → is_with n epoch d ≡ true → StageWays all_files (marks_at x) x.part e d → (marks_at x).assigned ≡ [] → ⊥
   stage-some n epoch e (stage.Offering i f) at h = away-some i e (x.part.nodes i) (rest_of its.rest) h
   stage-some n epoch e (stage.Moved i f) at h = away-some i e (x.part.nodes i) (rest_of its.rest) h
-  stage-some n epoch e (stage.Held b) at h = let no : false ≡ true = at in absurd (let f : ⊥ = cc in f)
-  stage-some n epoch e (stage.Waiting b) at h = let no : false ≡ true = at in absurd (let f : ⊥ = cc in f)
-  stage-some n epoch e stage.Lent at h = let no : false ≡ true = at in absurd (let f : ⊥ = cc in f)
-  stage-some n epoch e (stage.Closed last) at h = let no : false ≡ true = at in absurd (let f : ⊥ = cc in f)
+  stage-some n epoch e _ at h = let no : false ≡ true = at in absurd (let f : ⊥ = cc in f)
 
   row-some : (n epoch : ℕ) (o : Option FrontRow) → is_at n epoch o ≡ true → SeatWays all_files (marks_at x) x.part o → (marks_at x).assigned ≡ [] → ⊥
   row-some n epoch None at h = let no : false ≡ true = at in absurd (let f : ⊥ = cc in f)

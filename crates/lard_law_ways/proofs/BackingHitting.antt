@@ -174,9 +174,7 @@ module _ (env : NodeEnv) (at_node : env.serve.place ≡ Node env.n) (base : List
           notes = noted k.service.notes same.more served same.notes;
           each = Each-append IsTold same.more (served ∷ []) same.each ((at_node, refl, subst (W J (k.service.count + 1)) at h.0), tt);
         })
-    serves-by e rest k progress.Named at same h = same
-    serves-by e rest k progress.Reading at same h = same
-    serves-by e rest k (progress.Awaited node) at same h = same
+    serves-by e rest k _ at same h = same
 
     serves-go : (k : Work) (es : List Entry) → Goes k → AreHeld (W J) (k.service.count + 1) es → Goes (serves_first env k es)
     serves-go k [] same h = same

@@ -52,14 +52,7 @@ module _ (files : FilesAt) (wrote : List ℕ) where
   -- a content is no Fetch
   no-fetch : (n m : ℕ) (b : Body) → kind.Content ≡ kind_of b → BodyFor files wrote n m b
   no-fetch n m (body.Fetch r path) e = let no : kind.Content ≡ kind.Fetch = e in absurd (let f : ⊥ = cc in f)
-  no-fetch n m (body.Offer parts) e = tt
-  no-fetch n m body.Taken e = tt
-  no-fetch n m (body.Forward bytes) e = tt
-  no-fetch n m (body.Ask number queue size paths) e = tt
-  no-fetch n m (body.Tag number nodes) e = tt
-  no-fetch n m (body.Content r file) e = tt
-  no-fetch n m (body.Ended reason snd rcv count) e = tt
-  no-fetch n m body.EndedAck e = tt
+  no-fetch n m _ e = tt
 
   pub content-for : (n m c e r : ℕ) (file : List ℕ) → SaysFor files wrote (Node n) (Node m) (message c e (body.Content r file))
   content-for n m c e r file = λ msg d. no-fetch n m msg.body (kinds-same (record { c = c; epoch = record { 0 = e }; body = body.Content r file }) msg d)

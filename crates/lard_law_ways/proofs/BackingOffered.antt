@@ -154,11 +154,7 @@ module _ (k : Setting) (small : k.stream ≤ 2 ^ 30) (x : Conn) (s : Station) (t
 
     new-stage : (row : FrontRow) → x.part.front.row ≡ Some row → (d : FrontConn) → row.stage ≡ d → Offers n epoch d → Starting
     new-stage row found (stage.Offering i d) at f = new-at row d found (at ∙ ap (λ (j : ℕ). stage.Offering j d) f.0) f.1
-    new-stage row found (stage.Held b) at f = absurd f
-    new-stage row found (stage.Waiting b) at f = absurd f
-    new-stage row found stage.Lent at f = absurd f
-    new-stage row found (stage.Moved i d) at f = absurd f
-    new-stage row found (stage.Closed last) at f = absurd f
+    new-stage row found _ at f = absurd f
 
     new-row : (row : Option FrontRow) → x.part.front.row ≡ row → IsOffered n epoch row → Starting
     new-row None found f = absurd f

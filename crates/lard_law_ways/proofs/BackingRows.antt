@@ -45,14 +45,7 @@ module _ (files : FilesAt) (q z : List ℕ) where
 
   body-more : (m n : ℕ) (b : Body) → BodyFor files q m n b → BodyFor files (q ++ z) m n b
   body-more m n (body.Fetch r path) h = (for-more r path h.0, h.1, h.2)
-  body-more m n (body.Offer parts) h = tt
-  body-more m n body.Taken h = tt
-  body-more m n (body.Forward bytes) h = tt
-  body-more m n (body.Ask number queue size paths) h = tt
-  body-more m n (body.Tag number nodes) h = tt
-  body-more m n (body.Content r file) h = tt
-  body-more m n (body.Ended reason snd rcv count) h = tt
-  body-more m n body.EndedAck h = tt
+  body-more m n _ h = tt
 
   says-more : (from to : Place) (bytes : List ℕ) → SaysFor files q from to bytes → SaysFor files (q ++ z) from to bytes
   says-more (Node m) (Node n) bytes h = λ msg d. body-more m n msg.body (h msg d)

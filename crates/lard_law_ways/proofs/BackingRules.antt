@@ -123,11 +123,7 @@ module _ (k : Setting) (small : k.stream ≤ 2 ^ 30) where
         let opened = opened-at k.files x h (λ u. let no : Some row ≡ None = sym found ∙ u.front in absurd cc) in
         let o = open-at k.files x opened.0 opened.1 h in
         by-files x env is (front_admits x given) (waits-frozen k small x opened.0 opened.1 env is h.talk h.pend o row found b at choice given e)
-    by-stage row found (stage.Held b) at e = let no : None ≡ Some given = e in absurd cc
-    by-stage row found stage.Lent at e = let no : None ≡ Some given = e in absurd cc
-    by-stage row found (stage.Offering n d) at e = let no : None ≡ Some given = e in absurd cc
-    by-stage row found (stage.Moved n d) at e = let no : None ≡ Some given = e in absurd cc
-    by-stage row found (stage.Closed last) at e = let no : None ≡ Some given = e in absurd cc
+    by-stage row found _ at e = let no : None ≡ Some given = e in absurd cc
 
     by-row : (o : Option FrontRow) → x.part.front.row ≡ o → admitted_by env x.part.front choice o ≡ Some given → Admits
     by-row None found e = let no : None ≡ Some given = e in absurd cc

@@ -199,9 +199,7 @@ module _ (env : NodeEnv) (m : Marks) (home : IsHome env m) where
       cond_both (nat_lt env.serve.stream total) (passed_over env.serve total k.service) (queued env.serve way e.verdict bytes k.service) (λ (s : Service). Clean (serves_with s e rest k))
       (λ t. record { notes = noted-more k.service.notes (rec.Reset env.serve.place env.serve.c total) h.notes (tt, tt); wants = h.wants })
       (λ t. record { notes = noted-more k.service.notes (rec.Served env.serve.place env.serve.c (k.service.count + 1) (answer_code files e.verdict) (length bytes) way) h.notes (served-steady (k.service.count + 1) (answer_code files e.verdict) (length bytes) way); wants = h.wants })
-  serves-clean e rest k progress.Named h = h
-  serves-clean e rest k progress.Reading h = h
-  serves-clean e rest k (progress.Awaited node) h = h
+  serves-clean e rest k _ h = h
 
   in-order : (k : Work) (es : List Entry) → Clean k → Clean (serves_first env k es)
   in-order k [] h = h

@@ -160,9 +160,7 @@ module _ (files : FilesAt) (x : Conn) (truth : IsTruthful files x) (placed : IsP
 
   by-stage : (n : ℕ) (row : BackRow) → (x.part.nodes n).row ≡ Some row → (d : BackConn) → row.stage ≡ d → StageReads now (x.part.nodes n).stay d
   by-stage n row found (back.Here b) at = by-stay n row b found at (x.part.nodes n).stay refl
-  by-stage n row found back.Out at = tt
-  by-stage n row found back.Ended at = tt
-  by-stage n row found back.Gone at = tt
+  by-stage n row found _ at = tt
 
   by-row : (n : ℕ) (row : Option BackRow) → (x.part.nodes n).row ≡ row → RowReads now (x.part.nodes n).stay row
   by-row n None found = tt

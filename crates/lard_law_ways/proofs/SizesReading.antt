@@ -387,9 +387,7 @@ module _ (env : NodeEnv) (w out : Stream) (vs : List Verdict) (u : ℕ) where
       cond_both (nat_lt env.serve.stream total) (passed_over env.serve total k.service) (queued env.serve way e.verdict bytes k.service) (λ (s : Service). Fits (serves_with s e rest k))
       (λ t. served-fits k (passed_over env.serve total k.service) e rest way is at refl refl (inr ((λ f. let no : Some total ≡ None = f in absurd cc), refl)) fits)
       (λ t. served-fits k (queued env.serve way e.verdict bytes k.service) e rest way is at (got-closed e.verdict (queueing k.service.block bytes)) (reset-closed e.verdict (queueing k.service.block bytes)) (inl (refl, refl)) fits)
-  serves-fit k e rest progress.Named is at fits = fits
-  serves-fit k e rest progress.Reading is at fits = fits
-  serves-fit k e rest (progress.Awaited node) is at fits = fits
+  serves-fit k e rest _ is at fits = fits
 
   first-served : (k : Work) (es : List Entry) → k.batch ≡ es → Fits k → Fits (serves_first env k es)
   first-served k [] is fits = fits

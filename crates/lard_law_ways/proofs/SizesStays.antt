@@ -59,9 +59,7 @@ use Rattle.lard_law_ends.specs.Truth.{Stream}
 
 held-told : (o : Option Said) (d : BackConn) → StageTold o d → (b : ControlBlock) → held_in d ≡ Some b → IsTold o b
 held-told o (back.Here a) h b e = let same : a ≡ b = cc in subst (IsTold o) same h
-held-told o back.Out h b e = let no : None ≡ Some b = e in absurd cc
-held-told o back.Ended h b e = let no : None ≡ Some b = e in absurd cc
-held-told o back.Gone h b e = let no : None ≡ Some b = e in absurd cc
+held-told o _ h b e = let no : None ≡ Some b = e in absurd cc
 
 endpoint-told : (o : Option Said) (row : Option BackRow) → RowTold o row → (b : ControlBlock) → endpoint_of row ≡ Some b → IsTold o b
 endpoint-told o None h b e = let no : None ≡ Some b = e in absurd cc
@@ -76,9 +74,7 @@ staying-told o epoch (Some row) h b e = go (row.epoch.0 == epoch) e where
 
 held-reads : (u : ℕ) (o : Option Stay) (d : BackConn) → StageReads u o d → (b : ControlBlock) → held_in d ≡ Some b → StayReads u o
 held-reads u o (back.Here a) h b e = h
-held-reads u o back.Out h b e = let no : None ≡ Some b = e in absurd cc
-held-reads u o back.Ended h b e = let no : None ≡ Some b = e in absurd cc
-held-reads u o back.Gone h b e = let no : None ≡ Some b = e in absurd cc
+held-reads u o _ h b e = let no : None ≡ Some b = e in absurd cc
 
 endpoint-reads : (u : ℕ) (o : Option Stay) (row : Option BackRow) → RowReads u o row → (b : ControlBlock) → endpoint_of row ≡ Some b → StayReads u o
 endpoint-reads u o None h b e = let no : None ≡ Some b = e in absurd cc

@@ -108,9 +108,7 @@ module _ (env : NodeEnv) where
 
   serves-wider : (k : Work) (e : Entry) (rest : List Entry) (p : Progress) → Wider k (serves_by env e rest k p)
   serves-wider k e rest (progress.Ready way) = answered-wider env.serve way e.verdict k.service
-  serves-wider k e rest progress.Named = wider-same k.service.block
-  serves-wider k e rest progress.Reading = wider-same k.service.block
-  serves-wider k e rest (progress.Awaited node) = wider-same k.service.block
+  serves-wider k e rest _ = wider-same k.service.block
 
   first-wider : (k : Work) (es : List Entry) → Wider k (serves_first env k es)
   first-wider k [] = wider-same k.service.block

@@ -57,9 +57,7 @@ use Rattle.lard_law_ends.proofs.EndpointSends.{AllTo}
 -- where the endpoint is here, its client was told all that came
 abbrev pub StageTold : Option Said → BackConn → Type 0
 StageTold o (back.Here b) = IsTold o b
-StageTold o back.Out = Unit {0}
-StageTold o back.Ended = Unit {0}
-StageTold o back.Gone = Unit {0}
+StageTold o _ = Unit {0}
 
 abbrev pub RowTold : Option Said → Option BackRow → Type 0
 RowTold o None = Unit {0}
@@ -74,9 +72,7 @@ StayReads u (Some s) = u ≡ s.served + length s.batch
 
 abbrev pub StageReads : ℕ → Option Stay → BackConn → Type 0
 StageReads u o (back.Here b) = StayReads u o
-StageReads u o back.Out = Unit {0}
-StageReads u o back.Ended = Unit {0}
-StageReads u o back.Gone = Unit {0}
+StageReads u o _ = Unit {0}
 
 abbrev pub RowReads : ℕ → Option Stay → Option BackRow → Type 0
 RowReads u o None = Unit {0}
@@ -89,9 +85,7 @@ StayReach u wrote b (Some s) = Reach u s.served (s.served + length s.batch) (len
 
 abbrev pub StageReach : ℕ → List ℕ → Option Stay → BackConn → Type 0
 StageReach u wrote o (back.Here b) = StayReach u wrote b o
-StageReach u wrote o back.Out = Unit {0}
-StageReach u wrote o back.Ended = Unit {0}
-StageReach u wrote o back.Gone = Unit {0}
+StageReach u wrote o _ = Unit {0}
 
 abbrev pub RowReach : ℕ → List ℕ → Option Stay → Option BackRow → Type 0
 RowReach u wrote o None = Unit {0}
@@ -146,14 +140,7 @@ module _ (files : FilesAt) (c : ℕ) (x : Conn) (n : ℕ) (u : ℕ) (past : Mark
 
 pub no-ask : (files : FilesAt) (u : ℕ) (now : Marks) (b : Body) → kind_of b ≢ kind.Ask → BodyIsOfBatch files u now b
 no-ask files u now (body.Ask number queue size paths) not = absurd (not refl)
-no-ask files u now (body.Offer parts) not = tt
-no-ask files u now body.Taken not = tt
-no-ask files u now (body.Forward bytes) not = tt
-no-ask files u now (body.Tag number nodes) not = tt
-no-ask files u now (body.Fetch r path) not = tt
-no-ask files u now (body.Content r file) not = tt
-no-ask files u now (body.Ended reason snd rcv count) not = tt
-no-ask files u now body.EndedAck not = tt
+no-ask files u now _ not = tt
 
 pub other-says : (files : FilesAt) (x : Conn) (n u : ℕ) (past now : Marks) (c e : ℕ) (to : Place) (b : Body) → kind_of b ≢ kind.Ask → SaysFit files c x n u past now (to, message c e b)
 other-says files x n u past now c e to b not = inr (λ m d. no-ask files u now m.body (λ ask. not (kinds-same (record { c = c; epoch = record { 0 = e }; body = b }) m d ∙ ask)))

@@ -25,9 +25,7 @@ use Rattle.lard_rules.proofs.Runs.{runs_keep}
 module _ (B : ℕ → Via → Type 0) where
   abbrev pub IsBacked : ℕ → Progress → Type 0
   IsBacked r (progress.Ready way) = B r way
-  IsBacked r progress.Named = Unit {0}
-  IsBacked r progress.Reading = Unit {0}
-  IsBacked r (progress.Awaited node) = Unit {0}
+  IsBacked r _ = Unit {0}
 
   -- each of a batch, the first with number r
   abbrev pub AreBacked : ℕ → List Entry → Type 0
@@ -147,9 +145,7 @@ module _ (B : ℕ → Via → Type 0) where
           cond_both (nat_lt env.serve.stream total) (passed_over env.serve total w.service) (queued env.serve way e.verdict bytes w.service) (λ (s : Service). GoesBacked (serves_with s e rest w))
           (λ t. record { batch = h; notes = noted-more w.service.notes (rec.Reset env.serve.place env.serve.c total) same.notes tt })
           (λ t. record { batch = h.1; notes = noted-more w.service.notes (rec.Served env.serve.place env.serve.c (w.service.count + 1) _ (length bytes) way) same.notes (subst (IsBacked (w.service.count + 1)) at h.0) })
-      serves-by e rest w progress.Named at same h = same
-      serves-by e rest w progress.Reading at same h = same
-      serves-by e rest w (progress.Awaited node) at same h = same
+      serves-by e rest w _ at same h = same
 
       serves-backed : (w : Work) (es : List Entry) → GoesBacked w → AreBacked (w.service.count + 1) es → GoesBacked (serves_first env w es)
       serves-backed w [] same h = same

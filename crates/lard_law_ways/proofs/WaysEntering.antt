@@ -121,9 +121,7 @@ module _ (env : NodeEnv) where
 
   not-named : (e : Entry) (home node : ℕ) (p : Progress) → IsStarted home node p → path_in files e p ≡ None
   not-named e home node progress.Named h = absurd h
-  not-named e home node progress.Reading h = refl
-  not-named e home node (progress.Awaited from) h = refl
-  not-named e home node (progress.Ready way) h = refl
+  not-named e home node _ h = refl
 
   pub begun-none : (home node : ℕ) (v : Verdict) (w u : Work) (b : Begun home node v w u) → named_paths files (b.entry ∷ []) ≡ []
   begun-none home node v w u b = ap (λ (o : Option (List ℕ)). and_path o []) (not-named b.entry home node b.entry.progress b.started)

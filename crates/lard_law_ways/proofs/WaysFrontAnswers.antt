@@ -118,11 +118,7 @@ module _ (env : FrontEnv) (x : Conn) (heads : List Seen) where
     go : (b : Bool) → (d.0 == epoch) ≡ b → Goal (taken_by p epoch (Some row) (cond b (Some n) None))
     go true e = taken-moves row n d epoch found at (eqb-true d.0 epoch e)
     go false e = drops-makes
-  taken-at row epoch found (stage.Held b) at = drops-makes
-  taken-at row epoch found (stage.Waiting b) at = drops-makes
-  taken-at row epoch found stage.Lent at = drops-makes
-  taken-at row epoch found (stage.Moved n d) at = drops-makes
-  taken-at row epoch found (stage.Closed last) at = drops-makes
+  taken-at row epoch found _ at = drops-makes
 
   pub taken-row : (epoch : ℕ) (row : Option FrontRow) → p.row ≡ row → Goal (taken_by p epoch row (elim row [ None ↦ None | Some r ↦ offered_to epoch r.stage ]))
   taken-row epoch None found = drops-makes

@@ -261,10 +261,8 @@ module _ (k : Setting) (small : k.stream ≤ 2 ^ 30) (x : Conn) (s : Station) (t
           let before = ready_of env.serve (after_timer b) (timed b) in
           waits-makes heads row (rest_of p.rest) (fired env (rest_of p.rest) b) v (start-looks (after_timer b) count fh.0.holds.counted seat.0) refl (spoken-to env.serve v before (ready-to env.serve (after_timer b) (timed b))) seat.0.0
           (spoken-waits v before (rest_of p.rest).target (timer-keeps (λ r y. IsWaiting files r.unread (rest_of p.rest).target) (waits-kept files (rest_of p.rest).target) b seat.1)) help g
-      fires-stage stage.Lent at help g = stands-makes files x Front heads nothing_said tt (λ old. tt) help g
       fires-stage (stage.Offering n e) at help g = stands-makes files x Front heads (by_front (saying (map sent_of p.kept))) tt (λ old. sent-say files m x.part x Front p.kept help.sound.front old) help g
-      fires-stage (stage.Moved n e) at help g = stands-makes files x Front heads nothing_said tt (λ old. tt) help g
-      fires-stage (stage.Closed last) at help g = stands-makes files x Front heads nothing_said tt (λ old. tt) help g
+      fires-stage _ at help g = stands-makes files x Front heads nothing_said tt (λ old. tt) help g
 
   -- ---- nobody has it yet
 

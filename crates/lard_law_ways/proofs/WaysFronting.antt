@@ -49,13 +49,7 @@ use Rattle.lard_law_ends.proofs.EndpointSends.{AllTo}
 quiet-body : (files : FilesAt) (m : Marks) (p : Part) (n e : ℕ) (b : Body) → kind_of b ≢ kind.Offer → kind_of b ≢ kind.Tag → FrontSaysWays files m p n e b
 quiet-body files m p n e (body.Offer parts) other tagless = absurd (other refl)
 quiet-body files m p n e (body.Tag number nodes) other tagless = absurd (tagless refl)
-quiet-body files m p n e body.Taken other tagless = tt
-quiet-body files m p n e (body.Forward bytes) other tagless = tt
-quiet-body files m p n e (body.Ask number queue size paths) other tagless = tt
-quiet-body files m p n e (body.Fetch r path) other tagless = tt
-quiet-body files m p n e (body.Content r file) other tagless = tt
-quiet-body files m p n e (body.Ended reason snd rcv count) other tagless = tt
-quiet-body files m p n e body.EndedAck other tagless = tt
+quiet-body files m p n e _ other tagless = tt
 
 pub front-quiet : (files : FilesAt) (m : Marks) (p : Part) (n c e : ℕ) (b : Body) → kind_of b ≢ kind.Offer → kind_of b ≢ kind.Tag → LetterWays files m p (record { from = Front; to = Node n; bytes = message c e b })
 front-quiet files m p n c e b other tagless = λ msg d.

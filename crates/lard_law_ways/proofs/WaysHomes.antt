@@ -82,14 +82,7 @@ less-or-same n k le = go (nat_lt k n) refl where
 -- a message of another kind says nothing of ways
 quiet-body : (files : FilesAt) (m : Marks) (p : Part) (n e : ℕ) (b : Body) → kind_of b ≢ kind.Ask → NodeSaysWays files m p n e b
 quiet-body files m p n e (body.Ask number queue size paths) not = absurd (not refl)
-quiet-body files m p n e (body.Offer parts) not = tt
-quiet-body files m p n e body.Taken not = tt
-quiet-body files m p n e (body.Forward bytes) not = tt
-quiet-body files m p n e (body.Tag number nodes) not = tt
-quiet-body files m p n e (body.Fetch r path) not = tt
-quiet-body files m p n e (body.Content r file) not = tt
-quiet-body files m p n e (body.Ended reason snd rcv count) not = tt
-quiet-body files m p n e body.EndedAck not = tt
+quiet-body files m p n e _ not = tt
 
 pub quiet-says : (files : FilesAt) (m : Marks) (p : Part) (n c e : ℕ) (b : Body) → kind_of b ≢ kind.Ask → LetterWays files m p (record { from = Node n; to = Front; bytes = message c e b })
 quiet-says files m p n c e b not = λ msg d. quiet-body files m p n msg.epoch.0 msg.body (λ ask. not (kinds-same (record { c = c; epoch = record { 0 = e }; body = b }) msg d ∙ ask))
@@ -143,10 +136,7 @@ module _ (files : FilesAt) (m : Marks) (p : Part) (n : ℕ) (q : NodePart) where
   stage-put : (e : ℕ) (d : FrontConn) → IsAt n d → IsAway files m rest n e q → StageWays files m (with_node p n q) e d
   stage-put e (stage.Offering i f) at h = away-put e i at h
   stage-put e (stage.Moved i f) at h = away-put e i at h
-  stage-put e (stage.Held b) at h = absurd at
-  stage-put e (stage.Waiting b) at h = absurd at
-  stage-put e stage.Lent at h = absurd at
-  stage-put e (stage.Closed last) at h = absurd at
+  stage-put e _ at h = absurd at
 
   -- what it kept of the stay is as it was
   abbrev pub KeepsStay : Type 0
@@ -163,10 +153,7 @@ module _ (files : FilesAt) (m : Marks) (p : Part) (n : ℕ) (q : NodePart) where
   stage-kept : KeepsStay → (e : ℕ) (d : FrontConn) → StageWays files m p e d → StageWays files m (with_node p n q) e d
   stage-kept keeps e (stage.Offering i f) h = away-kept keeps e i h
   stage-kept keeps e (stage.Moved i f) h = away-kept keeps e i h
-  stage-kept keeps e (stage.Held b) h = h
-  stage-kept keeps e (stage.Waiting b) h = h
-  stage-kept keeps e stage.Lent h = h
-  stage-kept keeps e (stage.Closed last) h = h
+  stage-kept keeps e _ h = h
 
   pub seat-kept : KeepsStay → (o : Option FrontRow) → SeatWays files m p o → SeatWays files m (with_node p n q) o
   seat-kept keeps None h = h
@@ -179,10 +166,7 @@ module _ (files : FilesAt) (m : Marks) (p : Part) (n : ℕ) (q : NodePart) where
 at-away : (fs : FilesAt) (m : Marks) (p : Part) (n e : ℕ) (d : FrontConn) → IsAt n d → StageWays fs m p e d → IsAway fs m (rest_of p.front.rest) n e (p.nodes n)
 at-away fs m p n e (stage.Offering i f) at h = subst (λ (j : ℕ). IsAway fs m (rest_of p.front.rest) j e (p.nodes j)) at h
 at-away fs m p n e (stage.Moved i f) at h = subst (λ (j : ℕ). IsAway fs m (rest_of p.front.rest) j e (p.nodes j)) at h
-at-away fs m p n e (stage.Held b) at h = absurd at
-at-away fs m p n e (stage.Waiting b) at h = absurd at
-at-away fs m p n e stage.Lent at h = absurd at
-at-away fs m p n e (stage.Closed last) at h = absurd at
+at-away fs m p n e _ at h = absurd at
 
 -- What is known of the stay at its home.
 pub record AtHome (files : FilesAt) (m : Marks) (r : FrontRest) (n : ℕ) (p : NodePart) : Type 0 where

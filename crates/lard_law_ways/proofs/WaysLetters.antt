@@ -45,14 +45,7 @@ by-grows nodes e (Some row) (Some next) g h = omega (arith, g.0, h)
 module _ (files : FilesAt) (m n : Marks) (p q : Part) (c : Carries files m n p q) where
   node-on : (i e : ℕ) (b : Body) → NodeSaysWays files m p i e b → NodeSaysWays files n q i e b
   node-on i e (body.Ask number queue size paths) h = (decided-grows e (p.nodes i).row (q.nodes i).row (c.grows.nodes i) h.0, λ at. c.ask i e number paths at h.0 h.1)
-  node-on i e (body.Offer parts) h = h
-  node-on i e body.Taken h = h
-  node-on i e (body.Forward bytes) h = h
-  node-on i e (body.Tag number nodes) h = h
-  node-on i e (body.Fetch r path) h = h
-  node-on i e (body.Content r file) h = h
-  node-on i e (body.Ended reason snd rcv count) h = h
-  node-on i e body.EndedAck h = h
+  node-on i e _ h = h
 
   offer-on : (i e : ℕ) (parts : EndpointParts) → FrontSaid p i e kind.Offer → IsDecided e (p.nodes i).row ⊎ OfferIs files m parts → IsDecided e (q.nodes i).row ⊎ OfferIs files n parts
   offer-on i e parts said h = ⊎_elim (λ (d : IsDecided e (p.nodes i).row). inl (decided-grows e (p.nodes i).row (q.nodes i).row (c.grows.nodes i) d)) (λ (o : OfferIs files m parts). c.offer i e parts said o) h
@@ -60,13 +53,7 @@ module _ (files : FilesAt) (m n : Marks) (p q : Part) (c : Carries files m n p q
   front-on : (i e : ℕ) (b : Body) → FrontSaid p i e (kind_of b) → FrontSaysWays files m p i e b → FrontSaysWays files n q i e b
   front-on i e (body.Offer parts) said h = offer-on i e parts said h
   front-on i e (body.Tag number nodes) said h = (by-grows q.nodes e p.front.row q.front.row c.grows.front h.0, λ at. c.tag i e number nodes at h.0 h.1)
-  front-on i e body.Taken said h = h
-  front-on i e (body.Forward bytes) said h = h
-  front-on i e (body.Ask number queue size paths) said h = h
-  front-on i e (body.Fetch r path) said h = h
-  front-on i e (body.Content r file) said h = h
-  front-on i e (body.Ended reason snd rcv count) said h = h
-  front-on i e body.EndedAck said h = h
+  front-on i e _ said h = h
 
   says-on : (from to : Place) (bytes : List ℕ) → LetterMay p (record { from = from; to = to; bytes = bytes }) → SaysWays files m p from to bytes → SaysWays files n q from to bytes
   says-on (Node i) Front bytes may h = λ msg d. node-on i msg.epoch.0 msg.body (h msg d)

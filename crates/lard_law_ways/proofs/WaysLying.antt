@@ -21,9 +21,7 @@ module _ (home : ℕ) (path : List ℕ) where
   pub takes-lies : (q : Progress) (later : Later) (us : List Assigned) → TakesFirst home path q later us → LiesGood home path q later us
   takes-lies progress.Named later [] h = absurd h
   takes-lies progress.Named later (g ∷ gs) h = absurd h.1
-  takes-lies progress.Reading later us h = h
-  takes-lies (progress.Awaited from) later us h = h
-  takes-lies (progress.Ready way) later us h = h
+  takes-lies _ later us h = h
 
   -- what is so of what is behind it, with more assignments
   takes-more : (p q : Progress) (a b : Later) (us ws : List Assigned) → ((n : ℕ) → IsStarted home n p → IsStarted home n q) → ((gs : List Assigned) → a gs → b (gs ++ ws)) → TakesFirst home path p a us → TakesFirst home path q b (us ++ ws)

@@ -358,9 +358,7 @@ module _ (env : NodeEnv) (m : Marks) (r : FrontRest) (Before : List (List ℕ) �
 
     serves-go : (k : Work) (e : Entry) (rest : List Entry) → k.batch ≡ e ∷ rest → Goes k → Reads k → (p : Progress) → e.progress ≡ p → Goes (serves_by env e rest k p)
     serves-go k e rest is h reads (progress.Ready way) at = answered-goes k e rest is way at h reads
-    serves-go k e rest is h reads progress.Named at = h
-    serves-go k e rest is h reads progress.Reading at = h
-    serves-go k e rest is h reads (progress.Awaited node) at = h
+    serves-go k e rest is h reads _ at = h
 
     first-goes : (k : Work) (es : List Entry) → k.batch ≡ es → Goes k → Reads k → Goes (serves_first env k es)
     first-goes k [] is h reads = h

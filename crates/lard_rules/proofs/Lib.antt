@@ -19,3 +19,4 @@ pub mod FrontDeeds
 pub mod FrontWaiting
 pub mod FrontEnded
 pub mod FrontStepping
+pub mod StayFalling

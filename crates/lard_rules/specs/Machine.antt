@@ -13,7 +13,7 @@ use Rattle.lard_rules.specs.declared.fault.StepFault.TheVariants.{NoClient, Used
 use Rattle.lard_rules.specs.declared.machine.Machine.{Machine}
 use Rattle.lard_rules.specs.Bounds.{HasRule}
 use Rattle.lard_files.specs.Files.{file_at}
-use Rattle.lard_rules.specs.declared.FrontState.{FrontState}
+use Rattle.lard_rules.specs.declared.front.FrontState.{FrontState}
 use Rattle.lard_rules.specs.FrontPlace.{FrontSetting, front_step, no_connections}
 use Rattle.lard_history.specs.Journal.{request}
 use Rattle.lard_journal.specs.declared.rec.Rec.{Rec}

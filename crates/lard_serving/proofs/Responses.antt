@@ -8,20 +8,10 @@ use Rattle.lard_request.specs.declared.verdict.Code.TheVariants.{Ok, BadRequest,
 use Rattle.lard_response.specs.Response.{number, reason, status_line, length_line, close_line, response, response_body}
 
 number-most : (code : Code) → number code ≤ 501
-number-most Ok = omega arith
-number-most BadRequest = omega arith
-number-most NotFound = omega arith
-number-most TooLarge = omega arith
-number-most FieldsTooLarge = omega arith
-number-most NotImplemented = omega arith
+number-most _ = omega arith
 
 reason-most : (code : Code) → length (reason code) ≤ 31
-reason-most Ok = lit≤ tt
-reason-most BadRequest = lit≤ tt
-reason-most NotFound = lit≤ tt
-reason-most TooLarge = lit≤ tt
-reason-most FieldsTooLarge = lit≤ tt
-reason-most NotImplemented = lit≤ tt
+reason-most _ = lit≤ tt
 
 status-size : (code : Code) → (1 ≤ length (status_line code)) × (length (status_line code) ≤ 46)
 status-size code =

@@ -77,13 +77,7 @@ module _ (f : Machine → Result Machine Stop) where
 
     pub stops : (x : Result Machine Stop) (new : Machine) (fault : StepFault) → Does x new (Err fault) → Does (then x f) new (Err fault)
     stops x new NoMemory h = front-over new.journal (come x) (come (then x f)) h (come-then x)
-    stops x new (NoClient c) h = ap (λ (y : Result Machine Stop). then y f) h
-    stops x new (Used c) h = ap (λ (y : Result Machine Stop). then y f) h
-    stops x new (NoNode n nodes) h = ap (λ (y : Result Machine Stop). then y f) h
-    stops x new (NotSent k sent) h = ap (λ (y : Result Machine Stop). then y f) h
-    stops x new (WasLost k) h = ap (λ (y : Result Machine Stop). then y f) h
-    stops x new (NoJob n j len) h = ap (λ (y : Result Machine Stop). then y f) h
-    stops x new (Limit what) h = ap (λ (y : Result Machine Stop). then y f) h
+    stops x new _ h = ap (λ (y : Result Machine Stop). then y f) h
 
 -- ---- a round
 
@@ -129,13 +123,7 @@ module _ (more done : ℕ) where
 
   rounds-behind : (x : Result Machine Stop) (new : Machine) (fault : StepFault) → Does x new (Err fault) → DoesRounds (rounds_then x more done) new (Err fault)
   rounds-behind x new NoMemory h = front-over new.journal (come x) (counted (rounds_then x more done)) h (come-rounds x)
-  rounds-behind x new (NoClient c) h = ap (λ (y : Result Machine Stop). rounds_then y more done) h
-  rounds-behind x new (Used c) h = ap (λ (y : Result Machine Stop). rounds_then y more done) h
-  rounds-behind x new (NoNode n nodes) h = ap (λ (y : Result Machine Stop). rounds_then y more done) h
-  rounds-behind x new (NotSent k sent) h = ap (λ (y : Result Machine Stop). rounds_then y more done) h
-  rounds-behind x new (WasLost k) h = ap (λ (y : Result Machine Stop). rounds_then y more done) h
-  rounds-behind x new (NoJob n j len) h = ap (λ (y : Result Machine Stop). rounds_then y more done) h
-  rounds-behind x new (Limit what) h = ap (λ (y : Result Machine Stop). rounds_then y more done) h
+  rounds-behind x new _ h = ap (λ (y : Result Machine Stop). rounds_then y more done) h
 
 module _ (more k done : ℕ) (m : Machine) (is : more ≡ suc k) where
   abbrev by_quiet : Bool → Result (Machine × ℕ) Stop
@@ -159,13 +147,7 @@ module _ (more k done : ℕ) (m : Machine) (is : more ≡ suc k) where
 
 pub closed-stops : (x : Result (Machine × ℕ) Stop) (new : Machine) (fault : StepFault) → DoesRounds x new (Err fault) → Settles (closed_by x) new (Err fault)
 closed-stops x new NoMemory h = closed-grows new.journal x h
-closed-stops x new (NoClient c) h = ap closed_by h
-closed-stops x new (Used c) h = ap closed_by h
-closed-stops x new (NoNode n nodes) h = ap closed_by h
-closed-stops x new (NotSent k sent) h = ap closed_by h
-closed-stops x new (WasLost k) h = ap closed_by h
-closed-stops x new (NoJob n j len) h = ap closed_by h
-closed-stops x new (Limit what) h = ap closed_by h
+closed-stops x new _ h = ap closed_by h
 
 abbrev settled_then : Result Machine Stop → ℕ → Result (Machine × Settled) Stop
 settled_then x rounds = elim x as (λ r. Result (Machine × Settled) Stop) [ Err stop ↦ Err stop | Ok n ↦ closed_by (rounds_from rounds 0 n) ]
@@ -177,13 +159,7 @@ module _ (rounds : ℕ) where
 
   pub takes-stop : (x : Result Machine Stop) (new : Machine) (fault : StepFault) → Does x new (Err fault) → Settles (settled_then x rounds) new (Err fault)
   takes-stop x new NoMemory h = front-over new.journal (come x) (outcome (settled_then x rounds)) h (come-settled x)
-  takes-stop x new (NoClient c) h = ap (λ (y : Result Machine Stop). settled_then y rounds) h
-  takes-stop x new (Used c) h = ap (λ (y : Result Machine Stop). settled_then y rounds) h
-  takes-stop x new (NoNode n nodes) h = ap (λ (y : Result Machine Stop). settled_then y rounds) h
-  takes-stop x new (NotSent k sent) h = ap (λ (y : Result Machine Stop). settled_then y rounds) h
-  takes-stop x new (WasLost k) h = ap (λ (y : Result Machine Stop). settled_then y rounds) h
-  takes-stop x new (NoJob n j len) h = ap (λ (y : Result Machine Stop). settled_then y rounds) h
-  takes-stop x new (Limit what) h = ap (λ (y : Result Machine Stop). settled_then y rounds) h
+  takes-stop x new _ h = ap (λ (y : Result Machine Stop). settled_then y rounds) h
 
 module _ (m : Machine) (rounds : ℕ) where
   abbrev begun_then : Result Machine StepFault → Result (Machine × Settled) Stop

@@ -19,31 +19,7 @@ unmarked-rec i (rec.Event k e) h = absurd (true≢false h)
 unmarked-rec i (rec.Inner e) h = absurd (true≢false h)
 unmarked-rec i (rec.Settled rounds) h = absurd (true≢false h)
 unmarked-rec i (rec.Unsettled rounds left) h = absurd (true≢false h)
-unmarked-rec i (rec.Opened c isn iss wnd mss) h = (refl, refl)
-unmarked-rec i (rec.Wrote c bytes) h = (refl, refl)
-unmarked-rec i (rec.Sent k from to bytes) h = (refl, refl)
-unmarked-rec i (rec.Got k) h = (refl, refl)
-unmarked-rec i (rec.Lost k) h = (refl, refl)
-unmarked-rec i (rec.Accepted c bytes) h = (refl, refl)
-unmarked-rec i (rec.Eof c) h = (refl, refl)
-unmarked-rec i (rec.Took p c epoch) h = (refl, refl)
-unmarked-rec i (rec.Gave p c epoch) h = (refl, refl)
-unmarked-rec i (rec.Waits c) h = (refl, refl)
-unmarked-rec i (rec.Admitted c) h = (refl, refl)
-unmarked-rec i (rec.Released c) h = (refl, refl)
-unmarked-rec i (rec.AssignedFirst c r path n add remove) h = (refl, refl)
-unmarked-rec i (rec.AssignedLater c r path n add size queue) h = (refl, refl)
-unmarked-rec i (rec.BatchOver c) h = (refl, refl)
-unmarked-rec i (rec.Served p c r code size via) h = (refl, refl)
-unmarked-rec i (rec.Hit n path) h = (refl, refl)
-unmarked-rec i (rec.Queued n m c r path) h = (refl, refl)
-unmarked-rec i (rec.Read n m c r path) h = (refl, refl)
-unmarked-rec i (rec.Armed p c kind) h = (refl, refl)
-unmarked-rec i (rec.Cleared p c kind) h = (refl, refl)
-unmarked-rec i (rec.Reset p c total) h = (refl, refl)
-unmarked-rec i (rec.Aborted c) h = (refl, refl)
-unmarked-rec i (rec.Injected c) h = (refl, refl)
-unmarked-rec i (rec.Clock time) h = (refl, refl)
+unmarked-rec i _ h = (refl, refl)
 
 -- none stands for more than one
 rec-short : (i : ℕ) (r : Rec) → length (written_rec i r) ≤ 1
@@ -86,20 +62,8 @@ written-short i (r ∷ J) =
 
 -- an event that has a rule is no settle
 pub rule-step : (e : Event) → HasRule e → is_settle e ≡ false
-rule-step (event.Open c isn iss wnd mss) rule = refl
-rule-step (event.Get c path) rule = refl
-rule-step (event.Write c bytes) rule = refl
-rule-step (event.Shut c) rule = refl
-rule-step (event.Abort c) rule = refl
-rule-step (event.Hold c) rule = refl
-rule-step (event.Take c) rule = refl
-rule-step (event.Deliver k) rule = refl
-rule-step (event.Lose k) rule = refl
-rule-step (event.Timer p c) rule = refl
-rule-step (event.Disk n j) rule = refl
-rule-step (event.Clock ms) rule = refl
 rule-step (event.Settle rounds) rule = absurd rule
-rule-step (event.Inject c bytes) rule = refl
+rule-step _ rule = refl
 
 -- ---- what folds say
 

@@ -73,20 +73,17 @@ timer-unmarked place c (rec.Cleared p d kind) h = refl
 timer-unmarked place c _ h = absurd h
 
 own-unmarked : (e : Event) → AreUnmarked (behind e)
-own-unmarked (event.Open c isn iss wnd mss) = (refl, tt)
 own-unmarked (event.Get c path) = tt
 own-unmarked (event.Write c bytes) = tt
 own-unmarked (event.Shut c) = tt
 own-unmarked (event.Abort c) = tt
 own-unmarked (event.Hold c) = tt
 own-unmarked (event.Take c) = tt
-own-unmarked (event.Deliver k) = (refl, tt)
-own-unmarked (event.Lose k) = (refl, tt)
 own-unmarked (event.Timer p c) = tt
 own-unmarked (event.Disk n j) = tt
 own-unmarked (event.Clock ms) = tt
 own-unmarked (event.Settle rounds) = tt
-own-unmarked (event.Inject c bytes) = (refl, tt)
+own-unmarked _ = (refl, tt)
 
 -- ---- what a place does
 

@@ -24,7 +24,7 @@ use Rattle.lard_files.specs.Files.{file_at}
 use Rattle.lard_journal.specs.Inner.{turned_at}
 use Rattle.lard_journal.specs.declared.rec.Rec.{Rec}
 use Rattle.lard_journal.specs.declared.rec.Rec.TheVariants as rec
-use Rattle.lard_rules.specs.declared.FrontState.{FrontState}
+use Rattle.lard_rules.specs.declared.front.FrontState.{FrontState}
 use Rattle.lard_rules.specs.FrontPlace.{front_step}
 use Rattle.lard_history.specs.Journal.{request}
 use Rattle.lard_rules.specs.declared.fault.What.{What}

@@ -48,7 +48,7 @@ ready_falls env w via e es is none = go (nat_lt env.serve.stream total) where
   go true = omega (arith, ap length is, ap left_over none)
   go false = omega (arith, ap length is, ap left_over none, unread-behind e.verdict (record w.service.block { send = record w.service.block.send { rest = w.service.block.send.rest ++ bytes; total = total } }))
 
-serve_falls : (env : NodeEnv) (w : Work) → next_of w ≡ Serve → left (serves env w) < left w
+pub serve_falls : (env : NodeEnv) (w : Work) → next_of w ≡ Serve → left (serves env w) < left w
 serve_falls env w e = let f = found w Serve (λ h. cc) e in go w.batch refl f.0 f.1 where
   by : (e : Entry) (es : List Entry) (p : Progress) → w.batch ≡ e ∷ es → next_by p ≡ Serve → w.service.over ≡ None → left (serves_by env e es w p) < left w
   by e es (Ready via) is h none = ready_falls env w via e es is none
@@ -82,7 +82,7 @@ empty_batch (e ∷ es) h = absurd (go e.progress h) where
   go Reading h = cc
   go (Awaited node) h = cc
 
-read_falls : (env : NodeEnv) (w u : Work) → next_of w ≡ Read → reads_batch env false w ≡ More u → left u < left w
+pub read_falls : (env : NodeEnv) (w u : Work) → next_of w ≡ Read → reads_batch env false w ≡ More u → left u < left w
 read_falls env w u e h = go (batch_of 8 unread) refl h where
   unread : List ℕ
   unread = w.service.block.recv.unread
