@@ -40,7 +40,8 @@ impl Agenda {
         }
     }
 
-    /// Notes the records that it has not seen. Without memory it has noted some of them.
+    /// Notes the records of a journal that it has not seen. Those that it has seen are the first of them. Without
+    /// memory it has noted some more of them.
     pub fn follow(&mut self, records: &[Rec]) -> Result<(), NoMemory>
         requires { IsAgendaOf self.old records.now }
         ensures ok { OnOk result (self.new ≡ agenda_of records.now) }
@@ -77,7 +78,7 @@ impl Agenda {
         }
     }
 
-    /// The packets on their way, by number.
+    /// The packets on their way, by number. `NoMemory` where memory runs out.
     pub fn on_way(&self, alloc: Global) -> Result<Items<u32>, NoMemory>
         ensures { IfOk result (λ packets. packets ≡ on_way self.now) }
     {
@@ -88,7 +89,7 @@ impl Agenda {
         Ok(packets)
     }
 
-    /// The clients that hold, by number.
+    /// The clients that hold, by number. `NoMemory` where memory runs out.
     pub fn holders(&self, alloc: Global) -> Result<Items<ConnId>, NoMemory>
         ensures { IfOk result (λ clients. clients ≡ holders self.now) }
     {
@@ -99,7 +100,8 @@ impl Agenda {
         Ok(clients)
     }
 
-    /// The places and connections whose timers run and are not stalled, in the order in which they fire.
+    /// The places and connections whose timers run and are not stalled, in the order in which they fire. `NoMemory`
+    /// where memory runs out.
     pub fn due(&self, alloc: Global, line: &Dispatch) -> Result<Items<(Place, ConnId)>, NoMemory>
         ensures { IfOk result (λ seats. seats ≡ due line.now self.now) }
     {

@@ -7,9 +7,9 @@ pub fn agendas_tell_packets()
     ensures { AgendasTellPackets }
 {}
 
-/// What is kept at a seat is which timers of its connection run at its place, where the records of timers name nodes up to 64 and
-/// connections below 2^16; and nothing is kept where none runs. Where these seats are below 2^32, no more than five times as many timers
-/// run.
+/// What is kept at a seat is which timers of its connection run at its place, where the records of timers name nodes up
+/// to 64 and connections below 2^16; and nothing is kept where none runs. Where these seats are below 2^32, no more
+/// than five times as many timers run.
 pub fn agendas_tell_timers()
     ensures timers { AgendasTellTimers }
     ensures idle { AgendasKeepNothingIdle }
@@ -30,8 +30,8 @@ pub fn agendas_list_what_is_told()
     ensures rest { AgendasRest }
 {}
 
-/// An agenda that has noted nothing is one of each journal, an agenda of a journal is one of each journal that goes on from there, and
-/// one that has noted all records is of it.
+/// An agenda that has noted nothing is one of each journal, an agenda of a journal is one of each journal that goes on
+/// from there, and one that has noted all records is of it.
 pub fn agendas_go_on()
     ensures begin { AgendasBegin }
     ensures more { AgendasGoOn }

@@ -42,7 +42,7 @@ impl<V: Copy> Register<V> {
         }
     }
 
-    /// The value of a number, where it has one.
+    /// The value of a number; `None` where it has none.
     pub fn get(&self, number: u32) -> Option<V>
         ensures { result ≡ map.get self.now number }
     {

@@ -20,7 +20,7 @@ use std::alloc::Global;
 /// The line of the first event, where the schedule is written: behind `lard 1`, `nodes 64`, 256 files, and `go`.
 const FIRST_LINE: u64 = 260;
 
-/// Replays the generated schedule of a seed and of so many clients, and writes its four lines.
+/// Replays the generated schedule of a seed and of so many clients, 1 to 2,000, and writes its four lines.
 pub fn generate<K: Sink>(alloc: Global, sink: &mut K, seed: u64, clients: u32) -> Status
     requires clients { (1 ≤ clients) × (clients ≤ 2000) }
     ensures generated { Generated seed clients result (K.written sink.old) (K.written sink.new) }

@@ -19,7 +19,8 @@ use lard_rules::StepFault;
 use lard_settle::{World, settle};
 use std::alloc::Global;
 
-/// Does what an event does. After a fault the world is as it was, or, of a settle that had begun, as far as it came.
+/// Does what an event does. After a fault the world is as it was, or, of a settle that had begun, as far as it came. If
+/// memory ran out, nothing is said of it.
 #[tactic(auto, unfolding(lard_settling::specs::Events::event_step))]
 pub fn happen(
     world: &mut World,

@@ -50,7 +50,7 @@ pub struct Replay {
 }
 
 impl Replay {
-    /// Nothing was read.
+    /// Nothing was read. `NoMemory` where memory runs out.
     pub fn new(alloc: Global) -> Result<Replay, NoMemory>
         ensures begin { IfOk result (λ replay. seen replay ≡ begin) }
         ensures usable { IfOk result (λ replay. replay.world.spoiled ≡ false) }
@@ -71,7 +71,9 @@ impl Replay {
         })
     }
 
-    /// Takes a line, which is given without its line feed, and writes what the report gains.
+    /// Takes a line, which is given without its line feed, and writes what the report gains. `Refused` and `Limit` come
+    /// where the line ends the run, and what the report gained by it is written; after `WriteFault` and `NoMemory` a
+    /// front of that is.
     #[tactic(auto, unfolding(crate::specs::Replay::passed, crate::specs::Replay::gain))]
     pub fn pass<K: Sink>(&mut self, alloc: Global, sink: &mut K, line: &[u8]) -> Result<(), Status>
         requires usable { self.old.world.spoiled ≡ false }
@@ -184,7 +186,8 @@ impl Replay {
         Ok(text)
     }
 
-    /// Does what an event does, a step or a settle, and writes the records that came of it, also where a limit ended a settle inside.
+    /// Does what an event does, a step or a settle, and writes the records that came of it, also where a limit ended a
+    /// settle inside.
     fn step<K: Sink>(&mut self, alloc: Global, sink: &mut K, event: Event) -> Result<(), Status>
         requires usable { self.old.world.spoiled ≡ false }
         requires agenda { IsAgendaOf self.old.agenda self.old.world.machine.journal }

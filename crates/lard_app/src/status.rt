@@ -69,7 +69,8 @@ impl Status {
         }
     }
 
-    /// The line that the program prints to standard error, without its line feed; empty for `Done`.
+    /// The line that the program prints to standard error, without its line feed; empty for `Done`. `NoMemory` where
+    /// memory runs out.
     pub fn line(&self, alloc: Global) -> Result<String, NoMemory>
         ensures { IfOk result (λ text. string_bytes text ≡ line_text self.now) }
     {

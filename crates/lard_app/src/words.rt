@@ -15,7 +15,7 @@ pub enum Command {
     Generate { seed: u64, clients: u32 },
 }
 
-/// What the words ask for, if there is such a command.
+/// What the words ask for; `None` where there is no such command.
 pub fn asked(words: &[String]) -> Option<Command>
     ensures { Asks words.now result }
 {

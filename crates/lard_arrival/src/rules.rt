@@ -34,7 +34,7 @@ pub fn is_allowed(segment: &Segment<'_>, nxt: Seq, wnd: u32) -> bool
     (wnd == 0 && segment.seq == nxt) && (!segment.flags.rst && !segment.flags.syn)
 }
 
-/// The segment without its data and FIN.
+/// The segment without its data and FIN, as one that may acknowledge alone is taken.
 pub fn bare<'a>(segment: &Segment<'a>) -> Segment<'a>
     ensures { said result ≡ bare (said segment.now) }
 {

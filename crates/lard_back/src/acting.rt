@@ -49,6 +49,7 @@ pub struct Done {
 }
 
 /// A segment of the client comes to a connection, where it is here in this epoch; its timers ran so before the step.
+/// Without memory the state is of no use any more but to be spent.
 pub fn hear(
     state: &mut NodeState,
     alloc: Global,
@@ -72,7 +73,8 @@ pub fn hear(
     go(state, alloc, setting, at, was, endpoint, work)
 }
 
-/// The nodes of its Ask come to a connection, where it is here in this epoch.
+/// The nodes of its Ask come to a connection, where it is here in this epoch. Without memory the state is of no use any
+/// more but to be spent.
 pub fn assign(
     state: &mut NodeState,
     alloc: Global,
@@ -128,7 +130,8 @@ fn start(
     Ok(work)
 }
 
-/// A content comes from a node for a request of a connection, where it is here in this epoch.
+/// A content comes from a node for a request of a connection, where it is here in this epoch. Without memory the state
+/// is of no use any more but to be spent.
 pub fn bring(
     state: &mut NodeState,
     alloc: Global,
@@ -153,7 +156,8 @@ pub fn bring(
     go(state, alloc, setting, at, was, endpoint, work)
 }
 
-/// A job of the node's disk was completed for a request of a connection, where it is here in this epoch.
+/// A job of the node's disk was completed for a request of a connection, where it is here in this epoch. Without memory
+/// the state is of no use any more but to be spent.
 pub fn read(
     state: &mut NodeState,
     alloc: Global,
@@ -240,7 +244,8 @@ fn follow(
     }
 }
 
-/// The endpoint says what it may, and ends where it may or has to.
+/// The endpoint says what it may, and ends where it may or has to. `NoMemory` in the place of what the turn leaves
+/// where memory runs out.
 pub fn settle(
     alloc: Global,
     env: &lard_serving::Env<'_>,
@@ -284,7 +289,7 @@ pub fn apart(work: Work) -> (Service, Rest)
     (service, rest)
 }
 
-/// The end of a turn, once the endpoint is back.
+/// The end of a turn, once the endpoint is back. Without memory the state is of no use any more but to be spent.
 pub fn close(
     state: &mut NodeState,
     alloc: Global,
@@ -308,7 +313,8 @@ pub fn close(
     tell_turn(state, alloc, at, was, told)
 }
 
-/// The cache and the disk are told what a turn did, and it goes out.
+/// The cache and the disk are told what a turn did, and it goes out. Without memory the state is of no use any more but
+/// to be spent.
 pub fn tell_turn(
     state: &mut NodeState,
     alloc: Global,

@@ -26,8 +26,9 @@ use lard_serving::{Env, ready_of, spoken};
 use lard_stay::Work;
 use std::alloc::Global;
 
-/// The timers of a connection fire: what awaits an answer is sent again, and where the connection is here its endpoint sends
-/// again what is not acknowledged.
+/// The timers of a connection fire (RFC 9293, 3.10.8): what awaits an answer is sent again, and where the connection is
+/// here its endpoint sends again what is not acknowledged. Without memory the state is of no use any more but to be
+/// spent.
 pub fn fire(
     state: &mut NodeState,
     alloc: Global,

@@ -52,7 +52,8 @@ pub enum Rested {
     Over(Final),
 }
 
-/// Takes the endpoint and the stay of a connection out, where it is here in this epoch.
+/// Takes the endpoint and the stay of a connection out, where it is here in this epoch; else `None`, and nothing
+/// changes.
 pub fn take_out(state: &mut NodeState, c: ConnId, epoch: Epoch) -> Option<(Endpoint, Stay)>
     ensures found { result ≡ here epoch.0 (node_part state.old c) }
     ensures after { state.new ≡ lent_if state.old c result }
@@ -111,7 +112,8 @@ pub fn put_back(conns: &mut BackTable, c: ConnId, ending: Ending) -> Rested
     }
 }
 
-/// The end of a turn, once the endpoint is back: these messages go out and what the turn asks for, and the stay goes on or ends.
+/// The end of a turn, once the endpoint is back: these messages go out and what the turn asks for, and the stay goes on
+/// or ends. Without memory the state is of no use any more but to be spent.
 pub fn leave(
     state: &mut NodeState,
     alloc: Global,

@@ -23,7 +23,8 @@ use lard_rules::{NodeState, Out};
 use lard_serving::nothing;
 use std::alloc::Global;
 
-/// The bytes of a message come from a place. What does not decode is dropped.
+/// The bytes of a message come from a place. What does not decode is dropped. Without memory the state is of no use any
+/// more but to be spent.
 pub fn get(
     state: &mut NodeState,
     alloc: Global,

@@ -29,8 +29,8 @@ use lard_serving::nothing;
 use lard_stay::{Env, Work, begin};
 use std::alloc::Global;
 
-/// An Offer comes, with parts that are valid. A new one is adopted, one that was decided is answered again, and an old one is
-/// dropped.
+/// An Offer comes, with parts that are valid. A new one is adopted, one that was decided is answered again, and an old
+/// one is dropped. Without memory the state is of no use any more but to be spent.
 pub fn offered(
     state: &mut NodeState,
     alloc: Global,

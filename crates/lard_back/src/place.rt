@@ -21,7 +21,8 @@ use lard_rules::{BackIn, NodeState, Out};
 use lard_table::Table;
 use std::alloc::Global;
 
-/// No connection was offered, and no job is queued; the cache is for files of so many bytes.
+/// No connection was offered, and no job is queued; the cache is for files of so many bytes. `NoMemory` where memory
+/// runs out.
 pub fn begin(alloc: Global, cache: u32) -> Result<NodeState, NoMemory>
     ensures state { IfOk result (λ state. state ≡ no_stays cache) }
     ensures sound { IfOk result IsNodeSound }
@@ -54,7 +55,8 @@ pub fn finish(state: NodeState) {
     fetches.finish();
 }
 
-/// What a node does with what comes to it. Where memory runs out, the state is of no use any more but to be spent.
+/// What a node does with what comes to it, on a state of `begin` or of steps that were done. Its disk has fewer than
+/// 2^31 jobs. Without memory the state is of no use any more but to be spent.
 pub fn step(
     state: &mut NodeState,
     alloc: Global,

@@ -21,8 +21,8 @@ use lard_rules::{NodeState, Out};
 use lard_serving::nothing;
 use std::alloc::Global;
 
-/// The disk completes its j-th job, counted from 1; nothing is done where there is none. The record of the job stands before all
-/// that it leads to.
+/// The disk completes its j-th job, counted from 1; nothing is done where there is none. The record of the job stands
+/// before all that it leads to. Without memory the state is of no use any more but to be spent.
 pub fn complete(
     state: &mut NodeState,
     alloc: Global,

@@ -22,7 +22,8 @@ use lard_serving::nothing;
 use lard_stay::count_named;
 use std::alloc::Global;
 
-/// A segment that the front end forwarded comes, of at most 1,520 bytes. What does not decode is dropped.
+/// A segment that the front end forwarded comes, of at most 1,520 bytes. What does not decode is dropped. Without
+/// memory the state is of no use any more but to be spent.
 pub fn forward(
     state: &mut NodeState,
     alloc: Global,
@@ -46,7 +47,8 @@ pub fn forward(
     }
 }
 
-/// A Tag comes. It counts where an Ask is awaited, has that number, and has a node for each of its paths.
+/// A Tag comes. It counts where an Ask is awaited, has that number, and has a node for each of its paths. Without
+/// memory the state is of no use any more but to be spent.
 pub fn tagged(
     state: &mut NodeState,
     alloc: Global,
@@ -95,7 +97,8 @@ fn awaits(state: &NodeState, setting: &Setting<'_>, at: &At, number: u32, nodes:
         && nodes.len() == count_named(setting.files, stay.batch.as_slice())
 }
 
-/// A content comes. It counts where it is awaited from this node, once.
+/// A content comes. It counts where it is awaited from this node, once. Without memory the state is of no use any more
+/// but to be spent.
 pub fn content(
     state: &mut NodeState,
     alloc: Global,
@@ -122,7 +125,8 @@ pub fn content(
     bring(state, alloc, setting, at, was, from, r)
 }
 
-/// A job of this node's disk was completed for a request of its own.
+/// A job of this node's disk was completed for a request of its own. Without memory the state is of no use any more but
+/// to be spent.
 pub fn completed(
     state: &mut NodeState,
     alloc: Global,
@@ -142,7 +146,8 @@ pub fn completed(
     read(state, alloc, setting, at, was, r)
 }
 
-/// An EndedAck comes. The end is not told again where it is awaited in this epoch.
+/// An EndedAck comes. The end is not told again where it is awaited in this epoch. Without memory the state is of no
+/// use any more but to be spent.
 pub fn acknowledged(state: &mut NodeState, alloc: Global, at: &At) -> Result<Out, NoMemory>
     requires sound { IsNodeSound state.old }
     requires few { length state.old.disk < 2 ^ 31 }

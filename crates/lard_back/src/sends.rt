@@ -21,7 +21,8 @@ use lard_rules::{Asked, NodeState, Out, Want};
 use lard_serving::nothing;
 use std::alloc::Global;
 
-/// The bytes of a message of this stay.
+/// The bytes of a message of this stay, whose numbers and lengths are in their ranges: at most 2^21. `NoMemory` where
+/// memory runs out.
 pub fn message(alloc: Global, at: &At, body: Body) -> Result<Bytes, NoMemory>
     requires { IsOfTable body }
     ensures bytes { IfOk result (λ bytes. bytes ≡ message at.now.c at.now.epoch.0 body) }
@@ -70,7 +71,8 @@ fn tell_front(
     send(messages, Place::Front, bytes)
 }
 
-/// The Ask of a turn goes out, and is held until its Tag comes.
+/// The Ask of a turn goes out, and is held until its Tag comes. `NoMemory` where memory runs out; nothing is said of
+/// what is held and sent then.
 pub fn ask(
     kept: &mut Pending,
     alloc: Global,
@@ -103,7 +105,8 @@ pub fn ask(
     tell_front(kept, alloc, at, TimerKind::Ask, bytes, messages)
 }
 
-/// The contents that a turn wants are asked for, and each Fetch is held until its content comes.
+/// The contents that a turn wants are asked for, and each Fetch is held until its content comes. `NoMemory` where
+/// memory runs out; nothing is said of what is held and sent then.
 pub fn want_all(
     fetches: &mut Lateral,
     alloc: Global,
@@ -141,7 +144,8 @@ fn want_one(
     send(messages, Place::Node(want.node), bytes)
 }
 
-/// The stay ended: nothing of the connection is awaited any longer but the answer to this.
+/// The stay ended: nothing of the connection is awaited any longer but the answer to this. `NoMemory` where memory runs
+/// out; nothing is said of what is held and sent then.
 pub fn end(
     kept: &mut Pending,
     alloc: Global,
@@ -169,7 +173,7 @@ pub fn end(
 
 // ---- what goes out beside a turn
 
-/// The answer to an Offer that was decided.
+/// The answer to an Offer that was decided. `NoMemory` where memory runs out.
 pub fn taken(alloc: Global, at: &At) -> Result<Sends, NoMemory>
     ensures sends { IfOk result (λ sends. sends ≡ (Place.Front, message at.now.c at.now.epoch.0 Body.Taken) ∷ []) }
     ensures fit { IfOk result AreMessages }
@@ -181,6 +185,7 @@ pub fn taken(alloc: Global, at: &At) -> Result<Sends, NoMemory>
 }
 
 /// All that awaits an answer, once more: the Ask or the Ended of a connection, and then its Fetches, by number.
+/// `NoMemory` where memory runs out.
 pub fn again(state: &NodeState, alloc: Global, c: ConnId) -> Result<Sends, NoMemory>
     ensures sends { IfOk result (λ sends. sends ≡ again_sent (node_part state.now c)) }
     ensures fit { IfOk result AreMessages }

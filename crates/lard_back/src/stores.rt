@@ -25,7 +25,8 @@ use std::alloc::Global;
 
 // ---- a turn is told
 
-/// The cache is told the hits of a turn, and the disk is given its jobs.
+/// The cache is told the hits of a turn, and the disk is given its jobs. Without memory the state is of no use any more
+/// but to be spent.
 pub fn tell(state: &mut NodeState, notes: &Recs, jobs: Items<Job>) -> Result<(), NoMemory>
     requires few { length state.old.disk + length jobs < 2 ^ 32 }
     ensures { OnOk result (state.new ≡ told_of state.old notes.now jobs) }
@@ -64,8 +65,9 @@ fn queue(disk: &mut Disk, jobs: Items<Job>) -> Result<(), NoMemory>
 
 // ---- what other nodes ask for
 
-/// A Fetch comes: it is answered at once where the cache has its path; else a job of the disk reads it. One whose job is queued
-/// already is dropped, and so is one for no file.
+/// A Fetch comes: it is answered at once where the cache has its path; else a job of the disk reads it. One whose job
+/// is queued already is dropped, and so is one for no file. Without memory the state is of no use any more but to be
+/// spent.
 pub fn fetch(
     state: &mut NodeState,
     alloc: Global,
@@ -145,7 +147,7 @@ fn read(
     Ok(out)
 }
 
-/// The content of a request of another node, which goes there.
+/// The content of a request of another node, which goes there. `NoMemory` where memory runs out.
 pub fn content(
     alloc: Global,
     setting: &Setting<'_>,

@@ -58,7 +58,7 @@ fn holds_kind(kept: &[Kept], kind: TimerKind) -> bool
     kept.iter().any(|kept| rank(kept.kind) == rank(kind))
 }
 
-/// The records of the timers that changed, in the order of their kinds.
+/// The records of the timers that changed, in the order of their kinds. `NoMemory` where memory runs out.
 pub fn changes(alloc: Global, n: NodeId, c: ConnId, was: Flags, is: Flags) -> Result<Recs, NoMemory>
     ensures { IfOk result (λ recs. recs ≡ flag_changes n c was is) }
 {

@@ -28,7 +28,7 @@ impl Bytes {
         Bytes { items }
     }
 
-    /// A copy of the slice.
+    /// A copy of the slice. `NoMemory` where memory runs out.
     pub fn from_slice(alloc: Global, bytes: &[u8]) -> Result<Bytes, NoMemory>
         ensures { IfOk result (λ copy. copy ≡ bytes.now) }
     {
@@ -50,7 +50,7 @@ impl Bytes {
         self.items.len()
     }
 
-    /// The same bytes once more.
+    /// The same bytes once more. `NoMemory` where memory runs out.
     pub fn copy(&self, alloc: Global) -> Result<Bytes, NoMemory>
         ensures { IfOk result (λ copy. copy ≡ self.now) }
     {
@@ -80,7 +80,7 @@ impl Path {
         Path { items }
     }
 
-    /// A copy of the slice.
+    /// A copy of the slice. `NoMemory` where memory runs out.
     pub fn from_slice(alloc: Global, bytes: &[u8]) -> Result<Path, NoMemory>
         ensures { IfOk result (λ copy. copy ≡ bytes.now) }
     {
@@ -95,7 +95,7 @@ impl Path {
         self.items.as_slice()
     }
 
-    /// The same path once more.
+    /// The same path once more. `NoMemory` where memory runs out.
     pub fn copy(&self, alloc: Global) -> Result<Path, NoMemory>
         ensures { IfOk result (λ copy. copy ≡ self.now) }
     {

@@ -28,7 +28,7 @@ pub struct Config {
     pub stream: u32,
 }
 
-/// The name of one of the numbers.
+/// The name of one of the numbers. Its range stands beside the field of `Config`.
 #[derive(Clone, Copy, Debug, PartialEq, Eq)]
 pub enum Key {
     Nodes,
@@ -133,7 +133,8 @@ impl Config {
         }
     }
 
-    /// Sets the number of a key. A value out of the key's range is answered as a fault, and changes nothing.
+    /// Sets the number of a key. A value out of the key's range is answered by `ConfigFault::Range` with both, and
+    /// changes nothing.
     pub fn set(&mut self, key: Key, value: u64) -> Result<(), ConfigFault>
         ensures answer { result ≡ range_check key value }
         ensures after { self.new ≡ after_set self.old key value }
@@ -153,7 +154,8 @@ impl Config {
         Ok(())
     }
 
-    /// How many connections are admitted at a time, to 63,999.
+    /// How many connections are admitted at a time, to 63,999: (nodes - 1) * high + low - 1. Each number is in its
+    /// range.
     pub fn room(&self) -> u32
         requires { IsInRange self.now }
         ensures room { result ≡ room_of self.now }
@@ -163,7 +165,8 @@ impl Config {
     }
 
     /// Whether the configuration can be used: each number is in its range, low is at most high, and at least one
-    /// connection is admitted. Else it answers the first fault, keys in their order.
+    /// connection is admitted. Else it answers the first fault: `Range`, keys in their order, then `LowHigh`, then
+    /// `NoRoom`.
     pub fn check(&self) -> Result<(), ConfigFault>
         ensures answer { result ≡ config_check self.now }
         ensures in_range { OnOk result (IsInRange self.now) }

@@ -27,7 +27,7 @@ impl ConnId {
     /// The greatest number of a connection.
     pub const MAX: u32 = 16_384;
 
-    /// The connection with this number, where there is one: 1 to 16,384.
+    /// The connection with this number, 1 to 16,384; `None` for any other number.
     pub fn new(n: u32) -> Option<ConnId>
         ensures { SomeIff result ((1 ≤ n) × (n ≤ Self.MAX)) n }
     {
@@ -70,7 +70,7 @@ impl NodeId {
     /// The greatest number of a node.
     pub const MAX: u32 = 64;
 
-    /// The node with this number, where there is one: 1 to 64.
+    /// The node with this number, 1 to 64; `None` for any other number.
     pub fn new(n: u32) -> Option<NodeId>
         ensures { SomeIff result ((1 ≤ n) × (n ≤ Self.MAX)) n }
     {

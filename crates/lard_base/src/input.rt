@@ -11,16 +11,17 @@ use crate::outside::Source;
 /// How many bytes one call asks the source for at most.
 pub const PIECE: usize = 65_536;
 
-/// Why an input could not be read to its end.
+/// Why an input could not be read to its end. The bytes that came before are kept.
 #[derive(Clone, Copy, Debug, PartialEq, Eq)]
 pub enum InputFault {
     Failed,
     NoMemory,
 }
 
-/// Adds the source's bytes to the end of the text, until they end or the text has `limit + 1` bytes. It takes no
-/// byte more than that from the source, and keeps each that it takes, also where it fails. The first call that fails
-/// ends it.
+/// Adds the source's bytes to the end of the text, until they end or the text has `limit + 1` bytes. It takes no byte
+/// more than that from the source, and keeps each that it takes, also where it fails. The first call that fails ends it
+/// by `Failed`, and want of memory by `NoMemory`. The limit is below 2^32, and the text has at most `limit + 1` bytes
+/// before.
 pub fn read_up_to<S: Source>(
     source: &mut S,
     text: &mut Vec<u8>,

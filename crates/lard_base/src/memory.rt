@@ -98,7 +98,7 @@ impl Model for MemSink {
 
 impl MemSink {
     /// An empty sink with room for so many bytes, which it takes at once. The calls with the numbers in `failing`,
-    /// counted from 1, fail.
+    /// counted from 1, fail. `NoMemory` where memory runs out.
     pub fn new(alloc: Global, room: usize, failing: Calls) -> Result<MemSink, NoMemory>
         ensures { IfOk result (λ sink. sink ≡ fresh_sink room failing) }
     {

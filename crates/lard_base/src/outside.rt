@@ -16,8 +16,9 @@ pub trait Source {
     /// How often it failed. The count never falls, and stays at the greatest u64.
     ghost faults: { Self → ℕ };
 
-    /// Fills the front of the buffer with the next bytes, and answers how many they are. An answer of 0 for a
-    /// buffer that is not empty is the end of input. The count of faults rises where it fails, and in no other call.
+    /// Fills the front of the buffer with the next bytes, and answers how many they are. An answer of 0 for a buffer
+    /// that is not empty is the end of input. The count of faults rises where it fails, and in no other call: it
+    /// answers `Failed`, and has taken no byte.
     fn read(&mut self, buf: &mut [u8]) -> Result<usize, Failed>
         ensures bound { ReadsAtMost result buf.new }
         ensures bytes { ReadConsumes (left self.old) (left self.new) result buf.new }
@@ -32,8 +33,8 @@ pub trait Sink {
     /// How often it failed. The count never falls, and stays at the greatest u64.
     ghost faults: { Self → ℕ };
 
-    /// Takes bytes from the front of the piece, and answers how many: at least one where the piece is not empty.
-    /// The count of faults rises where it fails, and in no other call. It has taken nothing then.
+    /// Takes bytes from the front of the piece, and answers how many: at least one where the piece is not empty. The
+    /// count of faults rises where it fails, and in no other call: it answers `Failed`, and has taken nothing.
     fn write(&mut self, bytes: &[u8]) -> Result<usize, Failed>
         ensures bound { WritesAtMost result bytes.now }
         ensures some { IfOk result (λ n. 0 < length bytes.now → 0 < n) }
@@ -41,8 +42,8 @@ pub trait Sink {
         ensures cause { HasCause (faults self.old) (faults self.new) result };
 }
 
-/// Writes all bytes, in as many calls as it takes. The first of them that fails ends it, and a prefix of the bytes was
-/// written then.
+/// Writes all bytes, in as many calls as it takes. The first of them that fails ends it by `Failed`, and a prefix of
+/// the bytes was written then.
 pub fn write_all<K: Sink>(sink: &mut K, bytes: &[u8]) -> Result<(), Failed>
     ensures ok { OnOk result (Appends (K.written sink.old) (K.written sink.new) bytes.now) }
     ensures err { OnErr result (WrotePrefix (K.written sink.old) (K.written sink.new) bytes.now) }

@@ -78,7 +78,7 @@ impl<W: Write + Drop> Model for StdSink<W> {
 }
 
 impl<W: Write + Drop> StdSink<W> {
-    /// A sink that holds nothing and has not failed yet. It takes its memory at once.
+    /// A sink that holds nothing and has not failed yet. It takes its memory at once. `NoMemory` where memory runs out.
     pub fn new(alloc: Global, writer: W) -> Result<StdSink<W>, NoMemory>
         ensures { IfOk result (λ sink. sink ≡ record { writer = writer; held = []; faults = 0 }) }
     {
@@ -88,8 +88,8 @@ impl<W: Write + Drop> StdSink<W> {
         }
     }
 
-    /// Passes on the bytes that are held back. It fails only where the count of faults rose in this call, and loses
-    /// none of them then.
+    /// Passes on the bytes that are held back. It answers `Failed` exactly where the count of faults rose in this call,
+    /// and loses none of them then.
     pub fn flush(&mut self) -> Result<(), Failed>
         ensures bytes { Keeps (contents_of W.contents self.old) (contents_of W.contents self.new) }
         ensures all { OnOk result (self.new.held ≡ []) }

@@ -18,9 +18,9 @@ pub enum Found {
     TooLong { skip: usize },
 }
 
-/// The block at the front of these bytes. Leading pairs CR LF are skipped. Where the first CR LF CR LF behind them ends
-/// within 8,192 bytes, these bytes are the block. It takes no memory, and looks at no more than 8,192 bytes behind the
-/// skipped ones.
+/// The block at the front of these bytes (RFC 9112, 2.1). Leading pairs CR LF are skipped (RFC 9112, 2.2). Where the
+/// first CR LF CR LF behind them ends within 8,192 bytes, these bytes are the block. It takes no memory, and looks at
+/// no more than 8,192 bytes behind the skipped ones.
 pub fn cut(bytes: &[u8]) -> Found
     ensures value { result ≡ cut_of bytes.now }
     ensures within { IsWithin result (length bytes.now) }

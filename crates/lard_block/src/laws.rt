@@ -6,9 +6,9 @@ ghost use Rattle.lard_block.specs.Said.{IsFound};
 
 use crate::block::{Found, MAX_HEAD_BYTES};
 
-/// What is found is what these words say, and nothing else is: the pairs that are skipped are the longest run of them, a
-/// block ends by the first CR LF CR LF behind them and has at most 8,192 bytes, and where none ends within so many bytes
-/// more may come as long as there are fewer.
+/// What is found is what these words say, and nothing else is (RFC 9112, 2.1 and 2.2): the pairs that are skipped are
+/// the longest run of them, a block ends by the first CR LF CR LF behind them and has at most 8,192 bytes, and where
+/// none ends within so many bytes more may come as long as there are fewer.
 pub fn what_is_found_is_as_said()
     ensures said { (q : List ℕ) → IsFound q (cut_of q) }
     ensures nothing_else { (q : List ℕ) (found : Found) → IsFound q found → found ≡ cut_of q }

@@ -35,7 +35,7 @@ impl Model for Cache {
 }
 
 impl Cache {
-    /// An empty cache for files of so many bytes in all.
+    /// An empty cache for files of so many bytes in all. `NoMemory` where memory runs out.
     pub fn new(alloc: Global, bytes: u32) -> Result<Cache, NoMemory>
         ensures { IfOk result (λ c. c ≡ record { entries = []; limit = bytes }) }
     {

@@ -80,8 +80,9 @@ impl Model for Client {
 }
 
 impl Client {
-    /// A client of connection `c` whose SYN, with the number `isn`, `emit` gives first. It opens a window of `wnd` bytes,
-    /// at least 1, and takes segments of at most `mss` bytes, 1 to 1,460. It takes no memory yet.
+    /// A client of connection `c` whose SYN, with the number `isn`, `emit` gives first (RFC 9293, 3.10.1). It opens a
+    /// window of `wnd` bytes, at least 1, and takes segments of at most `mss` bytes, 1 to 1,460. It takes no memory
+    /// yet.
     pub fn open(alloc: Global, c: ConnId, isn: Seq, wnd: u16, mss: u16) -> Client
         requires some_window { 1 ≤ wnd }
         requires some_mss { 1 ≤ mss }
@@ -110,8 +111,8 @@ impl Client {
         self.c
     }
 
-    /// Writes bytes behind those that it wrote, at most 2^30 over its connection. It answers false, and does nothing,
-    /// where the client no longer writes. Without memory it is as it was.
+    /// Writes bytes behind those that it wrote, at most 2^30 over its connection (RFC 9293, 3.10.2). It answers false,
+    /// and does nothing, where the client no longer writes. Without memory it is as it was.
     pub fn write(&mut self, bytes: &[u8]) -> Result<bool, NoMemory>
         requires { written_len self.old bytes.now ≤ MAX_STREAM_BYTES }
         ensures answer { IfOk result (λ writes. writes ≡ is_writing self.old) }
@@ -133,7 +134,7 @@ impl Client {
         self.is_open() && !self.send.finished()
     }
 
-    /// How many bytes it wrote, at most 2^30.
+    /// How many bytes it wrote since its connection began, at most 2^30.
     pub fn written(&self) -> u32
         ensures value { result ≡ self.now.send.total }
         ensures law { IsClientBlock self.now }
@@ -142,7 +143,7 @@ impl Client {
         self.send.total()
     }
 
-    /// Closes its side behind what it wrote.
+    /// Closes its side: its FIN follows what it wrote (RFC 9293, 3.10.4).
     pub fn shut(&mut self)
         ensures { self.new ≡ shut_down self.old }
     {
@@ -151,8 +152,8 @@ impl Client {
         }
     }
 
-    /// Resets its connection. The RST, which `emit` never gives, is to be sent where there is one: the client was open
-    /// and established.
+    /// Resets its connection (RFC 9293, 3.10.5). The RST, which `emit` never gives, is to be sent where there is one:
+    /// the client was open and established. Else `None`.
     pub fn abort(&mut self) -> Option<Ready>
         ensures reset { result ≡ abort_ready self.old }
         ensures after { self.new ≡ aborted self.old }
@@ -178,7 +179,7 @@ impl Client {
         }
     }
 
-    /// Reads all that lies in its window, and holds no longer. The cluster is told so by an ACK.
+    /// Reads all that lies in its window, and holds no longer (RFC 9293, 3.10.3). The cluster is told so by an ACK.
     pub fn take(&mut self)
         ensures { self.new ≡ taken self.old }
     {
@@ -196,7 +197,7 @@ impl Client {
         self.is_open() && self.holding
     }
 
-    /// Whether its timer runs: it is open, and its SYN, a byte or its FIN is not acknowledged.
+    /// Whether its timer runs: it is open, and its SYN, a byte or its FIN is not acknowledged (RFC 9293, 3.8.1).
     pub fn armed(&self) -> bool
         ensures { result ≡ is_armed self.now }
     {

@@ -18,7 +18,7 @@ pub enum Cost {
     Over,
 }
 
-/// How much a load is above `idle`: 0 below it, and `Over` above `over`.
+/// How much a load, in 840ths of a connection, is above `idle`: 0 below it, and `Over` above `over`.
 pub fn cost_balancing(cfg: &Config, load: u32) -> Cost
     ensures { result ≡ cost_balancing cfg.now load }
 {
@@ -34,7 +34,8 @@ pub fn cost_balancing(cfg: &Config, load: u32) -> Cost
     }
 }
 
-/// What it costs to fetch the target: one connection at a member, which has it in its cache, else `miss` connections.
+/// What it costs to fetch the target, in 840ths of a connection: one connection at a member, which has it in its cache,
+/// else `miss` connections.
 pub fn cost_locality(cfg: &Config, is_member: bool) -> u64
     ensures value { result ≡ cost_locality cfg.now is_member }
     ensures fits { result < 2 ^ 42 }
@@ -43,7 +44,8 @@ pub fn cost_locality(cfg: &Config, is_member: bool) -> u64
     connections as u64 * WHOLE as u64
 }
 
-/// What it costs that another target leaves the node's cache: `miss` connections, but 0 at a member and below `idle`.
+/// What it costs that another target leaves the node's cache, in 840ths of a connection: `miss` connections, but 0 at a
+/// member and where the load, in 840ths too, is below `idle`.
 pub fn cost_replacement(cfg: &Config, load: u32, is_member: bool) -> u64
     ensures value { result ≡ cost_replacement cfg.now load is_member }
     ensures fits { result < 2 ^ 42 }
@@ -55,7 +57,7 @@ pub fn cost_replacement(cfg: &Config, load: u32, is_member: bool) -> u64
     }
 }
 
-/// The sum of the three at a node, for a target that these nodes serve.
+/// The sum of the three at a node, which is one of those with these loads, for a target that the nodes of `set` serve.
 pub fn cost_at(loads: &Loads, cfg: &Config, set: Members, n: NodeId) -> Cost
     requires node { n ≤ loads.now.nodes }
     ensures { result ≡ cost_at loads.now cfg.now set n }

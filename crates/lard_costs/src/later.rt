@@ -24,9 +24,10 @@ pub struct LaterChoice {
 /// Later choices, in order.
 pub type LaterChoices = Items<LaterChoice>;
 
-/// The node for a further request of a connection at home at `h`, whose disk queue has so many jobs, for a target with this
-/// server set. It stays at `h` where `h` is a member, or the queue is short. Else it goes to the cheapest of `h` and the
-/// members: `h` at a tie, then the lowest number. Where `h` is chosen, is open and is no member, it joins the set.
+/// The node for a further request of a connection at home at `h`, whose disk queue has so many jobs, for a target with
+/// this server set. It stays at `h` where `h` is a member, or the queue is short. Else it goes to the cheapest of `h`
+/// and the members: `h` at a tie, then the lowest number. Where `h` is chosen, is open and is no member, it joins the
+/// set. `h` and all members are nodes of these loads.
 #[tactic(auto, unfolding(crate::specs::Later::later_choice))]
 pub fn choose_later(h: NodeId, set: Members, loads: &Loads, queue: u32, cfg: &Config) -> LaterChoice
     requires home { h ≤ loads.now.nodes }

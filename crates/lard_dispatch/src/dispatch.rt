@@ -83,7 +83,7 @@ impl Model for Dispatch {
 }
 
 impl Dispatch {
-    /// No connection, and no server set. The configuration passes its check.
+    /// No connection, and no server set. The configuration passes its check. `NoMemory` where memory runs out.
     pub fn new(alloc: Global, config: Config) -> Result<Dispatch, NoMemory>
         requires { config_check config ≡ Ok tt }
         ensures value { IfOk result (λ d. d ≡ begun config) }
@@ -121,8 +121,8 @@ impl Dispatch {
         self.line.waits(c)
     }
 
-    /// A connection that is neither admitted nor waits comes with its first request. It is admitted and assigned where there
-    /// is room, and else waits. Without memory nothing changes. No set was changed after `now`.
+    /// A connection that is neither admitted nor waits comes with its first request. It is admitted and assigned where
+    /// there is room, and else waits. No set was changed after `now`. Without memory nothing changes.
     pub fn first(&mut self, c: ConnId, target: &Path, now: Millis) -> Result<First, NoMemory>
         requires free { home_of self.old.books.loads c ≡ None }
         requires away { waits self.old.books.line c ≡ false }
@@ -149,8 +149,9 @@ impl Dispatch {
         Ok(First::Go(choice))
     }
 
-    /// An Ask of an admitted connection, its first time: the batch before it is over, and each path is assigned in order, at
-    /// the loads and the sets that those before it left. Without memory nothing changes.
+    /// An Ask of an admitted connection, its first time: the batch before it is over, and each path is assigned in
+    /// order, at the loads and the sets that those before it left. It asks for 1 to `size` paths, `size` is at most 8,
+    /// and `home` is the connection's node. No set was changed after `now`. Without memory nothing changes.
     pub fn later(&mut self, ask: &Ask, now: Millis) -> Result<Later, NoMemory>
         requires home { home_of self.old.books.loads ask.now.c ≡ Some ask.now.home }
         requires some { 1 ≤ length ask.now.paths }
@@ -180,8 +181,9 @@ impl Dispatch {
         })
     }
 
-    /// Releases an admitted connection, and admits the first of the line, with the choice for the target that it waits with.
-    /// Without memory nothing changes. No set was changed after `now`.
+    /// Releases an admitted connection, and admits the first of the line, with the choice for the target that it waits
+    /// with: the answer is both, or `None` where nobody waits. No set was changed after `now`. Without memory nothing
+    /// changes.
     pub fn ended(
         &mut self,
         c: ConnId,

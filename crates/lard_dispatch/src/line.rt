@@ -40,7 +40,7 @@ impl Model for Line {
 }
 
 impl Line {
-    /// Nobody waits.
+    /// Nobody waits. `NoMemory` where memory runs out.
     pub fn new(alloc: Global) -> Result<Line, NoMemory>
         ensures { IfOk result (λ line. line ≡ []) }
     {
@@ -78,7 +78,7 @@ impl Line {
         Ok(())
     }
 
-    /// The first of the line, lent.
+    /// The first of the line, lent; `None` where nobody waits.
     pub fn first(&self) -> Option<&Waiting>
         ensures { option_copied result ≡ slice_get self.now 0 }
     {
@@ -88,7 +88,7 @@ impl Line {
         }
     }
 
-    /// Takes the first out of the line.
+    /// Takes the first out of the line; `None` where nobody waits.
     pub fn pop(&mut self) -> Option<Waiting>
         ensures some { IfSome result (λ first. self.old ≡ first ∷ self.new) }
         ensures none { IfNone result ((self.old ≡ []) × (self.new ≡ [])) }

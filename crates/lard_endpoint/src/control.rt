@@ -57,7 +57,8 @@ impl Model for Endpoint {
 
 impl Endpoint {
     /// An endpoint that took this SYN, and whose own SYN with the number `iss` is to be sent. It takes no data of the
-    /// segment. A maximum segment size that the SYN names is brought into the range 1 to 1,460.
+    /// segment (RFC 9293, 3.10.7.2, third). The SYN has no ACK, RST or FIN. A maximum segment size that the SYN names
+    /// is brought into the range 1 to 1,460. `NoMemory` where memory runs out.
     pub fn listen(alloc: Global, syn: &Segment<'_>, iss: Seq) -> Result<Endpoint, NoMemory>
         requires syn { syn.now.flags.syn ≡ true }
         requires no_ack { syn.now.flags.ack ≡ false }
@@ -76,8 +77,8 @@ impl Endpoint {
         })
     }
 
-    /// Queues bytes to be sent; not after `finish`, and at most 2^30 over one connection. Without memory the endpoint is
-    /// as it was.
+    /// Queues bytes to be sent; not after `finish`, and at most 2^30 over one connection (RFC 9293, 3.10.2). Without
+    /// memory the endpoint is as it was.
     pub fn queue(&mut self, bytes: &[u8]) -> Result<(), NoMemory>
         requires unfinished { self.old.send.finished ≡ false }
         requires fits { self.old.send.total + length bytes.now ≤ MAX_STREAM_BYTES }
@@ -87,7 +88,7 @@ impl Endpoint {
         self.send.queue(bytes)
     }
 
-    /// Queues bytes as `queue` does, without a copy of them.
+    /// Queues bytes as `queue` does, without a copy of them. Without memory the endpoint is as it was.
     pub fn queue_shared(&mut self, bytes: Shared) -> Result<(), NoMemory>
         requires unfinished { self.old.send.finished ≡ false }
         requires fits { self.old.send.total + length bytes ≤ MAX_STREAM_BYTES }
@@ -97,14 +98,14 @@ impl Endpoint {
         self.send.queue_shared(bytes)
     }
 
-    /// Lets the FIN follow the queued bytes. No more are queued then.
+    /// Lets the FIN follow the queued bytes (RFC 9293, 3.10.4). No more are queued then.
     pub fn finish(&mut self)
         ensures { self.new ≡ finishing self.old }
     {
         self.send.finish();
     }
 
-    /// Reads off the first `n` of the unread bytes.
+    /// Reads off the first `n` of the unread bytes, of which there are as many (RFC 9293, 3.10.3).
     pub fn consume(&mut self, n: usize)
         requires { n ≤ length self.old.recv.unread }
         ensures { self.new ≡ consuming self.old n }
@@ -112,7 +113,8 @@ impl Endpoint {
         self.recv.consume(n);
     }
 
-    /// Drops what is unread, and from now on all that comes, which is acknowledged all the same.
+    /// Drops what is unread, and from now on all that comes, which is acknowledged all the same: as behind an answer
+    /// that closes the connection (RFC 9112, 9.6).
     pub fn discard_on(&mut self)
         ensures { self.new ≡ discarding_on self.old }
     {
@@ -126,14 +128,14 @@ impl Endpoint {
         self.recv.unread()
     }
 
-    /// Whether the peer's FIN was taken.
+    /// Whether the peer's FIN was taken (RFC 9293, 3.10.7.4, eighth).
     pub fn peer_done(&self) -> bool
         ensures { result ≡ self.now.recv.fin }
     {
         self.recv.finished()
     }
 
-    /// Whether the peer reset the connection. Nothing is sent then, and `end` ends it.
+    /// Whether the peer reset the connection (RFC 9293, 3.10.7.4, second). Nothing is sent then, and `end` ends it.
     pub fn was_reset(&self) -> bool
         ensures { result ≡ self.now.reset }
     {

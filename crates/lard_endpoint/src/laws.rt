@@ -2,7 +2,7 @@
 
 ghost use Rattle.lard_endpoint.specs.Laws.{LaterIsTheDifference, EarlierIsTheComplement, AheadIsInTheWindow, FreshIsThePart, FinComesLast, ListeningIsSound, ArrivingKeeps, LeavingKeeps, QueueingKeeps, FinishingKeeps, ReadingKeeps, AdoptionIsSound, TimerIsForTheRest, SilenceOwesNothing, PartsAreValid, AdoptionGoesOn, EmittedStaysInTheWindow, WindowIsNotTakenBack, SegmentsTellTheWindow};
 
-/// Numbers of one direction of a connection differ as their offsets do.
+/// Numbers of one direction of a connection differ as their offsets do (RFC 9293, 3.4).
 pub fn numbers_differ_as_offsets()
     ensures later { LaterIsTheDifference }
     ensures earlier { EarlierIsTheComplement }
@@ -13,7 +13,8 @@ pub fn ahead_is_in_the_window()
     ensures { AheadIsInTheWindow }
 {}
 
-/// Of a true segment exactly those bytes are taken that stand at the place that is awaited, and the FIN behind all bytes.
+/// Of a true segment exactly those bytes are taken that stand at the place that is awaited, and the FIN behind all
+/// bytes (RFC 9293, 3.10.7.4, seventh and eighth).
 pub fn what_is_taken_is_the_part()
     ensures bytes { FreshIsThePart }
     ensures fin { FinComesLast }
@@ -30,13 +31,15 @@ pub fn both_directions_stay_bounded()
     ensures adopting { AdoptionIsSound }
 {}
 
-/// What an endpoint says when it sends nothing.
+/// What an endpoint says when it sends nothing: its timer sends exactly where some symbol is not acknowledged, and
+/// where nothing is emitted no ACK is owed and nothing may be sent.
 pub fn silence_means_something()
     ensures timer { TimerIsForTheRest }
     ensures emit { SilenceOwesNothing }
 {}
 
-/// What is emitted lies in the window of the peer, and no segment takes back the window that an earlier one told.
+/// What is emitted lies in the window of the peer, and no segment takes back the window that an earlier one told
+/// (RFC 9293, 3.4 and 3.8.6).
 pub fn windows_are_kept()
     ensures sending { EmittedStaysInTheWindow }
     ensures receiving { WindowIsNotTakenBack }

@@ -42,9 +42,10 @@ impl Files {
         }
     }
 
-    /// Adds a file. The first of these answers that applies comes, and the files are then as they were: `Repeated` where
-    /// the path is there, `TooLong` with the file's length above 2^20 bytes, `TooMany` with the number of files above
-    /// 65,536, `TooMuch` with the sum of their lengths above 2^26 bytes, both counted with this one, `NoMemory`.
+    /// Adds a file. Its path has 1 to 1,024 bytes. The first of these answers that applies comes, and the files are
+    /// then as they were: `Repeated` where the path is there, `TooLong` with the file's length above 2^20 bytes,
+    /// `TooMany` with the number of files above 65,536, `TooMuch` with the sum of their lengths above 2^26 bytes, both
+    /// counted with this one, `NoMemory`.
     pub fn add(&mut self, path: &[u8], bytes: &[u8]) -> Result<(), FileFault>
         requires some_path { 1 ≤ length path.now }
         requires short_path { length path.now ≤ MAX_PATH_BYTES }
@@ -74,8 +75,8 @@ impl Files {
         }
     }
 
-    /// The bytes of the file with this path for one owner more, without a copy of them. `None` exactly where `get` answers
-    /// `None`.
+    /// The bytes of the file with this path for one owner more, without a copy of them. `None` exactly where `get`
+    /// answers `None`. `NoMemory` where memory runs out.
     pub fn share(&self, path: &[u8]) -> Result<Option<Shared>, NoMemory>
         ensures file { IfOk result (λ share. share ≡ file_at self.now path.now) }
         ensures short { IfOk result (λ share. IfSome share IsContent) }

@@ -20,7 +20,8 @@ use lard_serving::Service;
 use lard_table::Table;
 use std::alloc::Global;
 
-/// A connection that waits is handed off by the dispatcher's choice, with the path that it waits with.
+/// A connection that waits is handed off by the dispatcher's choice, with the path that it waits with. Without memory
+/// the state is of no use any more but to be spent.
 pub fn admit(
     state: &mut FrontState,
     alloc: Global,

@@ -24,8 +24,9 @@ use lard_rules::{FrontRest, FrontState, FrontTurn};
 use lard_table::Table;
 use std::alloc::{AllocError, Global};
 
-/// An Ask comes from a node. Where the connection is there in this epoch, the last Ask that was answered gets its Tag again, the
-/// next one is new, and any other is dropped.
+/// An Ask comes from a node. Where the connection is there in this epoch, the last Ask that was answered gets its Tag
+/// again, the next one is new, and any other is dropped. Without memory the state is of no use any more but to be
+/// spent.
 pub fn asked(
     state: &mut FrontState,
     alloc: Global,

@@ -16,7 +16,8 @@ use lard_seq::Seq;
 use lard_serving::{Env, silent, told};
 use std::alloc::Global;
 
-/// What is said on a connection that ended.
+/// What is said on a connection that ended (RFC 9293, 3.10.7.4, TIME-WAIT, and 3.10.7.1). `NoMemory` where memory runs
+/// out.
 pub fn tombstone(
     alloc: Global,
     env: &Env<'_>,

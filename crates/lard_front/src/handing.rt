@@ -19,8 +19,9 @@ use lard_serving::Service;
 use lard_table::Table;
 use std::alloc::Global;
 
-/// A connection whose endpoint is here, and may move, goes to the node of this choice. The endpoint is frozen with its unread
-/// bytes and spent, and its Offer is told until the node answers.
+/// A connection whose endpoint is here, and may move, goes to the node of this choice. The endpoint is frozen with its
+/// unread bytes and spent, and its Offer is told until the node answers. Without memory the state is of no use any more
+/// but to be spent.
 pub fn hand_off(
     state: &mut FrontState,
     alloc: Global,

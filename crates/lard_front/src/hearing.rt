@@ -25,7 +25,8 @@ use lard_segment::Segment;
 use lard_serving::{Ends, Env, Service, ready_of, settled, spoken};
 use std::alloc::Global;
 
-/// A segment comes to a connection that is held: the endpoint takes it, and what may be read is read.
+/// A segment comes to a connection that is held: the endpoint takes it, and what may be read is read. Without memory
+/// the state is of no use any more but to be spent.
 pub fn hear_held(
     state: &mut FrontState,
     alloc: Global,
@@ -101,7 +102,8 @@ fn settle(
     Ok(turn_here(alloc, turn?))
 }
 
-/// A segment comes to a connection that waits: nothing is read.
+/// A segment comes to a connection that waits: nothing is read. Without memory the state is of no use any more but to
+/// be spent.
 pub fn hear_waiting(
     state: &mut FrontState,
     alloc: Global,
@@ -125,7 +127,7 @@ pub fn hear_waiting(
 
 // ---- timers
 
-/// The timer of a connection that is held fires.
+/// The timer of a connection that is held fires. Without memory the state is of no use any more but to be spent.
 pub fn fire_held(
     state: &mut FrontState,
     alloc: Global,
@@ -143,7 +145,7 @@ pub fn fire_held(
     Ok(turn_here(alloc, turn?))
 }
 
-/// The timer of a connection that waits fires.
+/// The timer of a connection that waits fires. Without memory the state is of no use any more but to be spent.
 pub fn fire_waiting(
     state: &mut FrontState,
     alloc: Global,

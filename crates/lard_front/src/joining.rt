@@ -22,7 +22,8 @@ use lard_seq::Seq;
 use lard_serving::Env;
 use std::alloc::Global;
 
-/// An Ended comes, of this node: its connection is put back and released, and the first of the line is handed off behind it.
+/// An Ended comes, of this node: its connection is put back and released, and the first of the line is handed off
+/// behind it. Without memory the state is of no use any more but to be spent.
 pub fn ended(
     state: &mut FrontState,
     alloc: Global,

@@ -17,7 +17,7 @@ use lard_resend::PendingKey;
 use lard_rules::{FrontState, FrontTurn};
 use std::alloc::Global;
 
-/// One message goes to a node, and nothing else is done.
+/// One message goes to a node, and nothing else is done. `NoMemory` where memory runs out.
 pub fn telling(
     alloc: Global,
     c: ConnId,
@@ -35,7 +35,8 @@ pub fn telling(
     Ok(saying(alloc, messages))
 }
 
-/// A segment of a connection that is away goes to its node, as it came.
+/// A segment of a connection that is away goes to its node, as it came: 20 to 1,520 bytes. `NoMemory` where memory runs
+/// out.
 pub fn forward(
     alloc: Global,
     c: ConnId,

@@ -14,7 +14,7 @@ use lard_rules::FrontState;
 use lard_table::Table;
 use std::alloc::Global;
 
-/// No connection was taken, and nobody waits. The configuration passes its check.
+/// No connection was taken, and nobody waits. The configuration passes its check. `NoMemory` where memory runs out.
 pub fn begin(alloc: Global, config: Config) -> Result<FrontState, NoMemory>
     requires { config_check config ≡ Ok tt }
     ensures value { IfOk result (λ state. state ≡ no_connections config) }

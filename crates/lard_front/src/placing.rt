@@ -72,8 +72,8 @@ fn set_target(rests: &mut Table<FrontRest>, alloc: Global, c: ConnId, path: Path
     let _ = rests.replace(c.number(), rest);
 }
 
-/// A connection whose endpoint is in hand and may move is placed with the path of its next request: the dispatcher admits it
-/// to a node, or it waits.
+/// A connection whose endpoint is in hand and may move is placed with the path of its next request: the dispatcher
+/// admits it to a node, or it waits. Without memory the state is of no use any more but to be spent.
 pub fn place(
     state: &mut FrontState,
     alloc: Global,

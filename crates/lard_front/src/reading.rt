@@ -28,8 +28,9 @@ pub enum Going {
     Last(Option<Path>),
 }
 
-/// Reads block by block, and answers, until no whole block is left or a good request is to be placed. That one is left
-/// unread, and its path is answered.
+/// Reads block by block, and answers, until no whole block is left or a good request is to be placed (RFC 9112, 9.3.2).
+/// That one is left unread, and its path is answered; else `None`. `NoMemory` where memory runs out; nothing is said of
+/// the endpoint and the service then.
 pub fn read(
     alloc: Global,
     env: &Env<'_>,

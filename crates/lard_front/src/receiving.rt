@@ -27,7 +27,8 @@ use lard_segment::{Dir, Segment, decode};
 use lard_serving::{Service, spoken};
 use std::alloc::Global;
 
-/// A packet of a client comes. What does not decode is dropped.
+/// A packet of a client comes, of at most 1,520 bytes (RFC 9293, 3.10.7). What does not decode is dropped. Without
+/// memory the state is of no use any more but to be spent.
 pub fn receive(
     state: &mut FrontState,
     alloc: Global,
@@ -142,7 +143,7 @@ fn meet(
 
 // ---- timers
 
-/// The timers of a connection fire.
+/// The timers of a connection fire (RFC 9293, 3.10.8). Without memory the state is of no use any more but to be spent.
 pub fn time_out(state: &mut FrontState, alloc: Global, around: &Around<'_>) -> Result<Out, NoMemory>
     requires sound { IsFrontSound state.old }
     ensures out { IfOk result (λ out. (state.new, out) ≡ front_deed state.old around.now.serve.c (front_timer (env_of around.now state.old) (front_part state.old around.now.serve.c))) }

@@ -33,8 +33,9 @@ pub struct Released {
     pub next: Option<(ConnId, FirstChoice)>,
 }
 
-/// An Ended comes, of this node. A connection that is with a node in this epoch is the front end's again, and is released; an
-/// Ended that came before is acknowledged again; any other is dropped.
+/// An Ended comes, of this node. A connection that is with a node in this epoch is the front end's again, and is
+/// released; an Ended that came before is acknowledged again; any other is dropped. Without memory the state is of no
+/// use any more but to be spent.
 pub fn end(
     state: &mut FrontState,
     alloc: Global,

@@ -12,7 +12,7 @@ use lard_rules::{Ending, FrontRest, FrontState};
 use lard_table::Table;
 use std::alloc::Global;
 
-/// Takes out the endpoint of a connection that is here.
+/// Takes out the endpoint of a connection, which is here.
 pub fn take_out(state: &mut FrontState, c: ConnId) -> Endpoint
     requires { is_some (endpoint_of (table.get state.old.conns c)) ≡ true }
     ensures endpoint { endpoint_of (table.get state.old.conns c) ≡ Some result }

@@ -27,8 +27,8 @@ pub struct Setting<'a> {
     pub now: Millis,
 }
 
-/// Does the rule of what comes. Without memory the state is of no use any more, and is to be spent. No server set was changed
-/// after this time; a segment has at most 1,520 bytes.
+/// Does the rule of what comes, on a state of `begin` or of steps that were done. No server set was changed after this
+/// time; a segment has at most 1,520 bytes. Without memory the state is of no use any more but to be spent.
 pub fn step(
     state: &mut FrontState,
     alloc: Global,

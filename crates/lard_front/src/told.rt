@@ -26,7 +26,8 @@ use lard_seq::Seq;
 use lard_serving::{Env, nothing};
 use std::alloc::Global;
 
-/// A message of a node comes. What does not decode is dropped.
+/// A message of a node comes. What does not decode is dropped. Without memory the state is of no use any more but to be
+/// spent.
 pub fn message_comes(
     state: &mut FrontState,
     alloc: Global,
@@ -117,7 +118,8 @@ fn told(
     }
 }
 
-/// A Taken comes.
+/// A Taken comes. The connection is moved where its Offer of this epoch has no answer yet. Without memory the state is
+/// of no use any more but to be spent.
 pub fn take(state: &mut FrontState, alloc: Global, c: ConnId, epoch: Epoch) -> Result<Out, NoMemory>
     requires { IsFrontSound state.old }
     ensures out { IfOk result (λ out. (state.new, out) ≡ front_deed state.old c (front_taken (front_part state.old c) epoch.0)) }

@@ -90,7 +90,7 @@ fn is_offer(kept: &Kept) -> bool
     }
 }
 
-/// The records of the timers of a connection that changed.
+/// The records of the timers of a connection that changed. `NoMemory` where memory runs out.
 pub fn changes(alloc: Global, c: ConnId, was: Armed, is: Armed) -> Result<Recs, NoMemory>
     ensures { IfOk result (λ recs. recs ≡ changes c was is) }
 {
@@ -166,7 +166,7 @@ pub fn turn_here(alloc: Global, turn: Turn) -> FrontTurn
     }
 }
 
-/// What a turn on a connection comes to, whose timers were so before it.
+/// What a turn on a connection comes to, whose timers were so before it. `NoMemory` where memory runs out.
 pub fn out_by(
     alloc: Global,
     state: &FrontState,

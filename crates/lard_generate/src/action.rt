@@ -19,7 +19,7 @@ pub enum Action {
     Shut(ConnId),
 }
 
-/// What all clients do, client by client.
+/// What all clients do, of which there are so many, to 16,384, client by client. `NoMemory` where memory runs out.
 pub fn actions(
     alloc: Global,
     draws: &mut Lcg64Xsh32,
@@ -73,7 +73,7 @@ fn push_shut(actions: &mut Items<Action>, c: ConnId, draw: u32) -> Result<(), No
     actions.push(Action::Shut(c))
 }
 
-/// The events of actions.
+/// The events of actions. `NoMemory` where memory runs out.
 pub fn events(alloc: Global, actions: &[Action]) -> Result<Events, NoMemory>
     ensures { IfOk result (λ events. events ≡ map event_of actions.now) }
 {

@@ -16,7 +16,7 @@ pub fn word(draws: &mut Lcg64Xsh32) -> u32
     draws.next_word()
 }
 
-/// The remainder of the next word by `m`.
+/// The remainder of the next word by `m`, which is above 0.
 pub fn draw(draws: &mut Lcg64Xsh32, m: u32) -> u32
     requires { 0 < m }
     ensures draw { result ≡ draw m draws.old }
@@ -26,7 +26,7 @@ pub fn draw(draws: &mut Lcg64Xsh32, m: u32) -> u32
     word(draws) % m
 }
 
-/// The client with this number.
+/// The client with this number, 1 to 16,384.
 pub fn client(number: u32) -> ConnId
     requires { (1 ≤ number) × (number ≤ ConnId.MAX) }
     ensures { result ≡ number }

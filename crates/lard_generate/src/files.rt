@@ -18,7 +18,7 @@ pub const FILES: u32 = 256;
 /// The most bytes of one of them.
 pub const MAX_SIZE: u32 = 8_192;
 
-/// The sizes of the files, 1 to 8,192 bytes each.
+/// The sizes of the 256 files, 1 to 8,192 bytes each. `NoMemory` where memory runs out.
 pub fn sizes(alloc: Global, draws: &mut Lcg64Xsh32) -> Result<Items<u32>, NoMemory>
     ensures { IfOk result (λ sizes. each drawn_size 256 draws.old ≡ (sizes, draws.new)) }
 {
@@ -29,7 +29,7 @@ pub fn sizes(alloc: Global, draws: &mut Lcg64Xsh32) -> Result<Items<u32>, NoMemo
     Ok(sizes)
 }
 
-/// The files with these sizes.
+/// The files with these sizes, in bytes, 256 of at most 8,192 each. `NoMemory` where memory runs out.
 pub fn files(alloc: Global, sizes: &[u32]) -> Result<Files, NoMemory>
     requires count { length sizes.now ≡ FILES }
     requires small { All (λ size. size ≤ MAX_SIZE) sizes.now }
@@ -57,7 +57,7 @@ fn add(alloc: Global, files: &mut Files, i: u32, size: u32) -> Result<(), NoMemo
     }
 }
 
-/// The path of a file.
+/// The path of the file with this number, counted from 0. `NoMemory` where memory runs out.
 pub fn path(alloc: Global, i: u32) -> Result<Vec<u8>, NoMemory>
     ensures { IfOk result (λ path. path.items ≡ path_of i) }
 {

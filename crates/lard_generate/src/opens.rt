@@ -10,7 +10,7 @@ use lard_base::{ConnId, Event, Events, NoMemory};
 use rand_pcg::Lcg64Xsh32;
 use std::alloc::Global;
 
-/// All clients open.
+/// All clients open, of which there are so many, to 16,384. `NoMemory` where memory runs out.
 pub fn opens(alloc: Global, draws: &mut Lcg64Xsh32, clients: u32) -> Result<Events, NoMemory>
     requires { clients ≤ ConnId.MAX }
     ensures { IfOk result (λ events. each drawn_open clients draws.old ≡ (events, draws.new)) }

@@ -8,7 +8,8 @@ use crate::action::{Action, fields};
 use crate::files::FILES;
 use itoa::Buffer;
 
-/// The most rounds in which all of it settles, for files of these sizes.
+/// The most rounds in which all of it settles, for 256 files of these sizes, in bytes. Each action asks for one of
+/// them. They are below 2^32.
 pub fn rounds(clients: u32, sizes: &[u32], actions: &[Action]) -> u32
     requires count { length sizes.now ≡ FILES }
     requires files { All AsksForFile actions.now }

@@ -9,7 +9,7 @@ use lard_base::{ConnId, Event, Events, NoMemory};
 use rand_pcg::Lcg64Xsh32;
 use std::alloc::Global;
 
-/// Some SYNs are lost, and some come twice.
+/// Some SYNs are lost, and some come twice, of so many clients, to 16,384. `NoMemory` where memory runs out.
 pub fn fates(alloc: Global, draws: &mut Lcg64Xsh32, clients: u32) -> Result<Events, NoMemory>
     requires { clients ≤ ConnId.MAX }
     ensures { IfOk result (λ events. each drawn_fate clients draws.old ≡ (events, draws.new)) }

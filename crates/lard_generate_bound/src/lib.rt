@@ -13,8 +13,8 @@ pub fn generated_schedules_settle_last()
     ensures { SettlesLast }
 {}
 
-/// Where the events before it were done, its rounds reach the bound of the journal, nobody put a packet on the way in a client's name, and
-/// each client wrote fewer than 16,383 bytes.
+/// Where the events before it were done, its rounds reach the bound of the journal, nobody put a packet on the way in a
+/// client's name, and each client wrote fewer than 16,383 bytes.
 pub fn generated_rounds_reach_the_bound()
     ensures { RoundsReachTheBound }
 {}

@@ -26,7 +26,7 @@ pub struct BackRow {
 }
 
 impl BackConn {
-    /// The endpoint that is here, if one is. A stage without an endpoint is gone.
+    /// The endpoint that is here; `None` for a stage without an endpoint, which is gone.
     pub fn into_endpoint(self) -> Option<Endpoint>
         ensures { result ≡ held_in self }
     {

@@ -85,7 +85,8 @@ impl BackTable {
         }
     }
 
-    /// Takes the endpoint of a connection out, where it is here with this epoch.
+    /// Takes the endpoint of a connection out, where it is here with this epoch. `None` where it is not, which changes
+    /// nothing.
     pub fn take(&mut self, c: ConnId, epoch: Epoch) -> Option<Endpoint>
         ensures found { result ≡ staying epoch.0 (map.get self.old c) }
         ensures after { self.new ≡ taken self.old c (map.get self.old c) (staying epoch.0 (map.get self.old c)) }
@@ -114,14 +115,14 @@ impl BackTable {
         set_stage(&mut self.conns, c.number(), BackConn::Ended).spend();
     }
 
-    /// What is kept of a connection, lent, where something is.
+    /// What is kept of a connection, lent; `None` where nothing is.
     pub fn row(&self, c: ConnId) -> Option<&BackRow>
         ensures { option_copied result ≡ map.get self.now c }
     {
         self.conns.get(c.number())
     }
 
-    /// The epoch of an endpoint that is here.
+    /// The epoch of an endpoint that is here; `None` where none is.
     pub fn epoch(&self, c: ConnId) -> Option<Epoch>
         ensures { result ≡ epoch_of (map.get self.now c) }
     {
@@ -149,7 +150,8 @@ impl BackTable {
         endpoint.kill()
     }
 
-    /// Ends the endpoint of a connection, where it is here and may end. EndedAck is awaited then.
+    /// Ends the endpoint of a connection, where it is here and may end, and answers its last numbers. EndedAck is
+    /// awaited then. `None` where it is not here or may not end, which changes nothing.
     pub fn give(&mut self, c: ConnId) -> Option<Final>
         ensures last { result ≡ ends (endpoint_of (map.get self.old c)) }
         ensures after { self.new ≡ given self.old c (map.get self.old c) (ends (endpoint_of (map.get self.old c))) }

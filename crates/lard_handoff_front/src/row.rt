@@ -32,7 +32,7 @@ pub struct FrontRow {
 }
 
 impl FrontConn {
-    /// The endpoint that is here, if one is. A stage without an endpoint is gone.
+    /// The endpoint that is here; `None` for a stage without an endpoint, which is gone.
     pub fn into_endpoint(self) -> Option<Endpoint>
         ensures { result ≡ held_in self }
     {
@@ -60,7 +60,7 @@ impl FrontConn {
         }
     }
 
-    /// The node that has not answered the Offer of this epoch, if there is one.
+    /// The node that has not answered the Offer of this epoch; `None` where no such Offer awaits its answer.
     pub fn offered_to(&self, epoch: Epoch) -> Option<NodeId>
         ensures { result ≡ offered_to epoch.0 self.now }
     {

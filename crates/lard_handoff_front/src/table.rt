@@ -68,14 +68,14 @@ impl FrontTable {
         }
     }
 
-    /// What is kept of a connection, lent, where something is.
+    /// What is kept of a connection, lent; `None` where it never began.
     pub fn row(&self, c: ConnId) -> Option<&FrontRow>
         ensures { option_copied result ≡ map.get self.now c }
     {
         self.conns.get(c.number())
     }
 
-    /// The state of a connection, lent, where it has one.
+    /// The state of a connection, lent; `None` where it never began.
     pub fn state(&self, c: ConnId) -> Option<&FrontConn>
         ensures { option_copied result ≡ option_map (λ row. row.stage) (map.get self.now c) }
     {
@@ -85,7 +85,7 @@ impl FrontTable {
         }
     }
 
-    /// The epoch of a connection's present owner.
+    /// The epoch of a connection's present owner; `None` where it never began.
     pub fn epoch(&self, c: ConnId) -> Option<Epoch>
         ensures { result ≡ option_map (λ row. row.epoch) (map.get self.now c) }
     {
@@ -95,7 +95,8 @@ impl FrontTable {
         }
     }
 
-    /// Begins a connection with an endpoint that took this SYN. It is held here, in epoch 1. Without memory nothing changes.
+    /// Begins a connection, which is not known yet, with an endpoint that took this SYN, without ACK, RST and FIN. It
+    /// is held here, in epoch 1 (RFC 9293, 3.10.7.2). Without memory nothing changes.
     #[tactic(auto, using(crate::proofs::Rows::row_put))]
     pub fn listen(
         &mut self,
@@ -121,7 +122,8 @@ impl FrontTable {
         keep(&mut self.conns, c.number(), row)
     }
 
-    /// Takes the endpoint of a connection out, where it is here; the connection is lent then.
+    /// Takes the endpoint of a connection out, where it is here; the connection is lent then. `None` where it is not
+    /// here, which changes nothing.
     #[tactic(auto, using(crate::proofs::Rows::stage_put))]
     pub fn take(&mut self, c: ConnId) -> Option<Endpoint>
         ensures found { result ≡ endpoint_of (map.get self.old c) }

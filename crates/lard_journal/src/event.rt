@@ -9,7 +9,7 @@ ghost use Rattle.lard_journal.specs.Text.{BeginsWith};
 use crate::text::{connection, hex, number, path, place, word};
 use lard_base::{ConnId, Event, NoMemory, Path, Place};
 
-/// Appends an event's words, each behind a space.
+/// Appends an event's words, each behind a space. Without memory a part of them stands behind the text.
 pub fn event(out: &mut Vec<u8>, event: &Event) -> Result<(), NoMemory>
     ensures ok { OnOk result (out.new.items ≡ fold spaced out.old.items (event_words event.now)) }
     ensures err { OnErr result (BeginsWith out.old.items out.new.items) }
@@ -41,8 +41,8 @@ pub fn event(out: &mut Vec<u8>, event: &Event) -> Result<(), NoMemory>
     }
 }
 
-/// Appends what a client opens with: its number, both initial sequence numbers, its window and its
-/// maximum segment size.
+/// Appends what a client opens with: its number, both initial sequence numbers, its window and its maximum segment
+/// size. Without memory a part of it stands behind the text.
 pub fn offered(
     out: &mut Vec<u8>,
     c: ConnId,

@@ -45,8 +45,8 @@ impl Journal {
         Ok(())
     }
 
-    /// The record of an event, at this place, counted from 0, becomes that of an inner step of the same event; any other
-    /// record stays as it is. It takes no memory.
+    /// The record of an event, at this place, counted from 0 and below `len`, becomes that of an inner step of the same
+    /// event; any other record stays as it is. It takes no memory.
     pub fn turn_inner(&mut self, i: u64)
         requires there { i < length self.old }
         ensures { self.new ≡ turned_at i self.old }
@@ -61,7 +61,7 @@ impl Journal {
         self.records.len() as u64
     }
 
-    /// The record with this number, counted from 0; none at `len` and above.
+    /// The record with this number, counted from 0; `None` at `len` and above.
     pub fn get(&self, i: u64) -> Option<&Rec>
         ensures { option_copied result ≡ slice_get self.now i }
     {

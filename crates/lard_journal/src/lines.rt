@@ -14,7 +14,7 @@ use itoa::Integer;
 use lard_base::{Bytes, ConnId, Epoch, Event, NoMemory, NodeId, Path, Place, TimerKind, Via};
 use std::alloc::Global;
 
-/// The line of a record, with its line feed.
+/// The line of a record, with its line feed. `NoMemory` where memory runs out.
 pub fn line(alloc: Global, rec: &Rec) -> Result<Bytes, NoMemory>
     ensures { IfOk result (λ text. text ≡ rec_line rec.now) }
 {

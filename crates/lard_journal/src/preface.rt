@@ -11,7 +11,7 @@ use itoa::Integer;
 use lard_base::{Bytes, Config, NoMemory};
 use std::alloc::Global;
 
-/// The heading: the version of the format, and the numbers of the configuration.
+/// The heading: the version of the format, and the numbers of the configuration. `NoMemory` where memory runs out.
 #[tactic(auto, unfolding(crate::specs::Report::heading_line))]
 pub fn heading(alloc: Global, config: &Config) -> Result<Bytes, NoMemory>
     ensures { IfOk result (λ text. text ≡ heading_line config.now) }
@@ -25,7 +25,7 @@ pub fn heading(alloc: Global, config: &Config) -> Result<Bytes, NoMemory>
     Ok(Bytes::from_vec(text))
 }
 
-/// The line of a file, of its path and its length in bytes.
+/// The line of a file, of its path and its length in bytes. `NoMemory` where memory runs out.
 pub fn file_line(alloc: Global, path: &[u8], length: u64) -> Result<Bytes, NoMemory>
     ensures { IfOk result (λ text. text ≡ file_text (path.now, length)) }
 {

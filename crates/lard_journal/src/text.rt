@@ -9,7 +9,7 @@ ghost use Rattle.lard_journal.specs.Text.{BeginsWith};
 use itoa::{Buffer, Integer};
 use lard_base::{ConnId, NoMemory, NodeId, Path, Place, TimerKind, Via};
 
-/// Appends bytes as they are.
+/// Appends bytes as they are. Without memory a part of them stands behind the text.
 pub fn bytes(out: &mut Vec<u8>, bytes: &[u8]) -> Result<(), NoMemory>
     ensures ok { OnOk result (out.new.items ≡ out.old.items ++ bytes.now) }
     ensures err { OnErr result (BeginsWith out.old.items out.new.items) }
@@ -18,7 +18,7 @@ pub fn bytes(out: &mut Vec<u8>, bytes: &[u8]) -> Result<(), NoMemory>
     Ok(())
 }
 
-/// Appends a space and a word.
+/// Appends a space and a word. Without memory a part of it stands behind the text.
 pub fn word(out: &mut Vec<u8>, word: &[u8]) -> Result<(), NoMemory>
     ensures ok { OnOk result (out.new.items ≡ spaced out.old.items word.now) }
     ensures err { OnErr result (BeginsWith out.old.items out.new.items) }
@@ -27,7 +27,7 @@ pub fn word(out: &mut Vec<u8>, word: &[u8]) -> Result<(), NoMemory>
     bytes(out, word)
 }
 
-/// Appends a space and a number in decimal.
+/// Appends a space and a number in decimal. Without memory a part of it stands behind the text.
 pub fn number<I: Integer>(out: &mut Vec<u8>, n: I) -> Result<(), NoMemory>
     ensures ok { OnOk result (out.new.items ≡ spaced out.old.items (I.text n)) }
     ensures err { OnErr result (BeginsWith out.old.items out.new.items) }
@@ -46,7 +46,7 @@ fn tagged(out: &mut Vec<u8>, tag: &[u8], n: u32) -> Result<(), NoMemory>
     bytes(out, buffer.format(n).as_bytes())
 }
 
-/// Appends a connection's number.
+/// Appends a connection's number. Without memory a part of it stands behind the text.
 pub fn connection(out: &mut Vec<u8>, c: ConnId) -> Result<(), NoMemory>
     ensures ok { OnOk result (out.new.items ≡ spaced out.old.items (decimal c)) }
     ensures err { OnErr result (BeginsWith out.old.items out.new.items) }
@@ -54,7 +54,7 @@ pub fn connection(out: &mut Vec<u8>, c: ConnId) -> Result<(), NoMemory>
     number(out, c.number())
 }
 
-/// Appends a node as a place.
+/// Appends a node as a place. Without memory a part of it stands behind the text.
 pub fn node(out: &mut Vec<u8>, n: NodeId) -> Result<(), NoMemory>
     ensures ok { OnOk result (out.new.items ≡ spaced out.old.items (node_word n)) }
     ensures err { OnErr result (BeginsWith out.old.items out.new.items) }
@@ -62,7 +62,7 @@ pub fn node(out: &mut Vec<u8>, n: NodeId) -> Result<(), NoMemory>
     tagged(out, b"n", n.number())
 }
 
-/// Appends a place.
+/// Appends a place. Without memory a part of it stands behind the text.
 pub fn place(out: &mut Vec<u8>, place: Place) -> Result<(), NoMemory>
     ensures ok { OnOk result (out.new.items ≡ spaced out.old.items (place_word place)) }
     ensures err { OnErr result (BeginsWith out.old.items out.new.items) }
@@ -74,7 +74,7 @@ pub fn place(out: &mut Vec<u8>, place: Place) -> Result<(), NoMemory>
     }
 }
 
-/// Appends the number of a node, or `-` where there is none.
+/// Appends the number of a node, or `-` where there is none. Without memory a part of it stands behind the text.
 pub fn choice(out: &mut Vec<u8>, n: Option<NodeId>) -> Result<(), NoMemory>
     ensures ok { OnOk result (out.new.items ≡ spaced out.old.items (choice_word n)) }
     ensures err { OnErr result (BeginsWith out.old.items out.new.items) }
@@ -85,7 +85,7 @@ pub fn choice(out: &mut Vec<u8>, n: Option<NodeId>) -> Result<(), NoMemory>
     }
 }
 
-/// Appends where a response's content came from.
+/// Appends where a response's content came from. Without memory a part of it stands behind the text.
 pub fn via(out: &mut Vec<u8>, via: Via) -> Result<(), NoMemory>
     ensures ok { OnOk result (out.new.items ≡ spaced out.old.items (via_word via)) }
     ensures err { OnErr result (BeginsWith out.old.items out.new.items) }
@@ -98,7 +98,7 @@ pub fn via(out: &mut Vec<u8>, via: Via) -> Result<(), NoMemory>
     }
 }
 
-/// Appends the kind of a timer.
+/// Appends the kind of a timer. Without memory a part of it stands behind the text.
 pub fn kind(out: &mut Vec<u8>, kind: TimerKind) -> Result<(), NoMemory>
     ensures ok { OnOk result (out.new.items ≡ spaced out.old.items (kind_word kind)) }
     ensures err { OnErr result (BeginsWith out.old.items out.new.items) }
@@ -112,7 +112,7 @@ pub fn kind(out: &mut Vec<u8>, kind: TimerKind) -> Result<(), NoMemory>
     }
 }
 
-/// Appends a path.
+/// Appends a path. Without memory a part of it stands behind the text.
 pub fn path(out: &mut Vec<u8>, path: &Path) -> Result<(), NoMemory>
     ensures ok { OnOk result (out.new.items ≡ spaced out.old.items path.now) }
     ensures err { OnErr result (BeginsWith out.old.items out.new.items) }
@@ -120,7 +120,7 @@ pub fn path(out: &mut Vec<u8>, path: &Path) -> Result<(), NoMemory>
     word(out, path.as_slice())
 }
 
-/// Appends bytes in lower case hexadecimal.
+/// Appends bytes in lower case hexadecimal. Without memory a part of them stands behind the text.
 pub fn hex(out: &mut Vec<u8>, bytes: &[u8]) -> Result<(), NoMemory>
     ensures ok { OnOk result (out.new.items ≡ spaced out.old.items (encode_lower bytes.now)) }
     ensures err { OnErr result (BeginsWith out.old.items out.new.items) }

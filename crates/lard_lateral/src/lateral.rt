@@ -85,7 +85,7 @@ impl Lateral {
         self.fetches.holds(&key)
     }
 
-    /// A Content came. Where it is awaited from this node and in this epoch, it is awaited no longer.
+    /// A Content came. It answers whether it is awaited from this node and in this epoch; then it is awaited no longer.
     pub fn on_content(&mut self, from: NodeId, c: ConnId, epoch: Epoch, r: u32) -> bool
         ensures value { result ≡ is_awaited self.old from c epoch.0 r }
         ensures after { self.new ≡ after_content self.old from c epoch.0 r }

@@ -38,7 +38,7 @@ impl Model for Lines {
 }
 
 impl Lines {
-    /// Nothing was read. It takes the memory of a piece at once.
+    /// Nothing was read. It takes the memory of a piece at once. `NoMemory` where memory runs out.
     pub fn new(alloc: Global) -> Result<Lines, NoMemory>
         ensures { IfOk result (λ lines. lines ≡ record { rest = []; read = 0 }) }
     {
@@ -59,9 +59,11 @@ impl Lines {
         &self.bytes.as_slice()[self.start..]
     }
 
-    /// Reads on until a whole line is at hand, and answers how long it is without its line feed: `None` where the source
-    /// ends before, or 2^26 + 1 bytes were read. Where a whole line is at hand already nothing is read. It takes no byte
-    /// more than that from the source, and keeps each that it takes, also where it fails. The first call that fails ends it.
+    /// Reads on until a whole line is at hand, and answers how long it is without its line feed: `None` where the
+    /// source ends before, or 2^26 + 1 bytes were read. Where a whole line is at hand already nothing is read. It takes
+    /// no byte more than that from the source, and keeps each that it takes, also where it fails. The first call that
+    /// fails ends it by `Failed`, and `NoMemory` comes where memory runs out: no whole line is at hand then, and fewer
+    /// than 2^26 + 1 bytes were read.
     pub fn find_line<S: Source>(&mut self, source: &mut S) -> Result<Option<usize>, InputFault>
         ensures at_hand { IsSome (position is_feed self.old.rest) → (self.new ≡ self.old) × (source.new ≡ source.old) }
         ensures taken { TakesIn (S.left source.old) (S.left source.new) self.old.rest self.new.rest }
@@ -86,7 +88,7 @@ impl Lines {
         Ok(found)
     }
 
-    /// Passes the first `n` bytes and the line feed behind them.
+    /// Passes the first `n` bytes and the line feed behind them, which are at hand.
     pub fn pass(&mut self, n: usize)
         requires { n < length self.old.rest }
         ensures { self.new ≡ record { rest = drop (n + 1) self.old.rest; read = self.old.read } }

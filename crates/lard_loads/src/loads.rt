@@ -41,7 +41,8 @@ impl Model for Loads {
 }
 
 impl Loads {
-    /// So many nodes, 1 to 64, all open, and no connection. It takes all its memory at once.
+    /// So many nodes, 1 to 64, all open, and no connection. It takes all its memory at once. `NoMemory` where memory
+    /// runs out.
     pub fn new(alloc: Global, nodes: u8) -> Result<Loads, NoMemory>
         requires some { 1 ≤ nodes }
         requires few { nodes ≤ 64 }
@@ -57,7 +58,7 @@ impl Loads {
         })
     }
 
-    /// Admits a connection, which is not, and assigns it to a node.
+    /// Admits a connection, which is not, and assigns it to a node, which is one of these.
     pub fn connect(&mut self, c: ConnId, n: NodeId)
         requires free { map.get self.old.standings c ≡ None }
         requires node { n ≤ self.old.nodes }
@@ -77,8 +78,8 @@ impl Loads {
         self.free(c);
     }
 
-    /// Assigns a later request of a batch of so many, 1 to 8, of an admitted connection to a node. At its home it counts
-    /// nothing; elsewhere it opens a share, of which there are fewer than eight.
+    /// Assigns a later request of a batch of so many, 1 to 8, of an admitted connection to a node, which is one of
+    /// these. At its home it counts nothing; elsewhere it opens a share, of which there are fewer than eight.
     pub fn share(&mut self, c: ConnId, n: NodeId, size: u8)
         requires admitted { is_some (map.get self.old.standings c) ≡ true }
         requires node { n ≤ self.old.nodes }
@@ -112,7 +113,7 @@ impl Loads {
         any
     }
 
-    /// The load of a node in 840ths of a connection, to 123,863,040.
+    /// The load of a node, which is one of these, in 840ths of a connection, to 123,863,040.
     pub fn of(&self, n: NodeId) -> u32
         requires node { n ≤ self.now.nodes }
         ensures load { result ≡ load self.now n }
@@ -129,7 +130,7 @@ impl Loads {
         self.admitted
     }
 
-    /// The node that a connection was assigned to first, if it is admitted.
+    /// The node that a connection was assigned to first; `None` where it is not admitted.
     pub fn home(&self, c: ConnId) -> Option<NodeId>
         ensures { result ≡ home_of self.now c }
     {

@@ -33,7 +33,7 @@ impl Model for Ranking {
 }
 
 impl Ranking {
-    /// So many nodes, 1 to 64, without load.
+    /// So many nodes, at most 64, without load. `NoMemory` where memory runs out.
     pub fn new(alloc: Global, nodes: u8) -> Result<Ranking, NoMemory>
         requires few { nodes ≤ 64 }
         ensures { IfOk result (λ ranking. ranking ≡ replicate nodes 0) }
@@ -61,7 +61,7 @@ impl Ranking {
         self.loads.len()
     }
 
-    /// The load of the node with this number.
+    /// The load of the node with this number, from 1, in 840ths of a connection.
     pub fn load(&self, number: usize) -> u32
         requires some { 1 ≤ number }
         requires most { number ≤ length self.now }
@@ -70,7 +70,7 @@ impl Ranking {
         self.loads[number - 1]
     }
 
-    /// Adds to a node's load.
+    /// Adds so many 840ths of a connection to a node's load, which stays below 2^32.
     pub fn raise(&mut self, number: usize, units: u32)
         requires some { 1 ≤ number }
         requires most { number ≤ length self.old }
@@ -87,7 +87,7 @@ impl Ranking {
         );
     }
 
-    /// Takes from a node's load.
+    /// Takes so many 840ths of a connection from a node's load, which has as many.
     pub fn lower(&mut self, number: usize, units: u32)
         requires some { 1 ≤ number }
         requires most { number ≤ length self.old }
@@ -104,14 +104,16 @@ impl Ranking {
         );
     }
 
-    /// The least loaded of these nodes, the lowest number at a tie. Those that there are not do not count.
+    /// The least loaded of these nodes, the lowest number at a tie. Those that there are not do not count; `None` where
+    /// none of them is there.
     pub fn least_of(&self, members: Members) -> Option<NodeId>
         ensures { result ≡ least_in (at_node self.now) (filter (has members) (numbers (length self.now))) }
     {
         first_of(self.order.as_slice(), members).copied()
     }
 
-    /// The most loaded of these nodes, the highest number at a tie. Those that there are not do not count.
+    /// The most loaded of these nodes, the highest number at a tie. Those that there are not do not count; `None` where
+    /// none of them is there.
     pub fn most_of(&self, members: Members) -> Option<NodeId>
         ensures { result ≡ most_in (at_node self.now) (filter (has members) (numbers (length self.now))) }
     {

@@ -38,7 +38,7 @@ impl Slot {
         shares: [Share { node: 0, units: 0 }; MAX_SHARES],
     };
 
-    /// The home of its connection, while that is admitted.
+    /// The home of its connection; `None` while none is admitted here.
     pub fn home(&self) -> Option<NodeId>
         ensures { result ≡ self.now.home }
     {
@@ -79,7 +79,7 @@ impl Slot {
         self.home = None;
     }
 
-    /// Opens a share.
+    /// Opens a share, behind fewer than eight.
     pub fn push(&mut self, share: Share)
         requires room { length (open_in self.old) < 8 }
         ensures home { self.new.home ≡ self.old.home }

@@ -11,7 +11,8 @@ use crate::numbers::{byte, counted, flag, number, reason, short_number, taken};
 use lard_base::{Bytes, EndpointParts, Path};
 use std::alloc::Global;
 
-/// The body of a message of this kind.
+/// The body of a message of this kind, and the bytes after it. `Field` where there is none, `NoMemory` where memory
+/// runs out.
 pub fn body(alloc: Global, kind: Kind, bytes: &[u8]) -> Result<(Body, &[u8]), MsgFault>
     ensures { Reads (λ x. (x.0, x.1.now)) result (body_at kind bytes.now) }
 {

@@ -6,7 +6,8 @@ ghost use Rattle.lard_message.specs.declared.fault.MsgFault.TheVariants as fault
 use std::alloc::{AllocError, AllocFailed};
 use thiserror::Error;
 
-/// Why bytes are no message: the first that applies, in the order of the variants. Memory may run out at any time.
+/// Why bytes are no message: the first that applies, in the order of the variants. Memory may run out at any time, and
+/// nothing is known of the bytes then.
 #[derive(Clone, Copy, Debug, PartialEq, Eq, Error)]
 pub enum MsgFault {
     #[error("there are fewer than 10 bytes")]

@@ -27,7 +27,7 @@ pub fn is_version(version: u8) -> bool
     version == FIRST
 }
 
-/// The kind with this version and number, where there is one.
+/// The kind with this version and number, or `None` where there is none.
 pub fn kind_named(version: u8, number: u8) -> Option<Kind>
     ensures { result ≡ kind_named version number }
 {

@@ -8,7 +8,8 @@ use crate::numbers::{counted, node};
 use lard_base::{Nodes, Path, Paths};
 use std::alloc::Global;
 
-/// So many paths, each behind its length.
+/// So many paths, each behind its length, and the bytes after them. `Field` where there are fewer, `NoMemory` where
+/// memory runs out.
 pub fn paths(alloc: Global, count: u8, bytes: &[u8]) -> Result<(Paths, &[u8]), MsgFault>
     ensures { Reads (λ x. (x.0, x.1.now)) result (paths_at count bytes.now) }
 {
@@ -22,7 +23,7 @@ pub fn paths(alloc: Global, count: u8, bytes: &[u8]) -> Result<(Paths, &[u8]), M
     Ok((paths, rest))
 }
 
-/// The nodes of these bytes, one each.
+/// The nodes of these bytes, one each. `Field` where a byte is not 1 to 64, `NoMemory` where memory runs out.
 pub fn nodes(alloc: Global, bytes: &[u8]) -> Result<Nodes, MsgFault>
     ensures { Reads (λ x. x) result (nodes_of bytes.now) }
 {

@@ -7,7 +7,7 @@ ghost use Rattle.lard_message.specs.Reading.{Reads, byte_at, number_at, taken_at
 use crate::fault::MsgFault;
 use lard_base::{NodeId, Reason};
 
-/// A byte.
+/// The first byte, and the bytes after it. `Field` where there is none.
 pub fn byte(bytes: &[u8]) -> Result<(u8, &[u8]), MsgFault>
     ensures { Reads (λ x. (x.0, x.1.now)) result (byte_at bytes.now) }
 {
@@ -17,7 +17,7 @@ pub fn byte(bytes: &[u8]) -> Result<(u8, &[u8]), MsgFault>
     }
 }
 
-/// A number of 16 bits.
+/// A number of 16 bits, its high byte first, and the bytes after it. `Field` where there are fewer than two bytes.
 pub fn short_number(bytes: &[u8]) -> Result<(u16, &[u8]), MsgFault>
     ensures { Reads (λ x. (x.0, x.1.now)) result (number_at w16 bytes.now) }
 {
@@ -29,7 +29,7 @@ pub fn short_number(bytes: &[u8]) -> Result<(u16, &[u8]), MsgFault>
     Ok((number, rest))
 }
 
-/// A number of 32 bits.
+/// A number of 32 bits, its high byte first, and the bytes after it. `Field` where there are fewer than four bytes.
 pub fn number(bytes: &[u8]) -> Result<(u32, &[u8]), MsgFault>
     ensures { Reads (λ x. (x.0, x.1.now)) result (number_at w32 bytes.now) }
 {
@@ -41,7 +41,7 @@ pub fn number(bytes: &[u8]) -> Result<(u32, &[u8]), MsgFault>
     Ok((number, rest))
 }
 
-/// The first `n` bytes.
+/// The first `n` bytes, and those after them. `Field` where there are fewer.
 pub fn taken(bytes: &[u8], n: usize) -> Result<(&[u8], &[u8]), MsgFault>
     ensures { Reads (λ x. (x.0.now, x.1.now)) result (taken_at n bytes.now) }
 {
@@ -52,7 +52,7 @@ pub fn taken(bytes: &[u8], n: usize) -> Result<(&[u8], &[u8]), MsgFault>
     Ok((front, rest))
 }
 
-/// Two bytes of length, and that many bytes.
+/// As many bytes as the two before them say, and those after them. `Field` where there are fewer.
 #[tactic(auto, unfolding(crate::specs::Reading::counted_at))]
 pub fn counted(bytes: &[u8]) -> Result<(&[u8], &[u8]), MsgFault>
     ensures { Reads (λ x. (x.0.now, x.1.now)) result (counted_at bytes.now) }
@@ -61,7 +61,7 @@ pub fn counted(bytes: &[u8]) -> Result<(&[u8], &[u8]), MsgFault>
     taken(rest, len as usize)
 }
 
-/// A flag, 0 or 1.
+/// A flag, of a byte that is 0 or 1, and the bytes after it. `Field` where there is none, or another byte.
 #[tactic(auto, unfolding(crate::specs::Reading::flag_at))]
 pub fn flag(bytes: &[u8]) -> Result<(bool, &[u8]), MsgFault>
     ensures { Reads (λ x. (x.0, x.1.now)) result (flag_at bytes.now) }
@@ -74,7 +74,8 @@ pub fn flag(bytes: &[u8]) -> Result<(bool, &[u8]), MsgFault>
     }
 }
 
-/// Why a connection ended, 0 to 2.
+/// Why a connection ended, of a byte that is 0, 1 or 2, and the bytes after it. `Field` where there is none, or another
+/// byte.
 #[tactic(auto, unfolding(crate::specs::Reading::reason_at))]
 pub fn reason(bytes: &[u8]) -> Result<(Reason, &[u8]), MsgFault>
     ensures { Reads (λ x. (x.0, x.1.now)) result (reason_at bytes.now) }
@@ -88,7 +89,7 @@ pub fn reason(bytes: &[u8]) -> Result<(Reason, &[u8]), MsgFault>
     }
 }
 
-/// The node of a byte, 1 to 64.
+/// The node of a byte, 1 to 64. `Field` for any other byte.
 pub fn node(byte: u8) -> Result<NodeId, MsgFault>
     ensures { Reads (λ x. x) result (node_of byte) }
 {

@@ -17,7 +17,8 @@ use std::alloc::Global;
 /// How many bytes come before the body.
 pub const HEADER_BYTES: usize = 10;
 
-/// The message that the bytes spell, or the first fault in the order of its variants.
+/// The message that the bytes spell, or the first fault in the order of its variants. Nothing is known of the bytes
+/// where the fault is `NoMemory`.
 pub fn decode(alloc: Global, bytes: &[u8]) -> Result<Message, MsgFault>
     // What is read is spelled so, each byte of it.
     ensures found { IfOk result (λ m. IsMessage m × (spelled_message m ≡ bytes.now)) }

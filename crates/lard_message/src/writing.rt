@@ -17,7 +17,8 @@ use std::alloc::Global;
 /// How many bytes the numbers of an Offer take.
 const NUMBERS_BYTES: usize = 33;
 
-/// The one spelling of the message.
+/// The one spelling of the message, at most 2^21 bytes. Its numbers and lengths are in their ranges, as
+/// `Body::is_of_table` tells. `NoMemory` where memory runs out.
 #[tactic(auto, unfolding(crate::specs::Message::spelled_message))]
 pub fn encode(alloc: Global, message: &Message) -> Result<Bytes, NoMemory>
     requires { IsOfTable message.now.body }

@@ -61,8 +61,8 @@ impl Net {
         }
     }
 
-    /// Sends a packet, and answers its number. It has at most 1,520 bytes where one of the places is a client, and else at
-    /// most 2^21. Without memory nothing is sent.
+    /// Sends a packet, and answers its number, counted from 1. Fewer than 2^32 - 1 were sent before. It has at most
+    /// 1,520 bytes where one of the places is a client, and else at most 2^21. Without memory nothing is sent.
     pub fn send(&mut self, from: Place, to: Place, bytes: Bytes) -> Result<u32, NoMemory>
         requires room { length self.old < 2 ^ 32 - 1 }
         requires sized { IsSized from to (length bytes) }
@@ -82,7 +82,8 @@ impl Net {
         Ok(self.packets.len() as u32)
     }
 
-    /// The packet with this number, where it was sent, lent. It has no more bytes than may go between its places.
+    /// The packet with this number, counted from 1, lent; `None` where none was sent with it. It has no more bytes than
+    /// may go between its places.
     pub fn get(&self, k: u32) -> Option<Packet<'_>>
         ensures packet { option_map lent_packet result ≡ packet_at self.now k }
         ensures sized { IfSome result (λ packet. IsSized packet.from packet.to (length packet.bytes.now)) }

@@ -21,7 +21,8 @@ pub struct FirstChoice {
 
 /// The node for a target with this server set: its least loaded member, or the least loaded of all open nodes where the
 /// set is empty or that member is overloaded. A node that is no member joins the set. Where it then has more than one
-/// member and was last changed more than `age` before, the most loaded of those that were in it leaves it.
+/// member and was last changed more than `age` milliseconds before, the most loaded of those that were in it leaves it.
+/// The configuration passes its check, and `last_mod` is not after `now`.
 pub fn choose_first(
     set: Members,
     loads: &Loads,

@@ -20,9 +20,10 @@ pub struct Reading {
     pub used: usize,
 }
 
-/// The next verdicts on these bytes, at most eight, up to and with the first that closes the connection. They use the
-/// bytes of their blocks and of the pairs CR LF that are skipped before them, and, where fewer than eight were found and
-/// none closes, the pairs before the head that is not whole yet. A head that is too long uses all bytes.
+/// The next verdicts on these bytes, at most eight, up to and with the first that closes the connection
+/// (RFC 9112, 9.3.2 and 9.6). They use the bytes of their blocks and of the pairs CR LF that are skipped before them,
+/// and, where fewer than eight were found and none closes, the pairs before the head that is not whole yet. A head that
+/// is too long uses all bytes. `NoMemory` where memory runs out.
 pub fn batch(alloc: Global, unread: &[u8]) -> Result<Reading, NoMemory>
     ensures verdicts { IfOk result (λ reading. reading.verdicts ≡ batch_of 8 unread.now) }
     ensures used { IfOk result (λ reading. reading.used ≡ bytes_used 8 unread.now) }

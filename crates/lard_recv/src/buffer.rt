@@ -31,7 +31,7 @@ impl Model for Buffer {
 }
 
 impl Buffer {
-    /// An empty buffer. It takes its memory at once.
+    /// An empty buffer. It takes its memory at once. `NoMemory` where memory runs out.
     pub fn new(alloc: Global) -> Result<Buffer, NoMemory>
         ensures { IfOk result (λ buffer. buffer ≡ []) }
     {
@@ -47,7 +47,7 @@ impl Buffer {
         &self.bytes.as_slice()[self.start..]
     }
 
-    /// Adds bytes at the end, for which there is room.
+    /// Adds bytes at the end, for which there is room: 16,384 in all.
     pub fn push(&mut self, more: &[u8])
         requires { length self.old + length more.now ≤ RECEIVE_WINDOW }
         ensures { self.new ≡ self.old ++ more.now }
@@ -59,7 +59,8 @@ impl Buffer {
         self.bytes.extend_from_slice(more).unwrap();
     }
 
-    /// Drops the first `n` bytes, without moving the others. Where none are left, the next ones stand at the front again.
+    /// Drops the first `n` bytes, which are there, without moving the others. Where none are left, the next ones stand
+    /// at the front again.
     pub fn consume(&mut self, n: usize)
         requires { n ≤ length self.old }
         ensures { self.new ≡ drop n self.old }

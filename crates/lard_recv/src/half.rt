@@ -47,7 +47,7 @@ impl Model for RecvHalf {
 }
 
 impl RecvHalf {
-    /// A half that took the SYN with this number, and nothing else.
+    /// A half that took the SYN with this number, and nothing else. `NoMemory` where memory runs out.
     pub fn make(alloc: Global, irs: Seq) -> Result<RecvHalf, NoMemory>
         ensures { IfOk result (λ half. half ≡ restored irs.0 0 false []) }
     {
@@ -55,7 +55,8 @@ impl RecvHalf {
     }
 
     /// A half that took `got` bytes after the SYN with the number `irs`, the last of which are `unread`, and then the
-    /// FIN where `fin` is true. The numbers of `lard_base::EndpointParts` that are valid are such.
+    /// FIN where `fin` is true. The numbers of `lard_base::EndpointParts` that are valid are such. `NoMemory` where
+    /// memory runs out.
     pub fn restore(
         alloc: Global,
         irs: Seq,
@@ -79,8 +80,8 @@ impl RecvHalf {
         })
     }
 
-    /// Takes what a segment brings: of its bytes, the first of which has the number `seq`, those that are awaited, up to
-    /// the window, and its FIN where all bytes before it are taken.
+    /// Takes what a segment brings: of its bytes, the first of which has the number `seq`, those that are awaited, up
+    /// to the window, and its FIN where all bytes before it are taken (RFC 9293, 3.10.7.4, seventh and eighth).
     pub fn arrive(&mut self, seq: Seq, payload: &[u8], fin: bool) -> Took
         ensures took { result ≡ brought self.old seq.0 payload.now fin }
         ensures after { self.new ≡ arrived self.old seq.0 payload.now fin }
@@ -114,7 +115,7 @@ impl RecvHalf {
         }
     }
 
-    /// Reads off the first `n` of the unread bytes.
+    /// Reads off the first `n` of the unread bytes, of which there are as many (RFC 9293, 3.10.3).
     pub fn consume(&mut self, n: usize)
         requires { n ≤ length self.old.unread }
         ensures { self.new ≡ consumed self.old n }
@@ -122,7 +123,8 @@ impl RecvHalf {
         self.unread.consume(n);
     }
 
-    /// Drops what is unread, and from now on all that comes, which is counted and acknowledged all the same.
+    /// Drops what is unread, and from now on all that comes, which is counted and acknowledged all the same: as behind
+    /// an answer that closes the connection (RFC 9112, 9.6).
     pub fn discard_on(&mut self)
         ensures { self.new ≡ discarded self.old }
     {
@@ -130,7 +132,8 @@ impl RecvHalf {
         self.discarding = true;
     }
 
-    /// How many bytes may come: 16,384 less the unread ones, and no more than are left of 2^30.
+    /// How many bytes may come, RCV.WND (RFC 9293, 3.8.6): 16,384 less the unread ones, and no more than are left of
+    /// 2^30.
     pub fn window(&self) -> u32
         ensures { result ≡ room self.now }
     {
@@ -138,14 +141,14 @@ impl RecvHalf {
         (free as u32).min(MAX_STREAM_BYTES - self.got)
     }
 
-    /// The number that is awaited, RCV.NXT.
+    /// The number that is awaited, RCV.NXT (RFC 9293, 3.3.1 and 3.4).
     pub fn next(&self) -> Seq
         ensures { result.0 ≡ awaited self.now }
     {
         self.irs.add(1 + self.got + self.fin as u32)
     }
 
-    /// The sequence number of the peer's SYN, IRS.
+    /// The sequence number of the peer's SYN, IRS (RFC 9293, 3.3.1).
     pub fn irs(&self) -> Seq
         ensures { result.0 ≡ self.now.irs }
     {
@@ -160,7 +163,7 @@ impl RecvHalf {
         self.got
     }
 
-    /// Whether the peer's FIN was taken.
+    /// Whether the peer's FIN was taken (RFC 9293, 3.10.7.4, eighth).
     pub fn finished(&self) -> bool
         ensures { result ≡ self.now.fin }
     {

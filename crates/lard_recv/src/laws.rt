@@ -8,7 +8,8 @@ pub fn unread_is_the_unused_part()
     ensures reading { ReadingKeepsThePart }
 {}
 
-/// The window's end, RCV.NXT and RCV.WND together, never moves back: bytes for which there was room find it.
+/// The window's end, RCV.NXT and RCV.WND together, never moves back: bytes for which there was room find it
+/// (RFC 9293, 3.8.6).
 pub fn window_is_not_taken_back()
     ensures arrival { ArrivalTakesNoWindowBack }
     ensures reading { ReadingTakesNoWindowBack }

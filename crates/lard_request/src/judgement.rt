@@ -21,6 +21,7 @@ use std::alloc::Global;
 const MOST_PAIRS: usize = MAX_FIELDS + 2;
 
 /// How one block is judged: the first judgement that applies to it (RFC 9112, 3, 5 and 6). The block is any bytes.
+/// `NoMemory` where memory runs out.
 pub fn judge(alloc: Global, block: &[u8]) -> Result<Verdict, NoMemory>
     ensures { IfOk result (λ v. v ≡ verdict block.now) }
 {

@@ -55,14 +55,14 @@ fn comes_before(kept: &Kept, kind: TimerKind, r: u32) -> bool
     rank(kept.kind) < rank(kind)
 }
 
-/// The message of this kind and number, if there is one.
+/// The message of this kind and number; `None` where there is none.
 pub fn found<'a>(all: &'a [Kept], kind: TimerKind, r: u32) -> Option<&'a Kept>
     ensures { option_copied result ≡ find (is_under kind r) all.now }
 {
     all.iter().find(|kept| is_under(kept, kind, r))
 }
 
-/// Where a message of this kind and number belongs.
+/// Where a message of this kind and number belongs in the order, counted from 0.
 pub fn place_of(all: &[Kept], kind: TimerKind, r: u32) -> usize
     ensures value { result ≡ place_of kind r all.now }
     ensures within { result ≤ length all.now }

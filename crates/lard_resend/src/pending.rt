@@ -51,8 +51,8 @@ impl Pending {
         }
     }
 
-    /// Holds a message that was sent to this place. Without memory nothing changes. Nothing is held under the key, and the
-    /// message fits a packet.
+    /// Holds a message that was sent to this place. Without memory nothing changes. Nothing is held under the key, and
+    /// the message fits a packet: at most 2^21 bytes.
     pub fn hold(&mut self, key: PendingKey, to: Place, bytes: Bytes) -> Result<(), NoMemory>
         requires fresh { is_some (under self.old key.c key.kind key.r) ≡ false }
         requires fits { length bytes ≤ MAX_MESSAGE_BYTES }
@@ -68,8 +68,8 @@ impl Pending {
         add(&mut self.all, self.alloc, key.c.number(), kept)
     }
 
-    /// Holds a message that was sent to this place, in place of what is held under the key. It fits a packet. Without
-    /// memory nothing is held under the key any longer.
+    /// Holds a message that was sent to this place, in place of what is held under the key. It fits a packet: at most
+    /// 2^21 bytes. Without memory nothing is held under the key any longer.
     #[tactic(auto, using(crate::proofs::Renewed::none_left))]
     pub fn renew(&mut self, key: PendingKey, to: Place, bytes: Bytes) -> Result<(), NoMemory>
         requires { length bytes ≤ MAX_MESSAGE_BYTES }
@@ -100,7 +100,7 @@ impl Pending {
         self.get(key).is_some()
     }
 
-    /// What is held under the key, with the place that it goes to.
+    /// What is held under the key, with the place that it goes to; `None` where nothing is.
     pub fn again(&self, key: PendingKey) -> Option<(Place, &[u8])>
         ensures { option_map (λ x. (x.0, x.1.now)) result ≡ option_map sent_of (under self.now key.c key.kind key.r) }
     {
@@ -110,7 +110,7 @@ impl Pending {
         }
     }
 
-    /// What is held under the key, lent.
+    /// What is held under the key, lent; `None` where nothing is.
     pub fn get(&self, key: &PendingKey) -> Option<&Kept>
         ensures { option_copied result ≡ under self.now key.now.c key.now.kind key.now.r }
     {

@@ -23,8 +23,9 @@ pub fn may_write(code: Code, body: &[u8], close: bool) -> bool
     }
 }
 
-/// The head of a response, up to and with its empty line: `n` bytes of a body follow, where it is not the answer to HEAD.
-/// Where `close`, it says that the connection closes behind it (RFC 9112, 9.6).
+/// The head of a response (RFC 9112, 4), up to and with its empty line: `n` bytes of a body follow, where it is not the
+/// answer to HEAD. Where `close`, it says that the connection closes behind it (RFC 9112, 9.6). The code, `n` and
+/// `close` are such as `may_write` allows. `NoMemory` where memory runs out.
 pub fn head(alloc: Global, code: Code, n: u64, close: bool) -> Result<Bytes, NoMemory>
     requires length { HasItsLength code n }
     requires close { IsClosing code close }
@@ -36,7 +37,8 @@ pub fn head(alloc: Global, code: Code, n: u64, close: bool) -> Result<Bytes, NoM
 }
 
 /// The response with this body, of which the answer to HEAD has the length alone (RFC 9110, 9.3.2): its head, as `head`
-/// gives it, and the body.
+/// gives it, and the body. The code, the body and `close` are such as `may_write` allows. `NoMemory` where memory runs
+/// out.
 #[tactic(auto, unfolding(crate::specs::Response::response))]
 pub fn write(
     alloc: Global,

@@ -7,7 +7,7 @@ use crate::fault::What;
 use lard_base::limits::{MAX_PACKET_BYTES, MAX_PACKETS, MAX_RECORDS, MAX_RESPONSE_BYTES};
 
 /// The first limit that a run has reached: of so many packets, bytes of packets, records of the journal, and bytes of
-/// responses.
+/// responses. `None` where it has reached none.
 pub fn first_limit(
     packets: u32,
     packet_bytes: u64,

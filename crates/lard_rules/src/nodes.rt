@@ -37,7 +37,7 @@ impl NodeList {
         }
     }
 
-    /// Adds the next node. Without memory it is handed back, and nothing changes.
+    /// Adds the next node. Without memory it is handed back in the error, and nothing changes.
     pub fn push(&mut self, node: NodeState) -> Result<(), AllocFailed<NodeState>>
         ensures ok { OnOk result (self.new ≡ self.old ++ node ∷ []) }
         ensures err { OnErr result (self.new ≡ self.old) }
@@ -53,7 +53,7 @@ impl NodeList {
         self.all.len()
     }
 
-    /// The node at a place, counted from 0.
+    /// The node at a place, counted from 0 and below `len`.
     pub fn node(&self, i: usize) -> &NodeState
         requires { i < length self.now }
         ensures { slice_get self.now i ≡ Some result.now }

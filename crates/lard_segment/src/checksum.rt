@@ -41,7 +41,8 @@ fn pseudo_sum(c: ConnId, len: usize) -> u32
     cluster + client + PROTOCOL + len as u32
 }
 
-/// The checksum that belongs to a segment of connection `c`, whatever its checksum field holds.
+/// The checksum that belongs to a segment of connection `c`, whatever its checksum field holds (RFC 9293, 3.1). The
+/// segment has 20 to 65,535 bytes.
 pub fn checksum(bytes: &[u8], c: ConnId) -> u16
     requires header { 20 ≤ length bytes.now }
     requires small { length bytes.now ≤ 65535 }

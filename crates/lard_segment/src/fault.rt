@@ -2,7 +2,7 @@
 
 use thiserror::Error;
 
-/// Why bytes are no segment of a connection.
+/// Why bytes are no segment of a connection, in the order in which the faults are looked for.
 #[derive(Clone, Copy, Debug, PartialEq, Eq, Error)]
 pub enum SegFault {
     #[error("there are fewer than 20 bytes")]

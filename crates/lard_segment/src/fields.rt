@@ -1,4 +1,4 @@
-//! Where the parts of a segment stand in its bytes.
+//! Where the parts of a segment stand in its bytes (RFC 9293, 3.1).
 
 ghost use Rattle.std.specs.Prelude.{◌≡◌, ◌+◌, ◌≤◌, length};
 ghost use Rattle.lard_segment.specs.Fields.{word_at, number_at, flags_of, flag_byte, source_port, target_port};
@@ -38,7 +38,7 @@ const PSH: u8 = 8;
 
 const ACK: u8 = 16;
 
-/// The word of 16 bits at this place.
+/// The word of 16 bits at this place, counted in bytes from 0, its high byte first. Its bytes are there.
 pub fn word(bytes: &[u8], at: usize) -> u16
     requires { at + 2 ≤ length bytes.now }
     ensures { result ≡ word_at bytes.now at }
@@ -46,7 +46,7 @@ pub fn word(bytes: &[u8], at: usize) -> u16
     u16::from_be_bytes([bytes[at], bytes[at + 1]])
 }
 
-/// The number of 32 bits at this place.
+/// The number of 32 bits at this place, counted in bytes from 0, its high byte first. Its bytes are there.
 pub fn number(bytes: &[u8], at: usize) -> u32
     requires { at + 4 ≤ length bytes.now }
     ensures { result ≡ number_at bytes.now at }
@@ -54,7 +54,7 @@ pub fn number(bytes: &[u8], at: usize) -> u32
     u32::from_be_bytes([bytes[at], bytes[at + 1], bytes[at + 2], bytes[at + 3]])
 }
 
-/// The control bits in their byte. The three that the cluster doesn't speak of are ignored.
+/// The control bits in their byte (RFC 9293, 3.1). The three that the cluster doesn't speak of are ignored.
 pub fn flags(byte: u8) -> Flags
     ensures { result ≡ flags_of byte }
 {
@@ -67,7 +67,7 @@ pub fn flags(byte: u8) -> Flags
     }
 }
 
-/// The byte of these control bits.
+/// The byte of these control bits (RFC 9293, 3.1).
 pub fn byte(flags: Flags) -> u8
     ensures { result ≡ flag_byte flags }
 {

@@ -44,7 +44,9 @@ fn after_option(mss: Option<u16>, kind: u8, after: &[u8]) -> Option<u16>
     Some(word(after, 1).clamp(1, MAX_SEGMENT_DATA))
 }
 
-/// The maximum segment size that the options name, brought into the range 1 to 1,460.
+/// The maximum segment size that the options name, brought into the range 1 to 1,460, and `None` where they name none
+/// (RFC 9293, 3.1 and 3.2). The first that is named counts. `SegFault::Option` where an option is cut off, or has a
+/// wrong length.
 pub fn mss_of(bytes: &[u8]) -> Result<Option<u16>, SegFault>
     ensures { result ≡ mss_in bytes.now }
 {

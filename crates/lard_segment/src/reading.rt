@@ -15,9 +15,9 @@ use lard_base::ConnId;
 use lard_base::limits::MAX_SEGMENT_DATA;
 use lard_seq::Seq;
 
-/// What the bytes say of connection `c`, where they come this way, or the first fault in the order of its
-/// variants. Urgent data, the two bits on congestion, reserved bits and unknown options are passed over. A
-/// maximum segment size is brought into the range 1 to 1,460.
+/// What the bytes say of connection `c`, where they come this way, or the first fault in the order of its variants
+/// (RFC 9293, 3.1). They are at most 65,535. Urgent data, the two bits on congestion, reserved bits and unknown options
+/// are passed over. A maximum segment size is brought into the range 1 to 1,460.
 #[tactic(auto, unfolding(crate::specs::Segment::decoded))]
 pub fn decode(bytes: &[u8], c: ConnId, dir: Dir) -> Result<Segment<'_>, SegFault>
     requires { length bytes.now ≤ 65535 }

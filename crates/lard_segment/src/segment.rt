@@ -56,7 +56,7 @@ impl Flags {
     };
 }
 
-/// A segment, with its data at hand.
+/// A segment, with its data at hand (RFC 9293, 3.1).
 #[derive(Clone, Copy, Debug, PartialEq, Eq)]
 pub struct Segment<'a> {
     /// The sequence number of the first byte of data, or of the SYN.
@@ -72,7 +72,8 @@ pub struct Segment<'a> {
 }
 
 impl Segment<'_> {
-    /// A segment with no data, that names no maximum segment size: `<SEQ=seq><ACK=ack><CTL=flags>` and a window.
+    /// A segment with no data, that names no maximum segment size: `<SEQ=seq><ACK=ack><CTL=flags>` and a window in
+    /// bytes (RFC 9293, 3.1).
     pub fn control(seq: Seq, ack: Seq, flags: Flags, wnd: u16) -> Segment<'static>
         ensures { said result ≡ control_said seq.0 ack.0 flags wnd }
     {

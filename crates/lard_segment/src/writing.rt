@@ -15,8 +15,9 @@ use byteorder::{BigEndian, ByteOrder};
 use lard_base::ConnId;
 use lard_base::limits::{MAX_SEGMENT_BYTES, MAX_SEGMENT_DATA};
 
-/// Writes the one spelling of the segment on connection `c` to the front of `buf`, and answers its length,
-/// at most 1,484.
+/// Writes the one spelling of the segment on connection `c` to the front of `buf`, and answers its length, 20 to 1,484
+/// (RFC 9293, 3.1). `buf` has at least 1,520 bytes. The segment names a maximum segment size of 1 to 1,460 or none, has
+/// at most 1,460 bytes of data, and the acknowledgement number 0 where it has no ACK.
 pub fn encode(segment: &Segment<'_>, c: ConnId, dir: Dir, buf: &mut [u8]) -> usize
     requires room { MAX_SEGMENT_BYTES ≤ length buf.old }
     requires some_mss { IfSome segment.now.mss (λ m. 1 ≤ m) }

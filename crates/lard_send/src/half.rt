@@ -87,8 +87,8 @@ impl Model for SendHalf {
 }
 
 impl SendHalf {
-    /// A half whose SYN, with the number `iss`, is not sent. The peer's SYN has the number `irs` and brought the window.
-    /// `mss` is 1 to 1,460 bytes. It takes no memory yet.
+    /// A half whose SYN, with the number `iss`, is not sent. The peer's SYN has the number `irs` and brought the
+    /// window, in bytes (RFC 9293, 3.10.7.2). `mss` is 1 to 1,460 bytes. It takes no memory yet.
     pub fn make(alloc: Global, iss: Seq, irs: Seq, wnd: u16, mss: u16) -> SendHalf
         requires some_mss { 1 ≤ mss }
         requires small_mss { mss ≤ MAX_SEGMENT_DATA }
@@ -110,7 +110,7 @@ impl SendHalf {
     }
 
     /// Sets the peer's first number, and its maximum segment size, 1 to 1,460 bytes, as a client learns them of the
-    /// segment that acknowledges its SYN.
+    /// segment that acknowledges its SYN (RFC 9293, 3.10.7.3). Nothing is acknowledged yet.
     pub fn peer(&mut self, irs: Seq, mss: u16)
         requires syn { self.old.una ≡ 0 }
         requires some_mss { 1 ≤ mss }
@@ -141,8 +141,8 @@ impl SendHalf {
         }
     }
 
-    /// Queues bytes behind those that were queued; not after `finish`, and at most 2^30 over one connection. Without
-    /// memory the half is as it was.
+    /// Queues bytes behind those that were queued; not after `finish`, and at most 2^30 over one connection
+    /// (RFC 9293, 3.10.2). Without memory the half is as it was.
     pub fn queue(&mut self, bytes: &[u8]) -> Result<(), NoMemory>
         requires unfinished { self.old.finished ≡ false }
         requires fits { self.old.total + length bytes.now ≤ MAX_STREAM_BYTES }
@@ -154,7 +154,7 @@ impl SendHalf {
         Ok(())
     }
 
-    /// Queues bytes as `queue` does, without a copy of them.
+    /// Queues bytes as `queue` does, without a copy of them. Without memory the half is as it was.
     pub fn queue_shared(&mut self, bytes: Shared) -> Result<(), NoMemory>
         requires unfinished { self.old.finished ≡ false }
         requires fits { self.old.total + length bytes ≤ MAX_STREAM_BYTES }
@@ -167,7 +167,8 @@ impl SendHalf {
         Ok(())
     }
 
-    /// Takes what a segment acknowledges, and its window where the segment is newer than the one that brought the last.
+    /// Takes what a segment acknowledges, and its window where the segment is newer than the one that brought the last
+    /// (RFC 9293, 3.10.7.4, fifth).
     pub fn ack(&mut self, ack: Seq, seq: Seq, wnd: u16) -> Ack
         ensures answer { result ≡ ack_answer self.old (seq_offset ack.0 self.old.iss) }
         ensures after { self.new ≡ after_ack self.old ack.0 seq.0 wnd }
@@ -219,8 +220,9 @@ impl SendHalf {
             || (self.wl1.0 == seq.0 && self.wl2.offset_from(self.iss) <= ack.offset_from(self.iss))
     }
 
-    /// The symbols that are to be sent next, which then count as sent, or none: first the SYN, and once that is
-    /// acknowledged bytes and the FIN, at most a segment and as far as the peer's window allows.
+    /// The symbols that are to be sent next, which then count as sent: first the SYN, and once that is acknowledged
+    /// bytes and the FIN, at most a segment and as far as the peer's window allows (RFC 9293, 3.8.6). `None` where
+    /// there are none, or the window has no room for one.
     pub fn next(&mut self) -> Option<Piece>
         ensures piece { result ≡ next_piece self.old }
         ensures after { self.new ≡ after_next self.old }
@@ -264,7 +266,8 @@ impl SendHalf {
     }
 
     /// What a timer sends again: the SYN while it is not acknowledged, then the sent symbols from the first that is not
-    /// acknowledged, at most a segment; where all are, one symbol beyond the window, which then counts as sent; or none.
+    /// acknowledged, at most a segment; where all are, one symbol beyond the window, which then counts as sent
+    /// (RFC 9293, 3.8.1 and 3.8.6.1). `None` where all is sent and acknowledged.
     pub fn resend(&mut self) -> Option<Piece>
         ensures piece { result ≡ resent_piece self.old }
         ensures after { self.new ≡ after_resend self.old }
@@ -351,8 +354,8 @@ impl SendHalf {
         self.total.saturating_sub(self.nxt.saturating_sub(1))
     }
 
-    /// Writes the `len` queued bytes before which `at` stand to the front of `buf`. They are not acknowledged, as those
-    /// of each piece when it is answered, and `buf` holds them.
+    /// Writes the `len` queued bytes before which `at` stand to the front of `buf`. They are queued and not
+    /// acknowledged, as those of each piece when it is answered, and `buf` has `len` bytes at least.
     pub fn fill(&self, at: u32, len: u32, buf: &mut [u8])
         requires unacknowledged { acknowledged_bytes self.now ≤ at }
         requires queued { at + len ≤ self.now.total }
@@ -370,7 +373,7 @@ impl SendHalf {
         self.una.saturating_sub(1).min(self.total)
     }
 
-    /// Lets the FIN follow the queued bytes. No more are queued then.
+    /// Lets the FIN follow the queued bytes (RFC 9293, 3.10.4). No more are queued then.
     pub fn finish(&mut self)
         ensures { self.new ≡ closed self.old }
     {
@@ -384,21 +387,21 @@ impl SendHalf {
         self.una == self.symbols()
     }
 
-    /// Whether a timer runs: some symbol is not acknowledged.
+    /// Whether a timer runs: some symbol is not acknowledged (RFC 9293, 3.8.1).
     pub fn armed(&self) -> bool
         ensures { result ≡ not (is_clear self.now) }
     {
         !self.clear()
     }
 
-    /// The sequence number of the SYN, ISS.
+    /// The sequence number of the SYN, ISS (RFC 9293, 3.3.1).
     pub fn iss(&self) -> Seq
         ensures { result.0 ≡ self.now.iss }
     {
         self.iss
     }
 
-    /// The sequence number of the peer's SYN, IRS, as `make`, `peer` or `restore` had it.
+    /// The sequence number of the peer's SYN, IRS, as `make`, `peer` or `restore` had it (RFC 9293, 3.3.1).
     pub fn irs(&self) -> Seq
         ensures { result.0 ≡ self.now.irs }
     {
@@ -413,49 +416,49 @@ impl SendHalf {
         self.total
     }
 
-    /// UNA, how many symbols are acknowledged.
+    /// UNA, how many symbols are acknowledged: the offset of SND.UNA from ISS (RFC 9293, 3.3.1).
     pub fn una(&self) -> u32
         ensures { result ≡ self.now.una }
     {
         self.una
     }
 
-    /// NXT, how many symbols are sent.
+    /// NXT, how many symbols are sent: the offset of SND.NXT from ISS (RFC 9293, 3.3.1).
     pub fn nxt(&self) -> u32
         ensures { result ≡ self.now.nxt }
     {
         self.nxt
     }
 
-    /// The peer's window, in bytes.
+    /// The peer's window, in bytes: SND.WND (RFC 9293, 3.3.1).
     pub fn window(&self) -> u16
         ensures { result ≡ self.now.wnd }
     {
         self.wnd
     }
 
-    /// The sequence number of the segment that brought the window.
+    /// The sequence number of the segment that brought the window, SND.WL1 (RFC 9293, 3.3.1).
     pub fn wl1(&self) -> Seq
         ensures { result.0 ≡ self.now.wl1 }
     {
         self.wl1
     }
 
-    /// The acknowledgement number of that segment.
+    /// The acknowledgement number of the segment that brought the window, SND.WL2 (RFC 9293, 3.3.1).
     pub fn wl2(&self) -> Seq
         ensures { result.0 ≡ self.now.wl2 }
     {
         self.wl2
     }
 
-    /// The most bytes of a segment, 1 to 1,460.
+    /// The most bytes of a segment, 1 to 1,460 (RFC 9293, 3.7.1).
     pub fn mss(&self) -> u16
         ensures { result ≡ self.now.mss }
     {
         self.mss
     }
 
-    /// Whether the FIN follows the queued bytes.
+    /// Whether the FIN follows the queued bytes: true exactly after `finish` (RFC 9293, 3.10.4).
     pub fn finished(&self) -> bool
         ensures { result ≡ self.now.finished }
     {

@@ -10,7 +10,8 @@ pub fn pieces_are_parts_of_the_queue()
     ensures pieces { PiecesAreParts }
 {}
 
-/// What is sent for the first time lies below UNA plus the peer's window, and fits a segment of the peer.
+/// What is sent for the first time lies below UNA plus the peer's window, and fits a segment of the peer (RFC 9293, 3.4
+/// and 3.7.1).
 pub fn firsts_stay_in_the_window()
     ensures { FirstsAreAllowed }
 {}

@@ -68,7 +68,7 @@ impl Rest {
         self.dropped = drop_front(&mut self.parts, self.dropped, n);
     }
 
-    /// Writes bytes over all of `buf`: those before which `at` stand.
+    /// Writes bytes over all of `buf`: those before which `at` stand. The list has as many bytes.
     pub fn gather(&self, at: u32, buf: &mut [u8])
         requires { at + length buf.old ≤ length self.now }
         ensures { buf.new ≡ take (length buf.old) (drop at self.now) }

@@ -10,26 +10,27 @@ ghost use Rattle.lard_seq.specs.Seq.{seq_add, seq_offset, OffsetIsWhatWasAdded, 
 #[cfg(test)]
 mod tests;
 
-/// A sequence number.
+/// A sequence number. It has 32 bits (RFC 9293, 3.4).
 #[derive(Clone, Copy, Debug, PartialEq, Eq)]
 pub struct Seq(pub u32);
 
 impl Seq {
-    /// The number that is `n` after this one, modulo 2^32.
+    /// The number that is `n` after this one, modulo 2^32 (RFC 9293, 3.4).
     pub fn add(self, n: u32) -> Seq
         ensures { result.0 ≡ seq_add self.0 n }
     {
         Seq(self.0.wrapping_add(n))
     }
 
-    /// How far this number is after `base`, modulo 2^32.
+    /// How far this number is after `base`, modulo 2^32 (RFC 9293, 3.4).
     pub fn offset_from(self, base: Seq) -> u32
         ensures { result ≡ seq_offset self.0 base.0 }
     {
         self.0.wrapping_sub(base.0)
     }
 
-    /// Whether this is one of the `size` numbers from `first` on.
+    /// Whether this is one of the `size` numbers from `first` on, which may begin again behind 2^32 - 1
+    /// (RFC 9293, 3.4).
     pub fn in_window(self, first: Seq, size: u32) -> bool
         ensures { IsTrue result ↔ (seq_offset self.0 first.0 < size) }
     {

@@ -74,7 +74,8 @@ pub fn end_at_fin(endpoint: &mut Endpoint)
     }
 }
 
-/// Answers a verdict, where its content came by this way.
+/// Answers a verdict, where its content came by this way. The cluster has not closed the connection, nor is to reset
+/// it. `NoMemory` where memory runs out; nothing is said of the endpoint and the service then.
 pub fn answer(
     alloc: Global,
     env: &Env<'_>,

@@ -17,7 +17,7 @@ use lard_rules::{Ending, Turn};
 use lard_segment::{Dir, Flags, Segment};
 use std::alloc::Global;
 
-/// Where the connection is, and the place's turn, where memory sufficed for it.
+/// Where the connection is, and the place's turn; `NoMemory` in the place of the turn where memory ran out.
 pub type Ends = (Ending, Result<Turn, NoMemory>);
 
 /// Whether some symbol of the endpoint is not acknowledged.
@@ -40,7 +40,8 @@ fn rested(endpoint: Endpoint, count: u32) -> Ending
     }
 }
 
-/// These packets go out, and then what the endpoint may send.
+/// These packets go out, and then what the endpoint may send. `NoMemory` in the place of the turn where memory runs
+/// out.
 pub fn spoken(
     alloc: Global,
     env: &Env<'_>,
@@ -113,7 +114,7 @@ fn limit_turn(
     })
 }
 
-/// The packet of a segment without data.
+/// The packet of a segment to the client, which names no maximum segment size. `NoMemory` where memory runs out.
 pub fn told(alloc: Global, env: &Env<'_>, segment: &Segment<'_>) -> Result<(Place, Bytes), NoMemory>
     requires plain { segment.now.mss ≡ None }
     requires small { length segment.now.payload.now ≤ MAX_SEGMENT_DATA }
@@ -132,7 +133,8 @@ fn limit_segment(last: Final) -> Segment<'static>
     Segment::control(last.snd, last.rcv, Flags::RST_ACK, 0)
 }
 
-/// The end of a turn in which requests were read: the stream limit ends the connection, else it goes on.
+/// The end of a turn in which requests were read: the stream limit ends the connection by a RST (RFC 9293, 3.10.5),
+/// else it goes on. `NoMemory` in the place of the turn where memory runs out.
 pub fn settled(alloc: Global, env: &Env<'_>, endpoint: Endpoint, service: Service) -> Ends
     requires counted { IsCounted endpoint service }
     ensures turn { IfOk result.1 (λ turn. (result.0, turn) ≡ settled (env_seen env.now) (service_of endpoint service)) }

@@ -34,7 +34,8 @@ impl Model for Outgoing {
 }
 
 impl Outgoing {
-    /// The response to a verdict: at least one byte, and at most the longest file and a head.
+    /// The response to a verdict: at least one byte, and at most the longest file and a head. `NoMemory` where memory
+    /// runs out.
     #[tactic(auto, using(crate::proofs::Responses::response_fits))]
     pub fn new(alloc: Global, files: &Files, verdict: &Verdict) -> Result<Outgoing, NoMemory>
         ensures response { IfOk result (λ outgoing. outgoing ≡ answer (file_at files.now) verdict.now) }
@@ -60,7 +61,8 @@ impl Outgoing {
         }
     }
 
-    /// Queues the head, and behind it the content, which is not copied.
+    /// Queues the head, and behind it the content, which is not copied; not after `finish`, and at most 2^30 bytes over
+    /// one connection. `NoMemory` where memory runs out; nothing is said of the endpoint then.
     #[tactic(auto, using(crate::proofs::Responses::queued_behind))]
     pub fn queue(self, endpoint: &mut Endpoint) -> Result<(), NoMemory>
         requires unfinished { endpoint.old.send.finished ≡ false }

@@ -18,7 +18,7 @@ use std::alloc::Global;
 /// The most bytes of data in a segment, as the length of a buffer.
 const DATA: usize = MAX_SEGMENT_DATA as usize;
 
-/// The bytes of a segment.
+/// The bytes of a segment, at most 1,520. It is as `lard_segment::encode` wants it. `NoMemory` where memory runs out.
 pub fn packet(alloc: Global, segment: &Segment<'_>, c: ConnId, dir: Dir) -> Result<Bytes, NoMemory>
     requires some_mss { IfSome segment.now.mss (λ m. 1 ≤ m) }
     requires small_mss { IfSome segment.now.mss (λ m. m ≤ MAX_SEGMENT_DATA) }
@@ -32,7 +32,7 @@ pub fn packet(alloc: Global, segment: &Segment<'_>, c: ConnId, dir: Dir) -> Resu
     Bytes::from_slice(alloc, &buf[..len])
 }
 
-/// The packet of a segment that the endpoint gave last.
+/// The packet of a segment that the endpoint gave last. `NoMemory` where memory runs out.
 pub fn to_client(
     alloc: Global,
     c: ConnId,
@@ -49,7 +49,7 @@ pub fn to_client(
     Ok((Place::Client(c), bytes))
 }
 
-/// The packet of the segment that is ready, where there is one.
+/// The packet of the segment that is ready, where there is one. `NoMemory` where memory runs out.
 pub fn ready_of(
     alloc: Global,
     env: &Env<'_>,
@@ -71,7 +71,8 @@ pub fn ready_of(
     }
 }
 
-/// Sends what the endpoint may send, behind these packets.
+/// Sends what the endpoint may send, behind these packets. `NoMemory` where memory runs out; nothing is said of the
+/// endpoint then.
 pub fn speak(
     alloc: Global,
     c: ConnId,
@@ -93,7 +94,8 @@ pub fn speak(
     Ok(sends)
 }
 
-/// Sends of an endpoint what has a symbol, up to the first plain ACK.
+/// Sends of an endpoint what has a symbol, up to the first plain ACK. `NoMemory` where memory runs out; nothing is said
+/// of the endpoint then.
 pub fn speak_symbols(alloc: Global, c: ConnId, endpoint: &mut Endpoint) -> Result<Sends, NoMemory>
     ensures sends { IfOk result (λ sends. sends ≡ (speaks_symbols c endpoint.old).0) }
     ensures after { OnOk result (endpoint.new ≡ (speaks_symbols c endpoint.old).1) }

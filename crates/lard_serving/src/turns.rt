@@ -35,7 +35,8 @@ fn timer_change(place: Place, c: ConnId, was: bool, is: bool) -> Option<Rec>
     }
 }
 
-/// What a turn on a connection comes to, where its timer's flag was so before the step and is so after it.
+/// What a turn on a connection comes to, where its timer's flag was so before the step and is so after it. `NoMemory`
+/// where memory runs out.
 pub fn out_of(
     alloc: Global,
     place: Place,

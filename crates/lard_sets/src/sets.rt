@@ -52,7 +52,7 @@ impl Sets {
         }
     }
 
-    /// When a node was last added to a target's set or removed from it; 0 before that.
+    /// When a node was last added to a target's set or removed from it, in milliseconds; 0 before that.
     pub fn last_mod(&self, target: &[u8]) -> Millis
         ensures { result ≡ (set_of self.now target.now).modified }
     {
@@ -62,8 +62,8 @@ impl Sets {
         }
     }
 
-    /// Keeps a place for a target, behind all others where it has none yet, and changes no set and no time. Where it has
-    /// one, no memory is taken.
+    /// Keeps a place for a target, behind all others where it has none yet, and changes no set and no time. Where it
+    /// has one, no memory is taken. Without memory nothing changes.
     pub fn touch(&mut self, target: &[u8]) -> Result<(), NoMemory>
         ensures ok { OnOk result (self.new ≡ touched self.old target.now) }
         ensures err { OnErr result (self.new ≡ self.old) }
@@ -93,8 +93,8 @@ impl Sets {
         self.sets.truncate(places);
     }
 
-    /// Makes the node one of those that serve a target, which changes its set at this time. Where a place is kept for the
-    /// target, no memory is taken.
+    /// Makes the node one of those that serve a target, which changes its set at this time. Where a place is kept for
+    /// the target, no memory is taken. Without memory nothing changes.
     pub fn add(&mut self, target: &[u8], n: NodeId, now: Millis) -> Result<(), NoMemory>
         ensures ok { OnOk result (self.new ≡ added self.old target.now n now) }
         ensures err { OnErr result (self.new ≡ self.old) }

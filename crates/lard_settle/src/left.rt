@@ -9,7 +9,8 @@ use lard_agenda::Agenda;
 use lard_base::{NoMemory, NodeId};
 use lard_world::World;
 
-/// Whether no timer runs but those that are stalled, and no job waits.
+/// Whether no timer runs but those that are stalled, and no job waits. The agenda is one of the world's journal, and
+/// stays so. `NoMemory` where memory runs out.
 pub fn is_quiet(world: &World, agenda: &mut Agenda) -> Result<bool, NoMemory>
     requires usable { world.now.spoiled ≡ false }
     requires agenda { IsAgendaOf agenda.old world.now.machine.journal }
@@ -20,7 +21,8 @@ pub fn is_quiet(world: &World, agenda: &mut Agenda) -> Result<bool, NoMemory>
     Ok(agenda.rests(world.dispatch()) && jobs_left(world) == 0)
 }
 
-/// How many timers run that are not stalled, and how many jobs wait.
+/// How many timers run that are not stalled, and how many jobs wait. The agenda is one of the world's journal, and
+/// stays so. `NoMemory` where memory runs out.
 pub fn left(world: &World, agenda: &mut Agenda) -> Result<u64, NoMemory>
     requires usable { world.now.spoiled ≡ false }
     requires agenda { IsAgendaOf agenda.old world.now.machine.journal }
@@ -44,7 +46,7 @@ fn jobs_left(world: &World) -> u64
     left
 }
 
-/// How many jobs wait at the disk of node n.
+/// How many jobs wait at the disk of node n, one of those that there are.
 pub fn jobs(world: &World, n: u8) -> u32
     requires usable { world.now.spoiled ≡ false }
     requires there { (1 ≤ n) × (n ≤ world.now.machine.config.nodes) }

@@ -14,7 +14,8 @@ use lard_base::{ConnId, Event, Events, Items, NoMemory, Place};
 use lard_world::World;
 use std::alloc::Global;
 
-/// Each client that holds takes, by number.
+/// Each client that holds takes, by number. The agenda is one of the world's journal, and stays so. `NoMemory` where
+/// memory runs out.
 pub fn takes(world: &World, agenda: &mut Agenda, alloc: Global) -> Result<Events, NoMemory>
     requires { IsAgendaOf agenda.old world.now.machine.journal }
     ensures events { IfOk result (λ events. events ≡ takes world.now.machine) }
@@ -38,7 +39,8 @@ fn takes_of(world: &World, clients: Items<ConnId>, alloc: Global) -> Result<Even
     Ok(events)
 }
 
-/// Each packet that is on its way is delivered, by number.
+/// Each packet that is on its way is delivered, by number. The agenda is one of the world's journal, and stays so.
+/// `NoMemory` where memory runs out.
 pub fn deliveries(world: &World, agenda: &mut Agenda, alloc: Global) -> Result<Events, NoMemory>
     requires { IsAgendaOf agenda.old world.now.machine.journal }
     ensures events { IfOk result (λ events. events ≡ deliveries world.now.machine) }
@@ -60,7 +62,8 @@ fn deliveries_of(packets: Items<u32>, alloc: Global) -> Result<Events, NoMemory>
     Ok(events)
 }
 
-/// Node n completes its first job as often as it has jobs.
+/// Node n, one of those that there are, completes its first job as often as it has jobs. `NoMemory` where memory runs
+/// out.
 pub fn completions(world: &World, n: u8, alloc: Global) -> Result<Events, NoMemory>
     requires usable { world.now.spoiled ≡ false }
     requires there { (1 ≤ n) × (n ≤ world.now.machine.config.nodes) }
@@ -82,7 +85,8 @@ fn completions_of(n: u8, count: u32, alloc: Global) -> Result<Events, NoMemory>
     Ok(events)
 }
 
-/// Each timer fires that runs and is not stalled, once for each place and connection.
+/// Each timer fires that runs and is not stalled, once for each place and connection. The agenda is one of the world's
+/// journal, and stays so. `NoMemory` where memory runs out.
 pub fn firings(world: &World, agenda: &mut Agenda, alloc: Global) -> Result<Events, NoMemory>
     requires { IsAgendaOf agenda.old world.now.machine.journal }
     ensures events { IfOk result (λ events. events ≡ firings world.now.machine) }

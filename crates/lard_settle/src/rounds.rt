@@ -12,7 +12,8 @@ use lard_rules::StepFault;
 use lard_world::World;
 use std::alloc::Global;
 
-/// Rounds until nothing is left or so many were done, and how many were done.
+/// Rounds until nothing is left or so many were done, and how many were done. A fault of a step ends them, and the
+/// world is as the steps before have left it. If memory ran out, its journal is a front of what it would have been.
 pub fn do_rounds(
     world: &mut World,
     agenda: &mut Agenda,

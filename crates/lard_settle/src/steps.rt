@@ -10,7 +10,8 @@ use lard_rules::StepFault;
 use lard_world::World;
 use std::alloc::Global;
 
-/// Does an inner step of each of these events, up to one that is not done.
+/// Does an inner step of each of these events, up to one that is not done. Its fault is the answer, and the world is as
+/// the steps before have left it. If memory ran out, its journal is a front of what it would have been.
 pub fn do_all(world: &mut World, alloc: Global, events: Events) -> Result<(), StepFault>
     requires usable { world.old.spoiled ≡ false }
     requires ruled { AllByRecursion HasRule events }

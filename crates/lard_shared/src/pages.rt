@@ -24,8 +24,8 @@ impl Pages {
         }
     }
 
-    /// Keeps a copy of the slice behind what the last page holds, where it fits there; else it begins a page, of 2^20 bytes or
-    /// of the slice's length where that is more.
+    /// Keeps a copy of the slice behind what the last page holds, where it fits there; else it begins a page, of 2^20
+    /// bytes or of the slice's length where that is more. `NoMemory` where memory runs out.
     pub fn keep(&mut self, bytes: &[u8]) -> Result<Shared, NoMemory>
         ensures { IfOk result (λ kept. kept ≡ bytes.now) }
     {

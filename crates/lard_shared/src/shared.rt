@@ -22,7 +22,7 @@ impl Model for Shared {
 }
 
 impl Shared {
-    /// A copy of the slice.
+    /// A copy of the slice. `NoMemory` where memory runs out.
     pub fn from_slice(alloc: Global, bytes: &[u8]) -> Result<Shared, NoMemory>
         ensures { IfOk result (λ copy. copy ≡ bytes.now) }
     {
@@ -37,7 +37,8 @@ impl Shared {
         Shared { bytes }
     }
 
-    /// The `len` bytes from `at` on, counted from 0, without a copy of them.
+    /// The `len` bytes from `at` on, counted from 0, without a copy of them. They are there. `NoMemory` where memory
+    /// runs out.
     pub fn part(&self, at: usize, len: usize) -> Result<Shared, NoMemory>
         requires { at + len ≤ length self.now }
         ensures { IfOk result (λ part. part ≡ take len (drop at self.now)) }
@@ -47,7 +48,7 @@ impl Shared {
         Ok(Shared { bytes })
     }
 
-    /// The same bytes for one owner more, without a copy of them.
+    /// The same bytes for one owner more, without a copy of them. `NoMemory` where memory runs out.
     pub fn share(&self) -> Result<Shared, NoMemory>
         ensures { IfOk result (λ share. share ≡ self.now) }
     {

@@ -1,7 +1,7 @@
 //! A client's place: what its client does at each event of the schedule, and at each packet that comes.
 //!
-//! It stands above the client's end of a connection, and follows the rules of clients of `lard_rules`. The worlds keep a client's
-//! station, lend it for its turn, and tell what it did.
+//! It stands above the client's end of a connection, and follows the rules of clients of `lard_rules`. `lard_stepping`
+//! keeps a client's station in its machine, takes it out for its turn, and tells what it did.
 #![tactic(auto)]
 
 pub mod speaking;

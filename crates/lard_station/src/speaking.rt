@@ -15,7 +15,7 @@ use std::alloc::Global;
 /// The most bytes of data in a segment, as the length of a buffer.
 const DATA: usize = MAX_SEGMENT_DATA as usize;
 
-/// The packet of a segment that the client gave last.
+/// The packet of a segment that the client gave last. `NoMemory` where memory runs out.
 pub fn to_front(alloc: Global, client: &Client, ready: Ready) -> Result<(Place, Bytes), NoMemory>
     requires held { IsHeld client.now ready }
     requires writable { IsWritable ready }
@@ -28,7 +28,8 @@ pub fn to_front(alloc: Global, client: &Client, ready: Ready) -> Result<(Place, 
     Ok((Place::Front, bytes))
 }
 
-/// Sends what the client may send, behind these packets.
+/// Sends what the client may send, behind these packets. `NoMemory` where memory runs out; nothing is said of the
+/// client then.
 pub fn client_speak(alloc: Global, client: &mut Client, before: Sends) -> Result<Sends, NoMemory>
     requires { AreShort before }
     ensures sends { IfOk result (λ sends. sends ≡ before ++ (client_speaks client.old).0) }

@@ -20,7 +20,8 @@ use lard_serving::silent;
 use lard_shared::Shared;
 use std::alloc::Global;
 
-/// The client notes this, and sends these packets and then what it may.
+/// The client notes this, and sends these packets and then what it may. `NoMemory` where memory runs out; nothing is
+/// said of the client then.
 pub fn speaking(
     alloc: Global,
     notes: Recs,
@@ -59,7 +60,8 @@ fn packets_of(alloc: Global, client: &Client, ready: Option<Ready>) -> Result<Se
     }
 }
 
-/// The client opens: its SYN goes out (RFC 9293, 3.10.1).
+/// The client opens: its SYN goes out (RFC 9293, 3.10.1). `NoMemory` where memory runs out; nothing is said of the
+/// client then.
 pub fn open(alloc: Global, client: &mut Client) -> Result<Turn, NoMemory>
     ensures turn { IfOk result (λ turn. (client.new, turn) ≡ speaking [] [] client.old) }
     ensures fits { IfOk result IsTurn }
@@ -67,7 +69,8 @@ pub fn open(alloc: Global, client: &mut Client) -> Result<Turn, NoMemory>
     speaking(alloc, Recs::new(alloc), Sends::new(alloc), client)
 }
 
-/// The client writes (RFC 9293, 3.10.2), unless it writes no longer.
+/// The client writes (RFC 9293, 3.10.2), unless it writes no longer; in all at most 2^30 bytes, as `written_len` tells.
+/// `NoMemory` where memory runs out; nothing is said of the client then.
 pub fn write(alloc: Global, client: &mut Client, bytes: Bytes) -> Result<Turn, NoMemory>
     requires { written_len client.old bytes ≤ MAX_STREAM_BYTES }
     ensures turn { IfOk result (λ turn. (client.new, turn) ≡ client_writes client.old bytes) }
@@ -82,7 +85,7 @@ pub fn write(alloc: Global, client: &mut Client, bytes: Bytes) -> Result<Turn, N
     speaking(alloc, notes, Sends::new(alloc), client)
 }
 
-/// The client closes its side (RFC 9293, 3.10.4).
+/// The client closes its side (RFC 9293, 3.10.4). `NoMemory` where memory runs out; nothing is said of the client then.
 pub fn shut(alloc: Global, client: &mut Client) -> Result<Turn, NoMemory>
     ensures turn { IfOk result (λ turn. (client.new, turn) ≡ client_shuts client.old) }
     ensures fits { IfOk result IsTurn }
@@ -91,7 +94,8 @@ pub fn shut(alloc: Global, client: &mut Client) -> Result<Turn, NoMemory>
     speaking(alloc, Recs::new(alloc), Sends::new(alloc), client)
 }
 
-/// The client leaves accepted bytes in its window from now on.
+/// The client leaves accepted bytes in its window from now on. `NoMemory` where memory runs out; nothing is said of the
+/// client then.
 pub fn hold(alloc: Global, client: &mut Client) -> Result<Turn, NoMemory>
     ensures turn { IfOk result (λ turn. (client.new, turn) ≡ client_holds client.old) }
     ensures fits { IfOk result IsTurn }
@@ -100,7 +104,8 @@ pub fn hold(alloc: Global, client: &mut Client) -> Result<Turn, NoMemory>
     speaking(alloc, Recs::new(alloc), Sends::new(alloc), client)
 }
 
-/// The client reads all that lies in its window (RFC 9293, 3.10.3).
+/// The client reads all that lies in its window (RFC 9293, 3.10.3). `NoMemory` where memory runs out; nothing is said
+/// of the client then.
 pub fn take(alloc: Global, client: &mut Client) -> Result<Turn, NoMemory>
     ensures turn { IfOk result (λ turn. (client.new, turn) ≡ client_takes client.old) }
     ensures fits { IfOk result IsTurn }
@@ -109,7 +114,8 @@ pub fn take(alloc: Global, client: &mut Client) -> Result<Turn, NoMemory>
     speaking(alloc, Recs::new(alloc), Sends::new(alloc), client)
 }
 
-/// The client resets its connection (RFC 9293, 3.10.5), by a RST where there is one to send.
+/// The client resets its connection (RFC 9293, 3.10.5), by a RST where there is one to send. `NoMemory` where memory
+/// runs out; nothing is said of the client then.
 pub fn abort(alloc: Global, client: &mut Client) -> Result<Turn, NoMemory>
     ensures turn { IfOk result (λ turn. (client.new, turn) ≡ client_aborts client.old) }
     ensures fits { IfOk result IsTurn }
@@ -125,7 +131,8 @@ pub fn abort(alloc: Global, client: &mut Client) -> Result<Turn, NoMemory>
     })
 }
 
-/// The schedule puts a packet with these bytes on the way from a client, which itself does nothing.
+/// The schedule puts a packet with these bytes, at most 1,520, on the way from a client, which itself does nothing.
+/// `NoMemory` where memory runs out.
 pub fn inject(alloc: Global, client: &Client, bytes: Bytes) -> Result<Turn, NoMemory>
     requires short { length bytes ≤ MAX_SEGMENT_BYTES }
     ensures turn { IfOk result (λ turn. (client.now, turn) ≡ client_injects client.now bytes) }
@@ -140,7 +147,7 @@ pub fn inject(alloc: Global, client: &Client, bytes: Bytes) -> Result<Turn, NoMe
     })
 }
 
-/// The client's timer fires (RFC 9293, 3.10.8).
+/// The client's timer fires (RFC 9293, 3.10.8). `NoMemory` where memory runs out; nothing is said of the client then.
 pub fn fire(alloc: Global, client: &mut Client) -> Result<Turn, NoMemory>
     ensures turn { IfOk result (λ turn. (client.new, turn) ≡ client_timer client.old) }
     ensures fits { IfOk result IsTurn }
@@ -150,7 +157,8 @@ pub fn fire(alloc: Global, client: &mut Client) -> Result<Turn, NoMemory>
     speaking(alloc, Recs::new(alloc), before, client)
 }
 
-/// A packet comes (RFC 9293, 3.10.7). What does not decode is dropped.
+/// A packet comes (RFC 9293, 3.10.7), of at most 1,520 bytes. What does not decode is dropped. `NoMemory` where memory
+/// runs out; nothing is said of the client then.
 pub fn receive(
     alloc: Global,
     c: ConnId,
@@ -230,7 +238,7 @@ fn note_eof(notes: &mut Recs, c: ConnId, heard: Heard) -> Result<(), NoMemory>
 
 // ---- what it writes
 
-/// What a plain request for a path says (RFC 9112, 3).
+/// What a plain request for a path says (RFC 9112, 3). `NoMemory` where memory runs out.
 pub fn request(alloc: Global, path: &Path) -> Result<Bytes, NoMemory>
     ensures { IfOk result (λ bytes. bytes ≡ request path.now) }
 {
@@ -240,7 +248,7 @@ pub fn request(alloc: Global, path: &Path) -> Result<Bytes, NoMemory>
     Ok(Bytes::from_vec(text))
 }
 
-/// A client's bytes in all, once it wrote these.
+/// How many bytes a client has written once it writes these, which do not count where it writes no longer.
 pub fn written_len(client: &Client, bytes: &[u8]) -> u64
     ensures { result ≡ written_len client.now bytes.now }
 {

@@ -23,8 +23,9 @@ pub enum Coming {
     Content(NodeId),
 }
 
-/// A Tag came, with a node for each path of the Ask: each request that the Ask names starts at its node, in order. Nothing is
-/// served yet. It adds at most eight jobs and eight contents to fetch.
+/// A Tag came, with a node for each path of the Ask: each request that the Ask names starts at its node, in order.
+/// Nothing is served yet. It adds at most eight jobs and eight contents to fetch. `NoMemory` where memory runs out;
+/// nothing is said of the work then.
 #[tactic(auto, unfolding(lard_rules::specs::Stay::starts_at))]
 pub fn tag(
     alloc: Global,

@@ -12,7 +12,7 @@ use lard_request::Verdict;
 use lard_rules::{Entry, Progress};
 use std::alloc::Global;
 
-/// The path of a request for a file.
+/// The path of a request for a file; `None` where the verdict is no such request, or there is no such file.
 pub fn good_path<'a>(files: &Files, verdict: &'a Verdict) -> Option<&'a Path>
     ensures path { option_copied result ≡ good_path (file_at files.now) verdict.now }
     ensures short { IfSome result (λ path. IsPath path.now) }
@@ -26,7 +26,7 @@ pub fn good_path<'a>(files: &Files, verdict: &'a Verdict) -> Option<&'a Path>
     }
 }
 
-/// The path that an Ask names for a request, if it does.
+/// The path that an Ask names for a request; `None` where it names none.
 pub fn named_path<'a>(files: &Files, entry: &'a Entry) -> Option<&'a Path>
     ensures path { option_copied result ≡ named_path (file_at files.now) entry.now }
     ensures short { IfSome result (λ path. IsPath path.now) }
@@ -39,7 +39,7 @@ pub fn named_path<'a>(files: &Files, entry: &'a Entry) -> Option<&'a Path>
     }
 }
 
-/// The paths of the requests of a batch that are to be assigned, in order.
+/// The paths of the requests of a batch that are to be assigned, in order. `NoMemory` where memory runs out.
 pub fn named_paths(alloc: Global, files: &Files, batch: &[Entry]) -> Result<Paths, NoMemory>
     ensures paths { IfOk result (λ paths. paths ≡ named_paths (file_at files.now) batch.now) }
     ensures within { IfOk result (λ paths. length paths ≤ length batch.now) }

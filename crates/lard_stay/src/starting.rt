@@ -104,8 +104,9 @@ fn start(
     start_there(node, r, path, verdict, work)
 }
 
-/// Enters request `r` as it is read. The first one for a file is started here, where it was assigned to this node with the
-/// connection (`here`). The answer is whether that one is still awaited.
+/// Enters request `r` as it is read. The first one for a file is started here, where it was assigned to this node with
+/// the connection (`here`). The answer is whether that one is still awaited. `NoMemory` where memory runs out; nothing
+/// is said of the work then.
 pub fn enter(
     alloc: Global,
     env: &Env<'_>,
@@ -130,8 +131,8 @@ pub fn enter(
     Ok(here)
 }
 
-/// Starts request `r` at this node, if the Ask names it and there is a node for it, and else enters it as it is. The answer is
-/// whether it started.
+/// Starts request `r` at this node, if the Ask names it and there is a node for it, and else enters it as it is. The
+/// answer is whether it started. `NoMemory` where memory runs out; nothing is said of the work then.
 pub fn start_named(
     alloc: Global,
     env: &Env<'_>,

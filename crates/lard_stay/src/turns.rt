@@ -21,8 +21,9 @@ use lard_serving::{answer, end_at_fin, may_read};
 use std::alloc::Global;
 use std::mem::replace;
 
-/// Begins a stay: reads the first batch, whose first request for a file was assigned to this node with the connection, and goes
-/// on. It adds at most one job, and no content to fetch.
+/// Begins a stay: reads the first batch, whose first request for a file was assigned to this node with the connection,
+/// and goes on. It adds at most one job, and no content to fetch. `NoMemory` where memory runs out; nothing is said of
+/// the endpoint and the work then.
 pub fn begin(
     alloc: Global,
     env: &Env<'_>,
@@ -42,8 +43,8 @@ pub fn begin(
     go_on(alloc, env, endpoint, work)
 }
 
-/// Serves and reads, as long as the next request can be served or a batch is to be read. It adds no job, and no content to
-/// fetch.
+/// Serves and reads, as long as the next request can be served or a batch is to be read (RFC 9112, 9.3.2). It adds no
+/// job, and no content to fetch. `NoMemory` where memory runs out; nothing is said of the endpoint and the work then.
 pub fn go_on(
     alloc: Global,
     env: &Env<'_>,

@@ -11,7 +11,8 @@ use lard_journal::Rec;
 use lard_rules::{BackIn, Machine, StepFault};
 use std::alloc::Global;
 
-/// Node n completes the j-th of its disk's jobs.
+/// Node n completes the j-th of its disk's jobs, both counted from 1. After `NoNode`, where there is no such node, and
+/// `NoJob`, where it has no such job, everything is as it was. Without memory the journal is as it was.
 #[tactic(auto, unfolding(lard_rules::specs::Machine::completes))]
 pub fn complete(machine: &mut Machine, alloc: Global, n: u32, j: u32) -> Result<(), StepFault>
     requires room { HasRoom machine.old }
@@ -34,7 +35,7 @@ pub fn complete(machine: &mut Machine, alloc: Global, n: u32, j: u32) -> Result<
     Ok(())
 }
 
-/// The node with a number, where it is one of so many.
+/// The node with a number, where it is one of so many, at most 64; else `None`.
 pub fn node_of(n: u32, nodes: u8) -> Option<NodeId>
     requires few { nodes ≤ 64 }
     ensures none { IfNone result (is_no_node nodes n ≡ true) }
@@ -46,7 +47,7 @@ pub fn node_of(n: u32, nodes: u8) -> Option<NodeId>
     NodeId::new(n)
 }
 
-/// The time moves on.
+/// The time moves on by so many milliseconds. `NoMemory` alone can come; the journal is as it was then.
 #[tactic(auto, using(crate::proofs::Sound::passed_at), unfolding(lard_rules::specs::Machine::clocked))]
 pub fn tick(machine: &mut Machine, alloc: Global, ms: u32) -> Result<(), StepFault>
     requires room { HasRoom machine.old }

@@ -19,7 +19,8 @@ use lard_seq::Seq;
 use lard_shared::Shared;
 use std::alloc::Global;
 
-/// A packet comes to its place.
+/// The packet with this number comes to its place. After `NotSent` and `WasLost`, where none was sent with it or it was
+/// lost, everything is as it was. Without memory the journal is as it was.
 #[tactic(auto, unfolding(lard_rules::specs::Machine::delivered))]
 pub fn deliver(machine: &mut Machine, alloc: Global, k: u32) -> Result<(), StepFault>
     requires room { HasRoom machine.old }
@@ -169,7 +170,8 @@ fn to_client(
     Ok(())
 }
 
-/// A packet arrives no more from now on.
+/// The packet with this number arrives no more from now on. After `NotSent` and `WasLost`, where none was sent with it
+/// or it was lost before, everything is as it was. Without memory the journal is as it was.
 #[tactic(auto, using(crate::proofs::Lent::lost_len, crate::proofs::Sound::net_sound), unfolding(lard_rules::specs::Machine::lost))]
 pub fn lose(machine: &mut Machine, alloc: Global, k: u32) -> Result<(), StepFault>
     requires room { HasRoom machine.old }
@@ -189,7 +191,8 @@ pub fn lose(machine: &mut Machine, alloc: Global, k: u32) -> Result<(), StepFaul
     Ok(())
 }
 
-/// The timers of a connection at a place fire.
+/// The timers of a connection at a place fire. After `NoClient`, where the client has not opened, and `NoNode`, where
+/// there is no such node, everything is as it was. Without memory the journal is as it was.
 pub fn fire(machine: &mut Machine, alloc: Global, place: Place, c: ConnId) -> Result<(), StepFault>
     requires room { HasRoom machine.old }
     requires sound { IsSound machine.old }

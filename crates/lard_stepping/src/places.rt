@@ -64,7 +64,8 @@ pub fn node_acts(
     tell(machine, alloc, event, own, Place::Node(n), out)
 }
 
-/// A packet comes to a node.
+/// A packet comes to a node. Where there is no such node, it arrives and nothing else is done. Without memory the
+/// journal is as it was.
 pub fn to_node(
     machine: &mut Machine,
     alloc: Global,

@@ -13,7 +13,8 @@ use lard_journal::Rec;
 use lard_rules::{Machine, StepFault};
 use std::alloc::Global;
 
-/// Begins a settle of at most so many rounds. After a fault everything is as it was; if memory ran out, only the journal is.
+/// Begins a settle of at most so many rounds. After a fault, which is the limit that was reached before, everything is
+/// as it was; if memory ran out, only the journal is.
 #[tactic(auto, unfolding(lard_settling::specs::Steps::settle_begun))]
 pub fn begin(machine: &mut Machine, alloc: Global, rounds: u32) -> Result<(), StepFault>
     requires sound { IsSound machine.old }

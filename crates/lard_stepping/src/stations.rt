@@ -30,7 +30,7 @@ pub struct Acting {
 
 // ---- a client acts
 
-/// Takes the client's station out, where there is one. Another stands in for it until it is put back.
+/// Takes the client's station out, where there is one, else `None`. Another stands in for it until it is put back.
 #[tactic(auto, using(crate::proofs::Sound::clients_sound))]
 pub fn take_out(machine: &mut Machine, alloc: Global, c: ConnId) -> Option<Acting>
     requires sound { IsSound machine.old }
@@ -57,7 +57,7 @@ pub fn take_out(machine: &mut Machine, alloc: Global, c: ConnId) -> Option<Actin
     })
 }
 
-/// Puts a station back whose client acted, and ends the step.
+/// Puts a station back whose client acted, and ends the step. Without memory the journal is as it was.
 #[tactic(auto, using(crate::proofs::Sound::clients_sound))]
 pub fn put_back(
     machine: &mut Machine,
@@ -93,7 +93,8 @@ pub fn put_back(
 
 // ---- the events
 
-/// The client opens.
+/// The client opens (RFC 9293, 3.10.1) with a window of at least 1 byte, and a maximum segment size of 1 to 1,460.
+/// After `Used`, where it opened before, everything is as it was. Without memory the journal is as it was.
 #[tactic(auto, unfolding(lard_rules::specs::Machine::opened))]
 pub fn open(
     machine: &mut Machine,
@@ -160,7 +161,9 @@ fn begin(
     conclude(machine, alloc, event, Some(own), done)
 }
 
-/// The client writes a plain request for a path.
+/// The client writes (RFC 9293, 3.10.2) a plain request for a path (RFC 9112, 3). After `NoClient`, where it has not
+/// opened, and `Limit(Stream)`, where it would write more bytes in all than that allows, everything is as it was.
+/// Without memory the journal is as it was.
 pub fn write_request(
     machine: &mut Machine,
     alloc: Global,
@@ -177,7 +180,9 @@ pub fn write_request(
     write(machine, alloc, Event::Get { c, path }, c, bytes)
 }
 
-/// The client writes these bytes.
+/// The client writes these bytes (RFC 9293, 3.10.2). After `NoClient`, where it has not opened, and `Limit(Stream)`,
+/// where it would write more bytes in all than that allows, everything is as it was. Without memory the journal is as
+/// it was.
 pub fn write_bytes(
     machine: &mut Machine,
     alloc: Global,
@@ -225,7 +230,8 @@ fn write(
     Ok(())
 }
 
-/// The client closes its side.
+/// The client closes its side (RFC 9293, 3.10.4). After `NoClient`, where it has not opened, everything is as it was.
+/// Without memory the journal is as it was.
 #[tactic(auto, unfolding(lard_rules::specs::Machine::client_does))]
 pub fn shut(machine: &mut Machine, alloc: Global, c: ConnId) -> Result<(), StepFault>
     requires room { HasRoom machine.old }
@@ -241,7 +247,8 @@ pub fn shut(machine: &mut Machine, alloc: Global, c: ConnId) -> Result<(), StepF
     Ok(())
 }
 
-/// The client resets its connection.
+/// The client resets its connection (RFC 9293, 3.10.5). After `NoClient`, where it has not opened, everything is as it
+/// was. Without memory the journal is as it was.
 #[tactic(auto, unfolding(lard_rules::specs::Machine::client_does))]
 pub fn abort(machine: &mut Machine, alloc: Global, c: ConnId) -> Result<(), StepFault>
     requires room { HasRoom machine.old }
@@ -257,7 +264,8 @@ pub fn abort(machine: &mut Machine, alloc: Global, c: ConnId) -> Result<(), Step
     Ok(())
 }
 
-/// The schedule puts a packet with these bytes on the way from the client to the front end.
+/// The schedule puts a packet with these bytes, at most 1,520, on the way from the client to the front end. After
+/// `NoClient`, where it has not opened, everything is as it was. Without memory the journal is as it was.
 #[tactic(auto, unfolding(lard_rules::specs::Machine::client_does))]
 pub fn inject(
     machine: &mut Machine,
@@ -281,7 +289,8 @@ pub fn inject(
     Ok(())
 }
 
-/// The client leaves accepted bytes in its window from now on.
+/// The client leaves accepted bytes in its window from now on. After `NoClient`, where it has not opened, everything is
+/// as it was. Without memory the journal is as it was.
 #[tactic(auto, unfolding(lard_rules::specs::Machine::client_does))]
 pub fn hold(machine: &mut Machine, alloc: Global, c: ConnId) -> Result<(), StepFault>
     requires room { HasRoom machine.old }
@@ -297,7 +306,8 @@ pub fn hold(machine: &mut Machine, alloc: Global, c: ConnId) -> Result<(), StepF
     Ok(())
 }
 
-/// The client reads all that lies in its window.
+/// The client reads all that lies in its window (RFC 9293, 3.10.3). After `NoClient`, where it has not opened,
+/// everything is as it was. Without memory the journal is as it was.
 #[tactic(auto, unfolding(lard_rules::specs::Machine::client_does))]
 pub fn take(machine: &mut Machine, alloc: Global, c: ConnId) -> Result<(), StepFault>
     requires room { HasRoom machine.old }

@@ -10,7 +10,8 @@ use lard_base::Event;
 use lard_rules::{Machine, StepFault, What, first_limit};
 use std::alloc::Global;
 
-/// Does the step of an event. After a fault everything is as it was; if memory ran out, only the journal is.
+/// Does the step of an event, unless a limit was reached before it. After a fault everything is as it was; if memory
+/// ran out, only the journal is.
 #[tactic(auto, unfolding(lard_rules::specs::Machine::machine_step))]
 pub fn step(machine: &mut Machine, alloc: Global, event: Event) -> Result<(), StepFault>
     requires ruled { HasRule event }
@@ -25,7 +26,7 @@ pub fn step(machine: &mut Machine, alloc: Global, event: Event) -> Result<(), St
     happen(machine, alloc, event)
 }
 
-/// The first limit that was reached.
+/// The first limit that was reached; `None` where none was.
 pub fn limit_reached(machine: &Machine) -> Option<What>
     ensures { result ≡ limit_reached machine.entry.now }
 {

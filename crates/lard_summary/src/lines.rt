@@ -10,6 +10,7 @@ use lard_journal::Rec;
 use std::alloc::Global;
 
 /// The four lines of a run of the generated schedule of this seed and of so many clients, which had this journal.
+/// `NoMemory` where memory runs out.
 #[tactic(auto, unfolding(crate::specs::Lines::summary))]
 pub fn summary(alloc: Global, seed: u64, clients: u32, recs: &[Rec]) -> Result<Bytes, NoMemory>
     ensures { IfOk result (λ text. text ≡ summary seed clients recs.now) }

@@ -38,15 +38,15 @@ impl<V> Table<V> {
         }
     }
 
-    /// The value of a number, lent, where it has one.
+    /// The value of a number, lent; `None` where it has none.
     pub fn get(&self, number: u32) -> Option<&V>
         ensures { option_copied result ≡ map.get self.now number }
     {
         self.all.get(&number)
     }
 
-    /// Sets the value of a number, and hands out the one before. Without memory the table is as it was, and the value
-    /// comes back.
+    /// Sets the value of a number, and hands out the one before, or `None` where it had none. Without memory the table
+    /// is as it was, and the value comes back.
     pub fn insert(&mut self, number: u32, value: V) -> Result<Option<V>, AllocFailed<(u32, V)>>
         ensures before { IfOk result (λ before. before ≡ map.get self.old number) }
         ensures ok { OnOk result (self.new ≡ map.insert self.old number value) }
@@ -68,7 +68,7 @@ impl<V> Table<V> {
         }
     }
 
-    /// Takes out the value of a number, where it has one.
+    /// Takes out the value of a number; `None` where it has none.
     pub fn remove(&mut self, number: u32) -> Option<V>
         ensures before { result ≡ map.get self.old number }
         ensures after { self.new ≡ map.remove self.old number }
@@ -76,7 +76,7 @@ impl<V> Table<V> {
         self.all.remove(&number)
     }
 
-    /// The least number above this one that has a value, and its value, lent; none where no number above has one.
+    /// The least number above this one that has a value, and its value, lent; `None` where no number above has one.
     pub fn next_above(&self, number: u32) -> Option<(u32, &V)>
         ensures some { IfSome result (λ next. IsNextAbove self.now number next.0 next.1.now) }
         ensures none { IfNone result (IsLast self.now number) }
@@ -98,7 +98,7 @@ impl<V> Table<V> {
         self.all.len()
     }
 
-    /// Takes out the value of some number, or none where nothing is left.
+    /// Takes out the value of some number, or answers `None` where nothing is left.
     pub fn pop(&mut self) -> Option<V>
         ensures some { IfSome result (λ value. TakesOut self.old self.new value) }
         ensures len { IfSome result (λ _. map.len self.new < map.len self.old) }
@@ -110,7 +110,7 @@ impl<V> Table<V> {
         }
     }
 
-    /// Spends a table of which nothing is left.
+    /// Spends a table of which nothing is left, as `pop` leaves it where it answers `None`.
     pub fn destroy_empty(self)
         requires { self ≡ map.empty }
     {

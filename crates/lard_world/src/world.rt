@@ -47,7 +47,7 @@ impl Model for World {
 }
 
 impl World {
-    /// Nobody has opened, and nothing was sent. The configuration passes its check.
+    /// Nobody has opened, and nothing was sent. The configuration passes its check. `NoMemory` where memory runs out.
     pub fn new(alloc: Global, config: Config, files: Files) -> Result<World, NoMemory>
         requires usable { config_check config ≡ Ok tt }
         ensures machine { IfOk result (λ world. world.machine ≡ start config files) }
@@ -79,8 +79,8 @@ impl World {
         }
     }
 
-    /// Does the step of an event. After a fault, unless memory ran out, the world is as it was. If memory ran out it is
-    /// spoiled, and its journal is as it was.
+    /// Does the step of an event. The world is not spoiled. After a fault, of which `StepFault` says when it comes, the
+    /// world is as it was, unless memory ran out. If memory ran out it is spoiled, and its journal is as it was.
     pub fn step(&mut self, alloc: Global, event: Event) -> Result<(), StepFault>
         requires usable { self.old.spoiled ≡ false }
         requires ruled { HasRule event }
@@ -96,7 +96,8 @@ impl World {
 
     // ---- settling
 
-    /// Begins a settle of at most so many rounds, by the record of its event. Faults are as those of `step`.
+    /// Begins a settle of at most so many rounds, by the record of its event. Its one fault is the limit that was
+    /// reached before, and `NoMemory` where memory runs out: the world is left as by `step`.
     pub fn begin_settle(&mut self, alloc: Global, rounds: u32) -> Result<(), StepFault>
         requires usable { self.old.spoiled ≡ false }
         ensures step { Steps (settle_begun self.old.machine rounds) self.old.machine self.new.machine result }
@@ -108,7 +109,8 @@ impl World {
         done
     }
 
-    /// Does the step of an event as an inner one of a settle. Faults are as those of `step`.
+    /// Does the step of an event as an inner one of a settle. Faults, and `NoMemory` where memory runs out, leave the
+    /// world as those of `step` do.
     pub fn inner(&mut self, alloc: Global, event: Event) -> Result<(), StepFault>
         requires usable { self.old.spoiled ≡ false }
         requires ruled { HasRule event }
@@ -121,9 +123,10 @@ impl World {
         done
     }
 
-    /// Ends a settle by its closing record: so many rounds were done, and so many timers and jobs are left, which are as many as the
-    /// agenda of the journal tells. Without memory the world is spoiled, and its journal is as it was. Where the settle that ends so was begun with as many rounds as the bound of its journal,
-    /// no job waits and no timer runs but those that are stalled, where no packet was put on the way in a client's name and each client
+    /// Ends a settle by its closing record: so many rounds were done, and so many timers and jobs are left, which are
+    /// as many as the agenda of the journal tells. Without memory the world is spoiled, and its journal is as it was.
+    /// Where the settle that ends so was begun with as many rounds as the bound of its journal, no job waits and no
+    /// timer runs but those that are stalled, where no packet was put on the way in a client's name and each client
     /// wrote fewer than 16,383 bytes.
     pub fn end_settle(&mut self, alloc: Global, rounds: u32, left: u64) -> Result<(), NoMemory>
         requires usable { self.old.spoiled ≡ false }
@@ -159,14 +162,14 @@ impl World {
         }
     }
 
-    /// The dispatcher, with the line of those that wait.
+    /// The dispatcher, with the line of those that wait, lent.
     pub fn dispatch(&self) -> &Dispatch
         ensures { result.now ≡ self.now.machine.front.dispatch }
     {
         &self.machine.front.dispatch
     }
 
-    /// What happened.
+    /// What happened, lent.
     pub fn journal(&self) -> &Journal
         ensures { result.now ≡ self.now.machine.journal }
     {
@@ -180,14 +183,14 @@ impl World {
         self.spoiled
     }
 
-    /// The numbers of the run.
+    /// The numbers of the run, lent.
     pub fn config(&self) -> &Config
         ensures { result.now ≡ self.now.machine.config }
     {
         &self.machine.config
     }
 
-    /// The files of the run.
+    /// The files of the run, lent.
     pub fn files(&self) -> &Files
         ensures { result.now ≡ self.now.machine.files }
     {

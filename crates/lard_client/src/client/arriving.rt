@@ -14,8 +14,9 @@ use lard_segment::Segment;
 use lard_send::Ack;
 
 impl Client {
-    /// Takes a segment, and says which part of its data was accepted. The reply, which `emit` never gives, is to be sent
-    /// where there is one: the client was aborted, and the segment has ACK and no RST.
+    /// Takes a segment, and says which part of its data was accepted (RFC 9293, 3.10.7.3 and 3.10.7.4). The reply,
+    /// which `emit` never gives, is to be sent where there is one: the client was aborted, and the segment has ACK and
+    /// no RST.
     #[tactic(auto, unfolding(crate::specs::Arriving::arrived))]
     pub fn arrive(&mut self, segment: &Segment<'_>) -> Heard
         ensures rule { (result, self.new) ≡ arrived self.old (said segment.now) }

@@ -11,9 +11,10 @@ use lard_send::Piece;
 use lard_seq::Seq;
 
 impl Client {
-    /// The next segment that is to be sent, or none: first the SYN; once that is acknowledged bytes and the FIN, at most
-    /// a segment and as far as the cluster's window allows; else an ACK where one is owed. A client that was aborted or
-    /// reset gives none.
+    /// The next segment that is to be sent, which then counts as sent (RFC 9293, 3.8): first the SYN; once that is
+    /// acknowledged bytes and the FIN, at most a segment and as far as the cluster's window allows; else an ACK where
+    /// one is owed. `None` where there is nothing to send, as where the client was aborted or reset; nothing changes
+    /// then.
     #[tactic(auto, using(crate::proofs::Writable::writable_piece, crate::proofs::Emitting::told_falls))]
     pub fn emit(&mut self) -> Option<Ready>
         ensures ready { result ≡ emitted self.old }
@@ -33,8 +34,9 @@ impl Client {
         }
     }
 
-    /// What the timer sends again, or none: the SYN while it is not acknowledged; else the sent symbols from the first
-    /// that is not acknowledged, at most a segment; where all are, one symbol beyond the window.
+    /// What the timer sends again (RFC 9293, 3.8.1, 3.8.6.1 and 3.10.8): the SYN while it is not acknowledged; else the
+    /// sent symbols from the first that is not acknowledged, at most a segment; where all are, one symbol beyond the
+    /// window, which then counts as sent. `None` exactly where the timer does not run; nothing changes then.
     #[tactic(auto, using(crate::proofs::Writable::writable_piece, lard_send::proofs::Sent::resent_some))]
     pub fn timer(&mut self) -> Option<Ready>
         ensures ready { result ≡ timed self.old }
@@ -54,8 +56,8 @@ impl Client {
         }
     }
 
-    /// The segment that `ready` names, with its data, which is copied to the front of `buf`. `ready` is what the client
-    /// gave last.
+    /// The segment that `ready` names, with its data, which is copied to the front of `buf`. Its data is queued and not
+    /// acknowledged, as that of a segment which the client gave last, and `buf` has room for it.
     pub fn segment<'a>(&self, ready: Ready, buf: &'a mut [u8]) -> Segment<'a>
         requires held { IsHeld self.now ready }
         requires room { ready.len ≤ length buf.old }

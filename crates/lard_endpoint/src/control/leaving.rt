@@ -13,9 +13,10 @@ use lard_send::Piece;
 use lard_seq::Seq;
 
 impl Endpoint {
-    /// The next segment that is to be sent, which then counts as sent, or none. First comes the SYN; once that is
-    /// acknowledged bytes and the FIN, as far as the peer's window allows; and where there is none of these an ACK that is
-    /// owed. An endpoint that was reset sends nothing. Call by call this ends: `emits_left` falls.
+    /// The next segment that is to be sent, which then counts as sent (RFC 9293, 3.8). First comes the SYN; once that
+    /// is acknowledged bytes and the FIN, as far as the peer's window allows; and where there is none of these an ACK
+    /// that is owed. `None` where there is nothing to send, and where the endpoint was reset. Call by call this ends:
+    /// `emits_left` falls.
     pub fn emit(&mut self) -> Option<Ready>
         ensures ready { result ≡ emitted self.old }
         ensures after { self.new ≡ after_emit self.old }
@@ -37,9 +38,9 @@ impl Endpoint {
         None
     }
 
-    /// What a timer sends again, or none: the SYN while it is not acknowledged; then what is sent, from the first symbol
-    /// that is not acknowledged; where all of it is, one symbol beyond the window, which then counts as sent. An endpoint
-    /// that was reset sends nothing.
+    /// What a timer sends again (RFC 9293, 3.8.1, 3.8.6.1 and 3.10.8): the SYN while it is not acknowledged; then what
+    /// is sent, from the first symbol that is not acknowledged; where all of it is, one symbol beyond the window, which
+    /// then counts as sent. `None` where all is sent and acknowledged, and where the endpoint was reset.
     pub fn timer(&mut self) -> Option<Ready>
         ensures ready { result ≡ timed self.old }
         ensures after { self.new ≡ after_timer self.old }
@@ -52,8 +53,8 @@ impl Endpoint {
         Some(self.told_by(piece))
     }
 
-    /// The segment with these numbers and, as its data, these queued bytes, which are copied to `buf`. They are not
-    /// acknowledged, as those of a segment that `emit` or `timer` just gave, and `buf` holds them.
+    /// The segment with these numbers and, as its data, these queued bytes, which are copied to `buf`. They are queued
+    /// and not acknowledged, as those of a segment that `emit` or `timer` just gave, and `buf` has room for them.
     pub fn segment<'a>(&self, ready: Ready, buf: &'a mut [u8]) -> Segment<'a>
         requires unacknowledged { acknowledged_bytes self.now.send ≤ ready.at }
         requires queued { ready.at + ready.len ≤ self.now.send.total }

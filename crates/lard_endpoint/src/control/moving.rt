@@ -45,7 +45,7 @@ impl Model for Frozen {
 }
 
 impl Endpoint {
-    /// An endpoint that goes on from parts that are valid. It owes an ACK.
+    /// An endpoint that goes on from parts that are valid. It owes an ACK. `NoMemory` where memory runs out.
     pub fn adopt(alloc: Global, parts: &EndpointParts) -> Result<Endpoint, NoMemory>
         requires { IsValidParts parts.now }
         ensures { IfOk result (λ endpoint. endpoint ≡ adopted parts.now) }
@@ -69,7 +69,7 @@ impl Endpoint {
         (self.send.clear() && !self.send.finished()) && (!self.recv.discarding() && !self.reset)
     }
 
-    /// Stands still from now on.
+    /// Stands still from now on. It may be frozen, as `can_freeze` tells.
     pub fn freeze(self) -> Frozen
         requires { may_freeze self ≡ true }
         ensures { result ≡ self }
@@ -77,7 +77,8 @@ impl Endpoint {
         Frozen { endpoint: self }
     }
 
-    /// Ends the endpoint where our FIN is acknowledged and theirs was taken, or the peer reset it; else hands it back.
+    /// Ends the endpoint where our FIN is acknowledged and theirs was taken, or the peer reset it (RFC 9293, 3.6); else
+    /// hands it back as it was, in the error.
     pub fn end(self) -> Result<Final, Endpoint>
         ensures ended { IfOk result (λ last. (may_end self ≡ true) × (last ≡ final_of self (end_reason self))) }
         ensures same { IfErr result (λ endpoint. (may_end self ≡ false) × (endpoint ≡ self)) }
@@ -124,7 +125,7 @@ impl Endpoint {
 
 impl Frozen {
     /// What another place needs to go on, with the number of responses that were queued before: at most the bytes that
-    /// came less the unread ones.
+    /// came less the unread ones. `NoMemory` where memory runs out.
     pub fn parts(&self, alloc: Global, served: u32) -> Result<EndpointParts, NoMemory>
         requires { served ≤ self.now.recv.got - length self.now.recv.unread }
         ensures parts { IfOk result (λ parts. parts ≡ parts_of self.now served) }
