@@ -4,8 +4,8 @@ ghost use Rattle.std.specs.Prelude.{◌≤◌, length};
 
 mod words;
 
-use crate::{Client, Heard};
 use lard_base::ConnId;
+use lard_client::{Client, Heard};
 use lard_segment::{Dir, Segment, encode};
 use lard_seq::Seq;
 use std::test::Fail;

@@ -2,8 +2,8 @@
 
 ghost use Rattle.lard_segment.specs.Segment.{said, IsSendable};
 
-use super::*;
 use lard_base::ConnId;
+use lard_segment::{Dir, Flags, Ready, SegFault, Segment, decode, encode};
 use lard_seq::Seq;
 use std::process::Abort;
 

@@ -1,6 +1,6 @@
 //! Sums, offsets and windows worked out by hand, on both sides of where the numbers begin again.
 
-use super::*;
+use lard_seq::Seq;
 
 #[test]
 fn numbers_begin_again(rt: HostRuntime) {

@@ -1,12 +1,12 @@
 //! What leaves, and how connections close: RFC 9293, 3.4, 3.6 and 3.8.
 
-use crate::Arrival::{AckOwed, Fine, Reset};
-use crate::tests::words::Said::{Ack, Data, Fin, Push, PushFin, Rst, SynAck};
-use crate::tests::words::Step::{
+use crate::endpoint::words::Said::{Ack, Data, Fin, Push, PushFin, Rst, SynAck};
+use crate::endpoint::words::Step::{
     Again, Clear, Comes, Finishes, Idle, Queues, Rests, Sends, SendsBytes, Unread,
 };
-use crate::tests::words::{Step, W, X, done, ended, established, is_queued_shared, listening};
+use crate::endpoint::words::{Step, W, X, done, ended, established, is_queued_shared, listening};
 use lard_base::Reason;
+use lard_endpoint::Arrival::{AckOwed, Fine, Reset};
 use lard_shared::Shared;
 use std::test::Fail;
 

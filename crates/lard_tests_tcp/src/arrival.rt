@@ -1,7 +1,7 @@
 //! Rows worked out by hand from RFC 9293: table 6 of 3.10.7.4, on both sides of where the numbers begin again, and the
 //! sizes of 3.7.1.
 
-use super::*;
+use lard_arrival::{bare, is_acceptable, is_allowed, peer_mss};
 use lard_segment::{Flags, Segment};
 use lard_seq::Seq;
 

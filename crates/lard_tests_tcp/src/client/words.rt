@@ -1,8 +1,8 @@
 //! A client's runs in words: what is called, what comes, and what has to be sent. Numbers are offsets: those of the
 //! client count from its SYN, those of the cluster from its own.
 
-use crate::{Client, Heard};
 use lard_base::{ConnId, NoMemory};
+use lard_client::{Client, Heard};
 use lard_segment::{Flags, Ready, Segment};
 use lard_seq::Seq;
 use std::alloc::Global;

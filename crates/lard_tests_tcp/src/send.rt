@@ -1,8 +1,8 @@
 //! Each call once, with ample memory, beside what the rules give.
 
-use super::*;
 use lard_base::limits::MAX_STREAM_BYTES;
 use lard_base::{Bytes, EndpointParts};
+use lard_send::{Ack, Piece, SendHalf};
 use lard_seq::Seq;
 use lard_shared::Shared;
 use std::alloc::Global;

@@ -2,8 +2,8 @@
 
 ghost use Rattle.lard_endpoint.specs.Leaving.{IsReady};
 
-use crate::{Arrival, Endpoint};
 use lard_base::{NoMemory, Reason};
+use lard_endpoint::{Arrival, Endpoint};
 use lard_segment::{Flags, Ready, Segment};
 use lard_seq::Seq;
 use lard_shared::Shared;

@@ -1,6 +1,6 @@
 //! Each call once, with ample memory, beside what the rules give.
 
-use super::*;
+use lard_recv::{RecvHalf, Took};
 use lard_seq::Seq;
 use std::test::Fail;
 

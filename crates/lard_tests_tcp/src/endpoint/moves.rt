@@ -1,13 +1,13 @@
 //! How an endpoint goes on at another place.
 
-use crate::Arrival::{AckOwed, Fine, Reset};
-use crate::tests::words::Said::{Ack, Fin, Push, Rst, SynAck};
-use crate::tests::words::Step::{
+use crate::endpoint::words::Said::{Ack, Fin, Push, Rst, SynAck};
+use crate::endpoint::words::Step::{
     Again, Clear, Comes, Consumes, Discards, Finishes, Idle, PeerDone, Queues, Rests, Sends, Unread,
 };
-use crate::tests::words::{Step, W, X, done, listening};
-use crate::{Endpoint, Frozen};
+use crate::endpoint::words::{Step, W, X, done, listening};
 use lard_base::{Bytes, EndpointParts, NoMemory, Reason};
+use lard_endpoint::Arrival::{AckOwed, Fine, Reset};
+use lard_endpoint::{Endpoint, Frozen};
 use lard_seq::Seq;
 use std::alloc::Global;
 use std::test::Fail;

@@ -1,12 +1,12 @@
 //! What comes: RFC 9293, 3.10.7.
 
-use crate::Arrival::{AckOwed, Fine, Reset};
-use crate::tests::words::Said::{Ack, Bare, Data, Fin, Push, Rst, RstAck, Syn, SynAck, Whole};
-use crate::tests::words::Step::{
+use crate::endpoint::words::Said::{Ack, Bare, Data, Fin, Push, Rst, RstAck, Syn, SynAck, Whole};
+use crate::endpoint::words::Step::{
     Again, Clear, Comes, Consumes, Discards, Finishes, Holds, Idle, PeerDone, Queues, Rests, Sends,
     Unread, WasReset,
 };
-use crate::tests::words::{Step, W, established, from_syn};
+use crate::endpoint::words::{Step, W, established, from_syn};
+use lard_endpoint::Arrival::{AckOwed, Fine, Reset};
 use std::test::Fail;
 
 const OPENINGS: &[(&str, &[Step])] = &[
