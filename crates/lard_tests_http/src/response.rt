@@ -1,8 +1,8 @@
 //! Responses beside their bytes, as RFC 9112 writes them.
 
-use super::*;
 use lard_base::{Bytes, NoMemory};
 use lard_request::Code;
+use lard_response::{head, may_write, write};
 use std::alloc::Global;
 use std::test::Fail;
 

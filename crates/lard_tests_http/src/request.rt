@@ -1,6 +1,6 @@
 //! Verdicts at and beside each limit, beside what RFC 9110, RFC 9112 and the rules of this server give.
 
-use super::*;
+use lard_request::{Code, Verdict, judge};
 use std::alloc::{AllocError, Global};
 use std::test::Fail;
 

@@ -1,6 +1,6 @@
 //! Each call once, with ample memory, beside what the rules give.
 
-use super::*;
+use lard_files::{FileFault, Files};
 use lard_shared::Shared;
 use std::alloc::{AllocError, Global};
 use std::test::Fail;

@@ -1,6 +1,6 @@
 //! Batches of pipelined requests, beside the verdicts and the bytes that the rules give.
 
-use super::*;
+use lard_reader::batch;
 use lard_request::{Code, Verdict};
 use std::alloc::{AllocError, Global};
 use std::test::Fail;

@@ -1,6 +1,6 @@
 //! The cut at and beside each limit, beside what the rule gives.
 
-use super::*;
+use lard_block::{Found, cut};
 use std::alloc::{AllocError, Global};
 use std::test::Fail;
 
