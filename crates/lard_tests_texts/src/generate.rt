@@ -1,7 +1,7 @@
 //! A small schedule beside the lines of `tools/generate-schedule`, and the counts of a larger one.
 
-use super::*;
 use lard_base::Event;
+use lard_generate::generate;
 use std::alloc::{AllocError, Global};
 use std::test::Fail;
 

@@ -1,6 +1,10 @@
 //! Each call once, with ample memory, beside what the rules give.
 
-use super::*;
+use lard_base::{
+    Bytes, Calls, Config, ConfigFault, ConnId, EndpointParts, Failed, InputFault, Key, MemSink,
+    MemSource, Members, NoMemory, NodeId, Nodes, Path, Sink, Source, StdSink, StdSource, SureSink,
+    SureSource, read_up_to, write_all,
+};
 use std::alloc::Global;
 use std::io;
 use std::io::{Error, ErrorKind, Read, Write};

@@ -1,7 +1,7 @@
 //! Each public call once, with ample memory.
 
-use super::*;
 use bytes::Bytes;
+use lard_shared::{Pages, Shared};
 use std::test::Fail;
 
 #[test]

@@ -2,9 +2,9 @@
 
 ghost use Rattle.std.specs.Prelude.{◌≡◌, length, IfOk};
 
-use crate::Net;
 use lard_base::limits::MAX_MESSAGE_BYTES;
 use lard_base::{Bytes, ConnId, NodeId, Place};
+use lard_net::Net;
 use std::alloc::{AllocError, Global};
 use std::test::Fail;
 

@@ -1,9 +1,11 @@
 //! Each kind of record beside its line, and each public function once.
 
-use crate::*;
 use lard_base::{
     Bytes, Config, ConnId, Epoch, Event, Items, Millis, NoMemory, NodeId, Path, Place, TimerKind,
     Via,
+};
+use lard_journal::{
+    Journal, Rec, file_line, heading, line, push_line, report_grows, report_tells_all,
 };
 use lard_shared::Shared;
 use std::alloc::Global;

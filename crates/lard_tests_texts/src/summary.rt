@@ -1,9 +1,9 @@
 //! The lines of two short journals, counted by hand.
 
-use super::*;
 use lard_base::{ConnId, Place, Via};
 use lard_journal::Rec;
 use lard_shared::Shared;
+use lard_summary::summary;
 use std::alloc::Global;
 use std::test::Fail;
 

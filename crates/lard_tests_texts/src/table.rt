@@ -1,6 +1,6 @@
 //! Each call once, with values that have to be spent.
 
-use super::*;
+use lard_table::Table;
 
 /// A value that has to be spent.
 struct Ticket(u32);

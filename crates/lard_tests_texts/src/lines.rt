@@ -1,7 +1,7 @@
 //! Lines of an input in memory, with the end and the fault of a source.
 
-use crate::Lines;
 use lard_base::{Bytes, Calls, InputFault, MemSource};
+use lard_lines::Lines;
 use std::test::Fail;
 
 #[test]

@@ -1,6 +1,6 @@
 //! Each call with ample memory, where nobody waits.
 
-use super::*;
+use lard_agenda::{Agenda, Kinds};
 use lard_base::{Config, ConnId, Event, Items, NoMemory, NodeId, Place, TimerKind};
 use lard_dispatch::Dispatch;
 use lard_journal::{Rec, Recs};
