@@ -1,8 +1,8 @@
 //! Each call once, with ample memory, along the stays of one connection.
 
-use super::*;
 use lard_base::{Bytes, ConnId, EndpointParts, Epoch, NoMemory, Reason};
 use lard_endpoint::Final;
+use lard_handoff_back::{Adopt, BackTable};
 use lard_segment::{Flags, Segment};
 use lard_seq::Seq;
 use std::alloc::Global;

@@ -1,7 +1,7 @@
 //! Messages whose bytes were worked out by hand, and bytes that are none, fault by fault.
 
-use super::*;
 use lard_base::{Bytes, ConnId, EndpointParts, Epoch, NodeId, Nodes, Path, Paths, Reason};
+use lard_message::{Body, Message, MsgFault, decode, encode};
 use std::alloc::Global;
 use std::process::Abort;
 use std::test::Fail;

@@ -1,7 +1,7 @@
 //! Each call once, with ample memory.
 
-use super::*;
 use lard_base::{Bytes, ConnId, Epoch, NoMemory, NodeId, Path};
+use lard_lateral::Lateral;
 use std::alloc::Global;
 use std::process::Abort;
 use std::test::Fail;

@@ -1,8 +1,8 @@
 //! Each call once, with ample memory, along one connection's way to a node and back.
 
-use super::*;
 use lard_base::{Bytes, ConnId, Epoch, NoMemory, NodeId, Reason};
 use lard_endpoint::Final;
+use lard_handoff_front::{FrontConn, FrontTable, OnEnded};
 use lard_segment::{Flags, Segment};
 use lard_seq::Seq;
 use std::alloc::Global;

@@ -1,8 +1,8 @@
 //! Each call once, with ample memory.
 
-use super::*;
 use lard_base::limits::MAX_MESSAGE_BYTES;
 use lard_base::{Bytes, ConnId, NodeId, Place, TimerKind};
+use lard_resend::{Pending, PendingKey};
 use std::process::Abort;
 use std::test::Fail;
 
