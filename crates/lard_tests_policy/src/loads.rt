@@ -2,8 +2,8 @@
 
 ghost use Rattle.std.specs.Prelude.{◌≡◌, ◌≤◌, IfOk};
 
-use crate::Loads;
 use lard_base::{ConnId, Members, NodeId};
+use lard_loads::Loads;
 use std::test::Fail;
 
 /// A call, with the number of its connection, that of its node, and the size of the batch.
@@ -125,7 +125,7 @@ fn loads_run_on(rt: HostRuntime) -> Result<(), Fail> {
 }
 
 /// Makes a call, where its conditions hold, on loads of so many nodes or more.
-#[tactic(auto, using(crate::proofs::Nodes::nodes_shared, crate::proofs::Nodes::nodes_ended))]
+#[tactic(auto, using(lard_loads::proofs::Nodes::nodes_shared, lard_loads::proofs::Nodes::nodes_ended))]
 fn apply(loads: &mut Loads, nodes: u32, call: Call) -> Result<(), Fail>
     requires { nodes ≤ loads.old.nodes }
     ensures { loads.new.nodes ≡ loads.old.nodes }

@@ -3,8 +3,8 @@
 ghost use Rattle.std.specs.Prelude.{OnOk};
 ghost use Rattle.lard_dispatch.specs.Sound.{AreBefore};
 
-use super::*;
 use lard_base::{Config, ConnId, Items, Members, Millis, NoMemory, NodeId, Path};
+use lard_dispatch::{Ask, Dispatch, First, Later};
 use std::alloc::Global;
 use std::process::Abort;
 use std::test::Fail;

@@ -1,7 +1,7 @@
 //! Each call once, with ample memory.
 
-use super::*;
 use lard_base::{Members, Millis, NodeId};
+use lard_sets::Sets;
 use std::process::Abort;
 
 fn node(rt: &impl Abort, number: u32) -> NodeId {

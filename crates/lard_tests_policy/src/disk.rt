@@ -1,7 +1,7 @@
 //! Each call once, with ample memory.
 
-use super::*;
 use lard_base::{ConnId, Epoch, NoMemory, NodeId, Path};
+use lard_disk::{Disk, Job};
 use std::alloc::Global;
 use std::test::Fail;
 

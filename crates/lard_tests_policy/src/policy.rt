@@ -2,9 +2,9 @@
 
 ghost use Rattle.std.specs.Prelude.{◌≡◌};
 
-use super::*;
 use lard_base::{Config, ConnId, Members, Millis, NodeId};
 use lard_loads::Loads;
+use lard_policy::choose_first;
 use std::alloc::Global;
 use std::process::Abort;
 use std::test::Fail;

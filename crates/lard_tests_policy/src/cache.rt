@@ -1,7 +1,7 @@
 //! Each call once, with ample memory.
 
-use super::*;
 use lard_base::Path;
+use lard_cache::Cache;
 use std::alloc::Global;
 use std::test::Fail;
 

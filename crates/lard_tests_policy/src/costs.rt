@@ -3,8 +3,8 @@
 ghost use Rattle.std.specs.Prelude.{◌≡◌, ◌≤◌, ℕ, true};
 ghost use Rattle.lard_base.specs.Members.{has};
 
-use super::*;
 use lard_base::{Config, ConnId, Members, NodeId};
+use lard_costs::{Cost, choose_later, cost_at};
 use lard_loads::Loads;
 use lard_sets::with_member;
 use std::alloc::Global;
