@@ -7,11 +7,11 @@ ghost use Rattle.lard_dispatch.specs.Sound.{AreBefore};
 ghost use Rattle.lard_rules.specs.FrontSound.{IsFrontSound};
 ghost use Rattle.lard_front.specs.Bounds.{IsShort};
 
-use crate::place::{begin, finish};
-use crate::step::{Setting, step};
 use lard_base::limits::MAX_SEGMENT_BYTES;
 use lard_base::{Bytes, Config, ConnId, Millis, NodeId};
 use lard_files::Files;
+use lard_front::place::{begin, finish};
+use lard_front::step::{Setting, step};
 use lard_rules::{FrontIn, FrontState, Out};
 use lard_seq::Seq;
 use std::alloc::Global;

@@ -5,9 +5,9 @@ ghost use Rattle.std.specs.Prelude.{◌≡◌, ◌≤◌, OnOk};
 ghost use Rattle.lard_back.specs.Sound.{IsNodeSound};
 ghost use Rattle.lard_base.specs.declared.limits.TheConstants.{MAX_STREAM_BYTES};
 
-use super::*;
-use crate::rules::{completed, content, forward, tagged};
-use crate::stores::fetch;
+use lard_back::rules::{completed, content, forward, tagged};
+use lard_back::stores::fetch;
+use lard_back::{At, Setting, begin, finish, step};
 use lard_base::{Bytes, ConnId, EndpointParts, Epoch, NoMemory, NodeId, Path, Place};
 use lard_files::Files;
 use lard_message::{Body, Message, encode};

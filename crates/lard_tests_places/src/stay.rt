@@ -5,13 +5,13 @@ ghost use Rattle.lard_base.specs.declared.limits.TheConstants.{MAX_STREAM_BYTES}
 ghost use Rattle.lard_endpoint.specs.Control.{ControlBlock};
 ghost use Rattle.lard_stay.specs.Work.{IsSound};
 
-use super::*;
 use lard_base::{Bytes, ConnId, EndpointParts, Epoch, Items, NoMemory, NodeId, Path, Place, Via};
 use lard_cache::Cache;
 use lard_endpoint::Endpoint;
 use lard_files::Files;
 use lard_journal::Rec;
 use lard_rules::{Progress, Stay};
+use lard_stay::{Env, Work, begin, come, complete, count_named, go_on, tag};
 use std::alloc::Global;
 use std::test::Fail;
 

@@ -1,7 +1,7 @@
 use Rattle.std.proofs.Common.{◌≤◌}
 use Rattle.lard_dispatch.specs.Sound.{AreBefore}
 use Rattle.lard_rules.specs.FrontSound.{IsFrontSound}
-use Rattle.lard_front.proofs.tests.runs.Given as goal
+use Rattle.lard_tests_places.proofs.front.runs.Given as goal
 
 -- the state is sound before each input
 abbrev pub invariant-inputs : goal.invariant-inputs
