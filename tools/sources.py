@@ -15,9 +15,14 @@ def text(path):
 
 
 @functools.cache
+def stands_on():
+    """The crates of crates.txt, the lowest first, each with what it stands on."""
+    lines = (line.partition(":") for line in text("crates.txt").splitlines() if line.strip() and not line.startswith("#"))
+    return {name: stands.split() for name, _, stands in lines}
+
+
 def crates():
-    """The names of crates.txt, the lowest first."""
-    return [line.split(":")[0] for line in text("crates.txt").splitlines() if line.strip() and not line.startswith("#")]
+    return list(stands_on())
 
 
 def files_of(crate, part, end):
