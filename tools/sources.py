@@ -161,6 +161,7 @@ def names_in(words, path, own=None):
     return list(found.values())
 
 
+@functools.cache
 def named_by(definition):
     """The definitions that a definition names."""
     own = {it.name: it for it in definitions(definition.crate) if it.path == definition.path}
