@@ -56,7 +56,7 @@ def rows(page):
 
 def first_sentence(words):
     """Up to the first full stop that a capital letter or a name follows."""
-    return re.split(r"(?<=[.?!:])\s+(?=[A-Z`])", words, maxsplit=1)[0]
+    return re.split(r"(?<=[.?!])\s+(?=[A-Z`])", words, maxsplit=1)[0]
 
 
 # ---- what a file imports
