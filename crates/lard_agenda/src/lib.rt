@@ -8,8 +8,6 @@ mod agenda;
 mod kinds;
 pub mod laws;
 mod register;
-#[cfg(test)]
-mod tests;
 
 pub use agenda::Agenda;
 pub use kinds::{Kinds, Running};

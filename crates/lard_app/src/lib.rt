@@ -12,8 +12,6 @@ mod generating;
 mod happening;
 mod replay;
 mod status;
-#[cfg(test)]
-mod tests;
 mod words;
 
 pub use commands::run;

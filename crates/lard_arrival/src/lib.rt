@@ -5,7 +5,5 @@
 #![tactic(auto)]
 
 mod rules;
-#[cfg(test)]
-mod tests;
 
 pub use rules::{DEFAULT_MSS, bare, is_acceptable, is_allowed, peer_mss};

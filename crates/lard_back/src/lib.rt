@@ -15,8 +15,6 @@ mod reads;
 pub mod rules;
 mod sends;
 pub mod stores;
-#[cfg(test)]
-mod tests;
 mod timers;
 
 pub use acting::Setting;

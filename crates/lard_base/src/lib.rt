@@ -19,8 +19,6 @@ pub mod parts;
 pub mod place;
 pub mod standard;
 pub mod sure;
-#[cfg(test)]
-mod tests;
 
 pub use bytes::{Bytes, Path};
 pub use config::{Config, ConfigFault, Key};

@@ -6,7 +6,5 @@
 
 mod block;
 pub mod laws;
-#[cfg(test)]
-mod tests;
 
 pub use block::{Found, MAX_HEAD_BYTES, cut};

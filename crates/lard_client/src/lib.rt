@@ -8,8 +8,6 @@ pub mod client;
 pub mod heard;
 pub mod laws;
 pub mod phase;
-#[cfg(test)]
-mod tests;
 
 pub use client::Client;
 pub use heard::Heard;

@@ -7,8 +7,6 @@
 mod cost;
 mod later;
 pub mod laws;
-#[cfg(test)]
-mod tests;
 
 pub use cost::{Cost, cost_at, cost_balancing, cost_locality, cost_replacement};
 pub use later::{LaterChoice, LaterChoices, SHORT_QUEUE, choose_later};

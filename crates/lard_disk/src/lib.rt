@@ -5,7 +5,5 @@
 #![tactic(auto)]
 
 mod disk;
-#[cfg(test)]
-mod tests;
 
 pub use disk::{Disk, Job};

@@ -7,8 +7,6 @@
 mod dispatch;
 pub mod laws;
 mod line;
-#[cfg(test)]
-mod tests;
 
 pub use dispatch::{Ask, Dispatch, First, Later};
 pub use line::{Line, Waiting};

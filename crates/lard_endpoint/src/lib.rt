@@ -6,8 +6,6 @@
 
 mod control;
 pub mod laws;
-#[cfg(test)]
-mod tests;
 
 pub use control::Endpoint;
 pub use control::arriving::Arrival;

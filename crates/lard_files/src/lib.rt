@@ -7,8 +7,6 @@
 
 mod fault;
 mod files;
-#[cfg(test)]
-mod tests;
 
 pub use fault::FileFault;
 pub use files::Files;

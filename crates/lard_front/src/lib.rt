@@ -19,7 +19,5 @@ pub mod receiving;
 pub mod releasing;
 pub mod seats;
 pub mod step;
-#[cfg(test)]
-mod tests;
 pub mod told;
 pub mod turns;

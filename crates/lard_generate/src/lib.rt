@@ -13,7 +13,5 @@ mod opens;
 mod rounds;
 mod schedule;
 mod syns;
-#[cfg(test)]
-mod tests;
 
 pub use schedule::{MAX_CLIENTS, Schedule, generate};

@@ -7,8 +7,6 @@
 pub mod laws;
 mod row;
 mod table;
-#[cfg(test)]
-mod tests;
 
 pub use row::{BackConn, BackRow};
 pub use table::{Adopt, BackTable};

@@ -7,8 +7,6 @@
 pub mod laws;
 mod row;
 mod table;
-#[cfg(test)]
-mod tests;
 
 pub use row::{FrontConn, FrontRow};
 pub use table::{FrontTable, OnEnded};

@@ -10,8 +10,6 @@ pub mod lines;
 pub mod preface;
 pub mod rec;
 pub mod report;
-#[cfg(test)]
-mod tests;
 mod text;
 
 pub use journal::Journal;

@@ -5,7 +5,5 @@
 
 mod lateral;
 pub mod laws;
-#[cfg(test)]
-mod tests;
 
 pub use lateral::Lateral;

@@ -107,7 +107,9 @@ module _ (k : Setting) (x : Conn) where
   event-goes e s given = client-goes (event_seen e) s given (tt, tt) refl
 
   client-hears : (from : Place) (d : ℕ) (bytes : List ℕ) → picked ask_in (packet_seen from (Client d) bytes) ≡ []
-  client-hears _ d bytes = refl
+  client-hears Front d bytes = refl
+  client-hears (Node n) d bytes = refl
+  client-hears (Client e) d bytes = refl
 
 -- ---- the front end
 

@@ -225,7 +225,9 @@ module _ (k : Setting) (small : k.stream ≤ 2 ^ 30) (x : Conn) (s : Station) (t
 -- ---- two rules
 
 packet-quiet : (x : Conn) (n : ℕ) (bytes : List ℕ) (d : Deed) → bytes_of (tale_before x (front_does x (packet_seen (Node n) Front bytes) d)) ≡ bytes_of (tale_at x)
-packet-quiet x n bytes _ = refl
+packet-quiet x n bytes Drops = refl
+packet-quiet x n bytes (Says turn) = refl
+packet-quiet x n bytes (Does did) = refl
 
 module _ (k : Setting) (small : k.stream ≤ 2 ^ 30) where
   pub asked-stays : (x : Conn) (env : FrontEnv) (n epoch number queue size : ℕ) (paths : List (List ℕ)) (bytes : List ℕ) → IsFrontEnv k x.c env → Spells x.c epoch (body.Ask number queue size paths) bytes → Was x (Node n) Front bytes

@@ -191,10 +191,14 @@ pub front-opens : (x : Conn) (n : ℕ) (bytes : List ℕ) → Was x Front (Node 
 front-opens x n bytes was u = (has-fair IsInner (record { from = Front; to = Node n; bytes = bytes }) x.letters was u.inner).0
 
 node-quiet : (x : Conn) (from : Place) (n : ℕ) (bytes : List ℕ) (d : Deed) → bytes_of (tale_before x (node_does x n (packet_seen from (Node n) bytes) d)) ≡ bytes_of (tale_at x)
-node-quiet x from n bytes _ = refl
+node-quiet x from n bytes Drops = refl
+node-quiet x from n bytes (Says messages) = refl
+node-quiet x from n bytes (Does given) = refl
 
 event-quiet : (x : Conn) (n : ℕ) (d : Deed) → bytes_of (tale_before x (node_does x n (event_seen (event.Timer (Node n) x.c)) d)) ≡ bytes_of (tale_at x)
-event-quiet x n _ = refl
+event-quiet x n Drops = refl
+event-quiet x n (Says messages) = refl
+event-quiet x n (Does given) = refl
 
 module _ (k : Setting) (small : k.stream ≤ 2 ^ 30) where
   -- by whether its client opened

@@ -139,7 +139,9 @@ module _ (x : Conn) (heads : List Seen) (quiet : Each IsHead heads) where
   owner_now = (tale_at x).owner
 
   front-known : (d : front.Deed) → OwnerServes x.c owner_now (notes_of d) → Known x (front_does x heads d)
-  front-known _ h = record { heads = quiet; serves = h }
+  front-known front.Drops h = record { heads = quiet; serves = h }
+  front-known (front.Says turn) h = record { heads = quiet; serves = h }
+  front-known (front.Does did) h = record { heads = quiet; serves = h }
 
   front-noted : (d : front.Deed) → IsItsOwn x (front_does x heads d) → Each (NotedAt Front x.c) (notes_of d)
   front-noted front.Drops own = tt
@@ -207,7 +209,12 @@ module _ (x : Conn) (heads : List Seen) (quiet : Each IsHead heads) where
 
     -- its timers, and what nodes say, serve nothing
     fires-none : (row : FrontRow) (d : FrontConn) → notes_of (fires_at env p row d) ≡ []
-    fires-none row _ = refl
+    fires-none row (stage.Held b) = refl
+    fires-none row (stage.Waiting b) = refl
+    fires-none row stage.Lent = refl
+    fires-none row (stage.Offering n e) = refl
+    fires-none row (stage.Moved n e) = refl
+    fires-none row (stage.Closed last) = refl
 
     timer-none : (row : Option FrontRow) → notes_of (fired_by env p row) ≡ []
     timer-none None = refl
@@ -281,7 +288,9 @@ module _ (k : Setting) (x : Conn) (heads : List Seen) (quiet : Each IsHead heads
   ours = x.part.nodes n
 
   node-known : (d : node.Deed) → OwnerServes x.c now (notes_at d) → Known x (node_does x n heads d)
-  node-known _ h = record { heads = quiet; serves = h }
+  node-known node.Drops h = record { heads = quiet; serves = h }
+  node-known (node.Says messages) h = record { heads = quiet; serves = h }
+  node-known (node.Does given) h = record { heads = quiet; serves = h }
 
   node-noted : (d : node.Deed) → IsItsOwn x (node_does x n heads d) → Each (NotedAt (Node n) x.c) (notes_at d)
   node-noted node.Drops own = tt

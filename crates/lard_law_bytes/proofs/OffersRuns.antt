@@ -36,10 +36,14 @@ use Rattle.lard_rules.specs.Node as node
 
 module _ (k : Setting) (small : k.stream ≤ 2 ^ 30) where
   node-says : (x : Conn) (n : ℕ) (heads : List Seen) (d : node.Deed) → SaysTruth k.files x (node_does x n heads d)
-  node-says x n heads _ = tt
+  node-says x n heads node.Drops = tt
+  node-says x n heads (node.Says messages) = tt
+  node-says x n heads (node.Does given) = tt
 
   read-says : (x : Conn) (n : ℕ) (r : Rec) (d : node.Deed) → SaysTruth k.files x (reads_first r (node_does x n [] d))
-  read-says x n r _ = tt
+  read-says x n r node.Drops = tt
+  read-says x n r (node.Says messages) = tt
+  read-says x n r (node.Does given) = tt
 
   nodes : NodeRules k (Owed (Wants k small))
   nodes = record {

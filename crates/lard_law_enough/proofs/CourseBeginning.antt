@@ -72,7 +72,11 @@ module _ (m : Machine) (t : Timers m) (c : ℕ) where
   node-kept_ i kind = t.kept c (Node i) tt kind
 
   nothing-armed : (kind : TimerKind) → node_armed (kept_at c None) kind ≡ false
-  nothing-armed _ = refl
+  nothing-armed kind.Tcp = refl
+  nothing-armed kind.Offer = refl
+  nothing-armed kind.Ask = refl
+  nothing-armed kind.Fetch = refl
+  nothing-armed kind.Ended = refl
 
   module _ (p : Place) (more : List (Place × ℕ)) (due_ : seats_due m ≡ (p, c) ∷ more) (low : c < 2 ^ 16) where
     -- no timer of the front end runs for it, where the first is at another place

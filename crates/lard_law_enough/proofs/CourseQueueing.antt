@@ -59,7 +59,10 @@ module _ (env : NodeEnv) (J : List Job) where
       asks-same (length (v ∷ vs)) (named_paths env.serve.files all.batch) all (enter-same (w.service.count + 1) (v ∷ vs) rest h)
 
   serves-same : (e : Entry) (rest : List Entry) (w : Work) (p : Progress) → Same w → Same (serves_by env e rest w p)
-  serves-same e rest w _ h = h
+  serves-same e rest w (progress.Ready way) h = h
+  serves-same e rest w progress.Named h = h
+  serves-same e rest w progress.Reading h = h
+  serves-same e rest w (progress.Awaited n) h = h
 
   first-same : (w : Work) (es : List Entry) → Same w → Same (serves_first env w es)
   first-same w [] h = h

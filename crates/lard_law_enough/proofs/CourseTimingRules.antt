@@ -41,10 +41,14 @@ timer-place q p c e = cc
 
 -- a move's heads are those that it is given
 front-heads : (x : Conn) (hs : List Seen) (d : front.Deed) → (front_does x hs d).heads ≡ hs
-front-heads x hs _ = refl
+front-heads x hs front.Drops = refl
+front-heads x hs (front.Says turn) = refl
+front-heads x hs (front.Does did) = refl
 
 node-heads : (x : Conn) (n : ℕ) (hs : List Seen) (d : node.Deed) → (node_does x n hs d).heads ≡ hs
-node-heads x n hs _ = refl
+node-heads x n hs node.Drops = refl
+node-heads x n hs (node.Says messages) = refl
+node-heads x n hs (node.Does given) = refl
 
 -- and none of these is a timer's
 no-event : (p : Place) (c : ℕ) → [] ≡ event_seen (event.Timer p c) → ⊥

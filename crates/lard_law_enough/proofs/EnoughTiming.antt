@@ -48,7 +48,10 @@ waits_in (Waiting b count) = true
 waits_in _ = false
 
 there-not : (told : Bool) (n e count : ℕ) (p : NodePart) (s : BackConn) → waits_in (seat_there told n e count p s) ≡ false
-there-not told n e count p _ = refl
+there-not told n e count p (back.Here b) = refl
+there-not told n e count p back.Out = refl
+there-not told n e count p back.Ended = refl
+there-not told n e count p back.Gone = refl
 
 away-not : (told : Bool) (n e count : ℕ) (p : NodePart) → waits_in (seat_away told n e count p) ≡ false
 away-not told n e count p = go p.row where

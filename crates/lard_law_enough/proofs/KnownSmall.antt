@@ -271,7 +271,9 @@ module _ (k : Setting) where
   front-deed x heads (Does did) h small = h
 
   node-deed : (x : Conn) (n : ℕ) (heads : List Seen) (d : node.Deed) → IsSmall x.part.front → IsSmall (node_does x n heads d).part.front
-  node-deed x n heads _ small = small
+  node-deed x n heads node.Drops small = small
+  node-deed x n heads (node.Says messages) small = small
+  node-deed x n heads (node.Does given) small = small
 
   few-of : (x : Conn) → MayMove Given x → (tale_at x).touched ≡ false → (row : FrontRow) → x.part.front.row ≡ Some row → StageFew (rest_of x.part.front.rest).count row.stage
   few-of x m free = truth-few k.files x (m.given free)

@@ -193,7 +193,9 @@ pub record IsThere (x : Conn) (heads : List Seen) (v : Move) : Type 0 where
   pub heads_are : v.heads ≡ heads
 
 pub node-there : (x : Conn) (n : ℕ) (heads : List Seen) (d : node.Deed) → IsThere x heads (node_does x n heads d)
-node-there x n heads _ = record { place = tt; front = refl; station = refl; heads_are = refl }
+node-there x n heads node.Drops = record { place = tt; front = refl; station = refl; heads_are = refl }
+node-there x n heads (node.Says messages) = record { place = tt; front = refl; station = refl; heads_are = refl }
+node-there x n heads (node.Does given) = record { place = tt; front = refl; station = refl; heads_are = refl }
 
 there-aside : (x : Conn) (heads : List Seen) (v : Move) → fold (stand_step x.c) (stand_at x) heads ≡ stand_at x → IsThere x heads v → IsLined x → IsAside x v
 there-aside x heads v same t h = record {

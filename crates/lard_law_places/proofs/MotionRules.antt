@@ -70,7 +70,9 @@ pub record IsClear (x : Conn) (heads : List Seen) : Type 0 where
 
 -- a packet that comes to a client
 client-clear : (x : Conn) (from : Place) (d : ℕ) (bytes : List ℕ) → IsClear x (packet_seen from (Client d) bytes)
-client-clear x _ d bytes = record { apart = ((refl, refl, refl), tt); bare = (tt, tt); first = (tt, tt); offers = λ n. refl }
+client-clear x Front d bytes = record { apart = ((refl, refl, refl), tt); bare = (tt, tt); first = (tt, tt); offers = λ n. refl }
+client-clear x (Node m) d bytes = record { apart = ((refl, refl, refl), tt); bare = (tt, tt); first = (tt, tt); offers = λ n. refl }
+client-clear x (Client e) d bytes = record { apart = ((refl, refl, refl), tt); bare = (tt, tt); first = (tt, tt); offers = λ n. refl }
 
 -- ---- a client
 
@@ -305,7 +307,9 @@ module _ (k : Setting) (x : Conn) (n : ℕ) where
       )
 
   no-heads-at : (d : node.Deed) → (node_does x n [] d).heads ≡ []
-  no-heads-at _ = refl
+  no-heads-at node.Drops = refl
+  no-heads-at (node.Says ms) = refl
+  no-heads-at (node.Does y) = refl
 
   read-goes : (epoch r : ℕ) (env : NodeEnv) (path : List ℕ) → IsNodeEnv k x.c n epoch env → Goes k x (reads_first (rec.Read n n x.c r path) (node_does x n [] (node_read env (x.part.nodes n) r)))
   read-goes epoch r env path is may way help =

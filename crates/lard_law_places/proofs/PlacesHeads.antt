@@ -20,7 +20,15 @@ abbrev pub head : Kind → ℕ → Head
 head k e = record { kind = k; epoch = e }
 
 pub named-again : (k : Kind) → kind_named (version_of k) (number_of k) ≡ Some k
-named-again _ = refl
+named-again kind.Offer = refl
+named-again kind.Taken = refl
+named-again kind.Forward = refl
+named-again kind.Ask = refl
+named-again kind.Tag = refl
+named-again kind.Fetch = refl
+named-again kind.Content = refl
+named-again kind.Ended = refl
+named-again kind.EndedAck = refl
 
 abbrev with_epoch : ℕ → Option Kind → Option Head
 with_epoch e o = option_map (λ k. record { kind = k; epoch = e }) o

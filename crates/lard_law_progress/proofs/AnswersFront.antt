@@ -90,10 +90,14 @@ module _ (k : Setting) (w : Whole) where
 
   by-packet : (x : Conn) (from to : Place) (bytes : List ℕ) (deed : Deed) → let a : Letter = record { from = from; to = to; bytes = bytes } in let v = front_does x (packet_seen from to bytes) deed in
       (MayMove (FrontGiven k.files w) x → IsWarm x a × IsLateOn x a → Lasts k w x v → FrontGiven k.files w (grown x v) → Answers k w x v a) → Owed x v
-  by-packet x from to bytes _ h may later comes lasts = h may comes lasts later
+  by-packet x from to bytes Drops h may later comes lasts = h may comes lasts later
+  by-packet x from to bytes (Says turn) h may later comes lasts = h may comes lasts later
+  by-packet x from to bytes (Does did) h may later comes lasts = h may comes lasts later
 
   by-timer : (x : Conn) (deed : Deed) → let e = event_seen (event.Timer Front x.c) in Owed x (front_does x e deed)
-  by-timer x _ may later comes lasts = tt
+  by-timer x Drops may later comes lasts = tt
+  by-timer x (Says turn) may later comes lasts = tt
+  by-timer x (Does did) may later comes lasts = tt
 
   pub front-answers : FrontRules k Owed
   front-answers = record {

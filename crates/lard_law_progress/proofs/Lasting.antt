@@ -69,10 +69,14 @@ first-lasts k w x r v h = record { less = h.less; steady = λ up. spot-part k.fi
 
 -- whatever a deed is, its heads stand first
 pub front-heads : (x : Conn) (heads : List Seen) (d : front.Deed) → (front_does x heads d).heads ≡ heads
-front-heads x heads _ = refl
+front-heads x heads front.Drops = refl
+front-heads x heads (front.Says turn) = refl
+front-heads x heads (front.Does did) = refl
 
 pub node-heads : (x : Conn) (n : ℕ) (heads : List Seen) (d : node.Deed) → (node_does x n heads d).heads ≡ heads
-node-heads x n heads _ = refl
+node-heads x n heads node.Drops = refl
+node-heads x n heads (node.Says messages) = refl
+node-heads x n heads (node.Does given) = refl
 
 came-by : (x : Conn) {heads hs : List Seen} → heads ≡ hs → IfCame (IsWarm x) (came_in heads) → IfCame (IsWarm x) (came_in hs)
 came-by x same h = subst (λ (ss : List Seen). IfCame (IsWarm x) (came_in ss)) same h

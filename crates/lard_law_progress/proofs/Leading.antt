@@ -163,7 +163,9 @@ module _ (k : Setting) (all : ℕ → Whole) where
 
   -- a node's deed is at its place
   node-place : (x : Conn) (n : ℕ) (heads : List Seen) (d : node.Deed) → (node_does x n heads d).place ≡ Node n
-  node-place x n heads _ = refl
+  node-place x n heads node.Drops = refl
+  node-place x n heads (node.Says messages) = refl
+  node-place x n heads (node.Does given) = refl
 
   nodes : NodeRules k (OwesAll k all)
   nodes = record {

@@ -44,16 +44,24 @@ use Rattle.lard_law_ends.specs.Truth.{Stream}
 -- ---- what a place's move leaves alone
 
 pub front-heads : (x : Conn) (heads : List Seen) (d : front.Deed) → (front_does x heads d).heads ≡ heads
-front-heads x heads _ = refl
+front-heads x heads front.Drops = refl
+front-heads x heads (front.Says turn) = refl
+front-heads x heads (front.Does did) = refl
 
 pub front-station : (x : Conn) (heads : List Seen) (d : front.Deed) → (front_does x heads d).part.station ≡ x.part.station
-front-station x heads _ = refl
+front-station x heads front.Drops = refl
+front-station x heads (front.Says turn) = refl
+front-station x heads (front.Does did) = refl
 
 pub node-heads : (x : Conn) (n : ℕ) (heads : List Seen) (d : node.Deed) → (node_does x n heads d).heads ≡ heads
-node-heads x n heads _ = refl
+node-heads x n heads node.Drops = refl
+node-heads x n heads (node.Says messages) = refl
+node-heads x n heads (node.Does given) = refl
 
 pub node-station : (x : Conn) (n : ℕ) (heads : List Seen) (d : node.Deed) → (node_does x n heads d).part.station ≡ x.part.station
-node-station x n heads _ = refl
+node-station x n heads node.Drops = refl
+node-station x n heads (node.Says messages) = refl
+node-station x n heads (node.Does given) = refl
 
 -- a timer that fires tells nothing of the client
 timer-plain : (x : Conn) (place : Place) → story_seen x.c (story_at x) (event_seen (event.Timer place x.c)) ≡ story_at x

@@ -52,10 +52,14 @@ use Rattle.lard_law_ends.specs.Truth.{Stream}
 -- ---- what a place's move leaves alone
 
 front-machine : (x : Conn) (heads : List Seen) (d : front.Deed) → IsMachine (front_does x heads d).place
-front-machine x heads _ = tt
+front-machine x heads front.Drops = tt
+front-machine x heads (front.Says turn) = tt
+front-machine x heads (front.Does did) = tt
 
 node-machine : (x : Conn) (n : ℕ) (heads : List Seen) (d : node.Deed) → IsMachine (node_does x n heads d).place
-node-machine x n heads _ = tt
+node-machine x n heads node.Drops = tt
+node-machine x n heads (node.Says messages) = tt
+node-machine x n heads (node.Does given) = tt
 
 -- what is seen before the notes
 abbrev told_by : Conn → List Seen → List ℕ

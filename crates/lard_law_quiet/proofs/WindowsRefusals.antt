@@ -86,9 +86,11 @@ module _ (files : FilesAt) (x : Conn) (s : Station) (there : x.part.station ≡ 
   on-place (Node n) (Client d) bytes f r = refuses bytes f r
   on-place (Client e) (Client d) bytes f r = tt
   on-place (Client e) Front bytes f r = tt
+  on-place (Client e) (Node k) bytes f r = tt
   on-place Front Front bytes f r = tt
+  on-place Front (Node k) bytes f r = tt
   on-place (Node j) Front bytes f r = tt
-  on-place _ (Node k) bytes f r = tt
+  on-place (Node j) (Node k) bytes f r = tt
 
   letters-refuse : (ls : List Letter) → Each (IsFair l x.c x.part) ls → Each (LetterIs x.c x.letters) ls → Each (Refuses x.c x.letters) ls
   letters-refuse [] f r = tt

@@ -166,9 +166,11 @@ module _ (c : ℕ) (old new : List Letter) where
   on-later (Node n) (Client d) bytes r = (r.0, r.1, saying-later r.0 r.2)
   on-later (Client e) (Client d) bytes r = tt
   on-later (Client e) Front bytes r = tt
+  on-later (Client e) (Node k) bytes r = tt
   on-later Front Front bytes r = tt
+  on-later Front (Node k) bytes r = tt
   on-later (Node j) Front bytes r = tt
-  on-later _ (Node k) bytes r = tt
+  on-later (Node j) (Node k) bytes r = tt
 
   letters-later : (ls : List Letter) → Each (LetterIs c old) ls → Each (LetterIs c (old ++ new)) ls
   letters-later ls h = Each-weaker (LetterIs c old) (LetterIs c (old ++ new)) (λ l r. on-later l.from l.to l.bytes r) ls h

@@ -70,10 +70,14 @@ stays-late x v part sent late none =
     }
 
 front-station : (x : Conn) (heads : List Seen) (d : front.Deed) → (front_does x heads d).part.station ≡ x.part.station
-front-station x heads _ = refl
+front-station x heads front.Drops = refl
+front-station x heads (front.Says turn) = refl
+front-station x heads (front.Does did) = refl
 
 node-station : (x : Conn) (n : ℕ) (heads : List Seen) (d : node.Deed) → (node_does x n heads d).part.station ≡ x.part.station
-node-station x n heads _ = refl
+node-station x n heads node.Drops = refl
+node-station x n heads (node.Says messages) = refl
+node-station x n heads (node.Does given) = refl
 
 abbrev Anything : Conn → Type 0
 Anything x = Unit {0}
@@ -150,13 +154,25 @@ late-always config files = carried config files Anything IsLate (late-law (setti
 -- ---- timers that run
 
 client-off : (kind : TimerKind) → client_armed None kind ≡ false
-client-off _ = refl
+client-off Tcp = refl
+client-off Offer = refl
+client-off Ask = refl
+client-off Fetch = refl
+client-off Ended = refl
 
 front-off : (kind : TimerKind) → front_armed blank_front kind ≡ false
-front-off _ = refl
+front-off Tcp = refl
+front-off Offer = refl
+front-off Ask = refl
+front-off Fetch = refl
+front-off Ended = refl
 
 node-off : (kind : TimerKind) → node_armed nothing_kept kind ≡ false
-node-off _ = refl
+node-off Tcp = refl
+node-off Offer = refl
+node-off Ask = refl
+node-off Fetch = refl
+node-off Ended = refl
 
 untold-off : (m : Machine) (c : ℕ) → table.get m.clients c ≡ None → IsUntold (conn m c) → (p : Place) (kind : TimerKind) → armed_at p (part_of m c) kind ≡ false
 unfolding conn part_of

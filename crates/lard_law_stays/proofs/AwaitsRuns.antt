@@ -25,7 +25,9 @@ Anything x = Unit {0}
 
 -- the front end changes nothing that a node keeps
 front-move : (files : FilesAt) (x : Conn) (heads : List Seen) (d : front.Deed) → AwaitsWhatItAsked files x → AwaitsWhatItAsked files (grown x (front_does x heads d))
-front-move files x heads _ h = h
+front-move files x heads front.Drops h = h
+front-move files x heads (front.Says turn) h = h
+front-move files x heads (front.Does did) h = h
 
 module _ (k : Setting) where
   abbrev Awaits : Conn → Move → Type 0

@@ -52,7 +52,10 @@ abbrev pub IsCalm : FilesAt → (Progress → Progress) → Type 0
 IsCalm files f = (e : Entry) (p : Progress) → path_in files (record e { progress = f p }) (f p) ≡ path_in files e p
 
 pub read-calm : (files : FilesAt) → IsCalm files read_progress
-read-calm files e _ = refl
+read-calm files e progress.Named = refl
+read-calm files e progress.Reading = refl
+read-calm files e (progress.Awaited node) = refl
+read-calm files e (progress.Ready way) = refl
 
 pub come-calm : (files : FilesAt) (from : ℕ) → IsCalm files (come_progress from)
 come-calm files from e progress.Named = refl

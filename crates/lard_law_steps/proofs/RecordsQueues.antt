@@ -154,7 +154,10 @@ module _ (env : NodeEnv) where
   -- ---- turn by turn no job is queued
 
   served-same : (e : Entry) (rest : List Entry) (w : Work) (p : Progress) → (serves_by env e rest w p).jobs ≡ w.jobs
-  served-same e rest w _ = refl
+  served-same e rest w (Ready way) = refl
+  served-same e rest w Named = refl
+  served-same e rest w Reading = refl
+  served-same e rest w (Awaited node) = refl
 
   first-same : (w : Work) (es : List Entry) → (serves_first env w es).jobs ≡ w.jobs
   first-same w [] = refl

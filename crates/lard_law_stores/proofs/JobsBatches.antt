@@ -68,7 +68,10 @@ module _ (Q : ℕ → Type 0) where
   But one r = Q r ⊎ (r ≡ one)
 
   but-done : (one r : ℕ) (p : Progress) → ReadsBy Q r (read_progress p)
-  but-done one r _ = tt
+  but-done one r progress.Reading = tt
+  but-done one r progress.Named = tt
+  but-done one r (progress.Awaited node) = tt
+  but-done one r (progress.Ready way) = tt
 
   -- that one is not among these
   pub reads-behind : (one r : ℕ) (es : List Entry) → ((i : ℕ) → r + i ≡ one → ⊥) → BatchReads (But one) r es → BatchReads Q r es

@@ -38,7 +38,9 @@ pub record IsAtMachine (x : Conn) (v : Move) : Type 0 where
 
 module _ (x : Conn) (heads : List Seen) where
   front-at : Each (IsHeadAt Front x.c) heads → (d : front.Deed) → IsAtMachine x (front_does x heads d)
-  front-at seen _ = record { machine = tt; keeps = (refl, refl); heads = seen }
+  front-at seen front.Drops = record { machine = tt; keeps = (refl, refl); heads = seen }
+  front-at seen (front.Says t) = record { machine = tt; keeps = (refl, refl); heads = seen }
+  front-at seen (front.Does y) = record { machine = tt; keeps = (refl, refl); heads = seen }
 
   node-at : (n : ℕ) → Each (IsHeadAt (Node n) x.c) heads → (d : node.Deed) → IsAtMachine x (node_does x n heads d)
   node-at n seen node.Drops = record { machine = tt; keeps = (refl, refl, λ k other. refl); heads = seen }

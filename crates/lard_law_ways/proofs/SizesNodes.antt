@@ -226,10 +226,14 @@ module _ (k : Setting) (small : k.stream ≤ 2 ^ 30) (x : Conn) (s : Station) (t
 -- ---- every rule of a node
 
 packet-quiet : (x : Conn) (from : Place) (n : ℕ) (bytes : List ℕ) (d : Deed) → bytes_of (tale_before x (node_does x n (packet_seen from (Node n) bytes) d)) ≡ bytes_of (tale_at x)
-packet-quiet x from n bytes _ = refl
+packet-quiet x from n bytes Drops = refl
+packet-quiet x from n bytes (Says messages) = refl
+packet-quiet x from n bytes (Does given) = refl
 
 event-quiet : (x : Conn) (n : ℕ) (d : Deed) → bytes_of (tale_before x (node_does x n (event_seen (event.Timer (Node n) x.c)) d)) ≡ bytes_of (tale_at x)
-event-quiet x n _ = refl
+event-quiet x n Drops = refl
+event-quiet x n (Says messages) = refl
+event-quiet x n (Does given) = refl
 
 module _ (k : Setting) (small : k.stream ≤ 2 ^ 30) where
   -- what is owed of a move, where the laws below hold of its connection

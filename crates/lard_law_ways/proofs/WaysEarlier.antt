@@ -172,10 +172,14 @@ module _ (x : Conn) (n : ℕ) (heads : List Seen) where
   node-notes (node.Does given) past q own = notes-at n x.c past (named given.1.notes) own (each-named (IsNoted (WasThere past n x.c)) given.1.notes q.notes)
 
   node-place : (d : node.Deed) → (node_does x n heads d).place ≡ Node n
-  node-place _ = refl
+  node-place node.Drops = refl
+  node-place (node.Says ms) = refl
+  node-place (node.Does given) = refl
 
   node-heads : (d : node.Deed) → (node_does x n heads d).heads ≡ heads
-  node-heads _ = refl
+  node-heads node.Drops = refl
+  node-heads (node.Says ms) = refl
+  node-heads (node.Does given) = refl
 
   -- a rule of it
   node-owes : (d : node.Deed) → DeedThere n x.c (x.seen ++ heads) d → EachRow (MayFollow x.c) x.seen heads → Owes x (node_does x n heads d)

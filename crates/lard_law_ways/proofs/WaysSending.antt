@@ -92,7 +92,9 @@ read-quiet x r v h = record { holds = h.holds; segments = h.segments; messages =
 -- ---- the rules
 
 front-owes : (k : Setting) (x : Conn) (heads : List Seen) (d : front.Deed) → Owes k x (front_does x heads d)
-front-owes k x heads _ h = (h, tt)
+front-owes k x heads front.Drops h = (h, tt)
+front-owes k x heads (front.Says turn) h = (h, tt)
+front-owes k x heads (front.Does did) h = (h, tt)
 
 module _ (k : Setting) where
   clients : ClientRules k (Owes k)

@@ -8,8 +8,6 @@ pub mod laws;
 pub mod loads;
 pub mod ranking;
 pub mod slot;
-#[cfg(test)]
-mod tests;
 
 pub use loads::Loads;
 pub use slot::Share;

@@ -5,7 +5,5 @@
 #![tactic(auto)]
 
 pub mod net;
-#[cfg(test)]
-mod tests;
 
 pub use net::{Net, Packet};

@@ -6,7 +6,5 @@
 
 mod first;
 pub mod laws;
-#[cfg(test)]
-mod tests;
 
 pub use first::{FirstChoice, choose_first};

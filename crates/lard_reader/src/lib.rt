@@ -6,7 +6,5 @@
 
 pub mod laws;
 mod reading;
-#[cfg(test)]
-mod tests;
 
 pub use reading::{Reading, batch};

@@ -7,7 +7,5 @@
 mod buffer;
 mod half;
 pub mod laws;
-#[cfg(test)]
-mod tests;
 
 pub use half::{RecvHalf, Took};

@@ -9,8 +9,6 @@ mod judgement;
 pub mod laws;
 mod lines;
 mod target;
-#[cfg(test)]
-mod tests;
 mod values;
 mod verdict;
 

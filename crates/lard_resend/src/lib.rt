@@ -7,8 +7,6 @@
 mod kept;
 pub mod laws;
 mod pending;
-#[cfg(test)]
-mod tests;
 
 pub use kept::{Kept, PendingKey, rank};
 pub use pending::Pending;

@@ -6,7 +6,5 @@
 
 mod bytes;
 pub mod laws;
-#[cfg(test)]
-mod tests;
 
 pub use bytes::{head, may_write, write};

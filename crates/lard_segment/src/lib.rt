@@ -11,8 +11,6 @@ pub mod laws;
 mod options;
 mod reading;
 pub mod segment;
-#[cfg(test)]
-mod tests;
 mod writing;
 
 pub use fault::SegFault;

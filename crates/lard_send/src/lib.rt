@@ -9,8 +9,6 @@ mod half;
 pub mod laws;
 mod piece;
 mod rest;
-#[cfg(test)]
-mod tests;
 
 pub use half::{Ack, SendHalf};
 pub use piece::Piece;

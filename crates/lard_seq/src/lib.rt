@@ -7,9 +7,6 @@
 ghost use Rattle.std.specs.Prelude.{◌≡◌, ◌<◌, ◌↔◌, IsTrue};
 ghost use Rattle.lard_seq.specs.Seq.{seq_add, seq_offset, OffsetIsWhatWasAdded, OffsetLeadsBack, AddsInOneGo, OffsetsCompose};
 
-#[cfg(test)]
-mod tests;
-
 /// A sequence number. It has 32 bits (RFC 9293, 3.4).
 #[derive(Clone, Copy, Debug, PartialEq, Eq)]
 pub struct Seq(pub u32);

@@ -16,7 +16,12 @@ number-most FieldsTooLarge = omega arith
 number-most NotImplemented = omega arith
 
 reason-most : (code : Code) → length (reason code) ≤ 31
-reason-most _ = lit≤ tt
+reason-most Ok = lit≤ tt
+reason-most BadRequest = lit≤ tt
+reason-most NotFound = lit≤ tt
+reason-most TooLarge = lit≤ tt
+reason-most FieldsTooLarge = lit≤ tt
+reason-most NotImplemented = lit≤ tt
 
 status-size : (code : Code) → (1 ≤ length (status_line code)) × (length (status_line code) ≤ 46)
 status-size code =

@@ -6,7 +6,5 @@
 
 pub mod laws;
 mod sets;
-#[cfg(test)]
-mod tests;
 
 pub use sets::{ServerSet, Sets, with_member, without_member};

@@ -6,8 +6,6 @@
 
 pub mod pages;
 pub mod shared;
-#[cfg(test)]
-mod tests;
 
 pub use pages::Pages;
 pub use shared::Shared;

@@ -7,8 +7,6 @@
 mod coming;
 mod paths;
 mod starting;
-#[cfg(test)]
-mod tests;
 mod turns;
 mod work;
 

@@ -6,8 +6,6 @@
 
 mod counts;
 mod lines;
-#[cfg(test)]
-mod tests;
 
 pub use counts::{Counts, count};
 pub use lines::summary;

@@ -5,7 +5,5 @@
 #![tactic(auto)]
 
 pub mod table;
-#[cfg(test)]
-mod tests;
 
 pub use table::Table;

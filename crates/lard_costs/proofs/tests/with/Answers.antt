@@ -1,7 +1,0 @@
--- One more of the nodes is a member.
-use Rattle.std.proofs.Common.{arith}
-use Rattle.lard_sets.proofs.Flags.{within-with_member}
-use Rattle.lard_costs.proofs.tests.with.Goals as goal
-
-pub returns : goal.returns
-returns c = rw c.with_member.ensures (within-with_member c.args.set c.args.n c.args.loads.now.nodes (omega arith) c.requires.node c.requires.within)

@@ -1,0 +1,158 @@
+//! Each call once, with ample memory, along one connection's way to a node and back.
+
+use lard_base::{Bytes, ConnId, Epoch, NoMemory, NodeId, Reason};
+use lard_endpoint::Final;
+use lard_handoff_front::{FrontConn, FrontTable, OnEnded};
+use lard_segment::{Flags, Segment};
+use lard_seq::Seq;
+use std::alloc::Global;
+use std::test::Fail;
+
+/// No control bit.
+const NONE: Flags = Flags {
+    syn: false,
+    ack: false,
+    fin: false,
+    rst: false,
+    psh: false,
+};
+
+/// The SYN of a client, from 1000 on.
+const OPENING: Segment<'static> = Segment {
+    seq: Seq(1000),
+    ack: Seq(0),
+    flags: Flags {
+        syn: true,
+        ack: false,
+        fin: false,
+        rst: false,
+        psh: false,
+    },
+    wnd: 65535,
+    mss: Some(1460),
+    payload: b"",
+};
+
+/// What is left of a connection.
+const LAST: Final = Final {
+    reason: Reason::Closed,
+    snd: Seq(5045),
+    rcv: Seq(1033),
+};
+
+/// Begins a connection that is not known yet, and answers whether there was memory for it.
+fn begin(table: &mut FrontTable, alloc: Global, c: &ConnId) -> bool {
+    if table.state(*c).is_some() {
+        return false;
+    }
+    table.listen(alloc, *c, &OPENING, Seq(5000)).is_ok()
+}
+
+/// Lets the client acknowledge the SYN of a connection that is held, and answers whether it was.
+fn establish(table: &mut FrontTable, c: &ConnId) -> bool {
+    let Some(mut endpoint) = table.take(*c) else {
+        return false;
+    };
+    let _greeting = endpoint.emit();
+    let _arrival = endpoint.arrive(&Segment {
+        seq: Seq(1001),
+        ack: Seq(5001),
+        flags: Flags { ack: true, ..NONE },
+        wnd: 65535,
+        mss: None,
+        payload: b"",
+    });
+    table.put(*c, endpoint, true);
+    true
+}
+
+/// Offers a connection to a node, where that may be, and answers the Offer's bytes.
+fn offer(
+    table: &mut FrontTable,
+    alloc: Global,
+    c: &ConnId,
+    node: &NodeId,
+) -> Result<Bytes, NoMemory> {
+    if !table.may_offer(*c) {
+        return Err(NoMemory);
+    }
+    table.offer(alloc, *c, *node, 0)
+}
+
+#[test]
+fn a_connection_goes_to_a_node_and_ends(rt: HostRuntime) -> Result<(), Fail> {
+    let c = ConnId::new(1).ok_or("a connection")?;
+    let node = NodeId::new(1).ok_or("a node")?;
+    let mut table = FrontTable::new(rt.alloc());
+    let early = (
+        begin(&mut table, rt.alloc(), &c),
+        offer(&mut table, rt.alloc(), &c, &node).is_err(),
+    );
+    let there = establish(&mut table, &c);
+    let waits = matches!(table.state(c), Some(FrontConn::Waiting(_)));
+    let bytes = offer(&mut table, rt.alloc(), &c, &node);
+    let offering = matches!(table.state(c), Some(FrontConn::Offering { .. }));
+    let none = match table.take(c) {
+        Some(endpoint) => {
+            let _last = endpoint.kill();
+            false
+        }
+        None => true,
+    };
+    let taken = (
+        table.on_taken(c, Epoch(1)),
+        table.on_taken(c, Epoch(2)),
+        table.on_taken(c, Epoch(2)),
+    );
+    let ended = (
+        table.on_ended(c, Epoch(3), LAST),
+        table.on_ended(c, Epoch(2), LAST),
+        table.on_ended(c, Epoch(2), LAST),
+        table.on_ended(c, Epoch(3), LAST),
+    );
+    let epoch = table.epoch(c);
+    table.finish();
+    assert_eq!(rt; early, (true, true));
+    assert!(rt; there && waits && offering && none);
+    let bytes = bytes.ok().ok_or("memory")?;
+    assert_eq!(rt;
+        bytes.as_slice(),
+        b"\x01\x01\x00\x01\x00\x02\x00\x00\x00\x23\x00\x00\x03\xe8\x00\x00\x13\x88\x00\x00\x00\x00\x00\x00\x00\x00\x01\xff\xff\x00\x00\x03\xe9\x00\x00\x13\x89\x05\xb4\x00\x00\x00\x00\x00\x00".as_slice()
+    );
+    assert_eq!(rt; taken, (false, true, false));
+    assert_eq!(rt;
+        ended,
+        (
+            OnEnded::Stale,
+            OnEnded::New(Epoch(3)),
+            OnEnded::Again,
+            OnEnded::Stale
+        )
+    );
+    assert_eq!(rt; epoch, Some(Epoch(3)));
+    Ok(())
+}
+
+/// Closes a connection that is lent, and answers whether it was.
+fn close(table: &mut FrontTable, c: &ConnId) -> bool {
+    let Some(endpoint) = table.take(*c) else {
+        return false;
+    };
+    let last = endpoint.kill();
+    table.close(*c, last);
+    true
+}
+
+#[test]
+fn a_connection_ends_at_the_front_end(rt: HostRuntime) -> Result<(), Fail> {
+    let c = ConnId::new(7).ok_or("a connection")?;
+    let mut table = FrontTable::new(rt.alloc());
+    let began = begin(&mut table, rt.alloc(), &c);
+    let closed = close(&mut table, &c);
+    let state = matches!(table.state(c), Some(FrontConn::Closed(_)));
+    let ended = table.on_ended(c, Epoch(1), LAST);
+    table.finish();
+    assert!(rt; began && closed && state);
+    assert_eq!(rt; ended, OnEnded::Stale);
+    Ok(())
+}

@@ -1,0 +1,408 @@
+//! Messages whose bytes were worked out by hand, and bytes that are none, fault by fault.
+
+use lard_base::{Bytes, ConnId, EndpointParts, Epoch, NodeId, Nodes, Path, Paths, Reason};
+use lard_message::{Body, Message, MsgFault, decode, encode};
+use std::alloc::Global;
+use std::process::Abort;
+use std::test::Fail;
+
+/// A request for `/a`.
+const REQUEST: &[u8] = b"GET /a HTTP/1.1\r\nHost: lard\r\n\r\n";
+
+const FIRST_OFFER: &[u8] =
+    b"\x01\x01\x00\x01\x00\x02\x00\x00\x00\x42\x00\x00\x03\xe8\x00\x00\x13\x88\x00\x00\x00\x1f\x00\x00\x00\x00\x01\xff\xff\x00\x00\x03\xe9\x00\x00\x13\x89\x05\xb4\x00\x00\x00\x00\x00\x1fGET /a HTTP/1.1\r\nHost: lard\r\n\r\n";
+
+const LATER_OFFER: &[u8] =
+    b"\x01\x01\x00\x01\x00\x04\x00\x00\x00\x23\x00\x00\x03\xe8\x00\x00\x13\x88\x00\x00\x00\x1f\x01\x00\x00\x00\x2c\xff\xff\x00\x00\x04\x08\x00\x00\x13\xb4\x05\xb4\x00\x00\x00\x01\x00\x00";
+
+const FORWARD: &[u8] =
+    b"\x01\x04\x00\x01\x00\x02\x00\x00\x00\x14\x9c\x40\x00\x50\x00\x00\x04\x08\x00\x00\x13\xb4\x50\x10\xff\xff\xe7\x85\x00\x00";
+
+const ASK: &[u8] =
+    b"\x01\x05\x00\x01\x00\x02\x00\x00\x00\x26\x00\x00\x00\x01\x00\x00\x00\x01\x08\x07\x00\x02/b\x00\x02/c\x00\x02/d\x00\x02/e\x00\x02/f\x00\x02/g\x00\x02/h";
+
+const TAG: &[u8] =
+    b"\x01\x06\x00\x01\x00\x02\x00\x00\x00\x0c\x00\x00\x00\x01\x07\x01\x01\x01\x01\x01\x01\x01";
+
+const ENDED: &[u8] =
+    b"\x01\x09\x00\x01\x00\x02\x00\x00\x00\x0d\x00\x00\x00\x13\xb5\x00\x00\x04\x09\x00\x00\x00\x00";
+
+/// Bytes that are no message.
+const REFUSED: &[(&str, &[u8], MsgFault)] = &[
+    ("nothing", b"", MsgFault::Short),
+    (
+        "nine bytes",
+        b"\x01\x02\x00\x01\x00\x02\x00\x00\x00",
+        MsgFault::Short,
+    ),
+    (
+        "nine bytes of another version",
+        b"\x02\x02\x00\x01\x00\x02\x00\x00\x00",
+        MsgFault::Short,
+    ),
+    (
+        "the second version",
+        b"\x02\x02\x00\x01\x00\x02\x00\x00\x00\x00",
+        MsgFault::Version,
+    ),
+    (
+        "version 0 and kind 0",
+        b"\x00\x00\x00\x01\x00\x02\x00\x00\x00\x00",
+        MsgFault::Version,
+    ),
+    (
+        "kind 0",
+        b"\x01\x00\x00\x01\x00\x02\x00\x00\x00\x00",
+        MsgFault::Kind,
+    ),
+    (
+        "kind 3",
+        b"\x01\x03\x00\x01\x00\x02\x00\x00\x00\x00",
+        MsgFault::Kind,
+    ),
+    (
+        "kind 11, and a byte too few",
+        b"\x01\x0b\x00\x01\x00\x02\x00\x00\x00\x01",
+        MsgFault::Kind,
+    ),
+    (
+        "a byte too few",
+        b"\x01\x02\x00\x01\x00\x02\x00\x00\x00\x01",
+        MsgFault::Length,
+    ),
+    (
+        "a length of 32 bits",
+        b"\x01\x02\x00\x00\x00\x02\xff\xff\xff\xff",
+        MsgFault::Length,
+    ),
+    (
+        "a byte too many",
+        b"\x01\x02\x00\x01\x00\x02\x00\x00\x00\x00\x00",
+        MsgFault::Trailing,
+    ),
+    (
+        "a byte too many, of connection 0",
+        b"\x01\x02\x00\x00\x00\x02\x00\x00\x00\x00\x00",
+        MsgFault::Trailing,
+    ),
+    (
+        "connection 0",
+        b"\x01\x02\x00\x00\x00\x02\x00\x00\x00\x00",
+        MsgFault::Field,
+    ),
+    (
+        "connection 16385",
+        b"\x01\x02\x40\x01\x00\x02\x00\x00\x00\x00",
+        MsgFault::Field,
+    ),
+    (
+        "a Taken with a byte",
+        b"\x01\x02\x00\x01\x00\x02\x00\x00\x00\x01\x00",
+        MsgFault::Field,
+    ),
+    (
+        "an Offer that ends before its unread bytes",
+        b"\x01\x01\x00\x01\x00\x02\x00\x00\x00\x21\x00\x00\x03\xe8\x00\x00\x13\x88\x00\x00\x00\x1f\x01\x00\x00\x00\x2c\xff\xff\x00\x00\x04\x08\x00\x00\x13\xb4\x05\xb4\x00\x00\x00\x01",
+        MsgFault::Field,
+    ),
+    (
+        "an Offer with a flag of 2",
+        b"\x01\x01\x00\x01\x00\x04\x00\x00\x00\x23\x00\x00\x03\xe8\x00\x00\x13\x88\x00\x00\x00\x1f\x02\x00\x00\x00\x2c\xff\xff\x00\x00\x04\x08\x00\x00\x13\xb4\x05\xb4\x00\x00\x00\x01\x00\x00",
+        MsgFault::Field,
+    ),
+    (
+        "an Offer that acknowledges no SYN",
+        b"\x01\x01\x00\x01\x00\x04\x00\x00\x00\x23\x00\x00\x03\xe8\x00\x00\x13\x88\x00\x00\x00\x1f\x01\x00\x00\x00\x00\xff\xff\x00\x00\x04\x08\x00\x00\x13\xb4\x05\xb4\x00\x00\x00\x01\x00\x00",
+        MsgFault::Field,
+    ),
+    (
+        "an Offer with a byte behind its unread ones",
+        b"\x01\x01\x00\x01\x00\x04\x00\x00\x00\x24\x00\x00\x03\xe8\x00\x00\x13\x88\x00\x00\x00\x1f\x01\x00\x00\x00\x2c\xff\xff\x00\x00\x04\x08\x00\x00\x13\xb4\x05\xb4\x00\x00\x00\x01\x00\x00\x47",
+        MsgFault::Field,
+    ),
+    (
+        "a Forward of 19 bytes",
+        b"\x01\x04\x00\x01\x00\x02\x00\x00\x00\x13\x9c\x40\x00\x50\x00\x00\x04\x08\x00\x00\x13\xb4\x50\x10\xff\xff\xe7\x85\x00",
+        MsgFault::Field,
+    ),
+    (
+        "an Ask of a batch of 9",
+        b"\x01\x05\x00\x01\x00\x02\x00\x00\x00\x0e\x00\x00\x00\x01\x00\x00\x00\x01\x09\x01\x00\x02/b",
+        MsgFault::Field,
+    ),
+    (
+        "an Ask with no path",
+        b"\x01\x05\x00\x01\x00\x02\x00\x00\x00\x0a\x00\x00\x00\x01\x00\x00\x00\x01\x08\x00",
+        MsgFault::Field,
+    ),
+    (
+        "an Ask with more paths than its batch",
+        b"\x01\x05\x00\x01\x00\x02\x00\x00\x00\x12\x00\x00\x00\x01\x00\x00\x00\x01\x01\x02\x00\x02/b\x00\x02/c",
+        MsgFault::Field,
+    ),
+    (
+        "an Ask with an empty path",
+        b"\x01\x05\x00\x01\x00\x02\x00\x00\x00\x0c\x00\x00\x00\x01\x00\x00\x00\x01\x08\x01\x00\x00",
+        MsgFault::Field,
+    ),
+    (
+        "a Tag with node 0",
+        b"\x01\x06\x00\x01\x00\x02\x00\x00\x00\x06\x00\x00\x00\x01\x01\x00",
+        MsgFault::Field,
+    ),
+    (
+        "a Tag with node 65",
+        b"\x01\x06\x00\x01\x00\x02\x00\x00\x00\x06\x00\x00\x00\x01\x01\x41",
+        MsgFault::Field,
+    ),
+    (
+        "a Tag with no node",
+        b"\x01\x06\x00\x01\x00\x02\x00\x00\x00\x05\x00\x00\x00\x01\x00",
+        MsgFault::Field,
+    ),
+    (
+        "a Tag with nine nodes",
+        b"\x01\x06\x00\x01\x00\x02\x00\x00\x00\x0e\x00\x00\x00\x01\x09\x01\x01\x01\x01\x01\x01\x01\x01\x01",
+        MsgFault::Field,
+    ),
+    (
+        "a Fetch with a path that is cut off",
+        b"\x01\x07\x00\x03\x00\x02\x00\x00\x00\x07\x00\x00\x00\x02\x00\x02/",
+        MsgFault::Field,
+    ),
+    (
+        "a Content with more bytes than it says",
+        b"\x01\x08\x00\x03\x00\x02\x00\x00\x00\x0a\x00\x00\x00\x02\x00\x00\x00\x01ab",
+        MsgFault::Field,
+    ),
+    (
+        "an Ended for reason 3",
+        b"\x01\x09\x00\x01\x00\x02\x00\x00\x00\x0d\x03\x00\x00\x13\xb5\x00\x00\x04\x09\x00\x00\x00\x00",
+        MsgFault::Field,
+    ),
+    (
+        "an Ended with a count that was closed",
+        b"\x01\x09\x00\x01\x00\x02\x00\x00\x00\x0d\x00\x00\x00\x13\xb5\x00\x00\x04\x09\x00\x00\x00\x01",
+        MsgFault::Field,
+    ),
+];
+
+fn same_parts(a: &EndpointParts, b: &EndpointParts) -> bool {
+    let received = a.irs == b.irs && a.got == b.got && a.fin == b.fin && a.served == b.served;
+    let sent = a.iss == b.iss && a.una == b.una && a.mss == b.mss;
+    let window = a.wnd == b.wnd && a.wl1 == b.wl1 && a.wl2 == b.wl2;
+    received && sent && window && a.unread.as_slice() == b.unread.as_slice()
+}
+
+fn same_paths(a: &[Path], b: &[Path]) -> bool {
+    a.len() == b.len() && a.iter().zip(b).all(|(x, y)| x.as_slice() == y.as_slice())
+}
+
+/// Whether two messages say the same.
+fn is_same(a: &Message, b: &Message) -> bool {
+    if a.c != b.c || a.epoch != b.epoch {
+        return false;
+    }
+    match (&a.body, &b.body) {
+        (Body::Offer(x), Body::Offer(y)) => same_parts(x, y),
+        (Body::Taken, Body::Taken) => true,
+        (Body::Forward(x), Body::Forward(y)) => x.as_slice() == y.as_slice(),
+        (
+            Body::Ask {
+                number,
+                queue,
+                size,
+                paths,
+            },
+            Body::Ask {
+                number: n,
+                queue: q,
+                size: s,
+                paths: ps,
+            },
+        ) => number == n && queue == q && size == s && same_paths(paths.as_slice(), ps.as_slice()),
+        (
+            Body::Tag { number, nodes },
+            Body::Tag {
+                number: n,
+                nodes: ns,
+            },
+        ) => { number == n && nodes.as_slice() == ns.as_slice() }
+        (Body::Fetch { r, path }, Body::Fetch { r: n, path: p }) => {
+            r == n && path.as_slice() == p.as_slice()
+        }
+        (Body::Content { r, bytes }, Body::Content { r: n, bytes: b }) => {
+            r == n && bytes.as_slice() == b.as_slice()
+        }
+        (
+            Body::Ended {
+                reason,
+                snd,
+                rcv,
+                count,
+            },
+            Body::Ended {
+                reason: why,
+                snd: s,
+                rcv: r,
+                count: n,
+            },
+        ) => reason == why && snd == s && rcv == r && count == n,
+        (Body::EndedAck, Body::EndedAck) => true,
+        _ => false,
+    }
+}
+
+/// The message is written as these bytes, and they are read as the message.
+fn spells(rt: &impl Abort, alloc: Global, number: u32, epoch: u16, body: Body, bytes: &[u8]) {
+    let c = ConnId::new(number).expect(rt, "the number of a connection");
+    let message = Message {
+        c,
+        epoch: Epoch(epoch),
+        body,
+    };
+    assert!(rt; message.body.is_of_table(), "{bytes:?}");
+    let written = encode(alloc, &message).ok().expect(rt, "memory");
+    assert_eq!(rt; written.as_slice(), bytes);
+    let read = decode(alloc, bytes).ok().expect(rt, "a message");
+    assert!(rt; is_same(&read, &message), "{bytes:?}");
+}
+
+#[test]
+fn offers_are_spelled(rt: HostRuntime) -> Result<(), Fail> {
+    let first = EndpointParts {
+        irs: 1000,
+        iss: 5000,
+        got: 31,
+        fin: false,
+        una: 1,
+        wnd: 65_535,
+        wl1: 1001,
+        wl2: 5001,
+        mss: 1460,
+        served: 0,
+        unread: Bytes::from_slice(rt.alloc(), REQUEST).ok().ok_or("memory")?,
+    };
+    spells(&rt, rt.alloc(), 1, 2, Body::Offer(first), FIRST_OFFER);
+    let later = EndpointParts {
+        irs: 1000,
+        iss: 5000,
+        got: 31,
+        fin: true,
+        una: 44,
+        wnd: 65_535,
+        wl1: 1032,
+        wl2: 5044,
+        mss: 1460,
+        served: 1,
+        unread: Bytes::from_slice(rt.alloc(), b"").ok().ok_or("memory")?,
+    };
+    spells(&rt, rt.alloc(), 1, 4, Body::Offer(later), LATER_OFFER);
+    Ok(())
+}
+
+#[test]
+fn words_of_a_move_are_spelled(rt: HostRuntime) -> Result<(), Fail> {
+    let alloc = rt.alloc();
+    spells(
+        &rt,
+        alloc,
+        1,
+        2,
+        Body::Taken,
+        b"\x01\x02\x00\x01\x00\x02\x00\x00\x00\x00",
+    );
+    let segment = Bytes::from_slice(alloc, &FORWARD[10..])
+        .ok()
+        .ok_or("memory")?;
+    spells(&rt, alloc, 1, 2, Body::Forward(segment), FORWARD);
+    let ended = Body::Ended {
+        reason: Reason::Closed,
+        snd: 5045,
+        rcv: 1033,
+        count: 0,
+    };
+    spells(&rt, alloc, 1, 2, ended, ENDED);
+    let over = Body::Ended {
+        reason: Reason::Limit,
+        snd: 7,
+        rcv: 8,
+        count: 201,
+    };
+    spells(
+        &rt,
+        alloc,
+        16_384,
+        65_535,
+        over,
+        b"\x01\x09\x40\x00\xff\xff\x00\x00\x00\x0d\x02\x00\x00\x00\x07\x00\x00\x00\x08\x00\x00\x00\xc9",
+    );
+    spells(
+        &rt,
+        alloc,
+        1,
+        2,
+        Body::EndedAck,
+        b"\x01\x0a\x00\x01\x00\x02\x00\x00\x00\x00",
+    );
+    Ok(())
+}
+
+#[test]
+fn words_of_later_requests_are_spelled(rt: HostRuntime) -> Result<(), Fail> {
+    let alloc = rt.alloc();
+    let mut paths = Paths::new(alloc);
+    for path in [b"/b", b"/c", b"/d", b"/e", b"/f", b"/g", b"/h"] {
+        paths
+            .push(Path::from_slice(alloc, path).ok().ok_or("memory")?)
+            .ok()
+            .ok_or("memory")?;
+    }
+    spells(
+        &rt,
+        alloc,
+        1,
+        2,
+        Body::Ask {
+            number: 1,
+            queue: 1,
+            size: 8,
+            paths,
+        },
+        ASK,
+    );
+    let mut nodes = Nodes::new(alloc);
+    for _ in 0..7u8 {
+        nodes
+            .push(NodeId::new(1).ok_or("a node")?)
+            .ok()
+            .ok_or("memory")?;
+    }
+    spells(&rt, alloc, 1, 2, Body::Tag { number: 1, nodes }, TAG);
+    let path = Path::from_slice(alloc, b"/b").ok().ok_or("memory")?;
+    spells(
+        &rt,
+        alloc,
+        3,
+        2,
+        Body::Fetch { r: 2, path },
+        b"\x01\x07\x00\x03\x00\x02\x00\x00\x00\x08\x00\x00\x00\x02\x00\x02/b",
+    );
+    let bytes = Bytes::from_slice(alloc, b"x").ok().ok_or("memory")?;
+    spells(
+        &rt,
+        alloc,
+        3,
+        2,
+        Body::Content { r: 2, bytes },
+        b"\x01\x08\x00\x03\x00\x02\x00\x00\x00\x09\x00\x00\x00\x02\x00\x00\x00\x01x",
+    );
+    Ok(())
+}
+
+#[test]
+fn what_is_no_message_is_refused(rt: HostRuntime) {
+    for &(name, bytes, fault) in REFUSED {
+        assert_eq!(rt; decode(rt.alloc(), bytes).err(), Some(fault), "{name}");
+    }
+}
