@@ -9,7 +9,7 @@ use Rattle.lard_base.specs.declared.event.Event.TheVariants as event
 use Rattle.lard_base.specs.declared.place.Place.{Place}
 use Rattle.lard_base.specs.declared.place.Place.TheVariants.{Front, Node, Client}
 use Rattle.lard_client.specs.Control.{ClientBlock, written_len}
-use Rattle.lard_law_steps.proofs.ClientsTables.{client_at}
+use Rattle.lard_laws.proofs.ClientsTables.{client_at}
 use Rattle.lard_rules.specs.Machine.{client_does, client_goes_on, completes, delivered, disk_at, happens, is_no_job, is_no_node, limit_reached, lost, machine_step, node_acts, node_at, node_gave, node_setting, opened, passed, timer, to_place, unless_limit, wrote}
 use Rattle.lard_rules.specs.declared.fault.StepFault.{StepFault}
 use Rattle.lard_rules.specs.declared.fault.StepFault.TheVariants as fault

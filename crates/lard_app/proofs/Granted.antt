@@ -18,13 +18,13 @@ use Rattle.lard_rules.specs.Bounds.{HasRule}
 use Rattle.lard_rules.specs.declared.fault.StepFault.{StepFault}
 use Rattle.lard_rules.specs.declared.machine.Machine.{Machine}
 use Rattle.lard_rules.specs.Machine.{machine_step, node_at, start}
-use Rattle.lard_law_steps.specs.Records.{IsFile, IsGiven}
-use Rattle.lard_law_steps.proofs.RecordsReached.{records-ranges}
+use Rattle.lard_laws.specs.Records.{IsFile, IsGiven}
+use Rattle.lard_laws.proofs.RecordsReached.{records-ranges}
 use Rattle.lard_history.proofs.Each.{Each, Each-append, Each-weaker}
 use Rattle.lard_journal.specs.Range.{IsEventInRange, IsInRange, IsNumber, IsPlaceInRange}
 use Rattle.lard_journal.specs.declared.rec.Rec.{Rec}
 use Rattle.lard_journal.specs.declared.rec.Rec.TheVariants as rec
-use Rattle.lard_law_ends.proofs.ByteLists.{all-each, each-all}
+use Rattle.lard_law_view.proofs.ByteLists.{all-each, each-all}
 use Rattle.lard_rules.specs.declared.node.NodeState.{NodeState}
 use Rattle.lard_settling.specs.Events.{EndsInside, Goes, LeadsTo, MayCome, event_step, stepped_from}
 use Rattle.lard_settling.specs.Settling.{Stop, completions, deliveries, firings, left, takes}

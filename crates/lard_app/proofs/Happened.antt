@@ -7,15 +7,15 @@ use Rattle.lard_rules.specs.Machine.{start}
 use Rattle.lard_rules.specs.declared.machine.Machine.{Machine}
 use Rattle.lard_settle.specs.Lawful.{IsLawful}
 use Rattle.lard_settle.proofs.Lawful.{journals-lawful}
-use Rattle.lard_law_steps.specs.RecordsMessages.{MayTalk}
-use Rattle.lard_law_steps.specs.Records.{IsFile, IsGiven}
-use Rattle.lard_law_steps.proofs.RecordsTalking.{packets-decode}
-use Rattle.lard_law_steps.proofs.StepsFollowing.{follows}
+use Rattle.lard_laws.specs.RecordsMessages.{MayTalk}
+use Rattle.lard_laws.specs.Records.{IsFile, IsGiven}
+use Rattle.lard_laws.proofs.RecordsTalking.{packets-decode}
+use Rattle.lard_laws.proofs.StepsFollowing.{follows}
 use Rattle.lard_files.specs.Files.{file_at}
 use Rattle.lard_history.specs.Laws.{EachMay, Follows}
 use Rattle.lard_history.proofs.Each.{Each}
 use Rattle.lard_journal.specs.Range.{IsNumber}
-use Rattle.lard_law_ends.proofs.ByteLists.{each-all}
+use Rattle.lard_law_view.proofs.ByteLists.{each-all}
 use Rattle.lard_settling.specs.Events.{LeadsTo}
 use Rattle.lard_law_settles.proofs.Order.{in-order}
 use Rattle.lard_settle.proofs.Enough.{runs-settle}

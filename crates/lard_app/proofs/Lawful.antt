@@ -7,7 +7,7 @@ use Rattle.lard_rules.specs.Machine.{start}
 use Rattle.lard_journal.specs.declared.rec.Rec.{Rec}
 use Rattle.lard_journal.specs.Range.{IsFileInRange, IsInRange, IsReportInRange}
 use Rattle.lard_journal.specs.Report.{file_text, heading_line, rec_line, report}
-use Rattle.lard_law_ends.proofs.ByteLists.{each-all}
+use Rattle.lard_law_view.proofs.ByteLists.{each-all}
 use Rattle.lard_app.proofs.Granted.{granted-ranged, leads-granted}
 use Rattle.lard_app.proofs.Happened.{happened}
 use Rattle.lard_schedule.specs.declared.reader.Stage.{Stage}

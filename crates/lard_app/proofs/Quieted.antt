@@ -4,12 +4,12 @@ use Rattle.lard_base.specs.declared.event.Event.{Event}
 use Rattle.lard_base.specs.declared.event.Event.TheVariants as event
 use Rattle.lard_rules.specs.declared.fault.StepFault.{StepFault}
 use Rattle.lard_rules.specs.declared.machine.Machine.{Machine}
-use Rattle.lard_law_steps.specs.Records.{IsFile, IsGiven}
+use Rattle.lard_laws.specs.Records.{IsFile, IsGiven}
 use Rattle.lard_generate.specs.Generated.{generated}
 use Rattle.lard_generate_bound.specs.Laws.{before_settle, rounds_of}
 use Rattle.lard_generate_bound.proofs.Reaching.{reach-the-bound, settles-last}
 use Rattle.lard_history.proofs.Each.{Each}
-use Rattle.lard_law_ends.proofs.ByteLists.{each-all}
+use Rattle.lard_law_view.proofs.ByteLists.{each-all}
 use Rattle.lard_settle.proofs.Enough.{settles-end-quiet}
 use Rattle.lard_law_settles.proofs.Firing.{each-parts}
 use Rattle.lard_settling.specs.declared.settled.Settled.{Settled}

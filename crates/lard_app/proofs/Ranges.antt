@@ -15,13 +15,13 @@ use Rattle.lard_base.specs.declared.event.Event.TheVariants as event
 use Rattle.lard_base.specs.declared.place.Place.{Place}
 use Rattle.lard_base.specs.declared.place.Place.TheVariants as place
 use Rattle.lard_rules.specs.declared.machine.Machine.{Machine}
-use Rattle.lard_law_steps.specs.Records.{IsFile, IsGiven}
+use Rattle.lard_laws.specs.Records.{IsFile, IsGiven}
 use Rattle.lard_files.specs.Files.{add_check, first_fault}
 use Rattle.lard_files.specs.declared.fault.FileFault.{FileFault}
 use Rattle.lard_files.specs.declared.fault.FileFault.TheVariants as file_fault
 use Rattle.lard_history.proofs.Each.{Each, Each-weaker}
 use Rattle.lard_journal.specs.Range.{IsConfigInRange, IsFileInRange, IsNumber, IsPlaceInRange, IsUnspaced}
-use Rattle.lard_law_ends.proofs.ByteLists.{AreBytes, bytes-index, each-all}
+use Rattle.lard_law_view.proofs.ByteLists.{AreBytes, bytes-index, each-all}
 use Rattle.lard_schedule.specs.Events.{IsInRange, IsPlace, IsUpTo, is_path, is_visible}
 use Rattle.lard_schedule.specs.Files.{is_file_path}
 use Rattle.lard_schedule.specs.Laws.{HasBytes, Spells, SpellsFile}

@@ -4,12 +4,12 @@ use Rattle.std.specs.Io.KnownBytes.{Appends, Keeps}
 use Rattle.lard_base.specs.Outside.{WrotePrefix}
 use Rattle.lard_rules.specs.declared.machine.Machine.{Machine}
 use Rattle.lard_base.specs.declared.event.Event.{Event}
-use Rattle.lard_law_steps.specs.Records.{IsFile, IsGiven}
+use Rattle.lard_laws.specs.Records.{IsFile, IsGiven}
 use Rattle.lard_generate.specs.Generated.{generated}
 use Rattle.lard_generate.specs.Laws.{IsSpelled, IsSpelledFile}
 use Rattle.lard_generate.proofs.Spelled.{events_spelled, files_spelled}
 use Rattle.lard_history.proofs.Each.{Each, Each-weaker}
-use Rattle.lard_law_ends.proofs.ByteLists.{all-each, each-all}
+use Rattle.lard_law_view.proofs.ByteLists.{all-each, each-all}
 use Rattle.lard_schedule.specs.Events.{IsInRange}
 use Rattle.lard_settling.specs.Events.{MayCome}
 use Rattle.lard_settling.proofs.Written.{written}

@@ -7,7 +7,7 @@ use Rattle.lard_base.specs.declared.event.Event.{Event}
 use Rattle.lard_rules.specs.Machine.{start}
 use Rattle.lard_rules.specs.declared.machine.Machine.{Machine}
 use Rattle.lard_settle.specs.Lawful.{IsLawful}
-use Rattle.lard_law_steps.specs.RecordsMessages.{MayTalk}
+use Rattle.lard_laws.specs.RecordsMessages.{MayTalk}
 use Rattle.lard_files.specs.Files.{file_at}
 use Rattle.lard_history.specs.Laws.{EachMay, Follows}
 use Rattle.lard_journal.specs.declared.rec.Rec.{Rec}

@@ -2,7 +2,7 @@
 //! one, which packets surely lead further, and how many rounds surely settle a journal. Definitions, without code.
 //!
 //! It stands above the view of one connection (`lard_law_view`). That each rule keeps to it is proved above, in
-//! `lard_law_progress`.
+//! `lard_law_settles`.
 #![tactic(auto)]
 
 ghost use Rattle.lard_bound.specs.Bound.{NineRoundsAUnitSuffice};

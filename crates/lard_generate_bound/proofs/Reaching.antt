@@ -14,7 +14,7 @@ use Rattle.lard_rules.specs.declared.fault.StepFault.{StepFault}
 use Rattle.lard_rules.specs.declared.machine.Machine.{Machine}
 use Rattle.lard_rules.specs.Bounds.{HasRule}
 use Rattle.lard_rules.specs.Machine.{Passes, machine_step, start}
-use Rattle.lard_law_steps.proofs.StepsFollowing.{follows}
+use Rattle.lard_laws.proofs.StepsFollowing.{follows}
 use Rattle.lard_files.specs.Files.{file_at}
 use Rattle.lard_generate.specs.declared.action.Action.{Action}
 use Rattle.lard_generate.specs.declared.action.Action.TheVariants.{Ask}

@@ -2,7 +2,7 @@
 //! and laws, without code.
 //!
 //! It stands above the generator (`lard_generate`), the bound of a journal (`lard_bound`), and the law that a journal follows the events
-//! (`lard_law_steps`). So it looks at no rule: the heads of requests are cut and judged by computing each, and what clients wrote is
+//! (`lard_laws`). So it looks at no rule: the heads of requests are cut and judged by computing each, and what clients wrote is
 //! read off the steps of the events.
 #![tactic(auto)]
 

@@ -13,19 +13,19 @@ use Rattle.lard_base.specs.declared.place.Place.{Place}
 use Rattle.lard_base.specs.declared.place.Place.TheVariants as place
 use Rattle.lard_base.specs.declared.place.TimerKind.{TimerKind}
 use Rattle.lard_rules.specs.declared.machine.Machine.{Machine}
-use Rattle.lard_law_line.proofs.LineRuns.{line-needs-a-full-room}
-use Rattle.lard_law_line.specs.Line.{line}
+use Rattle.lard_law_connections.proofs.LineRuns.{line-needs-a-full-room}
+use Rattle.lard_law_connections.specs.Line.{line}
 use Rattle.lard_counts.specs.Ledger.{admitted, ledger}
-use Rattle.lard_law_quiet.proofs.QuietEnds.{quiet-complete}
-use Rattle.lard_law_quiet.specs.Quiet.{HasNoJob, IsInLine, reads_for}
-use Rattle.lard_law_steps.proofs.RecordsThere.{only-nodes}
+use Rattle.lard_laws.proofs.QuietEnds.{quiet-complete}
+use Rattle.lard_laws.specs.Quiet.{HasNoJob, IsInLine, reads_for}
+use Rattle.lard_laws.proofs.RecordsThere.{only-nodes}
 use Rattle.lard_counts.specs.Stores.{jobs}
 use Rattle.lard_files.specs.Files.{file_at}
 use Rattle.lard_history.proofs.Seeing.{by_number}
 use Rattle.lard_history.specs.Journal.{is_running, is_touched, numbers_of, was_reset}
 use Rattle.lard_history.specs.Own.{Has}
 use Rattle.lard_journal.specs.declared.rec.Rec.{Rec}
-use Rattle.lard_law_ends.specs.Quiet.{IsComplete, IsQuiet, has_aborted}
+use Rattle.lard_law_view.specs.Quiet.{IsComplete, IsQuiet, has_aborted}
 use Rattle.lard_law_settles.proofs.SettlesSeats.{seats-named}
 use Rattle.lard_law_settles.proofs.DoneJobs.{no-jobs}
 use Rattle.lard_law_settles.proofs.DoneSame.{tells-the-same}

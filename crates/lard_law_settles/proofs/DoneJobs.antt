@@ -1,7 +1,7 @@
 -- No job waits where there is no node: the records of jobs are of nodes that there are.
 use Rattle.std.proofs.Common.{◌≡◌, ◌≤◌, ℕ, Bool, false, cond, nat_eq, List, [], ◌∷◌, ◌++◌, refl, ap, ◌∙◌, subst}
 use Rattle.std.specs.List.{fold}
-use Rattle.lard_law_steps.specs.RecordsMessages.{MayBeThere}
+use Rattle.lard_laws.specs.RecordsMessages.{MayBeThere}
 use Rattle.lard_counts.specs.Stores.{Queue, Waiting, jobs, jobs_step, no_jobs, without_waiting}
 use Rattle.lard_history.proofs.Seeing.{by_number, other_number}
 use Rattle.lard_history.specs.Laws.{EachMay}

@@ -6,14 +6,14 @@ use Rattle.lard_answers.specs.Answers.{FilesAt}
 use Rattle.lard_base.specs.declared.place.Place.{Place}
 use Rattle.lard_base.specs.declared.place.TimerKind.{TimerKind}
 use Rattle.lard_cache.specs.Recency.{Recency}
-use Rattle.lard_law_line.specs.Line.{Line, line_step, nobody}
+use Rattle.lard_law_connections.specs.Line.{Line, line_step, nobody}
 use Rattle.lard_counts.specs.Ledger.{blank, ledger_step}
-use Rattle.lard_law_policy.specs.Loads.{charge_step}
+use Rattle.lard_law_connections.specs.PolicyLoads.{charge_step}
 use Rattle.lard_counts.specs.Stores.{Queue, cache_step, jobs_step, no_jobs}
 use Rattle.lard_history.proofs.Tales.{accepted-tale, assigned-tale, epoch-tale, home-tale, numbers-tale, owner-tale, reset-tale, served-tale, served_bytes-tale, touched-tale, wrote-tale}
 use Rattle.lard_history.specs.Journal.{Tale, accepted, armed_step, assigned, bytes_step, home, is_touched, last_epoch, lost_step, numbers_of, owner, sent_step, served, served_bytes, tale, tale_step, time_step, untold, was_reset, wrote}
 use Rattle.lard_journal.specs.declared.rec.Rec.{Rec}
-use Rattle.lard_law_ends.specs.Quiet.{aborted_step, ended_step, shut_step}
+use Rattle.lard_law_view.specs.Quiet.{aborted_step, ended_step, shut_step}
 use Rattle.lard_loads.specs.Charges.{units_at}
 use Rattle.lard_law_settles.specs.DoneLaws.{WrittenOutTellsTheSame}
 use Rattle.lard_law_settles.specs.DoneSame.{TellsClientsTheSame}

@@ -10,7 +10,7 @@ use Rattle.lard_history.proofs.Seeing.{by_number, other_number}
 use Rattle.lard_history.specs.Journal.{armed_step, is_kind, is_place, is_running}
 use Rattle.lard_journal.specs.declared.rec.Rec.{Rec}
 use Rattle.lard_journal.specs.declared.rec.Rec.TheVariants as rec
-use Rattle.lard_law_ends.proofs.TimerChanges.{place-is}
+use Rattle.lard_law_view.proofs.TimerChanges.{place-is}
 
 number-is : (d c : ℕ) → nat_eq d c ≡ true → d ≡ c
 number-is d c e = by_number (d ≡ c) d c (λ same. same) (λ other. absurd (both_ways (nat_eq d c) (other_number d c other) e))

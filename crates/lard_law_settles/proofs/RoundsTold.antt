@@ -13,10 +13,10 @@ use Rattle.lard_base.specs.declared.place.Place.{Place}
 use Rattle.lard_base.specs.declared.place.Place.TheVariants as place
 use Rattle.lard_rules.specs.declared.machine.Machine.{Machine}
 use Rattle.lard_rules.specs.Machine.{is_no_node, node_at}
-use Rattle.lard_law_steps.proofs.ClientsTables.{client_at, clients-folded}
-use Rattle.lard_law_line.proofs.LineRuns.{line-kept}
-use Rattle.lard_law_line.specs.Line.{Line, line, line_step, nobody}
-use Rattle.lard_law_stores.proofs.StoresStored.{jobs-told}
+use Rattle.lard_laws.proofs.ClientsTables.{client_at, clients-folded}
+use Rattle.lard_law_connections.proofs.LineRuns.{line-kept}
+use Rattle.lard_law_connections.specs.Line.{Line, line, line_step, nobody}
+use Rattle.lard_law_connections.proofs.StoresStored.{jobs-told}
 use Rattle.lard_counts.specs.Stores.{Queue, jobs, jobs_step, no_jobs}
 use Rattle.lard_law_view.proofs.Carried.{reached-viewed}
 use Rattle.lard_law_view.proofs.Nothing.{node-there}
@@ -25,7 +25,7 @@ use Rattle.lard_dispatch.specs.Line.{waits}
 use Rattle.lard_dispatch.specs.declared.line.Waiting.{Waiting}
 use Rattle.lard_history.specs.Own.{own}
 use Rattle.lard_journal.specs.declared.rec.Rec.{Rec}
-use Rattle.lard_law_ends.specs.ClientRule.{client_of}
+use Rattle.lard_law_view.specs.ClientRule.{client_of}
 use Rattle.lard_rules.specs.declared.node.NodeState.{NodeState}
 use Rattle.lard_rules.specs.declared.places.Station.{Station}
 use Rattle.lard_law_settles.proofs.SettlesFew.{config-is}

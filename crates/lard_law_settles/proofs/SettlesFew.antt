@@ -5,7 +5,7 @@ use Rattle.lard_base.proofs.Usable.{usable}
 use Rattle.lard_base.specs.declared.config.Config.{Config}
 use Rattle.lard_rules.specs.declared.machine.Machine.{Machine}
 use Rattle.lard_rules.specs.Machine.{IsReached, node_at}
-use Rattle.lard_law_steps.proofs.RecordsShort.{disks-stay}
+use Rattle.lard_laws.proofs.RecordsShort.{disks-stay}
 use Rattle.lard_law_view.proofs.Carried.{carried-keep}
 use Rattle.lard_law_view.proofs.After.{IsAfter, step-after}
 use Rattle.lard_rules.specs.declared.node.NodeState.{NodeState}

@@ -11,7 +11,7 @@ use Rattle.lard_base.specs.declared.place.TimerKind.{TimerKind}
 use Rattle.lard_base.specs.declared.place.TimerKind.TheVariants.{Tcp, Offer, Ask, Fetch, Ended}
 use Rattle.lard_rules.specs.declared.machine.Machine.{Machine}
 use Rattle.lard_rules.specs.Machine.{IsReached, is_no_node, node_at}
-use Rattle.lard_law_steps.specs.StepsTimers.{armed_at, client_armed}
+use Rattle.lard_laws.specs.StepsTimers.{armed_at, client_armed}
 use Rattle.lard_law_view.specs.Carry.{IsLaw, MayMove, OfEach, setting}
 use Rattle.lard_law_view.specs.View.{ClientRules, Conn, FrontRules, Move, NodeRules, Part, Setting, brought_said, conn, contents, front_does, grown, kept_at, letters_of, node_does, nothing_kept, nothing_said, packet_seen, part_of, stands}
 use Rattle.lard_law_view.proofs.Carried.{carried}

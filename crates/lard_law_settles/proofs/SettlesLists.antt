@@ -14,8 +14,8 @@ use Rattle.lard_base.specs.declared.place.Place.TheVariants as place
 use Rattle.lard_base.specs.declared.place.TimerKind.{TimerKind}
 use Rattle.lard_rules.specs.Bounds.{HasTimer}
 use Rattle.lard_rules.specs.declared.machine.Machine.{Machine}
-use Rattle.lard_law_steps.proofs.StepsLinking.{reached-linked}
-use Rattle.lard_law_steps.proofs.StepsTimers.{timers-kept}
+use Rattle.lard_laws.proofs.StepsLinking.{reached-linked}
+use Rattle.lard_laws.proofs.StepsTimers.{timers-kept}
 use Rattle.lard_law_view.proofs.Carried.{reached-viewed}
 use Rattle.lard_history.proofs.Each.{Each}
 use Rattle.lard_history.proofs.Seeing.{by_number, other_number}

@@ -10,7 +10,7 @@ use Rattle.lard_history.specs.Journal.{goal_of, goal_step, is_lost, lost_step, s
 use Rattle.lard_history.specs.Laws.{EachMay, MayInNetwork}
 use Rattle.lard_journal.specs.declared.rec.Rec.{Rec}
 use Rattle.lard_journal.specs.declared.rec.Rec.TheVariants as rec
-use Rattle.lard_law_ends.specs.ClientTale.{IsNetOf, goal_in, lost_in}
+use Rattle.lard_law_view.specs.ClientTale.{IsNetOf, goal_in, lost_in}
 use Rattle.lard_net.specs.Net.{Packet, packet_at}
 use Rattle.lard_law_settles.proofs.SettlesKeeping.{HasPacket}
 

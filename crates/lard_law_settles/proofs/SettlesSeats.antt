@@ -14,8 +14,8 @@ use Rattle.lard_rules.specs.Bounds.{HasRule, HasTimer, IsNumber}
 use Rattle.lard_rules.specs.declared.machine.Machine.{Machine}
 use Rattle.lard_rules.specs.Machine.{IsReached, machine_step}
 use Rattle.lard_base.proofs.Usable.{usable}
-use Rattle.lard_law_steps.proofs.RecordsThere.{only-nodes}
-use Rattle.lard_law_steps.specs.RecordsMessages.{MayBeThere}
+use Rattle.lard_laws.proofs.RecordsThere.{only-nodes}
+use Rattle.lard_laws.specs.RecordsMessages.{MayBeThere}
 use Rattle.lard_law_view.specs.Carry.{setting}
 use Rattle.lard_law_view.specs.View.{Conn, IsMachine, IsViewed, Move, Part, Rules, Setting, conn, part_of, timer_rows}
 use Rattle.lard_law_view.proofs.Acts.{ActsAlone, ActsBoth, IsPassing, IsStepOf, said_rows, step_acts}
@@ -32,7 +32,7 @@ use Rattle.lard_journal.specs.declared.rec.Rec.TheVariants as rec
 use Rattle.lard_rules.specs.Sent.{packets_of, sent_records}
 use Rattle.lard_net.specs.Net.{Packet}
 use Rattle.lard_settling.specs.Written.{IsWrittenOut, steps_with, written_from, written_rec}
-use Rattle.lard_law_ends.proofs.OwnRecords.{behind}
+use Rattle.lard_law_view.proofs.OwnRecords.{behind}
 
 -- ---- records
 

@@ -4,13 +4,13 @@ use Rattle.lard_answers.specs.Answers.{FilesAt}
 use Rattle.lard_base.specs.declared.config.Config.{Config}
 use Rattle.lard_base.specs.declared.place.Place.{Place}
 use Rattle.lard_base.specs.declared.place.TimerKind.{TimerKind}
-use Rattle.lard_law_line.specs.Line.{line}
+use Rattle.lard_law_connections.specs.Line.{line}
 use Rattle.lard_counts.specs.Ledger.{ledger}
-use Rattle.lard_law_policy.specs.Loads.{load}
+use Rattle.lard_law_connections.specs.PolicyLoads.{load}
 use Rattle.lard_counts.specs.Stores.{cached, jobs}
 use Rattle.lard_history.specs.Journal.{accepted, assigned, home, is_lost, is_running, is_touched, last_epoch, numbers_of, owner, packet_bytes, sent_count, served, served_bytes, time_of, was_reset, wrote}
 use Rattle.lard_journal.specs.declared.rec.Rec.{Rec}
-use Rattle.lard_law_ends.specs.Quiet.{has_aborted, has_ended, was_shut}
+use Rattle.lard_law_view.specs.Quiet.{has_aborted, has_ended, was_shut}
 
 -- Two journals tell the same of each client: what it opened with, wrote and accepted, and how it ended.
 pub record TellsClientsTheSame (J K : List Rec) : Type 0 where

@@ -9,11 +9,11 @@ use Rattle.lard_base.specs.declared.event.Event.TheVariants as event
 use Rattle.lard_base.specs.declared.place.Place.{Place}
 use Rattle.lard_base.specs.declared.place.Place.TheVariants.{Front, Node, Client}
 use Rattle.lard_client.specs.Control.{ClientBlock, is_holding}
-use Rattle.lard_law_line.specs.Line.{line}
+use Rattle.lard_law_connections.specs.Line.{line}
 use Rattle.lard_counts.specs.Stores.{jobs}
 use Rattle.lard_history.specs.Own.{own}
 use Rattle.lard_journal.specs.declared.rec.Rec.{Rec}
-use Rattle.lard_law_ends.specs.ClientRule.{client_of}
+use Rattle.lard_law_view.specs.ClientRule.{client_of}
 use Rattle.lard_settling.specs.Settling.{is_own}
 use Rattle.lard_settling.specs.Written.{written_out}
 

@@ -1,11 +1,17 @@
-//! Laws of settles: why one may stop before its end, of which the one reason is a limit of the run; that what one leaves is few; that they
-//! stand in order in every journal; which inner steps one takes, in rounds, and what its closing record tells; and what it leaves where
-//! nothing is left to do.
+//! Laws of settles: why one may stop before its end, how much it leaves, and that they stand in order (`Settles`); which inner steps one
+//! takes, in rounds (`Rounds`); what it leaves where nothing is left to do (`Done`); and that enough rounds settle.
 //!
-//! It stands above what a settle does, and the laws that count connections, of the line, and of quiet ones. It has no code.
+//! For the last the machine within a settle is one that goes on by rounds (`lard_rounds`): what is left to do, counted in units
+//! (`lard_bound`), goes down within a few rounds, and while there is no unit that goes, what is on its way comes nearer to one
+//! (`Progress`). What the rules rest on there is `Known` of each connection that the schedule did not touch, and what a step does to all
+//! connections is their `Course`; both together are `Enough`. It has no code.
 #![tactic(auto)]
 
+ghost use Rattle.lard_law_settles.specs.CourseLaws.{ClusterComesToRest};
 ghost use Rattle.lard_law_settles.specs.DoneLaws.{SettledRunsAreDone, WrittenOutTellsTheSame};
+ghost use Rattle.lard_law_settles.specs.EnoughLaws.{RunsSettle, SettlesEndQuiet, SettlesRest};
+ghost use Rattle.lard_law_settles.specs.KnownLaws.{EachConnectionIsKnown};
+ghost use Rattle.lard_law_settles.specs.ProgressLaws.{ClientsLeaveNoMore};
 ghost use Rattle.lard_law_settles.specs.RoundsLaws.{RunsTakeRounds};
 ghost use Rattle.lard_law_settles.specs.SettlesFew.{FewAreLeft};
 ghost use Rattle.lard_law_settles.specs.SettlesOrder.{RunsSettleInOrder};
@@ -56,4 +62,32 @@ pub fn written_out_tells_the_same()
 /// the schedule touched it.
 pub fn settled_runs_are_done()
     ensures done { SettledRunsAreDone }
+{}
+
+/// Whatever segment comes to a client, and where its timer fires, no more is left to be done on its connection than before.
+pub fn clients_leave_no_more()
+    ensures { ClientsLeaveNoMore }
+{}
+
+/// In every run of the cluster's machine, of each connection that the schedule did not touch and whose client opened: no more is
+/// acknowledged than was said and taken, no more requests were read than there are, each node decided of no later epoch than the front end
+/// is in, whoever has the connection was offered it, an Offer that comes new is the one that is awaited, and an end that comes new is of a
+/// stay that is over.
+pub fn each_connection_is_known()
+    ensures { EachConnectionIsKnown }
+{}
+
+/// Where each step of the cluster's machine owes what rounds ask for, it is quiet after nine rounds for each unit that is left to do,
+/// and nine more.
+pub fn the_cluster_comes_to_rest()
+    ensures { ClusterComesToRest }
+{}
+
+/// A settle with as many rounds as the bound of its journal ends with nothing left to do, where no packet was put on the way in a client's
+/// name and each client wrote fewer than 16,383 bytes: no job waits then, and no timer runs but those that are stalled. So a journal tells that something was left only where that is not so, or where the
+/// settle did fewer rounds.
+pub fn enough_rounds_settle()
+    ensures settles { SettlesEndQuiet }
+    ensures rests { SettlesRest }
+    ensures runs { RunsSettle }
 {}

@@ -19,8 +19,8 @@ use Rattle.lard_journal.specs.declared.rec.Rec.TheVariants as rec
 use Rattle.lard_rules.specs.Sent.{packets_of, sent_records}
 use Rattle.lard_net.specs.Net.{Packet}
 use Rattle.lard_rules.specs.declared.places.Out.{Out}
-use Rattle.lard_law_ends.proofs.Deliveries.{IsDelivered, IsHead}
-use Rattle.lard_law_ends.proofs.OwnRecords.{behind}
+use Rattle.lard_law_view.proofs.Deliveries.{IsDelivered, IsHead}
+use Rattle.lard_law_view.proofs.OwnRecords.{behind}
 
 -- behind these records those of what is noted, sent and given up, and of timers, where there were these packets
 abbrev pub said_rows : List Rec → List Packet → Place → List Rec → List (Place × List ℕ) → List Rec → List (Place × List ℕ) → List Rec → List Rec

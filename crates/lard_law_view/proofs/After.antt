@@ -29,9 +29,9 @@ use Rattle.lard_journal.specs.declared.rec.Rec.TheVariants as rec
 use Rattle.lard_rules.specs.Sent.{packets_of, sent_records}
 use Rattle.lard_net.specs.Net.{Packet, lose_at}
 use Rattle.lard_rules.specs.declared.places.Out.{Out}
-use Rattle.lard_law_ends.proofs.Firsts.{AreOthers, HasOwn, others_append, own-alone}
-use Rattle.lard_law_ends.proofs.SentPackets.{sents-net}
-use Rattle.lard_law_ends.proofs.OwnRecords.{behind}
+use Rattle.lard_law_view.proofs.Firsts.{AreOthers, HasOwn, others_append, own-alone}
+use Rattle.lard_law_view.proofs.SentPackets.{sents-net}
+use Rattle.lard_law_view.proofs.OwnRecords.{behind}
 
 -- Behind m comes one step, of this event, which counts the bytes of its responses, and the journal tells of the packets that there are. Settings stay, and so do the nodes and what their disks
 -- are given.

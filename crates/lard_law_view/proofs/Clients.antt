@@ -20,10 +20,10 @@ use Rattle.lard_journal.specs.declared.rec.Rec.TheVariants as rec
 use Rattle.lard_rules.specs.declared.places.Station.{Station}
 use Rattle.lard_rules.specs.declared.places.Turn.{Turn}
 use Rattle.lard_rules.specs.Outs.{out_of, timer_change}
-use Rattle.lard_law_ends.proofs.Firsts.{HasOwn}
-use Rattle.lard_law_ends.proofs.OwnRecords.{behind}
-use Rattle.lard_law_ends.proofs.PlaceTurns as today
-use Rattle.lard_law_ends.proofs.PlaceTurns.{IsClientTurn}
+use Rattle.lard_law_view.proofs.Firsts.{HasOwn}
+use Rattle.lard_law_view.proofs.OwnRecords.{behind}
+use Rattle.lard_law_view.proofs.PlaceTurns as today
+use Rattle.lard_law_view.proofs.PlaceTurns.{IsClientTurn}
 
 client-note : (c : ℕ) (r : Rec) → today.NotedAt (Client c) c r → NotedAt (Client c) c r
 client-note c (rec.Wrote d bytes) h = h

@@ -30,8 +30,8 @@ use Rattle.lard_history.specs.Laws.{AreOwn}
 use Rattle.lard_history.specs.Own.{Seen}
 use Rattle.lard_journal.specs.declared.rec.Rec.{Rec}
 use Rattle.lard_policy.specs.declared.first.FirstChoice.{FirstChoice}
-use Rattle.lard_law_ends.proofs.Firsts.{others_append}
-use Rattle.lard_law_ends.proofs.OwnRecords.{behind}
+use Rattle.lard_law_view.proofs.Firsts.{others_append}
+use Rattle.lard_law_view.proofs.OwnRecords.{behind}
 
 -- ---- what ended does not wait
 

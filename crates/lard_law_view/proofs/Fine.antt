@@ -36,7 +36,7 @@ use Rattle.lard_rules.specs.declared.places.Turn.{Turn}
 use Rattle.lard_rules.specs.Client.{client_aborts, client_gets, client_holds, client_injects, client_opens, client_shuts, client_takes, client_timer, client_writes}
 use Rattle.lard_segment.specs.declared.segment.Dir.TheVariants.{ToClient, ToCluster}
 use Rattle.lard_segment.specs.Segment.{decoded}
-use Rattle.lard_law_ends.proofs.PlaceTurns.{IsClientTurn, aborts-turn, fires-turn, hears-turn, holds-turn, injects-turn, opens-turn, shuts-turn, takes-turn, writes-turn}
+use Rattle.lard_law_view.proofs.PlaceTurns.{IsClientTurn, aborts-turn, fires-turn, hears-turn, holds-turn, injects-turn, opens-turn, shuts-turn, takes-turn, writes-turn}
 
 -- All that a move says is of its connection.
 pub record IsItsOwn (x : Conn) (v : Move) : Type 0 where

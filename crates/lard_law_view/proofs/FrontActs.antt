@@ -19,7 +19,7 @@ use Rattle.lard_rules.specs.FrontPlace.{front_deed, front_part, out_of, put_back
 use Rattle.lard_rules.proofs.FrontParts.{part_other, part_put}
 use Rattle.lard_history.specs.Laws.{AreOwn}
 use Rattle.lard_history.specs.Own.{Seen}
-use Rattle.lard_law_ends.proofs.OwnRecords.{behind}
+use Rattle.lard_law_view.proofs.OwnRecords.{behind}
 
 pub front-put : (m : Machine) (s : FrontState) → IsPut m (record m { front = s })
 front-put m s = record { config = refl; files = refl; net = refl; journal = refl; events = refl; answered = refl; now = refl; nodes = refl; jobs = λ h. h }

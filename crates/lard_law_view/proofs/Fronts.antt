@@ -55,9 +55,9 @@ use Rattle.lard_rules.specs.Serving.{Service, consumed, may_read, ready_of, serv
 use Rattle.lard_rules.proofs.Runs.{runs_keep}
 use Rattle.lard_segment.specs.declared.fault.SegFault.{SegFault}
 use Rattle.lard_segment.specs.Segment.{Said}
-use Rattle.lard_law_ends.proofs.EndpointSends as endpoints
-use Rattle.lard_law_ends.proofs.PlaceTurns as turns
-use Rattle.lard_law_ends.proofs.PlaceTurns.{AreNoted, IsServingTurn, NotesServing}
+use Rattle.lard_law_view.proofs.EndpointSends as endpoints
+use Rattle.lard_law_view.proofs.PlaceTurns as turns
+use Rattle.lard_law_view.proofs.PlaceTurns.{AreNoted, IsServingTurn, NotesServing}
 
 -- A turn is of connection c.
 abbrev pub IsFrontTurn : ℕ → FrontTurn → Type 0

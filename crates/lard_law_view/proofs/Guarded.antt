@@ -14,7 +14,7 @@ use Rattle.lard_journal.specs.declared.rec.Rec.{Rec}
 use Rattle.lard_journal.specs.declared.rec.Rec.TheVariants as rec
 use Rattle.lard_rules.specs.Client.{client_injects}
 use Rattle.lard_rules.specs.declared.places.Station.{Station}
-use Rattle.lard_law_ends.proofs.Untouched.{touched-stays}
+use Rattle.lard_law_view.proofs.Untouched.{touched-stays}
 
 module _ (k : Setting) (P Q : Conn → Move → Type 0) where
   -- ---- less is so of each rule, where more is

@@ -15,8 +15,8 @@ use Rattle.lard_history.proofs.Seeing.{AreOf, has-letter, of-whose, one-mine, on
 use Rattle.lard_journal.specs.declared.rec.Rec.{Rec}
 use Rattle.lard_journal.specs.declared.rec.Rec.TheVariants as rec
 use Rattle.lard_net.specs.Net.{Packet, packet_at}
-use Rattle.lard_law_ends.proofs.Deliveries.{IsDelivered, IsHead}
-use Rattle.lard_law_ends.proofs.OwnRecords.{IsAside, behind}
+use Rattle.lard_law_view.proofs.Deliveries.{IsDelivered, IsHead}
+use Rattle.lard_law_view.proofs.OwnRecords.{IsAside, behind}
 
 -- the place acts in the step of the event: it is named, or a packet comes to it
 abbrev pub ActsAt : List Packet → Event → Place → Type 0

@@ -34,7 +34,7 @@ use Rattle.lard_rules.specs.NodePlace as place
 use Rattle.lard_rules.specs.NodePlace.{NodeSetting, aside, node_deed, node_did, node_out, node_part, timers_of}
 use Rattle.lard_rules.specs.declared.places.Out.{Out}
 use Rattle.lard_rules.specs.Outs.{nothing_done}
-use Rattle.lard_law_ends.proofs.OwnRecords.{behind}
+use Rattle.lard_law_view.proofs.OwnRecords.{behind}
 
 -- ---- what a node keeps is put back
 

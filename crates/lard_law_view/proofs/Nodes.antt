@@ -39,9 +39,9 @@ use Rattle.lard_rules.specs.Loop.{state_of}
 use Rattle.lard_rules.specs.Serving.{Service, ready_of, serving, settled, spoken}
 use Rattle.lard_segment.specs.declared.fault.SegFault.{SegFault}
 use Rattle.lard_segment.specs.Segment.{Said}
-use Rattle.lard_law_ends.proofs.EndpointSends as endpoints
-use Rattle.lard_law_ends.proofs.PlaceTurns as turns
-use Rattle.lard_law_ends.proofs.PlaceTurns.{IsServingTurn}
+use Rattle.lard_law_view.proofs.EndpointSends as endpoints
+use Rattle.lard_law_view.proofs.PlaceTurns as turns
+use Rattle.lard_law_view.proofs.PlaceTurns.{IsServingTurn}
 
 -- one message more, in its place
 pub anew-all : (P : Kept → Type 0) (k : Kept) (ks : List Kept) → P k → AllByRecursion P ks → AllByRecursion P (anew k ks)

@@ -15,7 +15,7 @@ use Rattle.lard_history.proofs.Lifting.{each_row-append}
 use Rattle.lard_history.proofs.Tales.{others, told_on-append}
 use Rattle.lard_journal.specs.declared.rec.Rec.{Rec}
 use Rattle.lard_journal.specs.declared.rec.Rec.TheVariants as rec
-use Rattle.lard_law_ends.proofs.Rows.{MayBeSeen, TellsBy-append, each_row-told, seen-rows}
+use Rattle.lard_law_view.proofs.RowLists.{MayBeSeen, TellsBy-append, each_row-told, seen-rows}
 
 -- ---- folds
 

@@ -15,8 +15,8 @@ use Rattle.lard_journal.specs.declared.rec.Rec.{Rec}
 use Rattle.lard_journal.specs.declared.rec.Rec.TheVariants as rec
 use Rattle.lard_rules.specs.Sent.{packets_of, sent_records}
 use Rattle.lard_net.specs.Net.{Packet}
-use Rattle.lard_law_ends.proofs.Firsts.{AreOthers, HasOwn}
-use Rattle.lard_law_ends.proofs.OwnRecords.{behind}
+use Rattle.lard_law_view.proofs.Firsts.{AreOthers, HasOwn}
+use Rattle.lard_law_view.proofs.OwnRecords.{behind}
 
 -- ---- notes
 

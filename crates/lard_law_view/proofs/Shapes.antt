@@ -20,8 +20,8 @@ use Rattle.lard_journal.specs.declared.rec.Rec.TheVariants as rec
 use Rattle.lard_net.specs.Net.{Packet, lose_at, packet_at}
 use Rattle.lard_rules.specs.declared.node.NodeState.{NodeState}
 use Rattle.lard_rules.specs.declared.places.Out.{Out}
-use Rattle.lard_law_ends.proofs.Firsts.{HasOwn}
-use Rattle.lard_law_ends.proofs.OwnRecords.{behind}
+use Rattle.lard_law_view.proofs.Firsts.{HasOwn}
+use Rattle.lard_law_view.proofs.OwnRecords.{behind}
 
 -- each job of each disk is of a connection
 abbrev pub HasJobs : Machine → Type 0

@@ -37,9 +37,9 @@ use Rattle.lard_rules.specs.declared.places.Turn.{Turn}
 use Rattle.lard_rules.specs.Client.{client_aborts, client_gets, client_holds, client_injects, client_opens, client_shuts, client_takes, client_timer, client_writes}
 use Rattle.lard_segment.specs.declared.segment.Dir.TheVariants.{ToClient}
 use Rattle.lard_segment.specs.Segment.{decoded}
-use Rattle.lard_law_ends.proofs.Firsts.{HasOwn, gets-others, own-alone, writes-own}
-use Rattle.lard_law_ends.proofs.OwnRecords.{behind}
-use Rattle.lard_law_ends.proofs.PlaceTurns.{IsClientTurn, aborts-turn, fires-turn, hears-turn, holds-turn, injects-turn, opens-turn, shuts-turn, takes-turn, writes-turn}
+use Rattle.lard_law_view.proofs.Firsts.{HasOwn, gets-others, own-alone, writes-own}
+use Rattle.lard_law_view.proofs.OwnRecords.{behind}
+use Rattle.lard_law_view.proofs.PlaceTurns.{IsClientTurn, aborts-turn, fires-turn, hears-turn, holds-turn, injects-turn, opens-turn, shuts-turn, takes-turn, writes-turn}
 
 module _ (m : Machine) (view : IsViewed m) (P : Conn → Move → Type 0) (R : Rules (setting_of m) P) (Q : Event → Machine → Type 0) (shapes : Shapes m P Q) where
   -- ---- events of clients

@@ -26,7 +26,7 @@ use Rattle.lard_journal.specs.declared.rec.Rec.TheVariants as rec
 use Rattle.lard_rules.specs.Sent.{packet_of, packets_of, sent_records}
 use Rattle.lard_net.specs.Net.{Packet, lose_at, packet_at}
 use Rattle.lard_rules.specs.declared.places.Out.{Out}
-use Rattle.lard_law_ends.proofs.OwnRecords.{behind}
+use Rattle.lard_law_view.proofs.OwnRecords.{behind}
 
 -- ---- what is seen of an act on two connections
 

@@ -17,7 +17,7 @@ use Rattle.lard_message.specs.declared.message.Body.{Body}
 use Rattle.lard_message.specs.Message.{spelled_message}
 use Rattle.lard_resend.specs.declared.kept.Kept.{Kept}
 use Rattle.lard_resend.specs.Pending.{sent_of}
-use Rattle.lard_law_ends.proofs.EndpointSends.{AllTo}
+use Rattle.lard_law_view.proofs.EndpointSends.{AllTo}
 
 -- ---- what a turn says
 

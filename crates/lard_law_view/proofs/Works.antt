@@ -27,8 +27,8 @@ use Rattle.lard_rules.specs.Loop.{Step, state_of}
 use Rattle.lard_rules.specs.Loop as loop
 use Rattle.lard_rules.specs.Serving.{Service, consumed}
 use Rattle.lard_rules.proofs.Runs.{runs_keep}
-use Rattle.lard_law_ends.proofs.PlaceTurns as turns
-use Rattle.lard_law_ends.proofs.PlaceTurns.{AreNoted, NotesServing}
+use Rattle.lard_law_view.proofs.PlaceTurns as turns
+use Rattle.lard_law_view.proofs.PlaceTurns.{AreNoted, NotesServing}
 
 pub all-append : {A : Type 0} (P : A → Type 0) (xs ys : List A) → AllByRecursion P xs → AllByRecursion P ys → AllByRecursion P (xs ++ ys)
 all-append P [] ys e f = f

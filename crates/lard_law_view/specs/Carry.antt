@@ -11,7 +11,7 @@ use Rattle.lard_history.specs.Journal.{Tale}
 use Rattle.lard_history.specs.Own.{EachRow, Seen, tale_of}
 use Rattle.lard_journal.specs.declared.rec.Rec.{Rec}
 use Rattle.lard_journal.specs.declared.rec.Rec.TheVariants as rec
-pub use Rattle.lard_law_ends.specs.WhileUntouched.{TellsBy, WhileUntouched}
+pub use Rattle.lard_law_view.specs.WhileUntouched.{TellsBy, WhileUntouched}
 
 abbrev pub setting : Config → List (List ℕ × List ℕ) → Setting
 setting config files = record { files = file_at files; stream = config.stream; nodes = config.nodes }

@@ -1,3 +1,16 @@
+pub mod TruthLaws
+pub mod Truth
+pub mod WhileUntouched
+pub mod Sending
+pub mod ClientTale
+pub mod Agreement
+pub mod Keeping
+pub mod Truthful
+pub mod Taking
+pub mod ClientRule
+pub mod Timers
+pub mod Quiet
+pub mod Seat
 pub mod Carry
 pub mod Laws
 pub mod View

@@ -2,33 +2,33 @@
 use Rattle.std.specs.Prelude.{◌≤◌}
 use Rattle.lard_base.proofs.Usable.{usable}
 use Rattle.lard_base.specs.declared.limits.TheConstants.{MAX_STREAM_BYTES}
-use Rattle.lard_law_asks.proofs.Asking.{asks-go-on}
-use Rattle.lard_law_asks.proofs.Runs.{asks-answered, batches-end}
-use Rattle.lard_law_ways.proofs.BackingQueuing.{jobs-are-asked}
-use Rattle.lard_law_ways.proofs.BackingRuns.{home-answers, jobs-start, requests-named, responses-backed}
-use Rattle.lard_law_bytes.proofs.BytesRuns.{clients-accept, journals-serve, journals-tell, states-truthful}
-use Rattle.lard_law_steps.proofs.ClientsTables.{clients-keep}
-use Rattle.lard_law_steps.proofs.ClientsTaking.{clients-take}
-use Rattle.lard_law_steps.proofs.ClientsWriters.{writers-are}
+use Rattle.lard_laws.proofs.AsksAsking.{asks-go-on}
+use Rattle.lard_laws.proofs.AsksRuns.{asks-answered, batches-end}
+use Rattle.lard_laws.proofs.BackingQueuing.{jobs-are-asked}
+use Rattle.lard_laws.proofs.BackingRuns.{home-answers, jobs-start, requests-named, responses-backed}
+use Rattle.lard_law_connections.proofs.BytesRuns.{clients-accept, journals-serve, journals-tell, states-truthful}
+use Rattle.lard_laws.proofs.ClientsTables.{clients-keep}
+use Rattle.lard_laws.proofs.ClientsTaking.{clients-take}
+use Rattle.lard_laws.proofs.ClientsWriters.{writers-are}
 use Rattle.lard_laws.specs.Lawful.{JournalsAreLawful}
-use Rattle.lard_law_places.proofs.LimitsRuns.{resets-lawful}
-use Rattle.lard_law_line.proofs.LineBounds.{connections-stay-few, never-all-busy, loads-near-the-thresholds, loads-within-the-room}
-use Rattle.lard_law_line.proofs.LineRuns.{line-passes, takes-release, waits-at-a-full-room, waits-at-the-front-end}
-use Rattle.lard_law_places.proofs.MotionRuns.{connections-move}
-use Rattle.lard_law_bytes.proofs.OffersRuns.{offers-carry}
-use Rattle.lard_law_places.proofs.PlacesRuns.{owners-are, senders-are}
-use Rattle.lard_law_policy.proofs.Counted.{admits-by-room, admits-to-a-node, assigns-as-stated, loads-are-charges, releases-what-it-took, servers-are-told, shares-one-batch, stays-within}
-use Rattle.lard_law_quiet.proofs.QuietEnds.{journals-complete}
-use Rattle.lard_law_steps.proofs.RecordsThere.{only-nodes}
-use Rattle.lard_law_ways.proofs.SizesRuns.{batches-sized}
-use Rattle.lard_law_steps.proofs.StepsLinking.{reached-linked}
-use Rattle.lard_law_steps.proofs.StepsPlaces.{reached-in-place}
-use Rattle.lard_law_steps.proofs.StepsTimers.{timers-change}
-use Rattle.lard_law_stores.proofs.StoresDisks.{disks-read}
-use Rattle.lard_law_stores.proofs.StoresStored.{lawful}
-use Rattle.lard_law_ways.proofs.WaysEarlier.{contents-were-there}
-use Rattle.lard_law_ways.proofs.WaysRuns.{assign-a-prefix, assign-in-order, contents-come}
-use Rattle.lard_law_ways.proofs.WaysSteps.{contents-are-files}
+use Rattle.lard_law_connections.proofs.LimitsRuns.{resets-lawful}
+use Rattle.lard_law_connections.proofs.LineBounds.{connections-stay-few, never-all-busy, loads-near-the-thresholds, loads-within-the-room}
+use Rattle.lard_law_connections.proofs.LineRuns.{line-passes, takes-release, waits-at-a-full-room, waits-at-the-front-end}
+use Rattle.lard_law_connections.proofs.MotionRuns.{connections-move}
+use Rattle.lard_law_connections.proofs.OffersRuns.{offers-carry}
+use Rattle.lard_law_connections.proofs.PlacesRuns.{owners-are, senders-are}
+use Rattle.lard_law_connections.proofs.PolicyCounted.{admits-by-room, admits-to-a-node, assigns-as-stated, loads-are-charges, releases-what-it-took, servers-are-told, shares-one-batch, stays-within}
+use Rattle.lard_laws.proofs.QuietEnds.{journals-complete}
+use Rattle.lard_laws.proofs.RecordsThere.{only-nodes}
+use Rattle.lard_laws.proofs.SizesRuns.{batches-sized}
+use Rattle.lard_laws.proofs.StepsLinking.{reached-linked}
+use Rattle.lard_laws.proofs.StepsPlaces.{reached-in-place}
+use Rattle.lard_laws.proofs.StepsTimers.{timers-change}
+use Rattle.lard_law_connections.proofs.StoresDisks.{disks-read}
+use Rattle.lard_law_connections.proofs.StoresStored.{lawful}
+use Rattle.lard_laws.proofs.WaysEarlier.{contents-were-there}
+use Rattle.lard_laws.proofs.WaysRuns.{assign-a-prefix, assign-in-order, contents-come}
+use Rattle.lard_laws.proofs.WaysSteps.{contents-are-files}
 
 pub journals-lawful : JournalsAreLawful
 journals-lawful config files m checked r =

@@ -5,30 +5,30 @@ use Rattle.lard_base.specs.Config.{config_check, room_of}
 use Rattle.lard_base.specs.declared.config.Config.{Config}
 use Rattle.lard_rules.specs.declared.machine.Machine.{Machine}
 use Rattle.lard_rules.specs.Machine.{IsReached}
-use Rattle.lard_law_asks.specs.Answers.{MustAnswer, MustEnd}
-use Rattle.lard_law_asks.specs.Sent.{MustAsk}
-use Rattle.lard_law_ways.specs.BackingJobs.{MustQueue}
-use Rattle.lard_law_ways.specs.BackingRequests.{MayAnswer, MayBeBacked, MayName, MayStart}
-use Rattle.lard_law_bytes.specs.BytesRecords.{ServesTheAnswers}
-use Rattle.lard_law_line.specs.LineLaws.{HasFewConnections, IsNearTheThresholds, IsNotBusy, IsWithinTheRoom, LineNeedsAFullRoom, MayPass, MayWait, MustRelease}
-use Rattle.lard_law_places.specs.Motion.{MustMove}
-use Rattle.lard_law_bytes.specs.Offers.{CarryTheEndpoint}
-use Rattle.lard_law_policy.specs.Laws.{AreLoadsCharged, ArePaired, AreServersTold, MayAdmit, MayAssign, MayRelease, MayShare, Nothing, last_of}
+use Rattle.lard_laws.specs.AsksAnswers.{MustAnswer, MustEnd}
+use Rattle.lard_laws.specs.AsksSent.{MustAsk}
+use Rattle.lard_laws.specs.BackingJobs.{MustQueue}
+use Rattle.lard_laws.specs.BackingRequests.{MayAnswer, MayBeBacked, MayName, MayStart}
+use Rattle.lard_law_connections.specs.BytesRecords.{ServesTheAnswers}
+use Rattle.lard_law_connections.specs.LineLaws.{HasFewConnections, IsNearTheThresholds, IsNotBusy, IsWithinTheRoom, LineNeedsAFullRoom, MayPass, MayWait, MustRelease}
+use Rattle.lard_law_connections.specs.Motion.{MustMove}
+use Rattle.lard_law_connections.specs.Offers.{CarryTheEndpoint}
+use Rattle.lard_law_connections.specs.PolicyLaws.{AreLoadsCharged, ArePaired, AreServersTold, MayAdmit, MayAssign, MayRelease, MayShare, Nothing, last_of}
 use Rattle.lard_counts.specs.Ledger.{Ledger, admitted, ledger}
-use Rattle.lard_law_quiet.specs.Quiet.{CompletesWhenQuiet}
-use Rattle.lard_law_steps.specs.RecordsMessages.{MayBeThere}
-use Rattle.lard_law_ways.specs.Sizes.{MustSize}
-use Rattle.lard_law_stores.specs.StoresLaws.{MayStore, MustRead}
-use Rattle.lard_law_ways.specs.WaysBefore.{MayBeServed}
-use Rattle.lard_law_ways.specs.WaysContents.{MustBring}
-use Rattle.lard_law_ways.specs.Ways.{AreAssignedInOrder, AssignsAPrefix, ComeAsAssigned}
+use Rattle.lard_laws.specs.Quiet.{CompletesWhenQuiet}
+use Rattle.lard_laws.specs.RecordsMessages.{MayBeThere}
+use Rattle.lard_laws.specs.Sizes.{MustSize}
+use Rattle.lard_law_connections.specs.StoresLaws.{MayStore, MustRead}
+use Rattle.lard_laws.specs.WaysBefore.{MayBeServed}
+use Rattle.lard_laws.specs.WaysContents.{MustBring}
+use Rattle.lard_laws.specs.Ways.{AreAssignedInOrder, AssignsAPrefix, ComeAsAssigned}
 use Rattle.lard_files.specs.Files.{file_at}
 use Rattle.lard_history.specs.Laws.{AcceptsOnlyAnswers, ActsInPlace, EachMay, IsNetwork, IsOwnership, IsSoleSender, KeepsTime, ResetsAtTheLimit, TellsTheTruth, WritesWhileOpen}
 use Rattle.lard_history.specs.Steps.{AtEachEnd, EachStep, steps}
 use Rattle.lard_journal.specs.declared.rec.Rec.{Rec}
-use Rattle.lard_law_ends.specs.Taking.{TakesInOrder}
-use Rattle.lard_law_ends.specs.ClientRule.{KeepsTables}
-use Rattle.lard_law_ends.specs.Timers.{ChangesInSteps}
+use Rattle.lard_law_view.specs.Taking.{TakesInOrder}
+use Rattle.lard_law_view.specs.ClientRule.{KeepsTables}
+use Rattle.lard_law_view.specs.Timers.{ChangesInSteps}
 
 -- P is so, at every moment, of what the journal counts and of the records so far.
 abbrev pub Throughout : (Ledger → List Rec → Type 0) → Config → List Rec → Type 0

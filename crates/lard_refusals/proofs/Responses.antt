@@ -4,8 +4,8 @@ use Rattle.std.specs.Fmt.{digits}
 use Rattle.std.specs.List.{concat}
 use Rattle.std.specs.Prelude.{codes, slice_get}
 use Rattle.lard_answers.specs.Answers.{answer, answer_bytes, answers, goods, goods_from, verdicts}
-use Rattle.lard_law_ways.specs.BackingRequests.{IsFor}
-use Rattle.lard_law_ways.specs.Ways.{good_paths}
+use Rattle.lard_laws.specs.BackingRequests.{IsFor}
+use Rattle.lard_laws.specs.Ways.{good_paths}
 use Rattle.lard_history.specs.Journal.{request}
 use Rattle.lard_refusals.specs.Refusals.{two_files}
 use Rattle.lard_refusals.proofs.Requests.{nothing-asked, request-asks}

@@ -4,8 +4,8 @@ use Rattle.lard_base.specs.Config.{room_of}
 use Rattle.lard_base.specs.declared.event.Event.TheVariants as event
 use Rattle.lard_base.specs.declared.place.Place.TheVariants.{Front, Node}
 use Rattle.lard_laws.specs.Lawful.{EachCounted, Throughout}
-use Rattle.lard_law_line.specs.LineLaws.{LineNeedsAFullRoom, MayPass, MayWait, MustRelease}
-use Rattle.lard_law_policy.specs.Laws.{ArePaired, MayAdmit, MayRelease, Nothing, last_of}
+use Rattle.lard_law_connections.specs.LineLaws.{LineNeedsAFullRoom, MayPass, MayWait, MustRelease}
+use Rattle.lard_law_connections.specs.PolicyLaws.{ArePaired, MayAdmit, MayRelease, Nothing, last_of}
 use Rattle.lard_counts.specs.Ledger.{admitted, ledger}
 use Rattle.lard_history.specs.Laws.{EachMay}
 use Rattle.lard_history.specs.Steps.{AtEachEnd, EachStep, steps}

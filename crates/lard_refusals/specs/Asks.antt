@@ -3,10 +3,10 @@ use Rattle.std.specs.Prelude.{ℕ, List, [], ◌∷◌, None, Some, codes}
 use Rattle.lard_base.specs.declared.event.Event.TheVariants as event
 use Rattle.lard_base.specs.declared.place.Place.TheVariants.{Front, Node}
 use Rattle.lard_base.specs.declared.place.Via.TheVariants as via
-use Rattle.lard_law_asks.specs.Answers.{MustAnswer, MustEnd}
-use Rattle.lard_law_asks.specs.Sent.{MustAsk}
-use Rattle.lard_law_ways.specs.Sizes.{MustSize}
-use Rattle.lard_law_ways.specs.Ways.{AreAssignedInOrder, AssignsAPrefix, ComeAsAssigned}
+use Rattle.lard_laws.specs.AsksAnswers.{MustAnswer, MustEnd}
+use Rattle.lard_laws.specs.AsksSent.{MustAsk}
+use Rattle.lard_laws.specs.Sizes.{MustSize}
+use Rattle.lard_laws.specs.Ways.{AreAssignedInOrder, AssignsAPrefix, ComeAsAssigned}
 use Rattle.lard_history.specs.Journal.{request}
 use Rattle.lard_history.specs.Steps.{EachStep, steps}
 use Rattle.lard_journal.specs.declared.rec.Rec.{Rec}

@@ -6,9 +6,9 @@ use Rattle.lard_base.specs.declared.place.TimerKind.TheVariants.{Tcp}
 use Rattle.lard_history.specs.Laws.{WritesWhileOpen}
 use Rattle.lard_journal.specs.declared.rec.Rec.{Rec}
 use Rattle.lard_journal.specs.declared.rec.Rec.TheVariants as rec
-use Rattle.lard_law_ends.specs.Taking.{TakesInOrder}
-use Rattle.lard_law_ends.specs.ClientRule.{KeepsTables}
-use Rattle.lard_law_ends.specs.Timers.{ChangesInSteps}
+use Rattle.lard_law_view.specs.Taking.{TakesInOrder}
+use Rattle.lard_law_view.specs.ClientRule.{KeepsTables}
+use Rattle.lard_law_view.specs.Timers.{ChangesInSteps}
 use Rattle.lard_refusals.specs.Packets.{acknowledgement, syn, two_bytes}
 use Rattle.lard_refusals.specs.Refusals.{Law, took}
 

@@ -3,11 +3,11 @@ use Rattle.std.specs.Prelude.{List, [], ◌∷◌, None, Some, codes}
 use Rattle.lard_base.specs.declared.event.Event.TheVariants as event
 use Rattle.lard_base.specs.declared.place.Place.TheVariants.{Node}
 use Rattle.lard_base.specs.declared.place.Via.TheVariants as via
-use Rattle.lard_law_ways.specs.BackingJobs.{MustQueue}
-use Rattle.lard_law_ways.specs.BackingRequests.{MayBeBacked, MayStart}
-use Rattle.lard_law_stores.specs.StoresLaws.{MayStore, MustRead}
-use Rattle.lard_law_ways.specs.WaysBefore.{MayBeServed}
-use Rattle.lard_law_ways.specs.WaysContents.{MustBring}
+use Rattle.lard_laws.specs.BackingJobs.{MustQueue}
+use Rattle.lard_laws.specs.BackingRequests.{MayBeBacked, MayStart}
+use Rattle.lard_law_connections.specs.StoresLaws.{MayStore, MustRead}
+use Rattle.lard_laws.specs.WaysBefore.{MayBeServed}
+use Rattle.lard_laws.specs.WaysContents.{MustBring}
 use Rattle.lard_history.specs.Journal.{request}
 use Rattle.lard_history.specs.Laws.{EachMay}
 use Rattle.lard_history.specs.Steps.{EachStep, steps}

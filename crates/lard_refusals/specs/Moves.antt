@@ -2,8 +2,8 @@
 use Rattle.std.specs.Prelude.{List, [], ◌∷◌, None, Some, codes}
 use Rattle.lard_base.specs.declared.event.Event.TheVariants as event
 use Rattle.lard_base.specs.declared.place.Place.TheVariants.{Client, Front, Node}
-use Rattle.lard_law_places.specs.Motion.{MustMove}
-use Rattle.lard_law_bytes.specs.Offers.{CarryTheEndpoint}
+use Rattle.lard_law_connections.specs.Motion.{MustMove}
+use Rattle.lard_law_connections.specs.Offers.{CarryTheEndpoint}
 use Rattle.lard_history.specs.Journal.{request}
 use Rattle.lard_history.specs.Steps.{EachStep, steps}
 use Rattle.lard_journal.specs.declared.rec.Rec.{Rec}

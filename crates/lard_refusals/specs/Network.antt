@@ -2,7 +2,7 @@
 use Rattle.std.specs.Prelude.{List, [], ◌∷◌, codes}
 use Rattle.lard_base.specs.declared.event.Event.TheVariants as event
 use Rattle.lard_base.specs.declared.place.Place.TheVariants.{Client, Front, Node}
-use Rattle.lard_law_steps.specs.RecordsMessages.{MayBeThere}
+use Rattle.lard_laws.specs.RecordsMessages.{MayBeThere}
 use Rattle.lard_history.specs.Laws.{ActsInPlace, EachMay, IsNetwork, KeepsTime}
 use Rattle.lard_journal.specs.declared.rec.Rec.{Rec}
 use Rattle.lard_journal.specs.declared.rec.Rec.TheVariants as rec

@@ -2,8 +2,8 @@
 use Rattle.std.specs.Prelude.{ℕ, List, [], ◌∷◌, None, Some, codes}
 use Rattle.lard_base.specs.declared.event.Event.TheVariants as event
 use Rattle.lard_laws.specs.Lawful.{EachCounted, Throughout}
-use Rattle.lard_law_line.specs.LineLaws.{HasFewConnections, IsNearTheThresholds, IsNotBusy, IsWithinTheRoom}
-use Rattle.lard_law_policy.specs.Laws.{AreLoadsCharged, AreServersTold, MayAssign, MayShare, last_of}
+use Rattle.lard_law_connections.specs.LineLaws.{HasFewConnections, IsNearTheThresholds, IsNotBusy, IsWithinTheRoom}
+use Rattle.lard_law_connections.specs.PolicyLaws.{AreLoadsCharged, AreServersTold, MayAssign, MayShare, last_of}
 use Rattle.lard_counts.specs.Ledger.{ledger}
 use Rattle.lard_history.specs.Laws.{EachMay}
 use Rattle.lard_journal.specs.declared.rec.Rec.{Rec}

@@ -1,7 +1,7 @@
 -- Journals in which a connection comes to rest and is not complete.
 use Rattle.std.specs.Prelude.{List, [], ◌∷◌, codes}
 use Rattle.lard_base.specs.declared.event.Event.TheVariants as event
-use Rattle.lard_law_quiet.specs.Quiet.{CompletesWhenQuiet}
+use Rattle.lard_laws.specs.Quiet.{CompletesWhenQuiet}
 use Rattle.lard_history.specs.Journal.{request}
 use Rattle.lard_journal.specs.declared.rec.Rec.{Rec}
 use Rattle.lard_journal.specs.declared.rec.Rec.TheVariants as rec

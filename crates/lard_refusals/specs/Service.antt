@@ -2,8 +2,8 @@
 use Rattle.std.specs.Prelude.{List, [], ◌∷◌, ◌++◌, None, Some, codes}
 use Rattle.lard_base.specs.declared.place.Place.TheVariants.{Client, Front, Node}
 use Rattle.lard_base.specs.declared.place.Via.TheVariants as via
-use Rattle.lard_law_ways.specs.BackingRequests.{MayAnswer, MayName}
-use Rattle.lard_law_bytes.specs.BytesRecords.{ServesTheAnswers}
+use Rattle.lard_laws.specs.BackingRequests.{MayAnswer, MayName}
+use Rattle.lard_law_connections.specs.BytesRecords.{ServesTheAnswers}
 use Rattle.lard_history.specs.Journal.{request}
 use Rattle.lard_history.specs.Laws.{AcceptsOnlyAnswers, EachMay, ResetsAtTheLimit, TellsTheTruth}
 use Rattle.lard_journal.specs.declared.rec.Rec.{Rec}

@@ -1,7 +1,7 @@
 //! Machines that go on by rounds, whatever they are: where each step owes a measure that never grows, and where what
 //! timers send surely lowers it within some rounds, they come to rest within a number of rounds.
 //!
-//! It has no code, and stands on no other crate: a settle of the cluster is such a machine, by `lard_law_enough`.
+//! It has no code, and stands on no other crate: a settle of the cluster is such a machine, by `lard_law_settles`.
 #![tactic(auto)]
 
 ghost use Rattle.lard_rounds.specs.Tests.{MachinesComeToRest};

@@ -20,7 +20,7 @@ use Rattle.lard_journal.specs.declared.rec.Rec.{Rec}
 use Rattle.lard_journal.specs.declared.rec.Rec.TheVariants as rec
 use Rattle.lard_rules.specs.Sent.{sent_records}
 use Rattle.lard_rules.specs.declared.places.Out.{Out}
-use Rattle.lard_law_ends.proofs.OwnRecords.{behind}
+use Rattle.lard_law_view.proofs.OwnRecords.{behind}
 
 -- it begins a step, or closes a settle
 abbrev pub is_mark : Rec → Bool

@@ -42,8 +42,8 @@ use Rattle.lard_rules.specs.Outs.{out_of}
 use Rattle.lard_rules.specs.Client.{client_opens, client_writes, client_shuts, client_holds, client_takes, client_aborts, client_timer, client_gets, client_injects}
 use Rattle.lard_segment.specs.declared.segment.Dir.TheVariants.{ToClient}
 use Rattle.lard_segment.specs.Segment.{decoded}
-use Rattle.lard_law_enough.specs.Enough.{RestsWithEnough}
-use Rattle.lard_law_enough.proofs.EnoughLaw.{settles-rest}
+use Rattle.lard_law_settles.specs.Enough.{RestsWithEnough}
+use Rattle.lard_law_settles.proofs.EnoughLaw.{settles-rest}
 use Rattle.lard_settling.specs.Steps.{as_inner, inner_given, inner_step, settle_begun, settle_closed}
 use Rattle.lard_settling.specs.Written.{IsWrittenOut, written_out}
 use Rattle.lard_settling.proofs.Written.{given-done, written}

@@ -1,4 +1,4 @@
 pub mod World
 pub mod Runs
 pub use Rattle.lard_laws.specs.Lawful
-pub use Rattle.lard_law_enough.specs.Enough
+pub use Rattle.lard_law_settles.specs.Enough

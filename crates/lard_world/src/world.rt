@@ -8,7 +8,7 @@ ghost use Rattle.lard_laws.specs.Lawful.{IsLawful};
 ghost use Rattle.lard_world.specs.World.{is_short};
 ghost use Rattle.lard_files.specs.Files.{file_at};
 ghost use Rattle.lard_rules.specs.NodePlace.{no_stays};
-ghost use Rattle.lard_law_enough.specs.Enough.{RestsWithEnough};
+ghost use Rattle.lard_law_settles.specs.Enough.{RestsWithEnough};
 ghost use Rattle.lard_settling.specs.Left.{is_holder, jobs_at};
 ghost use Rattle.lard_settling.specs.Settling as settling_of;
 ghost use Rattle.lard_settling.specs.Steps.{inner_step, settle_begun, settle_closed};

@@ -2,8 +2,8 @@ use Rattle.std.proofs.Common.{◌≡◌, ℕ, List, [], ◌∷◌, Option, ap, �
 use Rattle.std.specs.FinMap.{get-empty}
 use Rattle.std.specs.Ordering.{nat_cmp}
 use Rattle.std.specs.Prelude.{codes, length, nat_lt}
-use Rattle.lard_law_asks.specs.Answers.{ends_due}
-use Rattle.lard_law_asks.specs.Asks.{Assigned}
+use Rattle.lard_laws.specs.AsksAnswers.{ends_due}
+use Rattle.lard_laws.specs.Asks.{Assigned}
 use Rattle.lard_loads.specs.Tally.{Standing, shares_of}
 use Rattle.lard_refusals.proofs.asks.batch_ends_refuses.Goals as goal
 

@@ -1,6 +1,6 @@
 use Rattle.std.proofs.Common.{◌≡◌, ℕ, List, [], ◌∷◌}
 use Rattle.std.specs.Prelude.{codes}
-use Rattle.lard_law_asks.specs.Asks.{Assigned}
+use Rattle.lard_laws.specs.Asks.{Assigned}
 use Rattle.lard_history.specs.Own.{own}
 use Rattle.lard_message.specs.Reading.{ask_at, counted_at, decoded_message, paths_at}
 use Rattle.lard_refusals.specs.Packets.{tag}

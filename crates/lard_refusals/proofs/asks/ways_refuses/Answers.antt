@@ -2,7 +2,7 @@ use Rattle.std.proofs.Common.{◌≡◌, ℕ, List, [], ◌∷◌, None, Some, r
 use Rattle.std.specs.Prelude.{codes, slice_get}
 use Rattle.lard_base.specs.declared.place.Place.TheVariants.{Front, Node}
 use Rattle.lard_base.specs.declared.place.Via.TheVariants as via
-use Rattle.lard_law_ways.specs.Ways.{AnswersBy, Marks}
+use Rattle.lard_laws.specs.Ways.{AnswersBy, Marks}
 use Rattle.lard_history.specs.Journal.{request}
 use Rattle.lard_refusals.specs.Refusals.{two_files}
 use Rattle.lard_refusals.proofs.Requests.{nothing-asked, request-asks}

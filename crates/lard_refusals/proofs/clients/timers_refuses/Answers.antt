@@ -5,7 +5,7 @@ use Rattle.lard_base.specs.declared.place.Place.TheVariants.{Front}
 use Rattle.lard_base.specs.declared.place.TimerKind.TheVariants.{Tcp}
 use Rattle.lard_journal.specs.declared.rec.Rec.{Rec}
 use Rattle.lard_journal.specs.declared.rec.Rec.TheVariants as rec
-use Rattle.lard_law_ends.specs.Timers.{is_change, is_change_of}
+use Rattle.lard_law_view.specs.Timers.{is_change, is_change_of}
 use Rattle.lard_refusals.specs.Refusals.{took}
 use Rattle.lard_refusals.proofs.clients.timers_refuses.Goals as goal
 

@@ -1,5 +1,5 @@
 use Rattle.std.proofs.Common.{ℕ, ◌≤◌, [], refl, arith}
-use Rattle.lard_law_line.specs.LineLaws.{connections}
+use Rattle.lard_law_connections.specs.LineLaws.{connections}
 use Rattle.lard_dispatch.specs.Loads.{is_at}
 use Rattle.lard_history.specs.Journal.{home}
 use Rattle.lard_refusals.specs.Placing.{three_at_one_node}

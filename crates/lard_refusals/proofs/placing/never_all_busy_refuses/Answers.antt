@@ -1,6 +1,6 @@
 use Rattle.std.proofs.Common.{◌≡◌, ℕ, zero, suc, ◌+◌, ◌≤◌, true, [], count_by, nat_le, refl, arith}
 use Rattle.std.proofs.lemmas.Bool.Decides.{nat_tests}
-use Rattle.lard_law_line.specs.LineLaws.{connections}
+use Rattle.lard_law_connections.specs.LineLaws.{connections}
 use Rattle.lard_dispatch.specs.Loads.{is_at}
 use Rattle.lard_history.specs.Journal.{home}
 use Rattle.lard_loads.specs.Tally.{numbers}

@@ -1,8 +1,8 @@
 use Rattle.std.proofs.Common.{◌≡◌, List, [], ◌∷◌, refl, subst, sym}
 use Rattle.std.specs.Prelude.{codes, take}
 use Rattle.lard_base.specs.declared.place.Place.TheVariants.{Front, Node}
-use Rattle.lard_law_ways.specs.BackingRequests.{AnswersFrom}
-use Rattle.lard_law_ways.specs.Ways.{good_paths}
+use Rattle.lard_laws.specs.BackingRequests.{AnswersFrom}
+use Rattle.lard_laws.specs.Ways.{good_paths}
 use Rattle.lard_refusals.specs.Refusals.{two_files}
 use Rattle.lard_refusals.proofs.Requests.{nothing-asked, request-asks}
 use Rattle.lard_refusals.proofs.service.answerers_refuses.Goals as goal

@@ -4,7 +4,7 @@ use Rattle.std.specs.Prelude.{slice_get, codes}
 use Rattle.lard_answers.specs.Answers.{answer_code}
 use Rattle.lard_base.specs.declared.place.Place.TheVariants.{Node}
 use Rattle.lard_base.specs.declared.place.Via.TheVariants as via
-use Rattle.lard_law_bytes.specs.BytesRecords.{ComesBy}
+use Rattle.lard_law_connections.specs.BytesRecords.{ComesBy}
 use Rattle.lard_refusals.specs.Refusals.{two_files}
 use Rattle.lard_refusals.proofs.Requests.{request-asks}
 use Rattle.lard_refusals.proofs.Responses.{one-answer}

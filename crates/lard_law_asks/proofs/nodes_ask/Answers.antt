@@ -1,6 +1,0 @@
--- By what each rule of a node sends, and what its disk has then.
-use Rattle.lard_law_asks.proofs.Asking.{asks-go-on}
-use Rattle.lard_law_asks.proofs.nodes_ask.Goals as goal
-
-pub returns : goal.returns
-returns c = asks-go-on

@@ -1,4 +1,0 @@
-pub mod Asks
-pub mod Answers
-pub mod Sent
-pub mod Runs

@@ -1,6 +1,0 @@
--- By what each rule of the front end says.
-use Rattle.lard_law_bytes.proofs.OffersRuns.{offers-carry}
-use Rattle.lard_law_bytes.proofs.offers_carry_the_endpoint.Goals as goal
-
-pub returns : goal.returns
-returns c = record { carries = offers-carry }

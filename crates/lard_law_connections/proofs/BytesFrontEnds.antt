@@ -1,0 +1,244 @@
+-- An Ask and the end of a connection at its node leave it in agreement.
+use Rattle.std.proofs.Common.{◌≡◌, ◌≤◌, ◌+◌, ◌==◌, ◌&&◌, nat_lt, ◌^◌, ℕ, Bool, false, true, cond, List, [], ◌∷◌, ◌++◌, map, Option, Some, None, Ok, arith, refl, ap, ◌∙◌, sym, subst, inl, ⊎_elim, eqb-true, eq-eqb}
+use Rattle.std.specs.List.{list_any}
+use Rattle.lard_base.specs.declared.place.Place.TheVariants.{Front, Node}
+use Rattle.lard_base.specs.declared.place.Reason.{Reason}
+use Rattle.lard_law_connections.specs.BytesAgreement.{AwayAgrees, BackAgrees, EndedIt, IsEnding, IsFair, IsKept, IsOpen, NodeAgrees, NodeTells, RowAgrees, SeatAgrees, StageAgrees}
+use Rattle.lard_law_connections.specs.BytesKeeping.{FrontSays}
+use Rattle.lard_law_connections.specs.BytesLaw.{Helps, IsTrueMove, StaysTruthful}
+use Rattle.lard_law_connections.specs.BytesTurning.{IsNoteOf}
+use Rattle.lard_law_connections.proofs.BytesClientMoves.{has-fair, open-at}
+use Rattle.lard_law_connections.proofs.BytesFrontMessages.{node-opens, opened-at, past-undecided}
+use Rattle.lard_law_connections.proofs.BytesFrontMoves.{all-say, drops-goes, says-goes}
+use Rattle.lard_law_connections.proofs.BytesMessages.{ends-read}
+use Rattle.lard_law_connections.proofs.BytesMoves.{idle-goes, move-goes}
+use Rattle.lard_law_connections.proofs.BytesTold.{bytes_of}
+use Rattle.lard_law_connections.specs.Places.{HasEnded, IsDecided, IsLeft, Owning, IsOver, IsPast, IsThere, OthersArePast, Sits, StageSits, owning}
+use Rattle.lard_law_connections.proofs.PlacesFrontMessages.{came-says}
+use Rattle.lard_law_connections.proofs.PlacesFrontRules.{decided-there, there-decided}
+use Rattle.lard_law_view.specs.Carry.{tale_at}
+use Rattle.lard_law_view.specs.View.{Conn, IsFrontEnv, Setting, Spells, Was, front_does, packet_seen, with_front}
+use Rattle.lard_law_view.proofs.Rows.{tale_before}
+use Rattle.lard_costs.specs.declared.later.LaterChoice.{LaterChoice}
+use Rattle.lard_dispatch.specs.declared.dispatch.Ask.{Ask}
+use Rattle.lard_endpoint.specs.declared.control.moving.Final.{Final}
+use Rattle.lard_rules.specs.declared.front.FrontRest.{FrontRest}
+use Rattle.lard_rules.specs.Front.{Deed, Does, Drops, Says, FrontEnv, FrontPart, ack_sent, ask_of, asked_by, assigned_notes, assigns, ended_by, front_asked, front_ended, is_at, is_with, message, over_note, saying, tag_sent}
+use Rattle.lard_handoff_back.specs.declared.row.BackConn.{BackConn}
+use Rattle.lard_handoff_back.specs.declared.row.BackConn.TheVariants as back
+use Rattle.lard_handoff_back.specs.declared.row.BackRow.{BackRow}
+use Rattle.lard_handoff_front.specs.declared.row.FrontConn.{FrontConn}
+use Rattle.lard_handoff_front.specs.declared.row.FrontConn.TheVariants as stage
+use Rattle.lard_handoff_front.specs.declared.row.FrontRow.{FrontRow}
+use Rattle.lard_handoff_front.specs.declared.table.OnEnded.TheVariants.{New, Again, Stale}
+use Rattle.lard_handoff_front.specs.Front.{end_answer, ended_with, next_epoch}
+use Rattle.lard_handoff_front.specs.Row.{is_away}
+use Rattle.lard_history.specs.Own.{Seen}
+use Rattle.lard_history.proofs.Each.{Each}
+use Rattle.lard_journal.specs.declared.rec.Rec.{Rec}
+use Rattle.lard_law_view.specs.Keeping.{resets, served_in, size_in}
+use Rattle.lard_law_view.specs.Truthful.{Talk}
+use Rattle.lard_message.specs.declared.message.Body.TheVariants as body
+use Rattle.lard_message.specs.declared.message.Message.{Message}
+use Rattle.lard_message.specs.Reading.{decoded_message}
+use Rattle.lard_rules.specs.Node.{NodePart, ended_kept}
+use Rattle.lard_request.specs.declared.verdict.Verdict.{Verdict}
+use Rattle.lard_resend.specs.declared.kept.Kept.{Kept}
+use Rattle.lard_rules.specs.declared.places.Station.{Station}
+use Rattle.lard_law_view.specs.Truth.{Stream}
+
+-- ---- notes that tell nothing of bytes
+
+record Mute (c : ℕ) (rs : List Rec) : Type 0 where
+  each : Each (IsNoteOf c) rs
+  served : served_in rs ≡ 0
+  size : size_in rs ≡ 0
+  reset : list_any resets rs ≡ false
+
+assigned-mute : (c : ℕ) (ask : Ask) (r : ℕ) (paths : List (List ℕ)) (choices : List LaterChoice) → Mute c (assigned_notes c ask r paths choices)
+assigned-mute c ask r [] choices = record { each = tt; served = refl; size = refl; reset = refl }
+assigned-mute c ask r (path ∷ paths) [] = record { each = tt; served = refl; size = refl; reset = refl }
+assigned-mute c ask r (path ∷ paths) (choice ∷ choices) = let h = assigned-mute c ask (r + 1) paths choices in record { each = (tt, h.each); served = h.served; size = h.size; reset = h.reset }
+
+over-mute : (c : ℕ) (b : Bool) (rs : List Rec) → Mute c rs → Mute c (over_note c b ++ rs)
+over-mute c true rs h = record { each = (tt, h.each); served = h.served; size = h.size; reset = h.reset }
+over-mute c false rs h = h
+
+-- ---- the end that a node tells
+
+over-decided : (e : ℕ) (o : Option BackRow) → IsOver e o → IsDecided e o
+over-decided e None h = h
+over-decided e (Some row) h = h.0
+
+-- where the node has it in this epoch, and its stay is over, it is what the node keeps
+ending-of : (w out : Stream) (vs pend : List Verdict) (r : Bool) (c e n : ℕ) (own : Owning) (p : NodePart) → IsThere n e own p.row → IsOver e p.row → NodeAgrees w out vs pend r c p → (f : ℕ) × IsEnding w r c f p.kept
+ending-of w out vs pend r c e n own p is over agrees = go p.row is over agrees where
+  at-stage : (f : ℕ) (d : BackConn) → IsLeft d → BackAgrees w out vs pend r c f p d → (f : ℕ) × IsEnding w r c f p.kept
+  at-stage f (back.Here b) left h = absurd left
+  at-stage f back.Out left h = absurd h
+  at-stage f back.Ended left h = (f, h)
+  at-stage f back.Gone left h = absurd h
+
+  go : (o : Option BackRow) → IsThere n e own o → IsOver e o → RowAgrees w out vs pend r c p o → (f : ℕ) × IsEnding w r c f p.kept
+  go None is over h = absurd is
+  go (Some row) is over h = at-stage row.epoch.0 row.stage (over.1 is.0) h
+
+-- so the message that tells it says how it ended
+told-end : (w : Stream) (r : Bool) (c f : ℕ) (kept : List Kept) (bytes : List ℕ) → IsEnding w r c f kept → IsKept kept bytes → (m : Message) (why : Reason) (snd rcv count : ℕ) → decoded_message bytes ≡ Ok m → m.body ≡ body.Ended why snd rcv count
+    → EndedIt w r (record { reason = why; snd = record { 0 = snd }; rcv = record { 0 = rcv } })
+told-end w r c f kept bytes h k m why snd rcv count d is =
+    let same : ended_kept c f h.last h.count ∷ [] ≡ k.0 ∷ [] = sym h.kept_is ∙ k.1 in
+    let one : ended_kept c f h.last h.count ≡ k.0 = ap (first (ended_kept c f h.last h.count)) same in
+    let spelled : message c f (body.Ended h.last.reason h.last.snd.0 h.last.rcv.0 h.count) ≡ bytes = ap (λ (q : Kept). q.bytes) one ∙ k.2 in
+    ends-read c f w r h.last h.count h.ended m why snd rcv count (ap decoded_message spelled ∙ d) is where
+      first : Kept → List Kept → Kept
+      first q [] = q
+      first q (y ∷ ys) = y
+
+module _ (k : Setting) (small : k.stream ≤ 2 ^ 30) (x : Conn) (s : Station) (there : x.part.station ≡ Some s) (l : Talk) (pend : List Verdict) (o : IsOpen k.files x l pend s) (heads : List Seen)
+    (quiet : (d : Deed) → bytes_of (tale_before x (front_does x heads d)) ≡ bytes_of (tale_at x)) (env : FrontEnv) (is : IsFrontEnv k x.c env) where
+  abbrev p : FrontPart
+  p = x.part.front
+
+  abbrev Goes : Deed → Type 0
+  Goes d = Helps x (front_does x heads d) → IsTrueMove k.files x (front_does x heads d)
+
+  ack-says : (q : FrontPart) (n epoch : ℕ) → Each (FrontSays x.c q) (ack_sent env n epoch)
+  ack-says q n epoch = subst (λ (c : ℕ). Each (FrontSays c q) (ack_sent env n epoch)) is.number ((n, epoch, body.EndedAck, refl, tt), tt)
+
+  tag-says : (q : FrontPart) (n epoch number : ℕ) (nodes : List ℕ) → Each (FrontSays x.c q) (tag_sent env n epoch number nodes)
+  tag-says q n epoch number nodes = subst (λ (c : ℕ). Each (FrontSays c q) (tag_sent env n epoch number nodes)) is.number ((n, epoch, body.Tag number nodes, refl, tt), tt)
+
+  ends-moves : (row : FrontRow) (m epoch : ℕ) (last : Final) → EndedIt l.w l.was_reset last → Goes (ended_by env p m epoch last (Some row) (New (next_epoch row)))
+  ends-moves row m epoch last ended help =
+      let d : Deed = ended_by env p m epoch last (Some row) (New (next_epoch row)) in
+      move-goes k.files x s there l pend o (front_does x heads d) help
+      (record { heads = quiet d; station = refl; offers = λ i e a b. absurd b; ends = λ i e over. inl refl })
+      (idle-goes k.files x s there l pend o (front_does x heads d) (record { each = (tt, (tt, tt)); served = refl; size = refl; reset = refl; seat = ended; ways = o.ways; sent = tt; letters = all-say l x.c (front_does x heads d).part (ack_sent env m epoch) (ack-says (front_does x heads d).part.front m epoch) }))
+
+  -- ---- an Ask
+
+  away-seat : (rest : Option FrontRest) (n epoch e : ℕ) (d : FrontConn) → is_with n epoch d ≡ true → StageAgrees l.w l.out l.vs pend l.was_reset x.c x.part e d
+      → StageAgrees l.w l.out l.vs pend l.was_reset x.c (with_front x.part (record p { rest = rest })) e d
+  away-seat rest n epoch e (stage.Offering i f) w h = h
+  away-seat rest n epoch e (stage.Moved i f) w h = h
+  away-seat rest n epoch e _ w h = let no : false ≡ true = w in absurd cc
+
+  row-seat : (rest : Option FrontRest) (n epoch : ℕ) (row : Option FrontRow) → is_at n epoch row ≡ true → SeatAgrees l.w l.out l.vs pend l.was_reset x.c x.part row
+      → SeatAgrees l.w l.out l.vs pend l.was_reset x.c (with_front x.part (record p { rest = rest })) row
+  row-seat rest n epoch None w h = let no : false ≡ true = w in absurd cc
+  row-seat rest n epoch (Some row) w h = away-seat rest n epoch row.epoch.0 row.stage w h
+
+  assigns-moves : (rest : FrontRest) (n epoch : ℕ) (ask : Ask) → is_at n epoch p.row ≡ true → Goes (Does (assigns env p rest n epoch ask (env.later ask)))
+  assigns-moves rest n epoch ask at help =
+      let d : Deed = Does (assigns env p rest n epoch ask (env.later ask)) in
+      let mute : Mute x.c (over_note env.serve.c (env.later ask).over ++ assigned_notes env.serve.c ask rest.assigned ask.paths (env.later ask).choices) =
+      subst (λ (c : ℕ). Mute c (over_note env.serve.c (env.later ask).over ++ assigned_notes env.serve.c ask rest.assigned ask.paths (env.later ask).choices)) is.number
+      (over-mute env.serve.c (env.later ask).over _ (assigned-mute env.serve.c ask rest.assigned ask.paths (env.later ask).choices)) in
+      move-goes k.files x s there l pend o (front_does x heads d) help
+      (record { heads = quiet d; station = refl; offers = λ i e a b. refl; ends = λ i e over. inl refl })
+      (idle-goes k.files x s there l pend o (front_does x heads d) (record {
+        each = mute.each;
+        served = mute.served;
+        size = mute.size;
+        reset = mute.reset;
+        seat = row-seat (assigns env p rest n epoch ask (env.later ask)).part.rest n epoch p.row at o.seat;
+        ways = o.ways;
+        sent = tt;
+        letters = all-say l x.c (front_does x heads d).part (assigns env p rest n epoch ask (env.later ask)).turn.messages (tag-says (front_does x heads d).part.front n epoch ask.number (map (λ y. y.node) (env.later ask).choices));
+      }))
+
+  asks-rest : (n epoch : ℕ) (ask : Ask) → is_at n epoch p.row ≡ true → (rest : Option FrontRest) → Goes (asked_by env p n epoch ask rest)
+  asks-rest n epoch ask at None = drops-goes k small x s there l pend o heads (quiet Drops)
+  asks-rest n epoch ask at (Some rest) = go (ask.number == rest.asks + 1) (ask.number == rest.asks && nat_lt 0 rest.asks) where
+    go : (a b : Bool) → Goes (cond a (Does (assigns env p rest n epoch ask (env.later ask))) (cond b (Says (saying (tag_sent env n epoch rest.asks rest.tag))) Drops))
+    go true b = assigns-moves rest n epoch ask at
+    go false true = λ help. says-goes k small x s there l pend o heads (saying (tag_sent env n epoch rest.asks rest.tag)) (quiet (Says (saying (tag_sent env n epoch rest.asks rest.tag)))) refl tt
+        (all-say l x.c x.part (tag_sent env n epoch rest.asks rest.tag) (tag-says p n epoch rest.asks rest.tag)) help
+    go false false = drops-goes k small x s there l pend o heads (quiet Drops)
+
+  asks-goes : (n epoch : ℕ) (ask : Ask) → Goes (front_asked env p n epoch ask)
+  asks-goes n epoch ask = go (is_at n epoch p.row) refl where
+    go : (b : Bool) → is_at n epoch p.row ≡ b → Goes (cond b (asked_by env p n epoch ask p.rest) Drops)
+    go true e = asks-rest n epoch ask e p.rest
+    go false e = drops-goes k small x s there l pend o heads (quiet Drops)
+
+  -- ---- an Ended
+
+  module _ (m epoch : ℕ) (why : Reason) (snd rcv count : ℕ) (bytes : List ℕ) (spells : Spells x.c epoch (body.Ended why snd rcv count) bytes) (was : Was x (Node m) Front bytes) where
+    abbrev last : Final
+    last = record { reason = why; snd = record { 0 = snd }; rcv = record { 0 = rcv } }
+
+    abbrev here : NodePart
+    here = x.part.nodes m
+
+    -- it is the one that is kept, where the front end does not know it
+    told : NodeTells x.part m epoch bytes (body.Ended why snd rcv count)
+    told = (has-fair (IsFair l x.c x.part) (record { from = Node m; to = Front; bytes = bytes }) x.letters was o.fair) _ spells
+
+    end-at : (row : FrontRow) (n : ℕ) → p.row ≡ Some row → row.epoch.0 ≡ epoch → OthersArePast n row.epoch.0 x.part.nodes → IsThere n row.epoch.0 (owning (tale_at x)) (x.part.nodes n).row
+        → IsOver epoch here.row → NodeAgrees l.w l.out l.vs pend l.was_reset x.c (x.part.nodes n) → EndedIt l.w l.was_reset last
+    end-at row n found same others is over agrees = go (m == n) refl where
+      mine : IsOver row.epoch.0 here.row
+      mine = subst (λ (e : ℕ). IsOver e here.row) (sym same) over
+
+      unknown : IsKept here.kept bytes
+      unknown = ⊎_elim (λ h. absurd (omega (arith, same, subst (HasEnded epoch) found h))) (λ h. h) told
+
+      go : (b : Bool) → (m == n) ≡ b → EndedIt l.w l.was_reset last
+      go true e =
+          let eq : n ≡ m = sym (eqb-true m n e) in
+          let end = ending-of l.w l.out l.vs pend l.was_reset x.c row.epoch.0 m (owning (tale_at x)) here
+          (subst (λ (i : ℕ). IsThere i row.epoch.0 (owning (tale_at x)) (x.part.nodes i).row) eq is) mine (subst (λ (i : ℕ). NodeAgrees l.w l.out l.vs pend l.was_reset x.c (x.part.nodes i)) eq agrees) in
+          told-end l.w l.was_reset x.c end.0 here.kept bytes end.1 unknown _ why snd rcv count spells refl
+      go false e = absurd (past-undecided row.epoch.0 here.row (others m (λ eq. let no : true ≡ false = sym (eq-eqb m n eq) ∙ e in cc)) (over-decided row.epoch.0 here.row mine))
+
+    -- where it is away, at which node and in this epoch
+    end-stage : (row : FrontRow) (d : FrontConn) → p.row ≡ Some row → row.stage ≡ d → is_away epoch d ≡ true → IsOver epoch here.row → Helps x (front_does x heads (ended_by env p m epoch last (Some row) (New (next_epoch row)))) → EndedIt l.w l.was_reset last
+    end-stage row (stage.Offering n f) found at away over help =
+        let sits : StageSits row.epoch.0 (owning (tale_at x)) x.part.nodes (stage.Offering n f) = subst (StageSits row.epoch.0 (owning (tale_at x)) x.part.nodes) at (subst (Sits (owning (tale_at x)) x.part.nodes) found help.placed.sits).0 in
+        let same : row.epoch.0 ≡ epoch = sym sits.1 ∙ eqb-true f.0 epoch away in
+        let decided : IsDecided row.epoch.0 here.row = subst (λ (e : ℕ). IsDecided e here.row) (sym same) (over-decided epoch here.row over) in
+        let is = decided-there n row.epoch.0 (owning (tale_at x)) x.part.nodes sits.2 m sits.3 decided in
+        let there = there-decided n row.epoch.0 (owning (tale_at x)) x.part.nodes sits.2 (x.part.nodes n).row is in
+        let seat : AwayAgrees l.w l.out l.vs pend l.was_reset x.c n row.epoch.0 x.part =
+        subst (StageAgrees l.w l.out l.vs pend l.was_reset x.c x.part row.epoch.0) at (subst (SeatAgrees l.w l.out l.vs pend l.was_reset x.c x.part) found o.seat) in
+        end-at row n found same sits.2 is over (⊎_elim
+        (λ (a : IsPast row.epoch.0 (x.part.nodes n).row × _). absurd (past-undecided row.epoch.0 (x.part.nodes n).row a.0 there))
+        (λ (a : IsDecided row.epoch.0 (x.part.nodes n).row × NodeAgrees l.w l.out l.vs pend l.was_reset x.c (x.part.nodes n)). a.1) seat)
+    end-stage row (stage.Moved n f) found at away over help =
+        let sits : StageSits row.epoch.0 (owning (tale_at x)) x.part.nodes (stage.Moved n f) = subst (StageSits row.epoch.0 (owning (tale_at x)) x.part.nodes) at (subst (Sits (owning (tale_at x)) x.part.nodes) found help.placed.sits).0 in
+        let same : row.epoch.0 ≡ epoch = sym sits.1 ∙ eqb-true f.0 epoch away in
+        let seat : IsDecided row.epoch.0 (x.part.nodes n).row × NodeAgrees l.w l.out l.vs pend l.was_reset x.c (x.part.nodes n) =
+        subst (StageAgrees l.w l.out l.vs pend l.was_reset x.c x.part row.epoch.0) at (subst (SeatAgrees l.w l.out l.vs pend l.was_reset x.c x.part) found o.seat) in
+        end-at row n found same sits.2 sits.3 over seat.1
+    end-stage row _ found at away over help = let no : false ≡ true = away in absurd cc
+
+    end-row : (over : IsOver epoch here.row) (row : Option FrontRow) → p.row ≡ row → Goes (ended_by env p m epoch last row (end_answer epoch row))
+    end-row over None found = drops-goes k small x s there l pend o heads (quiet Drops)
+    end-row over (Some row) found = go (is_away epoch row.stage) refl (ended_with epoch row.ended_by) where
+      go : (a : Bool) → is_away epoch row.stage ≡ a → (b : Bool) → Goes (ended_by env p m epoch last (Some row) (cond a (New (next_epoch row)) (cond b Again Stale)))
+      go true e b = λ help. ends-moves row m epoch last (end-stage row row.stage found refl e over help) help
+      go false e true = λ help. says-goes k small x s there l pend o heads (saying (ack_sent env m epoch)) (quiet (Says (saying (ack_sent env m epoch)))) refl tt (all-say l x.c x.part (ack_sent env m epoch) (ack-says p m epoch)) help
+      go false e false = drops-goes k small x s there l pend o heads (quiet Drops)
+
+-- ---- two rules
+
+packet-quiet : (x : Conn) (n : ℕ) (bytes : List ℕ) (d : Deed) → bytes_of (tale_before x (front_does x (packet_seen (Node n) Front bytes) d)) ≡ bytes_of (tale_at x)
+packet-quiet x n bytes Drops = refl
+packet-quiet x n bytes (Says turn) = refl
+packet-quiet x n bytes (Does did) = refl
+
+module _ (k : Setting) (small : k.stream ≤ 2 ^ 30) where
+  pub asked-stays : (x : Conn) (env : FrontEnv) (n epoch number queue size : ℕ) (paths : List (List ℕ)) (bytes : List ℕ) → IsFrontEnv k x.c env → Spells x.c epoch (body.Ask number queue size paths) bytes → Was x (Node n) Front bytes
+      → StaysTruthful k x (front_does x (packet_seen (Node n) Front bytes) (front_asked env x.part.front n epoch (ask_of x.c n number queue size paths)))
+  asked-stays x env n epoch number queue size paths bytes is spells was help h =
+      let opened = opened-at k.files x h (node-opens x n bytes was) in
+      asks-goes k small x opened.0 opened.1 h.talk h.pend (open-at k.files x opened.0 opened.1 h) (packet_seen (Node n) Front bytes) (packet-quiet x n bytes) env is n epoch (ask_of x.c n number queue size paths) help
+
+  pub ended-stays : (x : Conn) (env : FrontEnv) (n epoch : ℕ) (why : Reason) (snd rcv count : ℕ) (bytes : List ℕ) → IsFrontEnv k x.c env → Spells x.c epoch (body.Ended why snd rcv count) bytes → Was x (Node n) Front bytes
+      → StaysTruthful k x (front_does x (packet_seen (Node n) Front bytes) (front_ended env x.part.front n epoch (record { reason = why; snd = record { 0 = snd }; rcv = record { 0 = rcv } })))
+  ended-stays x env n epoch why snd rcv count bytes is spells was help h =
+      let opened = opened-at k.files x h (node-opens x n bytes was) in
+      end-row k small x opened.0 opened.1 h.talk h.pend (open-at k.files x opened.0 opened.1 h) (packet_seen (Node n) Front bytes) (packet-quiet x n bytes) env is n epoch why snd rcv count bytes spells was
+      (came-says x (Node n) Front epoch (body.Ended why snd rcv count) bytes help.placed.letters was spells) x.part.front.row refl help

@@ -1,0 +1,165 @@
+-- What comes to the front end from nodes, and who is admitted, leaves a connection in agreement.
+use Rattle.std.proofs.Common.{◌≡◌, ◌≤◌, ◌==◌, ◌||◌, ◌^◌, ℕ, Bool, false, true, cond, List, [], map, Option, Some, None, arith, refl, ◌∙◌, sym, subst, inl, ⊎_elim, eqb-true}
+use Rattle.std.specs.List.{list_any}
+use Rattle.lard_answers.specs.Answers.{FilesAt}
+use Rattle.lard_base.specs.declared.ids.Epoch.{Epoch}
+use Rattle.lard_base.specs.declared.place.Place.TheVariants.{Front, Node}
+use Rattle.lard_law_connections.specs.BytesAgreement.{AwayAgrees, ConnAgrees, IsFair, IsInner, IsOpen, IsTruthful, IsUnopened, NodeAgrees, SeatAgrees, StageAgrees}
+use Rattle.lard_law_connections.specs.BytesKeeping.{AdmittedKeeps, FrontAgrees, FrontTurned}
+use Rattle.lard_law_connections.specs.BytesLaw.{Helps, IsTrueMove, StaysTruthful}
+use Rattle.lard_law_connections.proofs.BytesClientMoves.{has-fair, open-at}
+use Rattle.lard_law_connections.proofs.BytesFrontMoves.{IsOurs, RowIsOurs, all-say, drops-goes, front-seat, home-past, ours-unoffered, seat-front, talk-of}
+use Rattle.lard_law_connections.proofs.BytesFronts.{admissions-keep}
+use Rattle.lard_law_connections.proofs.BytesMoves.{idle-goes, move-goes, replies-fair, talk_after}
+use Rattle.lard_law_connections.proofs.BytesTold.{bytes_of}
+use Rattle.lard_law_connections.specs.Places.{IsDecided, IsPast, IsThere, Sits, StageSits, owning}
+use Rattle.lard_law_connections.proofs.PlacesFrontMessages.{came-says}
+use Rattle.lard_law_connections.proofs.PlacesFrontRules.{decided-there, there-decided}
+use Rattle.lard_law_view.specs.Carry.{tale_at}
+use Rattle.lard_law_view.specs.View.{Conn, IsFrontEnv, Move, Setting, Spells, Was, front_admits, front_does, letter, packet_seen}
+use Rattle.lard_law_view.proofs.Rows.{tale_before}
+use Rattle.lard_endpoint.specs.Control.{ControlBlock}
+use Rattle.lard_rules.specs.declared.front.FrontTurn.{FrontTurn}
+use Rattle.lard_rules.specs.Front.{Deed, Does, Drops, Says, FrontEnv, FrontPart, admitted_at, admitted_by, front_admitted, front_taken, taken_by}
+use Rattle.lard_handoff_back.specs.declared.row.BackRow.{BackRow}
+use Rattle.lard_handoff_front.specs.declared.row.FrontConn.{FrontConn}
+use Rattle.lard_handoff_front.specs.declared.row.FrontConn.TheVariants as stage
+use Rattle.lard_handoff_front.specs.declared.row.FrontRow.{FrontRow}
+use Rattle.lard_handoff_front.specs.Row.{offered_to}
+use Rattle.lard_history.specs.Own.{Seen}
+use Rattle.lard_history.proofs.Each.{Each-append}
+use Rattle.lard_law_view.specs.Keeping.{resets}
+use Rattle.lard_law_view.specs.Truthful.{Talk}
+use Rattle.lard_message.specs.declared.message.Body.TheVariants as body
+use Rattle.lard_policy.specs.declared.first.FirstChoice.{FirstChoice}
+use Rattle.lard_request.specs.declared.verdict.Verdict.{Verdict}
+use Rattle.lard_rules.specs.declared.places.Station.{Station}
+
+-- ---- its client opened
+
+pub opened-at : (files : FilesAt) (x : Conn) (h : IsTruthful files x) → (IsUnopened x → ⊥) → (s : Station) × (x.part.station ≡ Some s)
+opened-at files x h not = go x.part.station refl h.agrees where
+  go : (o : Option Station) → x.part.station ≡ o → ConnAgrees files x h.talk h.pend o → (s : Station) × (x.part.station ≡ Some s)
+  go None e u = absurd (not u)
+  go (Some s) e u = (s, e)
+
+-- of one that did not, nothing comes to the front end
+pub node-opens : (x : Conn) (n : ℕ) (bytes : List ℕ) → Was x (Node n) Front bytes → IsUnopened x → ⊥
+node-opens x n bytes was u = (has-fair IsInner (record { from = Node n; to = Front; bytes = bytes }) x.letters was u.inner).1
+
+pub past-undecided : (e : ℕ) (o : Option BackRow) → IsPast e o → IsDecided e o → ⊥
+past-undecided e None past h = h
+past-undecided e (Some row) past h = omega (arith, past.0, h)
+
+module _ (k : Setting) (small : k.stream ≤ 2 ^ 30) (x : Conn) (s : Station) (there : x.part.station ≡ Some s) (l : Talk) (pend : List Verdict) (o : IsOpen k.files x l pend s) (heads : List Seen) where
+  abbrev p : FrontPart
+  p = x.part.front
+
+  abbrev Goes : Deed → Type 0
+  Goes d = Helps x (front_does x heads d) → IsTrueMove k.files x (front_does x heads d)
+
+  -- ---- a Taken
+
+  module _ (quiet : (d : Deed) → bytes_of (tale_before x (front_does x heads d)) ≡ bytes_of (tale_at x)) where
+    taken-moves : (row : FrontRow) (n : ℕ) (d : Epoch) (epoch m : ℕ) → p.row ≡ Some row → row.stage ≡ stage.Offering n d → d.0 ≡ epoch → IsDecided epoch (x.part.nodes m).row → Goes (taken_by p epoch (Some row) (Some n))
+    taken-moves row n d epoch m found at same decided help =
+        let v : Move = front_does x heads (taken_by p epoch (Some row) (Some n)) in
+        let sits : StageSits row.epoch.0 (owning (tale_at x)) x.part.nodes (stage.Offering n d) = subst (StageSits row.epoch.0 (owning (tale_at x)) x.part.nodes) at (subst (Sits (owning (tale_at x)) x.part.nodes) found help.placed.sits).0 in
+        let now : IsDecided row.epoch.0 (x.part.nodes m).row = subst (λ (e : ℕ). IsDecided e (x.part.nodes m).row) (sym same ∙ sits.1) decided in
+        let is : IsThere n row.epoch.0 (owning (tale_at x)) (x.part.nodes n).row = decided-there n row.epoch.0 (owning (tale_at x)) x.part.nodes sits.2 m sits.3 now in
+        let here : IsDecided row.epoch.0 (x.part.nodes n).row = there-decided n row.epoch.0 (owning (tale_at x)) x.part.nodes sits.2 (x.part.nodes n).row is in
+        let seat : AwayAgrees l.w l.out l.vs pend l.was_reset x.c n row.epoch.0 x.part =
+        subst (StageAgrees l.w l.out l.vs pend l.was_reset x.c x.part row.epoch.0) at (subst (SeatAgrees l.w l.out l.vs pend l.was_reset x.c x.part) found o.seat) in
+        let node : NodeAgrees l.w l.out l.vs pend l.was_reset x.c (x.part.nodes n) = ⊎_elim
+        (λ (a : IsPast row.epoch.0 (x.part.nodes n).row × _). absurd (past-undecided row.epoch.0 (x.part.nodes n).row a.0 here))
+        (λ (a : IsDecided row.epoch.0 (x.part.nodes n).row × NodeAgrees l.w l.out l.vs pend l.was_reset x.c (x.part.nodes n)). a.1) seat in
+        move-goes k.files x s there l pend o v help
+        (record { heads = quiet (taken_by p epoch (Some row) (Some n)); station = refl; offers = λ i e a b. absurd b; ends = λ i e over. inl refl })
+        (idle-goes k.files x s there l pend o v (record { each = tt; served = refl; size = refl; reset = refl; seat = (here, node); ways = o.ways; sent = tt; letters = tt }))
+
+    taken-at : (row : FrontRow) (epoch m : ℕ) → p.row ≡ Some row → IsDecided epoch (x.part.nodes m).row → (d : FrontConn) → row.stage ≡ d → Goes (taken_by p epoch (Some row) (offered_to epoch d))
+    taken-at row epoch m found decided (stage.Offering n d) at = go (d.0 == epoch) refl where
+      go : (b : Bool) → (d.0 == epoch) ≡ b → Goes (taken_by p epoch (Some row) (cond b (Some n) None))
+      go true e = taken-moves row n d epoch m found at (eqb-true d.0 epoch e) decided
+      go false e = drops-goes k small x s there l pend o heads (quiet Drops)
+    taken-at row epoch m found decided _ at = drops-goes k small x s there l pend o heads (quiet Drops)
+
+    taken-row : (epoch m : ℕ) → IsDecided epoch (x.part.nodes m).row → (row : Option FrontRow) → p.row ≡ row → Goes (taken_by p epoch row (elim row [ None ↦ None | Some r ↦ offered_to epoch r.stage ]))
+    taken-row epoch m decided None found = drops-goes k small x s there l pend o heads (quiet Drops)
+    taken-row epoch m decided (Some row) found = taken-at row epoch m found decided row.stage refl
+
+-- ---- the rules
+
+module _ (k : Setting) (small : k.stream ≤ 2 ^ 30) where
+  pub taken-stays : (x : Conn) (env : FrontEnv) (n epoch : ℕ) (bytes : List ℕ) → IsFrontEnv k x.c env → Spells x.c epoch body.Taken bytes → Was x (Node n) Front bytes
+      → StaysTruthful k x (front_does x (packet_seen (Node n) Front bytes) (front_taken x.part.front epoch))
+  taken-stays x env n epoch bytes is spells was help h =
+      let opened = opened-at k.files x h (node-opens x n bytes was) in
+      let o = open-at k.files x opened.0 opened.1 h in
+      taken-row k small x opened.0 opened.1 h.talk h.pend o (packet_seen (Node n) Front bytes) (λ d. quiet-at d) epoch n
+      (came-says x (Node n) Front epoch body.Taken bytes help.placed.letters was spells) x.part.front.row refl help where
+        quiet-at : (d : Deed) → bytes_of (tale_before x (front_does x (packet_seen (Node n) Front bytes) d)) ≡ bytes_of (tale_at x)
+        quiet-at Drops = refl
+        quiet-at (Says turn) = refl
+        quiet-at (Does did) = refl
+
+  -- ---- the head of the line
+
+  admits-row : (x : Conn) (env : FrontEnv) (choice : FirstChoice) (given : FrontPart × FrontTurn) (s : Station) → x.part.station ≡ Some s → IsFrontEnv k x.c env → front_admitted env x.part.front choice ≡ Some given
+      → (l : Talk) (pend : List Verdict) → IsOpen k.files x l pend s → (row : FrontRow) (b : ControlBlock) → x.part.front.row ≡ Some row → row.stage ≡ stage.Waiting b
+      → Helps x (front_admits x given) → IsTrueMove k.files x (front_admits x given)
+  admits-row x env choice given s there is admitted l pend o row b found at help =
+      let v : Move = front_admits x given in
+      let same : FrontEnv = record env { iss = s.iss } in
+      let mine : IsFrontEnv k x.c same = record { place = is.place; number = is.number; files = is.files; stream = is.stream } in
+      let ours : RowIsOurs x.part.front.row = subst RowIsOurs (sym found) (subst IsOurs (sym at) tt) in
+      let agrees : FrontAgrees l.w l.out l.vs l.was_reset same.serve.c x.part.front =
+      subst (λ (c : ℕ). FrontAgrees l.w l.out l.vs l.was_reset c x.part.front) (sym is.number) (seat-front l.w l.out l.vs pend l.was_reset x.c x.part x.part.front.row ours o.seat) in
+      let kept = admissions-keep same l.w l.out l.vs l.was_reset x.part.front choice (talk-of k small x same mine s l pend o refl) agrees in
+      let t : FrontTurned k.files x.c l.w l.out l.vs l.was_reset given.0 given.1 =
+      subst (λ (files : FilesAt). FrontTurned files x.c l.w l.out l.vs l.was_reset given.0 given.1) is.files
+      (subst (λ (c : ℕ). FrontTurned env.serve.files c l.w l.out l.vs l.was_reset given.0 given.1) is.number
+      (subst (AdmittedKeeps env.serve.files env.serve.c l.w l.out l.vs l.was_reset) admitted kept)) in
+      let r : Bool = l.was_reset || list_any resets given.1.notes in
+      let after : Talk = talk_after k.files x s there l pend o v t.out_after t.vs_after in
+      let past = home-past k small x s there same mine l pend o (owning (tale_at x)) row (stage.Waiting b) at tt (subst (Sits (owning (tale_at x)) x.part.nodes) found help.placed.sits) in
+      move-goes k.files x s there l pend o v help
+      (record {
+        heads = refl;
+        station = refl;
+        offers = λ n e a c. absurd (ours-unoffered x.part.front.row ours n e a);
+        ends = λ n e over. inl refl;
+      })
+      (record {
+        out_after = t.out_after;
+        vs_after = t.vs_after;
+        pend_after = [];
+        longer = t.longer;
+        says = t.says;
+        seat = front-seat l.w t.out_after t.vs_after [] r x.c v.part given.0.row _ help.owes.sits past t.agrees;
+        ways = o.ways;
+        noted = t.noted;
+        sent = t.sent;
+        letters = Each-append (IsFair after x.c v.part) (map (letter Front) given.1.segments) (map (letter Front) given.1.messages)
+            (replies-fair after x.c v.part Front (inl refl) given.1.segments t.sent) (all-say after x.c v.part given.1.messages t.said);
+      })
+
+  module _ (x : Conn) (env : FrontEnv) (choice : FirstChoice) (given : FrontPart × FrontTurn) (is : IsFrontEnv k x.c env) (admitted : front_admitted env x.part.front choice ≡ Some given) (help : Helps x (front_admits x given)) (h : IsTruthful k.files x) where
+    abbrev Admits : Type 0
+    Admits = IsTrueMove k.files x (front_admits x given)
+
+    by-stage : (row : FrontRow) → x.part.front.row ≡ Some row → (d : FrontConn) → row.stage ≡ d → admitted_at env x.part.front choice row d ≡ Some given → Admits
+    by-stage row found (stage.Waiting b) at e =
+        let opened = opened-at k.files x h (λ u. let no : Some row ≡ None = sym found ∙ u.front in absurd cc) in
+        admits-row x env choice given opened.0 opened.1 is admitted h.talk h.pend (open-at k.files x opened.0 opened.1 h) row b found at help
+    by-stage row found _ at e = let no : None ≡ Some given = e in absurd cc
+
+    by-row : (o : Option FrontRow) → x.part.front.row ≡ o → admitted_by env x.part.front choice o ≡ Some given → Admits
+    by-row None found e = let no : None ≡ Some given = e in absurd cc
+    by-row (Some row) found e = by-stage row found row.stage refl e
+
+    admits-goes : Admits
+    admits-goes = by-row x.part.front.row refl admitted
+
+  pub admitted-stays : (x : Conn) (env : FrontEnv) (choice : FirstChoice) (given : FrontPart × FrontTurn) → IsFrontEnv k x.c env → front_admitted env x.part.front choice ≡ Some given → StaysTruthful k x (front_admits x given)
+  admitted-stays x env choice given is admitted help h = admits-goes x env choice given is admitted help h

@@ -1,0 +1,245 @@
+-- The rules of a node leave a connection in agreement.
+use Rattle.lard_handoff_front.specs.declared.row.FrontConn.TheVariants as stage
+use Rattle.lard_law_connections.proofs.PlacesFrontMessages.{came-says}
+use Rattle.lard_law_connections.proofs.BytesMessages.{offers-read}
+use Rattle.lard_message.specs.Reading.{decoded_message}
+use Rattle.lard_rules.specs.Front.{message}
+use Rattle.lard_endpoint.specs.Moving.{parts_of}
+use Rattle.lard_base.specs.declared.parts.EndpointParts.{EndpointParts}
+use Rattle.lard_base.specs.declared.ids.Epoch.{Epoch}
+use Rattle.lard_resend.specs.declared.kept.Kept.{Kept}
+use Rattle.lard_handoff_front.specs.declared.row.FrontRow.{FrontRow}
+use Rattle.lard_handoff_front.specs.declared.row.FrontConn.{FrontConn}
+use Rattle.lard_handoff_back.specs.declared.table.Adopt.TheVariants.{Again, New, Stale}
+use Rattle.lard_handoff_back.specs.declared.table.Adopt.{Adopt}
+use Rattle.lard_message.specs.declared.message.Body.TheVariants as body
+use Rattle.lard_journal.specs.declared.rec.Rec.TheVariants as rec
+use Rattle.lard_law_connections.proofs.BytesClientMoves.{has-fair}
+use Rattle.std.proofs.Common.{Bool, List, None, Ok, Option, Some, [], ap, arith, cond, eqb-true, false, inl, inr, ltb-true, map, nat_lt, refl, subst, sym, true, ℕ, ⊎_elim, ◌&&◌, ◌<◌, ◌==◌, ◌^◌, ◌∙◌, ◌∷◌, ◌≡◌, ◌≤◌, ◌⊎◌}
+use Rattle.lard_answers.specs.Answers.{FilesAt}
+use Rattle.lard_base.specs.declared.place.Place.{Place}
+use Rattle.lard_base.specs.declared.place.Place.TheVariants.{Front, Node}
+use Rattle.lard_law_connections.specs.BytesAgreement.{AwayAgrees, IsFair, IsKept, IsOffering, IsOpen, NodeAgrees, SeatAgrees, StageAgrees, StayComesOn}
+use Rattle.lard_law_connections.specs.BytesKeeping.{DeedKeeps, IsTalk}
+use Rattle.lard_law_connections.specs.BytesLaw.{Helps, IsTrueMove}
+use Rattle.lard_law_connections.specs.BytesTurning.{AnswersAfter}
+use Rattle.lard_law_connections.proofs.BytesNext.{named-tells}
+use Rattle.lard_law_connections.proofs.BytesNodeMoves.{HasIt, IsAt, Noted, again-fair, all-node, does-goes, has-it, known, stands-goes}
+use Rattle.lard_law_connections.proofs.BytesStays.{contents-keep, node-hears, offers-keep, reads-keep, tags-keep, timer-keeps}
+use Rattle.lard_law_connections.proofs.BytesTold.{bytes_of, named-each, named-resets, named-served, named-size}
+use Rattle.lard_law_connections.specs.Places.{HasEnded, IsDecided, IsOffered, IsOver, IsPast, Offers, Sits, StageSits, owning}
+use Rattle.lard_law_connections.proofs.PlacesTurns.{IsPlaced}
+use Rattle.lard_law_view.specs.Carry.{tale_at}
+use Rattle.lard_law_view.specs.View.{Conn, IsNodeEnv, Setting, Spells, Was, epoch_in, letter, named, node_does, reads_first}
+use Rattle.lard_law_view.proofs.Rows.{tale_before}
+use Rattle.lard_endpoint.specs.Control.{ControlBlock}
+use Rattle.lard_handoff_back.specs.declared.row.BackConn.{BackConn}
+use Rattle.lard_handoff_back.specs.declared.row.BackConn.TheVariants as back
+use Rattle.lard_handoff_back.specs.declared.row.BackRow.{BackRow}
+use Rattle.lard_handoff_back.specs.Back.{endpoint_of, offer_answer, staying}
+use Rattle.lard_handoff_back.specs.Row.{held_in, is_gone}
+use Rattle.lard_history.specs.Own.{Seen}
+use Rattle.lard_history.proofs.Each.{Each}
+use Rattle.lard_journal.specs.declared.rec.Rec.{Rec}
+use Rattle.lard_law_view.specs.Agreement.{IsWord, SaysAnswers}
+use Rattle.lard_law_view.specs.Truthful.{Talk}
+use Rattle.lard_rules.specs.Node.{Deed, Does, Drops, NodePart, Says, again_sent, both_of, come_by, fired_by, heard_by, here, node_content, node_forwarded, node_offered, node_read, node_tagged, node_timer, offered_by, read_by, tagged_by, taken_sent}
+use Rattle.lard_rules.specs.declared.stay.Stay.{Stay}
+use Rattle.lard_rules.specs.Stay.{NodeEnv}
+use Rattle.lard_request.specs.declared.verdict.Verdict.{Verdict}
+use Rattle.lard_rules.specs.declared.places.Station.{Station}
+use Rattle.lard_segment.specs.Segment.{Said}
+use Rattle.lard_law_view.specs.Truth.{IsStream}
+use Rattle.lard_law_view.proofs.Speaking.{speaks-stream}
+
+-- a node's notes that name a connection are counted as its notes
+named-noted : (c : ℕ) (notes : List Rec) (k : Setting) (small : k.stream ≤ 2 ^ 30) (x : Conn) (s : Station) (there : x.part.station ≡ Some s) (l : Talk) (pend : List Verdict) (o : IsOpen k.files x l pend s) (n : ℕ) (heads : List Seen) → Noted k small x s there l pend o n heads c (named notes) notes
+named-noted c notes k small x s there l pend o n heads = record { each = named-each c notes; served = named-served c notes; size = named-size c notes; reset = named-resets c notes; serve = λ e t f. named-tells (AnswersAfter k.files c) c t notes e f }
+
+module _ (k : Setting) (small : k.stream ≤ 2 ^ 30) (x : Conn) (s : Station) (there : x.part.station ≡ Some s) (l : Talk) (pend : List Verdict) (o : IsOpen k.files x l pend s) (n : ℕ) (env : NodeEnv) (epoch : ℕ) (is : IsNodeEnv k x.c n epoch env) where
+  abbrev pub p : NodePart
+  p = x.part.nodes n
+
+  abbrev pub It : ℕ → Type 0
+  It e = (placed : IsPlaced x) → HasIt x l pend o.seat placed n e × ((f : ℕ) → IsOver f p.row → HasEnded f x.part.front.row)
+
+  pub talk-of : IsTalk env l.w l.out l.vs
+  talk-of = record {
+    most = subst (λ (m : ℕ). m ≤ 2 ^ 30) (sym is.stream) small;
+    stream = subst IsStream (sym o.client.w_is) (speaks-stream s.client.send l.w.bytes o.client.speaks);
+    says = subst (λ (files : FilesAt). SaysAnswers files l.w l.out l.vs) (sym is.files) o.says;
+  }
+
+  own-keeps : (d : Deed) → DeedKeeps env.serve.files env.serve.c env.epoch p l.w l.out l.vs l.was_reset d → DeedKeeps k.files x.c env.epoch p l.w l.out l.vs l.was_reset d
+  own-keeps d h = subst (λ (files : FilesAt). DeedKeeps files x.c env.epoch p l.w l.out l.vs l.was_reset d) is.files (subst (λ (c : ℕ). DeedKeeps env.serve.files c env.epoch p l.w l.out l.vs l.was_reset d) is.number h)
+
+  own-agrees : NodeAgrees l.w l.out l.vs pend l.was_reset x.c p → NodeAgrees l.w l.out l.vs pend l.was_reset env.serve.c p
+  own-agrees h = subst (λ (c : ℕ). NodeAgrees l.w l.out l.vs pend l.was_reset c p) (sym is.number) h
+
+  abbrev Goes : List Seen → Deed → Type 0
+  Goes heads d = Helps x (node_does x n heads d) → IsTrueMove k.files x (node_does x n heads d)
+
+  abbrev IsQuiet : List Seen → Type 0
+  IsQuiet heads = (d : Deed) → bytes_of (tale_before x (node_does x n heads d)) ≡ bytes_of (tale_at x)
+
+  drops-goes : (heads : List Seen) → IsQuiet heads → Goes heads Drops
+  drops-goes heads quiet help = stands-goes k small x s there l pend o n heads [] [] tt refl refl refl (quiet Drops) tt help
+
+  -- what it says alone was said before, or answers
+  says-fair : (heads : List Seen) (ms : List (Place × List ℕ)) → DeedKeeps k.files x.c env.epoch p l.w l.out l.vs l.was_reset (Says ms) → Helps x (node_does x n heads (Says ms)) → Each (IsFair l x.c x.part) (map (letter (Node n)) ms)
+  says-fair heads ms h help = ⊎_elim
+      (λ (e : ms ≡ again_sent p). subst (λ (ns : List (Place × List ℕ)). Each (IsFair l x.c x.part) (map (letter (Node n)) ns)) (sym e) (again-fair k small x s there l pend o n heads (node_does x n heads (Says ms)) help))
+      (λ f. all-node l x.c n x.part ms f) h
+
+  -- where the front end knows that it is at this node, in this epoch
+  deed-with : (heads : List Seen) → IsQuiet heads → (d : Deed) → DeedKeeps k.files x.c env.epoch p l.w l.out l.vs l.was_reset d → (row : FrontRow) → x.part.front.row ≡ Some row → IsAt n row.stage → row.epoch.0 ≡ env.epoch
+      → ((f : ℕ) → IsOver f p.row → HasEnded f x.part.front.row) → Goes heads d
+  deed-with heads quiet Drops keeps row found at same known help = drops-goes heads quiet help
+  deed-with heads quiet (Says ms) keeps row found at same known help = stands-goes k small x s there l pend o n heads [] ms tt refl refl refl (quiet (Says ms)) (says-fair heads ms keeps help) help
+  deed-with heads quiet (Does given) keeps row found at same known help =
+      does-goes k small x s there l pend o n heads (named given.1.notes) given env.epoch (named-noted x.c given.1.notes k small x s there l pend o n heads) (quiet (Does given)) keeps row found at same known help
+
+  deed-goes : (heads : List Seen) → IsQuiet heads → (d : Deed) → DeedKeeps k.files x.c env.epoch p l.w l.out l.vs l.was_reset d → It env.epoch → Goes heads d
+  deed-goes heads quiet d keeps it help = let has = it help.placed in deed-with heads quiet d keeps has.0.row has.0.found has.0.at has.0.same has.1 help
+
+  -- where its endpoint is here
+  row-has : (row : BackRow) → p.row ≡ Some row → (d : BackConn) → row.stage ≡ d → (b : ControlBlock) → held_in d ≡ Some b → It row.epoch.0
+  row-has row found (back.Here c) at b e = λ placed. (has-it x l pend o.seat placed n row c found at, known x l pend o.seat placed n row c found at)
+  row-has row found _ at b e = let no : None ≡ Some b = e in absurd cc
+
+  stage-or : (row : BackRow) → p.row ≡ Some row → (h : Option ControlBlock) → held_in row.stage ≡ h → row.epoch.0 ≡ env.epoch → (both_of h p.stay ≡ None) ⊎ It env.epoch
+  stage-or row found None e same = inl refl
+  stage-or row found (Some b) e same = inr (subst It same (row-has row found row.stage refl b e))
+
+  here-row : (r : Option BackRow) → p.row ≡ r → (both_of (staying env.epoch r) p.stay ≡ None) ⊎ It env.epoch
+  here-row None found = inl refl
+  here-row (Some row) found = go (row.epoch.0 == env.epoch) refl where
+    go : (b : Bool) → (row.epoch.0 == env.epoch) ≡ b → (both_of (cond b (held_in row.stage) None) p.stay ≡ None) ⊎ It env.epoch
+    go true e = stage-or row found (held_in row.stage) refl (eqb-true row.epoch.0 env.epoch e)
+    go false e = inl refl
+
+  pub here-or : (here env.epoch p ≡ None) ⊎ It env.epoch
+  here-or = here-row p.row refl
+
+  -- a rule over what is here
+  by-here : (heads : List Seen) → IsQuiet heads → (rule : Option (ControlBlock × Stay) → Deed) → rule None ≡ Drops → ((it : It env.epoch) (placed : IsPlaced x) → DeedKeeps k.files x.c env.epoch p l.w l.out l.vs l.was_reset (rule (here env.epoch p)))
+      → Goes heads (rule (here env.epoch p))
+  by-here heads quiet rule none keeps help = ⊎_elim
+      (λ (e : here env.epoch p ≡ None). subst (Goes heads) (sym (ap rule e ∙ none)) (drops-goes heads quiet) help)
+      (λ (it : It env.epoch). deed-goes heads quiet (rule (here env.epoch p)) (keeps it help.placed) it help) here-or
+
+  pub agrees-by : It env.epoch → IsPlaced x → NodeAgrees l.w l.out l.vs pend l.was_reset env.serve.c p
+  agrees-by it placed = own-agrees (it placed).0.agrees
+
+  pub ways-here : StayComesOn env.serve.files p.stay
+  ways-here = subst (λ (files : FilesAt). StayComesOn files p.stay) (sym is.files) (o.ways n)
+
+  pub forwards-goes : (heads : List Seen) → IsQuiet heads → (sd : Said) → IsWord l.w sd → Goes heads (node_forwarded env p (Ok sd))
+  forwards-goes heads quiet sd word = by-here heads quiet (heard_by env p (Ok sd)) refl (λ it placed. own-keeps (node_forwarded env p (Ok sd)) (node-hears env l.w l.out l.vs pend l.was_reset p sd talk-of (agrees-by it placed) ways-here word))
+
+  pub tags-goes : (heads : List Seen) → IsQuiet heads → (number : ℕ) (nodes : List ℕ) → Goes heads (node_tagged env p number nodes)
+  tags-goes heads quiet number nodes = by-here heads quiet (tagged_by env number nodes p) refl (λ it placed. own-keeps (node_tagged env p number nodes) (tags-keep number nodes env l.w l.out l.vs pend l.was_reset p talk-of (agrees-by it placed) ways-here))
+
+  pub contents-goes : (heads : List Seen) → IsQuiet heads → (from r : ℕ) → Goes heads (node_content env p from r)
+  contents-goes heads quiet from r = by-here heads quiet (come_by env from r p) refl (λ it placed. own-keeps (node_content env p from r) (contents-keep from r env l.w l.out l.vs pend l.was_reset p talk-of (agrees-by it placed) ways-here))
+
+  -- ---- its timers
+
+  pub endpoint-or : (r : Option BackRow) → p.row ≡ r → env.epoch ≡ elim r [ None ↦ 0 | Some row ↦ row.epoch.0 ] → (both_of (endpoint_of r) p.stay ≡ None) ⊎ It env.epoch
+  endpoint-or None found same = inl refl
+  endpoint-or (Some row) found same = stage-or row found (held_in row.stage) refl (sym same)
+
+  pub fires-goes : (heads : List Seen) → IsQuiet heads → env.epoch ≡ epoch_in p → Goes heads (node_timer env p)
+  fires-goes heads quiet same help = ⊎_elim
+      (λ (e : both_of (endpoint_of p.row) p.stay ≡ None). subst (Goes heads) (sym (ap (fired_by env p) e))
+      (λ h. stands-goes k small x s there l pend o n heads [] (again_sent p) tt refl refl refl (quiet (Says (again_sent p))) (again-fair k small x s there l pend o n heads (node_does x n heads (Says (again_sent p))) h) h) help)
+      (λ (it : It env.epoch). deed-goes heads quiet (node_timer env p) (own-keeps (node_timer env p) (timer-keeps env l.w l.out l.vs pend l.was_reset p talk-of (agrees-by it help.placed) ways-here)) it help)
+      (endpoint-or p.row refl same)
+
+  -- ---- a completed job, whose record stands first
+
+  module _ (r : ℕ) (path : List ℕ) where
+    abbrev read_row : Rec
+    read_row = rec.Read n n x.c r path
+
+    abbrev GoesFirst : Deed → Type 0
+    GoesFirst d = Helps x (reads_first read_row (node_does x n [] d)) → IsTrueMove k.files x (reads_first read_row (node_does x n [] d))
+
+    first-drops : GoesFirst Drops
+    first-drops help = stands-goes k small x s there l pend o n [] (read_row ∷ []) [] (tt, tt) refl refl refl refl tt help
+
+    first-goes : (d : Deed) → DeedKeeps k.files x.c env.epoch p l.w l.out l.vs l.was_reset d → It env.epoch → GoesFirst d
+    first-goes Drops keeps it help = first-drops help
+    first-goes (Says ms) keeps it help = stands-goes k small x s there l pend o n [] (read_row ∷ []) ms (tt, tt) refl refl refl refl
+        (⊎_elim (λ (e : ms ≡ again_sent p). subst (λ (ns : List (Place × List ℕ)). Each (IsFair l x.c x.part) (map (letter (Node n)) ns)) (sym e) (again-fair k small x s there l pend o n [] (reads_first read_row (node_does x n [] (Says ms))) help)) (λ f. all-node l x.c n x.part ms f) keeps) help
+    first-goes (Does given) keeps it help =
+        let has = it help.placed in
+        does-goes k small x s there l pend o n [] (read_row ∷ named given.1.notes) given env.epoch
+        (record { each = λ e. (tt, named-each x.c given.1.notes e); served = named-served x.c given.1.notes; size = named-size x.c given.1.notes; reset = named-resets x.c given.1.notes; serve = λ e t f. ((λ J same. tt), named-tells (AnswersAfter k.files x.c) x.c t given.1.notes e f) }) refl keeps has.0.row has.0.found has.0.at has.0.same has.1 help
+
+    pub read-goes : GoesFirst (node_read env p r)
+    read-goes help = ⊎_elim
+        (λ (e : here env.epoch p ≡ None). subst GoesFirst (sym (ap (read_by env r p) e)) first-drops help)
+        (λ (it : It env.epoch). first-goes (node_read env p r) (own-keeps (node_read env p r) (reads-keep r env l.w l.out l.vs pend l.was_reset p talk-of (agrees-by it help.placed) ways-here)) it help)
+        here-or
+
+  -- ---- an Offer
+
+  module _ (heads : List Seen) (quiet : IsQuiet heads) (parts : EndpointParts) (bytes : List ℕ) (spells : Spells x.c epoch (body.Offer parts) bytes) (was : Was x Front (Node n) bytes) where
+    told : IsDecided epoch p.row ⊎ IsKept x.part.front.kept bytes
+    told = (has-fair (IsFair l x.c x.part) (record { from = Front; to = Node n; bytes = bytes }) x.letters was o.fair) _ spells
+
+    offer-at : (row : FrontRow) (m : ℕ) (d : Epoch) → x.part.front.row ≡ Some row → row.stage ≡ stage.Offering m d → m ≡ n → d.0 ≡ epoch → (IsDecided epoch p.row → ⊥) → ((f : ℕ) → IsOver f p.row → f < env.epoch) → Goes heads (node_offered env p parts)
+    offer-at row m d found at mine when not less help =
+        let sits : StageSits row.epoch.0 (owning (tale_at x)) x.part.nodes (stage.Offering m d) = subst (StageSits row.epoch.0 (owning (tale_at x)) x.part.nodes) at (subst (Sits (owning (tale_at x)) x.part.nodes) found help.placed.sits).0 in
+        let now : row.epoch.0 ≡ epoch = sym sits.1 ∙ when in
+        let away : AwayAgrees l.w l.out l.vs pend l.was_reset x.c m row.epoch.0 x.part =
+        subst (StageAgrees l.w l.out l.vs pend l.was_reset x.c x.part row.epoch.0) at (subst (SeatAgrees l.w l.out l.vs pend l.was_reset x.c x.part) found o.seat) in
+        let kept : IsKept x.part.front.kept bytes = ⊎_elim (λ f. absurd (not f)) (λ f. f) told in
+        let offering : IsOffering l.w l.out l.vs pend x.c m row.epoch.0 x.part.front.kept = ⊎_elim
+        (λ (a : IsPast row.epoch.0 (x.part.nodes m).row × IsOffering l.w l.out l.vs pend x.c m row.epoch.0 x.part.front.kept). a.1)
+        (λ (a : IsDecided row.epoch.0 (x.part.nodes m).row × NodeAgrees l.w l.out l.vs pend l.was_reset x.c (x.part.nodes m)).
+        absurd (not (subst (λ (e : ℕ). IsDecided e p.row) now (subst (λ (i : ℕ). IsDecided row.epoch.0 (x.part.nodes i).row) mine a.0)))) away in
+        let spelled : message x.c row.epoch.0 (body.Offer (parts_of offering.block offering.count)) ≡ bytes = ap first_bytes (sym offering.kept_is ∙ kept.1) ∙ kept.2 in
+        let same : parts ≡ parts_of offering.block offering.count = offers-read x.c row.epoch.0 l.w l.out l.vs pend offering.block offering.count help.number (omega (arith, sits.0)) talk-of.stream offering.holds offering.frozen _ parts
+        (ap decoded_message spelled ∙ spells) refl in
+        let all = subst (λ (q : EndpointParts). DeedKeeps env.serve.files env.serve.c env.epoch p l.w l.out l.vs l.was_reset (node_offered env p q)) (sym same) (offers-keep env l.w l.out l.vs pend l.was_reset p offering.block offering.count talk-of offering.holds offering.frozen) in
+        deed-with heads quiet (node_offered env p parts) (own-keeps (node_offered env p parts) all) row found (subst (IsAt n) (sym at) mine) (now ∙ sym is.epoch_is)
+        (λ f over. subst (HasEnded f) (sym found) (let le : f < env.epoch = less f over in omega (arith, le, is.epoch_is, now))) help where
+          first_bytes : List Kept → List ℕ
+          first_bytes [] = []
+          first_bytes (q ∷ qs) = q.bytes
+
+    offer-stage : (row : FrontRow) → x.part.front.row ≡ Some row → (d : FrontConn) → row.stage ≡ d → Offers n epoch d → (IsDecided epoch p.row → ⊥) → ((f : ℕ) → IsOver f p.row → f < env.epoch) → Goes heads (node_offered env p parts)
+    offer-stage row found (stage.Offering m d) at f not less = offer-at row m d found at f.0 f.1 not less
+    offer-stage row found _ at f not less = absurd f
+
+    offer-row : (row : Option FrontRow) → x.part.front.row ≡ row → IsOffered n epoch row → (IsDecided epoch p.row → ⊥) → ((f : ℕ) → IsOver f p.row → f < env.epoch) → Goes heads (node_offered env p parts)
+    offer-row None found f not less = absurd f
+    offer-row (Some row) found f not less = offer-stage row found row.stage refl f not less
+
+    offer-new : (IsDecided epoch p.row → ⊥) → ((f : ℕ) → IsOver f p.row → f < env.epoch) → Goes heads (node_offered env p parts)
+    offer-new not less help =
+        let said : IsDecided epoch p.row ⊎ IsOffered n epoch x.part.front.row = came-says x Front (Node n) epoch (body.Offer parts) bytes help.placed.letters was spells in
+        offer-row x.part.front.row refl (⊎_elim (λ f. absurd (not f)) (λ f. f) said) not less help
+
+    answer-goes : Goes heads (Says (taken_sent env))
+    answer-goes help = stands-goes k small x s there l pend o n heads [] (taken_sent env) tt refl refl refl (quiet (Says (taken_sent env)))
+        (says-fair heads (taken_sent env) (own-keeps (Says (taken_sent env)) (inr (inr (env.epoch, body.Taken, refl, tt), tt))) help) help
+
+    offer-back : (row : Option BackRow) → p.row ≡ row → (a : Adopt) → offer_answer env.epoch row ≡ a → offer_answer env.epoch p.row ≡ a → Goes heads (node_offered env p parts)
+    offer-back row found Again e f = subst (λ (a : Adopt). Goes heads (offered_by env parts p a)) (sym f) answer-goes
+    offer-back row found Stale e f = subst (λ (a : Adopt). Goes heads (offered_by env parts p a)) (sym f) (drops-goes heads quiet)
+    offer-back None found New e f = offer-new (λ h. subst (IsDecided epoch) found h) (λ i over. absurd (subst (IsOver i) found over))
+    offer-back (Some row) found New e f =
+        let below : row.epoch.0 < env.epoch = new-below row e in
+        offer-new (λ h. let g : epoch ≤ row.epoch.0 = subst (IsDecided epoch) found h in omega (arith, g, below, is.epoch_is)) (λ i over. let g : IsOver i (Some row) = subst (IsOver i) found over in omega (arith, g.0, below)) where
+          new-below : (row : BackRow) → offer_answer env.epoch (Some row) ≡ New → row.epoch.0 < env.epoch
+          new-below row = go (row.epoch.0 == env.epoch) (nat_lt row.epoch.0 env.epoch) (is_gone row.stage) (ltb-true row.epoch.0 env.epoch) where
+            go : (a b c : Bool) → (b ≡ true → row.epoch.0 < env.epoch) → cond a Again (cond (b && c) New Stale) ≡ New → row.epoch.0 < env.epoch
+            go true b c h e = let no : Again ≡ New = e in absurd cc
+            go false true c h e = h refl
+            go false false c h e = let no : Stale ≡ New = e in absurd cc
+
+    pub offers-goes : Goes heads (node_offered env p parts)
+    offers-goes = offer-back p.row refl (offer_answer env.epoch p.row) refl refl

@@ -1,0 +1,429 @@
+-- Who serves a connection owns it; and what is seen before the notes of a move. So it is of each rule, by where the connection is.
+use Rattle.std.proofs.Common.{◌≡◌, ℕ, ◌+◌, ◌==◌, ◌&&◌, nat_lt, Bool, true, false, cond, List, [], ◌∷◌, ◌++◌, Option, Some, None, Result, Ok, Err, refl, sym, ap, ◌∙◌, subst}
+use Rattle.std.proofs.lemmas.Bool.{cond_both}
+use Rattle.std.specs.List.{find}
+use Rattle.lard_base.specs.declared.event.Event.TheVariants as event
+use Rattle.lard_base.specs.declared.parts.EndpointParts.{EndpointParts}
+use Rattle.lard_base.specs.declared.place.Place.{Place}
+use Rattle.lard_base.specs.declared.place.Place.TheVariants.{Client, Front, Node}
+use Rattle.lard_base.specs.declared.place.TimerKind.TheVariants as kind
+use Rattle.lard_law_connections.specs.BytesLaw.{IsHead, OwnerServes, ServesOwn}
+use Rattle.lard_law_connections.proofs.BytesFrontMoves.{IsBefore}
+use Rattle.lard_law_connections.specs.Places.{Owning, Sits, StageSits, owning}
+use Rattle.lard_law_connections.proofs.PlacesLoops.{batch-state, came-notes, goes-notes, reads-notes, settled-is, tagged-notes}
+use Rattle.lard_law_connections.proofs.PlacesNodeRules.{Begins, here-has}
+use Rattle.lard_law_connections.proofs.PlacesRows.{IsPlain, plain-named}
+use Rattle.lard_law_connections.proofs.PlacesTurns.{IsPlaced}
+use Rattle.lard_law_view.specs.Carry.{MayMove, tale_at}
+use Rattle.lard_law_view.specs.View.{ClientRules, Conn, FrontRules, IsNodeEnv, Move, NodeRules, Setting, UntouchedRules, client_begins, client_does, front_does, named, node_does, packet_seen, event_seen, reads_first}
+use Rattle.lard_law_view.proofs.Fine.{IsItsOwn}
+use Rattle.lard_law_view.proofs.Saying.{NotedAt}
+use Rattle.lard_client.specs.Control.{ClientBlock}
+use Rattle.lard_costs.specs.declared.later.LaterChoice.{LaterChoice}
+use Rattle.lard_dispatch.specs.declared.dispatch.Ask.{Ask}
+use Rattle.lard_dispatch.specs.declared.dispatch.First.{First}
+use Rattle.lard_dispatch.specs.declared.dispatch.First.TheVariants as first
+use Rattle.lard_endpoint.specs.declared.control.moving.Final.{Final}
+use Rattle.lard_endpoint.specs.Arriving.{on_segment}
+use Rattle.lard_endpoint.specs.Control.{ControlBlock}
+use Rattle.lard_rules.specs.declared.front.FrontRest.{FrontRest}
+use Rattle.lard_rules.specs.declared.front.FrontTurn.{FrontTurn}
+use Rattle.lard_rules.specs.Front as front
+use Rattle.lard_rules.specs.Front.{FrontEnv, FrontPart, admitted_at, admitted_by, admitted_with, ask_of, asked_by, assigned_notes, assigns, begun, ended_by, fired_by, fires_at, front_admitted, front_asked, front_ended, front_gets, front_hears, front_taken, front_timer, handed_off, heard, hears_at, is_at, over_note, placed, rest_of, settled_by, tag_sent, taken_by}
+use Rattle.lard_rules.specs.FrontReading.{Reading, reads}
+use Rattle.lard_handoff_back.specs.Back.{awaits_ack, endpoint_of, offer_answer}
+use Rattle.lard_handoff_back.specs.declared.table.Adopt.{Adopt}
+use Rattle.lard_handoff_back.specs.declared.table.Adopt.TheVariants.{Again, New, Stale}
+use Rattle.lard_handoff_front.specs.declared.row.FrontConn.{FrontConn}
+use Rattle.lard_handoff_front.specs.declared.row.FrontConn.TheVariants as stage
+use Rattle.lard_handoff_front.specs.declared.row.FrontRow.{FrontRow}
+use Rattle.lard_handoff_front.specs.declared.table.OnEnded.{OnEnded}
+use Rattle.lard_handoff_front.specs.declared.table.OnEnded.TheVariants as ended
+use Rattle.lard_handoff_front.specs.Front.{asked_node, end_answer}
+use Rattle.lard_history.specs.Journal.{owner_step, request}
+use Rattle.lard_history.specs.Own.{Seen}
+use Rattle.lard_history.proofs.Each.{Each, Each-append}
+use Rattle.lard_journal.specs.declared.rec.Rec.{Rec}
+use Rattle.lard_journal.specs.declared.rec.Rec.TheVariants as rec
+use Rattle.lard_lateral.specs.Lateral.{is_from}
+use Rattle.lard_law_view.proofs.Notes.{same-number}
+use Rattle.lard_rules.specs.declared.stay.Stay.{Stay}
+use Rattle.lard_rules.specs.Node as node
+use Rattle.lard_rules.specs.Node.{NodePart, begins, both_of, come_by, heard_by, here, is_awaited, node_acknowledged, node_content, node_forwarded, node_offered, node_read, node_tagged, node_timer, offered_by, read_by, tagged_by, taken_sent, with_work, work_of}
+use Rattle.lard_rules.specs.Stay.{NodeEnv, Work, came_for, come_progress, goes_on, read_progress, reads_batch, tagged}
+use Rattle.lard_policy.specs.declared.first.FirstChoice.{FirstChoice}
+use Rattle.lard_resend.specs.Kept.{is_under, without}
+use Rattle.lard_rules.specs.declared.places.Station.{Station}
+use Rattle.lard_rules.specs.declared.places.Turn.{Turn}
+use Rattle.lard_rules.specs.Client.{client_aborts, client_gets, client_holds, client_shuts, client_takes, client_timer, client_writes}
+use Rattle.lard_rules.specs.Tombstone.{is_plain_syn, last_words, tombstone}
+use Rattle.lard_rules.specs.Loop.{state_of}
+use Rattle.lard_rules.specs.Serving.{Service, serving, settled}
+use Rattle.lard_segment.specs.declared.fault.SegFault.{SegFault}
+use Rattle.lard_segment.specs.declared.segment.Dir.TheVariants.{ToClient}
+use Rattle.lard_segment.specs.Segment.{Said, decoded}
+
+-- ---- notes
+
+-- it serves and resets nothing
+abbrev IsSilent : Rec → Type 0
+IsSilent (rec.Served place d r code size via) = ⊥
+IsSilent (rec.Reset place d total) = ⊥
+IsSilent _ = Unit {0}
+
+silent-serve : (c : ℕ) (o : Option Place) (rs : List Rec) → Each IsSilent rs → OwnerServes c o rs
+silent-serve c o [] h = tt
+silent-serve c o (r ∷ rs) h = (one r h.0, silent-serve c (owner_step c o r) rs h.1) where
+  one : (q : Rec) → IsSilent q → ServesOwn o q
+  one (rec.Served place d k code size via) s = absurd s
+  one (rec.Reset place d total) s = absurd s
+  one _ s = tt
+
+own-step : (c : ℕ) (o : Option Place) (r : Rec) → IsPlain r → owner_step c o r ≡ o
+own-step c o (rec.Took place d epoch) h = absurd h
+own-step c o (rec.Gave place d epoch) h = absurd h
+own-step c o _ h = refl
+
+-- a place notes only what it serves itself
+serves-own : (place : Place) (c : ℕ) (o : Option Place) (r : Rec) → NotedAt place c r → o ≡ Some place → ServesOwn o r
+serves-own Front c o (rec.Served Front d r code size via) h e = e
+serves-own (Node n) c o (rec.Served (Node k) d r code size via) h e = e ∙ ap (λ (m : ℕ). Some (Node m)) (sym h.0)
+serves-own _ c o (rec.Served place d r code size via) h e = absurd h
+serves-own Front c o (rec.Reset Front d total) h e = e
+serves-own (Node n) c o (rec.Reset (Node k) d total) h e = e ∙ ap (λ (m : ℕ). Some (Node m)) (sym h.0)
+serves-own _ c o (rec.Reset place d total) h e = absurd h
+serves-own _ c o _ h e = tt
+
+-- where it owns the connection, and its notes leave it so
+plain-serve : (place : Place) (c : ℕ) (o : Option Place) (rs : List Rec) → Each (NotedAt place c) rs → Each IsPlain rs → o ≡ Some place → OwnerServes c o rs
+plain-serve place c o [] n p e = tt
+plain-serve place c o (r ∷ rs) n p e = (serves-own place c o r n.0 e, subst (λ (q : Option Place). OwnerServes c q rs) (sym (own-step c o r p.0)) (plain-serve place c o rs n.1 p.1 e))
+
+plain-more : (ns rs : List Rec) → Each IsPlain rs → Each IsPlain ns → Each IsPlain (ns ++ rs)
+plain-more ns rs plain h = Each-append IsPlain ns rs h plain
+
+begins-more : (r : Rec) (ns rs : List Rec) → Each IsPlain rs → Begins r ns → Begins r (ns ++ rs)
+begins-more r ns rs plain b = (b.0 ++ rs, ap (λ (l : List Rec). l ++ rs) b.1, Each-append IsPlain b.0 rs b.2 plain)
+
+-- ---- what a move owes
+
+pub record Known (x : Conn) (v : Move) : Type 0 where
+  pub heads : Each IsHead v.heads
+  pub serves : OwnerServes x.c (tale_at x).owner v.said.notes
+
+abbrev pub Knows : Conn → Move → Type 0
+Knows x v = MayMove IsPlaced x → IsItsOwn x v → Known x v
+
+-- ---- a client
+
+client-silent : (e c : ℕ) (rs : List Rec) → Each (NotedAt (Client e) c) rs → Each IsSilent rs
+client-silent e c [] h = tt
+client-silent e c (rec.Wrote d bytes ∷ rs) h = (tt, client-silent e c rs h.1)
+client-silent e c (rec.Accepted d bytes ∷ rs) h = (tt, client-silent e c rs h.1)
+client-silent e c (rec.Eof d ∷ rs) h = (tt, client-silent e c rs h.1)
+client-silent e c (rec.Aborted d ∷ rs) h = (tt, client-silent e c rs h.1)
+client-silent e c (_ ∷ rs) h = absurd h.0
+
+client-knows : (x : Conn) (s : Station) (heads : List Seen) (given : ClientBlock × Turn) → Each IsHead heads → Knows x (client_does x s heads given)
+client-knows x s heads given h may own = record { heads = h; serves = silent-serve x.c (tale_at x).owner given.1.notes (client-silent x.c x.c given.1.notes own.notes) }
+
+-- ---- the front end
+
+abbrev notes_of : front.Deed → List Rec
+notes_of front.Drops = []
+notes_of (front.Says turn) = turn.notes
+notes_of (front.Does did) = did.turn.notes
+
+module _ (x : Conn) (heads : List Seen) (quiet : Each IsHead heads) where
+  abbrev owner_now : Option Place
+  owner_now = (tale_at x).owner
+
+  front-known : (d : front.Deed) → OwnerServes x.c owner_now (notes_of d) → Known x (front_does x heads d)
+  front-known front.Drops h = record { heads = quiet; serves = h }
+  front-known (front.Says turn) h = record { heads = quiet; serves = h }
+  front-known (front.Does did) h = record { heads = quiet; serves = h }
+
+  front-noted : (d : front.Deed) → IsItsOwn x (front_does x heads d) → Each (NotedAt Front x.c) (notes_of d)
+  front-noted front.Drops own = tt
+  front-noted (front.Says turn) own = own.notes
+  front-noted (front.Does did) own = own.notes
+
+  front-plain : (d : front.Deed) → IsItsOwn x (front_does x heads d) → Each IsPlain (notes_of d) → owner_now ≡ Some Front → Known x (front_does x heads d)
+  front-plain d own plain e = front-known d (plain-serve Front x.c owner_now (notes_of d) (front-noted d own) plain e)
+
+  -- it owns what it holds
+  home-owner : IsPlaced x → (row : FrontRow) (d : FrontConn) → x.part.front.row ≡ Some row → row.stage ≡ d → IsBefore d → owner_now ≡ Some Front
+  home-owner sits row d found at before = by-stage d at before (subst (Sits (owning (tale_at x)) x.part.nodes) found sits.sits).0 where
+    by-stage : (d : FrontConn) → row.stage ≡ d → IsBefore d → StageSits row.epoch.0 (owning (tale_at x)) x.part.nodes row.stage → owner_now ≡ Some Front
+    by-stage (stage.Held b) at before sits = ap (λ (w : Owning). w.owner) (subst (StageSits row.epoch.0 (owning (tale_at x)) x.part.nodes) at sits).1.0
+    by-stage (stage.Waiting b) at before sits = ap (λ (w : Owning). w.owner) (subst (StageSits row.epoch.0 (owning (tale_at x)) x.part.nodes) at sits).1.0
+    by-stage _ at before sits = absurd before
+
+  -- what is read and placed notes plain records
+  module _ (env : FrontEnv) (p : FrontPart) where
+    placed-plain : (row : FrontRow) (rest : FrontRest) (w : Service) (path : List ℕ) → Each IsPlain w.notes → (f : First) → Each IsPlain (placed env p row rest w path f).turn.notes
+    placed-plain row rest w path plain (first.Go choice) = plain-more w.notes (rec.Admitted env.serve.c ∷ rec.AssignedFirst env.serve.c (w.count + 1) path choice.node choice.add choice.remove ∷ []) (tt, (tt, tt)) plain
+    placed-plain row rest w path plain first.Waits = plain-more w.notes (rec.Waits env.serve.c ∷ []) (tt, tt) plain
+
+    settled-plain : (row : FrontRow) (rest : FrontRest) (w : Service) → Each IsPlain w.notes → (target : Option (List ℕ)) → Each IsPlain (notes_of (settled_by env p row rest w target))
+    settled-plain row rest w plain None = subst (Each IsPlain) (sym (settled-is env.serve w).notes) plain
+    settled-plain row rest w plain (Some path) = placed-plain row rest w path plain (env.first path)
+
+    heard-plain : (row : FrontRow) (rest : FrontRest) (b : ControlBlock) → Each IsPlain (notes_of (heard env p row rest b))
+    heard-plain row rest b =
+        let y : Reading = reads env.serve (record { service = serving b rest.count []; target = None }) in
+        settled-plain row rest y.service (reads-notes (Each IsPlain) plain-more env.serve (record { service = serving b rest.count []; target = None }) tt) y.target
+
+  module _ (env : FrontEnv) where
+    abbrev p : FrontPart
+    p = x.part.front
+
+    abbrev KnowsIt : front.Deed → Type 0
+    KnowsIt d = IsPlaced x → IsItsOwn x (front_does x heads d) → Known x (front_does x heads d)
+
+    nothing : (d : front.Deed) → notes_of d ≡ [] → KnowsIt d
+    nothing d none sits own = front-known d (subst (OwnerServes x.c owner_now) (sym none) tt)
+
+    hears-stage : (bytes : List ℕ) (s : Said) (row : FrontRow) (d : FrontConn) → p.row ≡ Some row → row.stage ≡ d → KnowsIt (hears_at env p row bytes s d)
+    hears-stage bytes s row (stage.Held b) found at =
+        λ sits own. front-plain (hears_at env p row bytes s (stage.Held b)) own (heard-plain env p row (rest_of p.rest) (on_segment b s).1) (home-owner sits row (stage.Held b) found at tt)
+    hears-stage bytes s row (stage.Waiting b) found at = nothing (hears_at env p row bytes s (stage.Waiting b)) refl
+    hears-stage bytes s row stage.Lent found at = nothing front.Drops refl
+    hears-stage bytes s row (stage.Offering n e) found at = nothing (hears_at env p row bytes s (stage.Offering n e)) refl
+    hears-stage bytes s row (stage.Moved n e) found at = nothing (hears_at env p row bytes s (stage.Moved n e)) refl
+    hears-stage bytes s row (stage.Closed last) found at = by-words (last_words last.reason last s) where
+      by-words : (o : Option Said) → KnowsIt (front.Says (front.turn_here (tombstone env.serve o)))
+      by-words None = nothing (front.Says (front.turn_here (tombstone env.serve None))) refl
+      by-words (Some q) = nothing (front.Says (front.turn_here (tombstone env.serve (Some q)))) refl
+
+    hears-row : (bytes : List ℕ) (s : Said) (row : Option FrontRow) → p.row ≡ row → KnowsIt (front_hears env p bytes s row)
+    hears-row bytes s None found = go (is_plain_syn s) where
+      go : (b : Bool) → KnowsIt (cond b (begun env p s) front.Drops)
+      go true = λ sits own. front-known (begun env p s) (tt, tt)
+      go false = nothing front.Drops refl
+    hears-row bytes s (Some row) found = hears-stage bytes s row row.stage found refl
+
+    gets-known : (bytes : List ℕ) (r : Result Said SegFault) → KnowsIt (front_gets env p bytes r)
+    gets-known bytes (Err fault) = nothing front.Drops refl
+    gets-known bytes (Ok s) = hears-row bytes s p.row refl
+
+    -- its timers, and what nodes say, serve nothing
+    fires-none : (row : FrontRow) (d : FrontConn) → notes_of (fires_at env p row d) ≡ []
+    fires-none row (stage.Held b) = refl
+    fires-none row (stage.Waiting b) = refl
+    fires-none row stage.Lent = refl
+    fires-none row (stage.Offering n e) = refl
+    fires-none row (stage.Moved n e) = refl
+    fires-none row (stage.Closed last) = refl
+
+    timer-none : (row : Option FrontRow) → notes_of (fired_by env p row) ≡ []
+    timer-none None = refl
+    timer-none (Some row) = fires-none row row.stage
+
+    taken-none : (epoch : ℕ) (row : Option FrontRow) (asked : Option ℕ) → notes_of (taken_by p epoch row asked) ≡ []
+    taken-none epoch None asked = refl
+    taken-none epoch (Some row) None = refl
+    taken-none epoch (Some row) (Some n) = refl
+
+    abbrev Silent : front.Deed → Type 0
+    Silent d = Each IsSilent (notes_of d)
+
+    assigned-silent : (c : ℕ) (ask : Ask) (r : ℕ) (paths : List (List ℕ)) (choices : List LaterChoice) → Each IsSilent (assigned_notes c ask r paths choices)
+    assigned-silent c ask r [] choices = tt
+    assigned-silent c ask r (path ∷ paths) [] = tt
+    assigned-silent c ask r (path ∷ paths) (choice ∷ choices) = (tt, assigned-silent c ask (r + 1) paths choices)
+
+    over-silent : (c : ℕ) (b : Bool) (rs : List Rec) → Each IsSilent rs → Each IsSilent (over_note c b ++ rs)
+    over-silent c true rs h = (tt, h)
+    over-silent c false rs h = h
+
+    asked-silent : (n epoch : ℕ) (ask : Ask) (rest : Option FrontRest) → Silent (asked_by env p n epoch ask rest)
+    asked-silent n epoch ask None = tt
+    asked-silent n epoch ask (Some rest) = cond_both (ask.number == rest.asks + 1) (front.Does (assigns env p rest n epoch ask (env.later ask))) (cond (ask.number == rest.asks && nat_lt 0 rest.asks) (front.Says (front.saying (tag_sent env n epoch rest.asks rest.tag))) front.Drops) Silent
+        (λ t. over-silent env.serve.c (env.later ask).over (assigned_notes env.serve.c ask rest.assigned ask.paths (env.later ask).choices) (assigned-silent env.serve.c ask rest.assigned ask.paths (env.later ask).choices))
+        (λ t. cond_both (ask.number == rest.asks && nat_lt 0 rest.asks) (front.Says (front.saying (tag_sent env n epoch rest.asks rest.tag))) front.Drops Silent (λ u. tt) (λ u. tt))
+
+    asks-silent : (n epoch : ℕ) (ask : Ask) → Silent (front_asked env p n epoch ask)
+    asks-silent n epoch ask = cond_both (is_at n epoch p.row) (asked_by env p n epoch ask p.rest) front.Drops Silent (λ t. asked-silent n epoch ask p.rest) (λ t. tt)
+
+    ends-silent : (n epoch : ℕ) (last : Final) (row : Option FrontRow) (given : OnEnded) → Silent (ended_by env p n epoch last row given)
+    ends-silent n epoch last None given = tt
+    ends-silent n epoch last (Some row) (ended.New next) = (tt, (tt, tt))
+    ends-silent n epoch last (Some row) ended.Again = tt
+    ends-silent n epoch last (Some row) ended.Stale = tt
+
+    silent-known : (d : front.Deed) → Silent d → Known x (front_does x heads d)
+    silent-known d h = front-known d (silent-serve x.c owner_now (notes_of d) h)
+
+-- who is admitted is served nothing yet
+module _ (env : FrontEnv) (p : FrontPart) where
+  abbrev GivenSilent : Option (FrontPart × FrontTurn) → Type 0
+  GivenSilent None = Unit {0}
+  GivenSilent (Some given) = Each IsSilent given.1.notes
+
+  with-silent : (row : FrontRow) (rest : FrontRest) (b : ControlBlock) (choice : FirstChoice) (target : Option (List ℕ)) → GivenSilent (admitted_with env row rest b choice target)
+  with-silent row rest b choice None = tt
+  with-silent row rest b choice (Some path) = (tt, (tt, tt))
+
+  at-silent : (choice : FirstChoice) (row : FrontRow) (d : FrontConn) → GivenSilent (admitted_at env p choice row d)
+  at-silent choice row (stage.Waiting b) = with-silent row (rest_of p.rest) b choice (rest_of p.rest).target
+  at-silent choice row _ = tt
+
+  admitted-silent : (choice : FirstChoice) (o : Option FrontRow) → GivenSilent (admitted_by env p choice o)
+  admitted-silent choice None = tt
+  admitted-silent choice (Some row) = at-silent choice row row.stage
+
+-- ---- a node
+
+abbrev notes_at : node.Deed → List Rec
+notes_at node.Drops = []
+notes_at (node.Says messages) = []
+notes_at (node.Does given) = named given.1.notes
+
+module _ (k : Setting) (x : Conn) (heads : List Seen) (quiet : Each IsHead heads) (n epoch : ℕ) (env : NodeEnv) (is : IsNodeEnv k x.c n epoch env) where
+  abbrev now : Option Place
+  now = (tale_at x).owner
+
+  abbrev ours : NodePart
+  ours = x.part.nodes n
+
+  node-known : (d : node.Deed) → OwnerServes x.c now (notes_at d) → Known x (node_does x n heads d)
+  node-known node.Drops h = record { heads = quiet; serves = h }
+  node-known (node.Says messages) h = record { heads = quiet; serves = h }
+  node-known (node.Does given) h = record { heads = quiet; serves = h }
+
+  node-noted : (d : node.Deed) → IsItsOwn x (node_does x n heads d) → Each (NotedAt (Node n) x.c) (notes_at d)
+  node-noted node.Drops own = tt
+  node-noted (node.Says messages) own = tt
+  node-noted (node.Does given) own = own.notes
+
+  -- what is behind its notes
+  abbrev Serves : node.Deed → Type 0
+  Serves d = Each (NotedAt (Node n) x.c) (notes_at d) → OwnerServes x.c now (notes_at d)
+
+  work-serves : (p : NodePart) (before : List (Place × List ℕ)) (w : Work) → now ≡ Some (Node n) → Each IsPlain w.service.notes → Serves (with_work env p before w)
+  work-serves p before w e plain noted =
+      plain-serve (Node n) x.c now (named (settled env.serve w.service).1.notes) noted (plain-named (settled env.serve w.service).1.notes (subst (Each IsPlain) (sym (settled-is env.serve w.service).notes) plain)) e
+
+  goes-serves : (p : NodePart) (w : Work) → now ≡ Some (Node n) → Each IsPlain w.service.notes → Serves (with_work env p [] (goes_on env w))
+  goes-serves p w e plain = work-serves p [] (goes_on env w) e (goes-notes (Each IsPlain) plain-more env w plain)
+
+  module _ (placed : IsPlaced x) where
+    abbrev Here : Option (ControlBlock × Stay) → Type 0
+    Here o = here env.epoch ours ≡ o
+
+    owns : (y : ControlBlock × Stay) → Here (Some y) → now ≡ Some (Node n)
+    owns y e = (here-has x placed n env.epoch y.0 y.1 e).owner
+
+    hears-serves : (r : Result Said SegFault) (o : Option (ControlBlock × Stay)) → Here o → Serves (heard_by env ours r o)
+    hears-serves (Err fault) o e = λ noted. tt
+    hears-serves (Ok s) None e = λ noted. tt
+    hears-serves (Ok s) (Some y) e = goes-serves ours (work_of (on_segment y.0 s).1 y.1) (owns y e) tt
+
+    tags-serves : (number : ℕ) (tags : List ℕ) (o : Option (ControlBlock × Stay)) → Here o → Serves (tagged_by env number tags ours o)
+    tags-serves number tags None e = λ noted. tt
+    tags-serves number tags (Some y) e = cond_both (is_awaited env number tags ours y.1) (with_work env (record ours { kept = without kind.Ask 0 ours.kept }) [] (goes_on env (tagged env tags (work_of y.0 y.1)))) node.Drops Serves
+        (λ t. goes-serves (record ours { kept = without kind.Ask 0 ours.kept }) (tagged env tags (work_of y.0 y.1)) (owns y e) (tagged-notes (Each IsPlain) plain-more env tags (work_of y.0 y.1) tt))
+        (λ t noted. tt)
+
+    comes-serves : (from r : ℕ) (o : Option (ControlBlock × Stay)) → Here o → Serves (come_by env from r ours o)
+    comes-serves from r None e = λ noted. tt
+    comes-serves from r (Some y) e = cond_both (is_from from env.epoch (find (is_under kind.Fetch r) ours.fetches))
+        (with_work env (record ours { fetches = without kind.Fetch r ours.fetches }) [] (goes_on env (came_for (come_progress from) r (work_of y.0 y.1)))) node.Drops Serves
+        (λ t. goes-serves (record ours { fetches = without kind.Fetch r ours.fetches }) (came_for (come_progress from) r (work_of y.0 y.1)) (owns y e) (came-notes (Each IsPlain) plain-more (come_progress from) r (work_of y.0 y.1) tt))
+        (λ t noted. tt)
+
+    reads-serves : (r : ℕ) (o : Option (ControlBlock × Stay)) → Here o → Serves (read_by env r ours o)
+    reads-serves r None e = λ noted. tt
+    reads-serves r (Some y) e = goes-serves ours (came_for read_progress r (work_of y.0 y.1)) (owns y e) (came-notes (Each IsPlain) plain-more read_progress r (work_of y.0 y.1) tt)
+
+  -- it takes a connection first, and then it serves
+  takes-serves : (rest : List Rec) → Each IsPlain rest → Each (NotedAt (Node n) x.c) rest → OwnerServes x.c now (rec.Took (Node env.n) env.serve.c (record { 0 = env.epoch }) ∷ rest)
+  takes-serves rest plain noted = (
+    tt,
+    subst (λ (b : Bool). OwnerServes x.c (cond b (Some (Node env.n)) now) rest) (sym (same-number env.serve.c x.c is.number))
+        (plain-serve (Node n) x.c (Some (Node env.n)) rest noted plain (ap (λ (m : ℕ). Some (Node m)) is.node)),
+  )
+
+  offers-serves : (parts : EndpointParts) (a : Adopt) → Serves (offered_by env parts ours a)
+  offers-serves parts New noted =
+      let took : Rec = rec.Took (Node env.n) env.serve.c (record { 0 = env.epoch }) in
+      let work : Work = goes_on env (state_of (reads_batch env true (begins env parts))) in
+      let all : Begins took work.service.notes =
+      goes-notes (Begins took) (begins-more took) env (state_of (reads_batch env true (begins env parts))) (batch-state (Begins took) (begins-more took) env true (begins env parts) ([], refl, tt)) in
+      let same : (settled env.serve work.service).1.notes ≡ took ∷ all.0 = (settled-is env.serve work.service).notes ∙ all.1 in
+      let mine : Each (NotedAt (Node n) x.c) (named (took ∷ all.0)) = subst (λ (l : List Rec). Each (NotedAt (Node n) x.c) (named l)) same noted in
+      subst (λ (l : List Rec). OwnerServes x.c now (named l)) (sym same) (takes-serves (named all.0) (plain-named all.0 all.2) mine.1)
+  offers-serves parts Again noted = tt
+  offers-serves parts Stale noted = tt
+
+  acknowledged-serves : Serves (node_acknowledged env ours)
+  acknowledged-serves = cond_both (awaits_ack env.epoch ours.row) (node.Does (record ours { row = node.gone ours.row; kept = without kind.Ended 0 ours.kept }, node.saying [])) node.Drops Serves (λ t noted. tt) (λ t noted. tt)
+
+  fires-serves : (o : Option (ControlBlock × Stay)) → Serves (node.fired_by env ours o)
+  fires-serves None noted = tt
+  fires-serves (Some y) noted = tt
+
+  by-node : (d : node.Deed) → Serves d → IsItsOwn x (node_does x n heads d) → Known x (node_does x n heads d)
+  by-node d serves own = node-known d (serves (node-noted d own))
+
+  -- the record of a job stands before what it leads to
+  by-job : (r : ℕ) (path : List ℕ) (d : node.Deed) → Serves d → IsItsOwn x (reads_first (rec.Read n n x.c r path) (node_does x n heads d)) → Known x (reads_first (rec.Read n n x.c r path) (node_does x n heads d))
+  by-job r path node.Drops serves own = record { heads = quiet; serves = (tt, serves tt) }
+  by-job r path (node.Says messages) serves own = record { heads = quiet; serves = (tt, serves tt) }
+  by-job r path (node.Does given) serves own = record { heads = quiet; serves = (tt, serves own.notes.1) }
+
+-- ---- every rule
+
+module _ (k : Setting) where
+  clients : ClientRules k Knows
+  clients = record {
+    opens = λ x isn iss wnd mss rule none may own. record { heads = (tt, (tt, tt)); serves = silent-serve x.c (tale_at x).owner (client_begins x isn iss wnd mss).said.notes (client-silent x.c x.c (client_begins x isn iss wnd mss).said.notes own.notes) };
+    gets = λ x s path there fits. client-knows x s (event_seen (event.Get x.c path)) (client_writes s.client (request path)) (tt, tt);
+    writes = λ x s bytes there fits. client-knows x s (event_seen (event.Write x.c bytes)) (client_writes s.client bytes) (tt, tt);
+    shuts = λ x s there. client-knows x s (event_seen (event.Shut x.c)) (client_shuts s.client) (tt, tt);
+    aborts = λ x s there. client-knows x s (event_seen (event.Abort x.c)) (client_aborts s.client) (tt, tt);
+    holds = λ x s there. client-knows x s (event_seen (event.Hold x.c)) (client_holds s.client) (tt, tt);
+    takes = λ x s there. client-knows x s (event_seen (event.Take x.c)) (client_takes s.client) (tt, tt);
+    fires = λ x s there. client-knows x s (event_seen (event.Timer (Client x.c) x.c)) (client_timer s.client) (tt, tt);
+    hears = λ x s from bytes there was. client-knows x s (packet_seen from (Client x.c) bytes) (client_gets s.client (decoded bytes x.c ToClient)) (tt, tt);
+  }
+
+  fronts : FrontRules k Knows
+  fronts = record {
+    hears = λ x s env bytes there is iss was may own. gets-known x (packet_seen (Client x.c) Front bytes) (tt, tt) env bytes _ may.given own;
+    fires = λ x s env there is may own. nothing x (event_seen (event.Timer Front x.c)) (tt, tt) env (front_timer env x.part.front) (timer-none x (event_seen (event.Timer Front x.c)) (tt, tt) env x.part.front.row) may.given own;
+    taken = λ x env n epoch bytes is spells was may own. nothing x (packet_seen (Node n) Front bytes) (tt, tt) env (front_taken x.part.front epoch)
+        (taken-none x (packet_seen (Node n) Front bytes) (tt, tt) env epoch x.part.front.row (asked_node epoch x.part.front.row)) may.given own;
+    asked = λ x env n epoch number queue size paths bytes is spells was may own. silent-known x (packet_seen (Node n) Front bytes) (tt, tt) env (front_asked env x.part.front n epoch (ask_of x.c n number queue size paths))
+        (asks-silent x (packet_seen (Node n) Front bytes) (tt, tt) env n epoch (ask_of x.c n number queue size paths));
+    ended = λ x env n epoch why snd rcv count bytes is spells was may own.
+        let last : Final = record { reason = why; snd = record { 0 = snd }; rcv = record { 0 = rcv } } in
+        silent-known x (packet_seen (Node n) Front bytes) (tt, tt) env (front_ended env x.part.front n epoch last)
+        (ends-silent x (packet_seen (Node n) Front bytes) (tt, tt) env n epoch last x.part.front.row (end_answer epoch x.part.front.row));
+    admitted = λ x env choice given is e may own. record {
+      heads = tt;
+      serves = silent-serve x.c (tale_at x).owner given.1.notes (subst (GivenSilent env x.part.front) e (admitted-silent env x.part.front choice x.part.front.row));
+    };
+  }
+
+  nodes : NodeRules k Knows
+  nodes = record {
+    offered = λ x n epoch env parts bytes is spells was may own. by-node k x (packet_seen Front (Node n) bytes) (tt, tt) n epoch env is _ (offers-serves k x (packet_seen Front (Node n) bytes) (tt, tt) n epoch env is parts (offer_answer env.epoch (x.part.nodes n).row)) own;
+    forwarded = λ x n epoch env segment bytes is spells was may own. by-node k x (packet_seen Front (Node n) bytes) (tt, tt) n epoch env is _
+        (hears-serves k x (packet_seen Front (Node n) bytes) (tt, tt) n epoch env is may.given _ (here env.epoch (x.part.nodes n)) refl) own;
+    tagged = λ x n epoch number tags env bytes is spells was may own. by-node k x (packet_seen Front (Node n) bytes) (tt, tt) n epoch env is _
+        (tags-serves k x (packet_seen Front (Node n) bytes) (tt, tt) n epoch env is may.given number tags (here env.epoch (x.part.nodes n)) refl) own;
+    content = λ x n from epoch r env file bytes is spells was may own. by-node k x (packet_seen (Node from) (Node n) bytes) (tt, tt) n epoch env is _
+        (comes-serves k x (packet_seen (Node from) (Node n) bytes) (tt, tt) n epoch env is may.given from r (here env.epoch (x.part.nodes n)) refl) own;
+    acknowledged = λ x n epoch env bytes is spells was may own. by-node k x (packet_seen Front (Node n) bytes) (tt, tt) n epoch env is _ (acknowledged-serves k x (packet_seen Front (Node n) bytes) (tt, tt) n epoch env is) own;
+    read = λ x n epoch r env path is may own. by-job k x [] tt n epoch env is r path _ (reads-serves k x [] tt n epoch env is may.given r (here env.epoch (x.part.nodes n)) refl) own;
+    fires = λ x s n env there is may own. by-node k x (event_seen (event.Timer (Node n) x.c)) (tt, tt) n _ env is _
+        (fires-serves k x (event_seen (event.Timer (Node n) x.c)) (tt, tt) n _ env is (both_of (endpoint_of (x.part.nodes n).row) (x.part.nodes n).stay)) own;
+    answers = λ x n from epoch r path file bytes there spells was may own. record { heads = (tt, tt); serves = tt };
+    queues = λ x n from epoch r path file bytes there spells was may own. record { heads = (tt, tt); serves = (tt, tt) };
+    brings = λ x n from epoch r path may own. record { heads = tt; serves = (tt, tt) };
+  }
+
+  pub known : UntouchedRules k Knows
+  known = record { client = clients; front = fronts; node = nodes; ignores = λ x from to bytes was may own. record { heads = (tt, tt); serves = tt } }

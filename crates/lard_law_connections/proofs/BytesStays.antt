@@ -1,0 +1,272 @@
+-- The rules of a node keep the agreement of a connection that it has.
+use Rattle.std.proofs.Common.{Bool, List, None, Ok, Option, Some, [], ap, append-nil, append_assoc, arith, false, inl, inr, refl, subst, sym, true, ℕ, ◌++◌, ◌-◌, ◌==◌, ◌||◌, ◌∙◌, ◌∷◌, ◌≡◌, ◌⊎◌}
+use Rattle.std.specs.List.{find, list_any}
+use Rattle.std.proofs.lemmas.Bool.{cond_both}
+use Rattle.lard_base.specs.declared.limits.TheConstants.{RECEIVE_WINDOW}
+use Rattle.lard_base.specs.declared.parts.EndpointParts.{EndpointParts}
+use Rattle.lard_base.specs.declared.place.Place.{Place}
+use Rattle.lard_base.specs.declared.place.Place.TheVariants as place
+use Rattle.lard_base.specs.declared.place.TimerKind.TheVariants as kind
+use Rattle.lard_law_connections.specs.BytesAgreement.{AreOnTheWay, BackAgrees, EndAgrees, FrontHolds, HoldsIt, NodeAgrees, RowAgrees, StayAgrees, StayComesOn}
+use Rattle.lard_law_connections.specs.BytesKeeping.{ContentsKeep, DeedKeeps, IsTalk, NodeHearsTruth, NodeTimerKeeps, NodeSays, NodeTurned, OffersKeep, ReadsKeep, TagsKeep}
+use Rattle.lard_law_connections.specs.BytesTurning.{EndTurned}
+use Rattle.lard_law_connections.proofs.BytesEnding.{settled-ends}
+use Rattle.lard_law_connections.proofs.BytesHolding.{begins-so, fired-ends, heard-so, same-so}
+use Rattle.lard_law_connections.proofs.BytesServing.{MayGo, So, go-on}
+use Rattle.lard_law_connections.proofs.BytesWorking.{Right, Works, came-so, first-so, goes-so, tagged-so, verdicts_of}
+use Rattle.lard_law_connections.proofs.BytesWays.{batch-right, came-right, come_progress-on, goes-right, read_progress-on, tagged-right}
+use Rattle.lard_endpoint.specs.Arriving.{on_segment}
+use Rattle.lard_endpoint.specs.Control.{ControlBlock}
+use Rattle.lard_endpoint.specs.Leaving.{after_timer, timed}
+use Rattle.lard_endpoint.specs.Moving.{adopted, may_freeze, parts_of}
+use Rattle.lard_endpoint.proofs.Adoption.{Stands, frozen_stands}
+use Rattle.lard_handoff_back.specs.declared.row.BackConn.{BackConn}
+use Rattle.lard_handoff_back.specs.declared.row.BackConn.TheVariants as back
+use Rattle.lard_handoff_back.specs.declared.row.BackRow.{BackRow}
+use Rattle.lard_handoff_back.specs.declared.table.Adopt.{Adopt}
+use Rattle.lard_handoff_back.specs.declared.table.Adopt.TheVariants.{New, Again, Stale}
+use Rattle.lard_handoff_back.specs.Back.{endpoint_of, offer_answer, staying}
+use Rattle.lard_handoff_back.specs.Row.{held_in}
+use Rattle.lard_journal.specs.declared.rec.Rec.TheVariants as rec
+use Rattle.lard_lateral.specs.Lateral.{is_from}
+use Rattle.lard_law_view.specs.Agreement.{IsWord, SaysAnswers}
+use Rattle.lard_law_view.specs.Keeping.{resets}
+use Rattle.lard_rules.specs.declared.node.NodeTurn.{NodeTurn}
+use Rattle.lard_rules.specs.declared.stay.Asked.{Asked}
+use Rattle.lard_rules.specs.declared.stay.Stay.{Stay}
+use Rattle.lard_rules.specs.declared.stay.Want.{Want}
+use Rattle.lard_message.specs.declared.message.Body.TheVariants as body
+use Rattle.lard_history.proofs.Each.{Each, Each-append}
+use Rattle.lard_law_connections.specs.Places.{IsDecided}
+use Rattle.lard_rules.specs.Node.{Deed, Drops, NodePart, again_sent, asked_sent, begins, both_of, come_by, ended_sent, fired, fired_by, heard_by, here, is_awaited, kept_after, node_offered, offered_by, read_by, rests, tagged_by, taken_sent, turn_by, wants_sent, with_work, work_of}
+use Rattle.lard_rules.specs.Node as node
+use Rattle.lard_rules.specs.Stay.{NodeEnv, Work, came_for, come_progress, goes_on, read_progress, reads_batch, tagged}
+use Rattle.lard_recv.specs.Recv.{restored}
+use Rattle.lard_request.specs.declared.verdict.Verdict.{Verdict}
+use Rattle.lard_resend.specs.Kept.{is_under, without}
+use Rattle.lard_rules.specs.declared.places.Ending.{Ending}
+use Rattle.lard_rules.specs.declared.places.Ending.TheVariants as ending
+use Rattle.lard_rules.specs.declared.places.Turn.{Turn}
+use Rattle.lard_rules.specs.Loop.{state_of}
+use Rattle.lard_rules.specs.Serving.{ready_of, serving, settled, spoken}
+use Rattle.lard_segment.specs.Segment.{Said}
+use Rattle.lard_send.specs.Send.{resumed}
+use Rattle.lard_law_view.specs.Truth.{Stream}
+
+module _ (env : NodeEnv) (w out : Stream) (vs : List Verdict) (was_reset : Bool) where
+  abbrev Turns : NodePart → NodePart × NodeTurn → Type 0
+  Turns p given = NodeTurned env.serve.files env.serve.c env.epoch p w out vs was_reset given
+
+  abbrev Keeps : NodePart → Deed → Type 0
+  Keeps p d = DeedKeeps env.serve.files env.serve.c env.epoch p w out vs was_reset d
+
+  -- ---- the end of a turn
+
+  ends-agree : (p : NodePart) (k : Work) (now : Stream) (us : List Verdict) (r : Bool) (e : Ending) → EndAgrees w now us (verdicts_of k.batch) r e
+      → NodeAgrees w now us (verdicts_of k.batch) r env.serve.c (kept_after env p k e)
+  ends-agree p k now us r (ending.Here b count) h = (refl, h)
+  ends-agree p k now us r (ending.Over last) h = record { last = last; count = node.count_of k.service.over; ended = h; kept_is = refl }
+
+  ends-way : (p : NodePart) (k : Work) (e : Ending) → Right env w out vs k → StayComesOn env.serve.files (kept_after env p k e).stay
+  ends-way p k (ending.Here b count) right = right
+  ends-way p k (ending.Over last) right = tt
+
+  after-decided : (p : NodePart) (k : Work) (e : Ending) → IsDecided env.epoch (kept_after env p k e).row
+  after-decided p k (ending.Here b count) = omega arith
+  after-decided p k (ending.Over last) = omega arith
+
+  -- what it says
+  wants-say : (q : NodePart) (ws : List Want) → Each (NodeSays env.serve.c q) (wants_sent env ws)
+  wants-say q [] = tt
+  wants-say q (x ∷ xs) = (inl (x.node, refl), wants-say q xs)
+
+  asked-says : (q : NodePart) (o : Option Asked) → Each (NodeSays env.serve.c q) (asked_sent env o)
+  asked-says q None = tt
+  asked-says q (Some a) = (inr (env.epoch, body.Ask a.number a.queue a.size a.paths, refl, tt), tt)
+
+  ended-says : (p : NodePart) (k : Work) (e : Ending) → Each (NodeSays env.serve.c (kept_after env p k e)) (ended_sent env k.service.over e)
+  ended-says p k (ending.Here b count) = tt
+  ended-says p k (ending.Over last) = (inr (env.epoch, body.Ended last.reason last.snd.0 last.rcv.0 (node.count_of k.service.over), refl, (_, refl, refl)), tt)
+
+  abbrev rest_of_it : Work → Ending → List (Place × List ℕ)
+  rest_of_it k e = (asked_sent env k.asked ++ wants_sent env k.wants) ++ ended_sent env k.service.over e
+
+  rest-says : (p : NodePart) (k : Work) (e : Ending) → Each (NodeSays env.serve.c (kept_after env p k e)) (rest_of_it k e)
+  rest-says p k e =
+      let q : NodePart = kept_after env p k e in
+      Each-append (NodeSays env.serve.c q) (asked_sent env k.asked ++ wants_sent env k.wants) (ended_sent env k.service.over e)
+      (Each-append (NodeSays env.serve.c q) (asked_sent env k.asked) (wants_sent env k.wants) (asked-says q k.asked) (wants-say q k.wants)) (ended-says p k e)
+
+  -- what is said again stands before the rest, or what it says first is said as the rest is
+  pub record Before (p q : NodePart) (before : List (Place × List ℕ)) : Type 0 where
+    again : List (Place × List ℕ)
+    first : List (Place × List ℕ)
+    is : before ≡ again ++ first
+    told : (again ≡ []) ⊎ (again ≡ again_sent p)
+    said : Each (NodeSays env.serve.c q) first
+
+  rests-turn : (old p : NodePart) (before : List (Place × List ℕ)) (k : Work) (given : Ending × Turn) → Before old (kept_after env p k given.0) before → Right env w out vs k
+      → EndTurned env.serve.files env.serve.c w out vs was_reset (verdicts_of k.batch) given → Turns old (kept_after env p k given.0, turn_by env before k given)
+  rests-turn old p before k given first right h = record {
+    out_after = h.out_after;
+    vs_after = h.vs_after;
+    pend_after = verdicts_of k.batch;
+    longer = h.longer;
+    says = h.says;
+    agrees = ends-agree p k h.out_after h.vs_after (was_reset || list_any resets given.1.notes) given.0 h.agrees;
+    noted = h.noted;
+    ways = ends-way p k given.0 right;
+    sent = h.sent;
+    decided = after-decided p k given.0;
+    again = first.again;
+    more = first.first ++ rest_of_it k given.0;
+    messages = ap (λ (ms : List (Place × List ℕ)). ms ++ ended_sent env k.service.over given.0) (append_assoc before (asked_sent env k.asked) (wants_sent env k.wants))
+        ∙ append_assoc before (asked_sent env k.asked ++ wants_sent env k.wants) (ended_sent env k.service.over given.0)
+        ∙ ap (λ (ms : List (Place × List ℕ)). ms ++ rest_of_it k given.0) first.is ∙ append_assoc first.again first.first (rest_of_it k given.0);
+    told = first.told;
+    said = Each-append (NodeSays env.serve.c (kept_after env p k given.0)) first.first (rest_of_it k given.0) first.said (rest-says p k given.0);
+  }
+
+  none-before : (old q : NodePart) → Before old q []
+  none-before old q = record { again = []; first = []; is = refl; told = inl refl; said = tt }
+
+  work-turns : (old p : NodePart) (before : List (Place × List ℕ)) (k : Work) → ((q : NodePart) → Before old q before) → Works env w out vs k → Right env w out vs k → Keeps old (with_work env p before k)
+  work-turns old p before k first h right = rests-turn old p before k (settled env.serve k.service) (first _) right (settled-ends env.serve w out vs was_reset k.service (verdicts_of k.batch) h)
+
+  -- a stay that agrees
+  abbrev pub IsHeld : List Verdict → ControlBlock × Stay → Type 0
+  IsHeld pend x = (pend ≡ verdicts_of x.1.batch) × HoldsIt w out vs pend x.0 x.1.served × AreOnTheWay env.serve.files x.1.batch
+
+  pub same-works : (pend : List Verdict) (x : ControlBlock × Stay) → SaysAnswers env.serve.files w out vs → IsHeld pend x → Works env w out vs (work_of x.0 x.1)
+  same-works pend x says h = subst (So env.serve w out vs (serving x.0 x.1.served [])) h.0 (same-so env.serve w out vs says pend x.0 x.1.served h.1)
+
+  -- ---- where the node has it
+
+  -- it is so of none, and of each stay that agrees
+  module _ (pend : List Verdict) (P : Option (ControlBlock × Stay) → Type 0) (none : P None) (some : (x : ControlBlock × Stay) → IsHeld pend x → P (Some x)) where
+    of-stay : (b : ControlBlock) (o : Option Stay) → StayAgrees w out vs pend b o → StayComesOn env.serve.files o → P (both_of (Some b) o)
+    of-stay b None h ways = absurd h
+    of-stay b (Some s) h ways = some (b, s) (h.0, h.1, ways)
+
+    of-stage : (p : NodePart) (c e : ℕ) (d : BackConn) → BackAgrees w out vs pend was_reset c e p d → StayComesOn env.serve.files p.stay → P (both_of (held_in d) p.stay)
+    of-stage p c e (back.Here b) h ways = of-stay b p.stay h ways
+    of-stage p c e _ h ways = none
+
+    pub at-endpoint : (p : NodePart) (c : ℕ) (o : Option BackRow) → RowAgrees w out vs pend was_reset c p o → StayComesOn env.serve.files p.stay → P (both_of (endpoint_of o) p.stay)
+    at-endpoint p c None h ways = absurd h
+    at-endpoint p c (Some row) h ways = of-stage p c row.epoch.0 row.stage h ways
+
+    pub at-epoch : (p : NodePart) (c : ℕ) (o : Option BackRow) → RowAgrees w out vs pend was_reset c p o → StayComesOn env.serve.files p.stay → P (both_of (staying env.epoch o) p.stay)
+    at-epoch p c None h ways = absurd h
+    at-epoch p c (Some row) h ways = cond_both (row.epoch.0 == env.epoch) (held_in row.stage) None (λ b. P (both_of b p.stay))
+        (λ t. of-stage p c row.epoch.0 row.stage h ways) (λ t. none)
+
+  -- ---- the rules
+
+  module _ (talk : IsTalk env w out vs) (pend : List Verdict) (p : NodePart) (h : NodeAgrees w out vs pend was_reset env.serve.c p) (ways : StayComesOn env.serve.files p.stay) where
+    goes-turn : (p_kept : NodePart) (k : Work) → Works env w out vs k → Right env w out vs k → Keeps p (with_work env p_kept [] (goes_on env k))
+    goes-turn p_kept k works right = work-turns p p_kept [] (goes_on env k) (none-before p) (goes-so env w out vs talk.most k works right) (goes-right env k right)
+
+    hears-turn : (s : Said) → IsWord w s → Keeps p (heard_by env p (Ok s) (here env.epoch p))
+    hears-turn s word = at-epoch pend (λ x. Keeps p (heard_by env p (Ok s) x)) tt
+        (λ x held. goes-turn p (work_of (on_segment x.0 s).1 x.1)
+        (subst (So env.serve w out vs (serving (on_segment x.0 s).1 x.1.served [])) held.0 (heard-so env.serve w out vs talk.says pend x.0 x.1.served held.1 talk.stream s word)) held.2)
+        p env.serve.c p.row h ways
+
+    tags-turn : (number : ℕ) (nodes : List ℕ) → Keeps p (tagged_by env number nodes p (here env.epoch p))
+    tags-turn number nodes = at-epoch pend (λ x. Keeps p (tagged_by env number nodes p x)) tt
+        (λ x held. cond_both (is_awaited env number nodes p x.1) (with_work env (record p { kept = without kind.Ask 0 p.kept }) [] (goes_on env (tagged env nodes (work_of x.0 x.1)))) Drops (Keeps p)
+        (λ t. goes-turn (record p { kept = without kind.Ask 0 p.kept }) (tagged env nodes (work_of x.0 x.1)) (tagged-so env w out vs nodes (work_of x.0 x.1) (same-works pend x talk.says held)) (tagged-right env nodes (work_of x.0 x.1) held.2))
+        (λ t. tt))
+        p env.serve.c p.row h ways
+
+    comes-turn : (from r : ℕ) → Keeps p (come_by env from r p (here env.epoch p))
+    comes-turn from r = at-epoch pend (λ x. Keeps p (come_by env from r p x)) tt
+        (λ x held. cond_both (is_from from env.epoch (find (is_under kind.Fetch r) p.fetches))
+        (with_work env (record p { fetches = without kind.Fetch r p.fetches }) [] (goes_on env (came_for (come_progress from) r (work_of x.0 x.1)))) Drops (Keeps p)
+        (λ t. goes-turn (record p { fetches = without kind.Fetch r p.fetches }) (came_for (come_progress from) r (work_of x.0 x.1))
+        (came-so env w out vs (come_progress from) r (work_of x.0 x.1) (same-works pend x talk.says held))
+        (came-right env.serve.files (come_progress from) (come_progress-on env.serve.files from) r (work_of x.0 x.1) held.2))
+        (λ t. tt))
+        p env.serve.c p.row h ways
+
+    reads-turn : (r : ℕ) → Keeps p (read_by env r p (here env.epoch p))
+    reads-turn r = at-epoch pend (λ x. Keeps p (read_by env r p x)) tt
+        (λ x held. goes-turn p (came_for read_progress r (work_of x.0 x.1)) (came-so env w out vs read_progress r (work_of x.0 x.1) (same-works pend x talk.says held))
+        (came-right env.serve.files read_progress (read_progress-on env.serve.files) r (work_of x.0 x.1) held.2))
+        p env.serve.c p.row h ways
+
+    fires-turn : Keeps p (fired_by env p (both_of (endpoint_of p.row) p.stay))
+    fires-turn = at-endpoint pend (λ x. Keeps p (fired_by env p x)) (inl refl) (λ x held. fires x held) p env.serve.c p.row h ways where
+      fires : (x : ControlBlock × Stay) → IsHeld pend x
+          → Turns p (fired env p x (spoken env.serve (serving (after_timer x.0) x.1.served []) (ready_of env.serve (after_timer x.0) (timed x.0))))
+      fires x held =
+          let given : Ending × Turn = spoken env.serve (serving (after_timer x.0) x.1.served []) (ready_of env.serve (after_timer x.0) (timed x.0)) in
+          rests-turn p p (again_sent p) (work_of (after_timer x.0) x.1) given (record { again = again_sent p; first = []; is = sym (append-nil (again_sent p)); told = inr refl; said = tt }) held.2
+          (subst (λ (us : List Verdict). EndTurned env.serve.files env.serve.c w out vs was_reset us given) held.0 (fired-ends env.serve w out vs talk.says pend x.0 x.1.served held.1 was_reset))
+
+  -- ---- an Offer
+
+  -- what is adopted is the endpoint that was frozen, which owes an ACK
+  abbrev moved : ControlBlock → ControlBlock
+  moved b = record { recv = b.recv; send = b.send; owed = true; last_window = RECEIVE_WINDOW; reset = false }
+
+  same-send : (b : ControlBlock) (count : ℕ) → Stands b → b.send.irs ≡ b.recv.irs → b.send ≡ resumed (parts_of b count)
+  same-send b count s irs = λ i. record b.send { irs = irs i; nxt = s.nxt_is i; rest = s.rest_is i; total = (let e : b.send.total ≡ b.send.una - 1 = omega (arith, s.una_is) in e) i; finished = s.finished_is i }
+
+  same-recv : (b : ControlBlock) → Stands b → b.recv ≡ restored b.recv.irs b.recv.got b.recv.fin b.recv.unread
+  same-recv b s = λ i. record b.recv { discarding = s.discarding_is i }
+
+  adopted-is : (b : ControlBlock) (count : ℕ) → Stands b → b.send.irs ≡ b.recv.irs → moved b ≡ adopted (parts_of b count)
+  adopted-is b count s irs = λ i. record { recv = same-recv b s i; send = same-send b count s irs i; owed = true; last_window = RECEIVE_WINDOW; reset = false }
+
+  module _ (talk : IsTalk env w out vs) (pend : List Verdict) (p : NodePart) (b : ControlBlock) (count : ℕ) (h : FrontHolds w out vs pend b count) (frozen : may_freeze b ≡ true) where
+    abbrev parts : EndpointParts
+    parts = parts_of b count
+
+    abbrev pub Begins : ControlBlock → Type 0
+    Begins d = So env.serve w out vs (serving d count (rec.Took (place.Node env.n) env.serve.c (record { 0 = env.epoch }) ∷ [])) []
+
+    stands : Stands b
+    stands = frozen_stands b h.holds.sound frozen
+
+    pub offered-so : Begins (adopted parts)
+    offered-so =
+        let held = h.holds in
+        let read = held.has_read in
+        subst Begins (adopted-is b count stands h.holds.sound.same_irs)
+        (begins-so env.serve w out vs talk.says [] (moved b) count (rec.Took (place.Node env.n) env.serve.c (record { 0 = env.epoch }) ∷ []) held.counted
+        (record { same_irs = held.sound.same_irs; speaks = held.speaks; out_is = held.out_is; hears = held.hears })
+        (record { wnd = held.wide.wnd; wl1 = held.wide.wl1; wl2 = held.wide.wl2 })
+        (record { cut = read.cut; goes_on = read.goes_on; stops = read.stops; fronts = read.fronts })
+        (record { each = (tt, tt); served = omega arith; size = omega arith; unless_ended = inr refl; serve = λ t told. ((λ J e. tt), tt) }))
+
+    offers-turn : (a : Adopt) → Keeps p (offered_by env parts p a)
+    offers-turn New =
+        let first : Work = begins env parts in
+        let may : MayGo w offered-so.vs_now [] first.service = go-on env.serve w out vs first.service [] offered-so refl refl refl in
+        let works = first-so env w out vs true first offered-so may refl in
+        let right = batch-right env true first tt in
+        work-turns p p (taken_sent env) (goes_on env (state_of (reads_batch env true first))) (λ q. record { again = []; first = taken_sent env; is = refl; told = inl refl; said = (inr (env.epoch, body.Taken, refl, tt), tt) }) (goes-so env w out vs talk.most (state_of (reads_batch env true first)) works right) (goes-right env (state_of (reads_batch env true first)) right)
+    offers-turn Again = inr (inr (env.epoch, body.Taken, refl, tt), tt)
+    offers-turn Stale = tt
+
+-- ---- what is kept
+
+pub node-hears : NodeHearsTruth
+node-hears env w out vs pend was_reset p s talk h ways word = hears-turn env w out vs was_reset talk pend p h ways s word
+
+pub tags-keep : TagsKeep
+tags-keep number nodes env w out vs pend was_reset p talk h ways = tags-turn env w out vs was_reset talk pend p h ways number nodes
+
+pub contents-keep : ContentsKeep
+contents-keep from r env w out vs pend was_reset p talk h ways = comes-turn env w out vs was_reset talk pend p h ways from r
+
+pub reads-keep : ReadsKeep
+reads-keep r env w out vs pend was_reset p talk h ways = reads-turn env w out vs was_reset talk pend p h ways r
+
+pub timer-keeps : NodeTimerKeeps
+timer-keeps env w out vs pend was_reset p talk h ways = fires-turn env w out vs was_reset talk pend p h ways
+
+pub offers-keep : OffersKeep
+offers-keep env w out vs pend was_reset p b count talk h frozen = offers-turn env w out vs was_reset talk pend p b count h frozen (offer_answer env.epoch p.row)

@@ -1,0 +1,269 @@
+-- What a node does leaves of a connection what its stage awaits.
+use Rattle.std.proofs.Common.{◌≡◌, ◌⊎◌, ◌-◌, ◌+◌, ◌==◌, ◌&&◌, nat_lt, ◌≤◌, ℕ, Bool, true, false, cond, List, [], ◌∷◌, length, is_some, Option, Some, None, Result, Ok, Err, refl, sym, ap, ◌∙◌, subst, arith, eqb-true, inl, inr}
+use Rattle.std.proofs.lemmas.Bool.{and_parts, cond_both}
+use Rattle.std.specs.List.{find}
+use Rattle.lard_answers.specs.Answers.{FilesAt}
+use Rattle.lard_base.specs.declared.parts.EndpointParts.{EndpointParts}
+use Rattle.lard_base.specs.declared.place.Place.{Place}
+use Rattle.lard_base.specs.declared.place.TimerKind.TheVariants as kind
+use Rattle.lard_law_connections.specs.Kept.{AsksFor, awaited_in, HereKeeps, IsKeptByStage, NodeKeeps, NodeRowKeeps, NodeStageKeeps, StayKeeps}
+use Rattle.lard_law_connections.proofs.KeptBatches.{AreFetches, IsCalm, Loses, awaited-come, come-calm, come-loses, found-less, named-come, read-calm, read-loses, without-fetches}
+use Rattle.lard_law_connections.proofs.KeptStays.{Awaits, Follows, Starts, batch-state, goes-await, started-await, starts-all}
+use Rattle.lard_law_view.specs.View.{Conn, epoch_in, grown, node_does}
+use Rattle.lard_law_view.proofs.Parts.{put-each}
+use Rattle.lard_endpoint.specs.Arriving.{on_segment}
+use Rattle.lard_endpoint.specs.Control.{ControlBlock}
+use Rattle.lard_endpoint.specs.Leaving.{after_timer, timed}
+use Rattle.lard_handoff_back.specs.declared.row.BackConn.{BackConn}
+use Rattle.lard_handoff_back.specs.declared.row.BackConn.TheVariants as back
+use Rattle.lard_handoff_back.specs.declared.row.BackRow.{BackRow}
+use Rattle.lard_handoff_back.specs.declared.table.Adopt.{Adopt}
+use Rattle.lard_handoff_back.specs.declared.table.Adopt.TheVariants.{New, Again, Stale}
+use Rattle.lard_handoff_back.specs.Back.{awaits_ack, endpoint_of, offer_answer, staying}
+use Rattle.lard_handoff_back.specs.Row.{held_in, is_ended, is_gone}
+use Rattle.lard_history.specs.Own.{Seen}
+use Rattle.lard_history.proofs.Each.{Each}
+use Rattle.lard_lateral.specs.Lateral.{is_from}
+use Rattle.lard_rules.specs.declared.stay.Asked.{Asked}
+use Rattle.lard_rules.specs.declared.stay.Stay.{Stay}
+use Rattle.lard_rules.specs.Node.{Deed, Drops, Says, Does, NodePart, begins, both_of, come_by, count_of, fired_by, gone, heard_by, here, is_awaited, kept_after, node_acknowledged, node_content, node_forwarded, node_offered, node_read, node_tagged, node_timer, offered_by, read_by, saying, tagged_by, taken_sent, with_work, work_of}
+use Rattle.lard_rules.specs.Stay.{NodeEnv, Work, came_for, come_on, come_progress, goes_on, named_paths, read_progress, reads_batch, tagged}
+use Rattle.lard_rules.specs.declared.stay.Progress.{Progress}
+use Rattle.lard_resend.specs.declared.kept.Kept.{Kept}
+use Rattle.lard_resend.specs.Kept.{is_under, without}
+use Rattle.lard_rules.specs.declared.places.Ending.{Ending}
+use Rattle.lard_rules.specs.declared.places.Ending.TheVariants as ending
+use Rattle.lard_rules.specs.Loop.{state_of}
+use Rattle.lard_rules.specs.Serving.{ready_of, serving, settled, spoken}
+use Rattle.lard_segment.specs.declared.fault.SegFault.{SegFault}
+use Rattle.lard_segment.specs.Segment.{Said}
+
+-- what node n does for connection c leaves what its stage awaits
+abbrev pub DeedKeeps : (ℕ → Type 0) → FilesAt → ℕ → ℕ → Deed → Type 0
+DeedKeeps N files c n Drops = Unit {0}
+DeedKeeps N files c n (Says ms) = Unit {0}
+DeedKeeps N files c n (Does given) = NodeKeeps N files c n given.0
+
+-- A stay goes on from one in which so many Asks were made, and in which these paths had no node.
+abbrev pub StayFollows : FilesAt → ℕ → List (List ℕ) → Stay → Type 0
+StayFollows files asks0 named0 s = ((s.asks ≡ asks0) × ((named_paths files s.batch ≡ []) ⊎ (named_paths files s.batch ≡ named0))) ⊎ (s.asks ≡ asks0 + 1)
+
+abbrev pub MayFollow : FilesAt → ℕ → List (List ℕ) → Option Stay → Type 0
+MayFollow files asks0 named0 None = Unit {0}
+MayFollow files asks0 named0 (Some s) = StayFollows files asks0 named0 s
+
+-- what is kept of it is of this epoch
+abbrev pub IsOfEpoch : ℕ → Option BackRow → Type 0
+IsOfEpoch e None = ⊥
+IsOfEpoch e (Some row) = row.epoch.0 ≡ e
+
+abbrev pub DeedFollows : FilesAt → ℕ → ℕ → List (List ℕ) → Deed → Type 0
+DeedFollows files e asks0 named0 Drops = Unit {0}
+DeedFollows files e asks0 named0 (Says ms) = Unit {0}
+DeedFollows files e asks0 named0 (Does given) = MayFollow files asks0 named0 given.0.stay × IsOfEpoch e given.0.row
+
+-- nothing that is kept changes
+abbrev pub IsIdle : Deed → Type 0
+IsIdle Drops = Unit {0}
+IsIdle (Says ms) = Unit {0}
+IsIdle (Does given) = ⊥
+
+-- it goes on from what was here before; and nothing changes, where nothing was
+abbrev pub DeedGoes : FilesAt → ℕ → Option (ControlBlock × Stay) → Deed → Type 0
+DeedGoes files e None d = IsIdle d
+DeedGoes files e (Some y) d = DeedFollows files e y.1.asks (named_paths files y.1.batch) d
+
+-- without the Ask, none is kept
+asks-left : (c e number : ℕ) (paths : List (List ℕ)) (ks : List Kept) → AsksFor c e number paths ks → without kind.Ask 0 ks ≡ []
+asks-left c e number [] ks h = ap (without kind.Ask 0) h
+asks-left c e number (path ∷ paths) ks h = ap (without kind.Ask 0) h.2
+
+module _ (N : ℕ → Type 0) (env : NodeEnv) where
+  abbrev files : FilesAt
+  files = env.serve.files
+
+  abbrev pub Keeps : Deed → Type 0
+  Keeps d = DeedKeeps N env.serve.files env.serve.c env.n d
+
+  abbrev pub PartKeeps : NodePart → Type 0
+  PartKeeps p = NodeKeeps N env.serve.files env.serve.c env.n p
+
+  follows-by : (asks0 : ℕ) (named0 : List (List ℕ)) (o : Option Asked) (s : Stay) → Follows asks0 named0 o s.asks (named_paths files s.batch) → StayFollows files asks0 named0 s
+  follows-by asks0 named0 None s h = inl h
+  follows-by asks0 named0 (Some a) s h = inr h
+
+  module _ (asks0 : ℕ) (named0 : List (List ℕ)) where
+    after-keeps : (part : NodePart) (k : Work) (e : Ending) → Awaits N env part.kept part.fetches asks0 named0 k → PartKeeps (kept_after env part k e) × MayFollow files asks0 named0 (kept_after env part k e).stay × IsOfEpoch env.epoch (kept_after env part k e).row
+    after-keeps part k (ending.Here b count) h = (
+      record { asks = h.0; fetches = h.1.each; order = h.1.order; few = h.3 },
+      follows-by asks0 named0 k.asked (record { served = count; batch = k.batch; asks = k.asks }) h.2,
+      refl,
+    )
+    after-keeps part k (ending.Over last) h = (((last, count_of k.service.over, refl), refl), tt, refl)
+
+    goes-keep : (part : NodePart) (before : List (Place × List ℕ)) (k : Work) → Awaits N env part.kept part.fetches asks0 named0 k
+        → Keeps (with_work env part before (goes_on env k)) × DeedFollows files env.epoch asks0 named0 (with_work env part before (goes_on env k))
+    goes-keep part before k h = let all = after-keeps part (goes_on env k) (settled env.serve (goes_on env k).service).0 (goes-await N env part.kept part.fetches asks0 named0 k h) in (all.0, (all.1, all.2))
+
+  module _ (p : NodePart) (h : PartKeeps p) where
+    abbrev RowKeeps : Option BackRow → Type 0
+    RowKeeps o = NodeRowKeeps N env.serve.files env.serve.c env.n p o
+
+    abbrev StageKeeps : ℕ → BackConn → Type 0
+    StageKeeps e d = NodeStageKeeps N env.serve.files env.serve.c e env.n p d
+
+    abbrev IsHere : ControlBlock × Stay → Type 0
+    IsHere y = StayKeeps N env.serve.files env.serve.c env.epoch env.n p y.1
+
+    module _ (P : Option (ControlBlock × Stay) → Type 0) (none : P None) (some : (y : ControlBlock × Stay) → IsHere y → P (Some y)) where
+      of-stay : (e : ℕ) (b : ControlBlock) (o : Option Stay) → e ≡ env.epoch → HereKeeps N env.serve.files env.serve.c e env.n p o → P (both_of (Some b) o)
+      of-stay e b None same k = absurd k
+      of-stay e b (Some s) same k = some (b, s) (subst (λ (d : ℕ). StayKeeps N env.serve.files env.serve.c d env.n p s) same k)
+
+      of-stage : (e : ℕ) (d : BackConn) → e ≡ env.epoch → StageKeeps e d → P (both_of (held_in d) p.stay)
+      of-stage e (back.Here b) same k = of-stay e b p.stay same k
+      of-stage e _ same k = none
+
+      at-epoch : (q : Option BackRow) → RowKeeps q → P (both_of (staying env.epoch q) p.stay)
+      at-epoch None k = none
+      at-epoch (Some row) k = cond_both (row.epoch.0 == env.epoch) (held_in row.stage) None (λ o. P (both_of o p.stay)) (λ t. of-stage row.epoch.0 row.stage (eqb-true row.epoch.0 env.epoch t) k) (λ t. none)
+
+      at-endpoint : env.epoch ≡ epoch_in p → (q : Option BackRow) → p.row ≡ q → RowKeeps q → P (both_of (endpoint_of q) p.stay)
+      at-endpoint at None found k = none
+      at-endpoint at (Some row) found k =
+          of-stage row.epoch.0 row.stage (sym (at ∙ ap (λ (o : Option BackRow). epoch_in (record p { row = o })) found)) k
+
+    -- what is so of what a rule does, where this was here
+    abbrev pub Goes : Option (ControlBlock × Stay) → Deed → Type 0
+    Goes o d = Keeps d × DeedGoes files env.epoch o d
+
+    abbrev named_of : Stay → List (List ℕ)
+    named_of s = named_paths files s.batch
+
+    -- what is in hand at the beginning of a turn
+    begun : (b : ControlBlock) (s : Stay) → StayKeeps N env.serve.files env.serve.c env.epoch env.n p s → Awaits N env p.kept p.fetches s.asks (named_of s) (work_of b s)
+    begun b s k = (k.asks, record { each = k.fetches; order = k.order }, (refl, inr refl), k.few)
+
+    dropped : (o : Option (ControlBlock × Stay)) → DeedGoes files env.epoch o Drops
+    dropped None = tt
+    dropped (Some y) = tt
+
+    pub forwarded-keeps : (r : Result Said SegFault) → Goes (here env.epoch p) (node_forwarded env p r)
+    forwarded-keeps (Err fault) = (tt, dropped (here env.epoch p))
+    forwarded-keeps (Ok s) = at-epoch (λ o. Goes o (heard_by env p (Ok s) o)) (tt, tt) (λ y k. goes-keep y.1.asks (named_of y.1) p [] (work_of (on_segment y.0 s).1 y.1) (begun (on_segment y.0 s).1 y.1 k)) p.row h
+
+    pub tagged-keeps : (number : ℕ) (nodes : List ℕ) → ((y : ControlBlock × Stay) → here env.epoch p ≡ Some y → y.1.asks ≡ number → Each N nodes) → Goes (here env.epoch p) (node_tagged env p number nodes)
+    tagged-keeps number nodes all = at-epoch (λ o. (here env.epoch p ≡ o → Goes o (tagged_by env number nodes p o))) (λ e. (tt, tt))
+        (λ y k is.
+        let part : NodePart = record p { kept = without kind.Ask 0 p.kept } in
+        let w : Work = work_of y.0 y.1 in
+        let named : ℕ = length (named_paths files y.1.batch) in
+        cond_both (is_awaited env number nodes p y.1) (with_work env part [] (goes_on env (tagged env nodes w))) Drops (Goes (Some y))
+        (λ t.
+        let same : y.1.asks ≡ number = eqb-true y.1.asks number (and_parts (y.1.asks == number) (length nodes == named) (and_parts (is_some (find (is_under kind.Ask 0) p.kept)) (y.1.asks == number && length nodes == named) t).1).0 in
+        let count : length nodes ≡ named = eqb-true (length nodes) named (and_parts (y.1.asks == number) (length nodes == named) (and_parts (is_some (find (is_under kind.Ask 0) p.kept)) (y.1.asks == number && length nodes == named) t).1).1 in
+        let left : without kind.Ask 0 p.kept ≡ [] = asks-left env.serve.c env.epoch y.1.asks (named_paths files y.1.batch) p.kept k.asks in
+        let first : Starts N env part.kept p.fetches y.1.asks (named_of y.1) (awaited_in y.1.batch) (record w { batch = [] }) = (refl, record { each = k.fetches; order = k.order }, refl, refl, let few = k.few in omega (arith, few)) in
+        goes-keep y.1.asks (named_of y.1) part [] (tagged env nodes w)
+        (started-await N env part.kept p.fetches y.1.asks (named_of y.1) (tagged env nodes w) left (starts-all N env part.kept p.fetches y.1.asks (named_of y.1) nodes (all y is same) 0 (w.service.count + 1) w.batch (record w { batch = [] }) first (omega (arith, count)))))
+        (λ t. (tt, tt)))
+        p.row h refl
+
+    -- a content or a job comes
+    come-awaits : (fetches : List Kept) (n : ℕ) (f : Progress → Progress) → IsCalm files f → Loses n f → (r : ℕ) (b : ControlBlock) (s : Stay) → StayKeeps N env.serve.files env.serve.c env.epoch env.n p s
+        → AreFetches N env.serve.files env.serve.c env.epoch env.n fetches → length fetches + n ≤ length p.fetches → Awaits N env p.kept fetches s.asks (named_of s) (came_for f r (work_of b s))
+    come-awaits fetches n f calm loses r b s k are less =
+        let w : Work = work_of b s in
+        let i : ℕ = r - (w.service.count + 1) in
+        let few = k.few in
+        cond_both (nat_lt w.service.count r) (record w { batch = come_on f i w.batch }) w (Awaits N env p.kept fetches s.asks (named_of s))
+        (λ t.
+        let same : named_of s ≡ named_paths files (come_on f i s.batch) = sym (named-come files f calm i s.batch) in
+        let most = awaited-come n f loses i s.batch in (
+          subst (λ (ps : List (List ℕ)). AsksFor env.serve.c env.epoch s.asks ps p.kept) same k.asks,
+          are,
+          (refl, inr (sym same)),
+          omega (arith, few, less, most),
+        ))
+        (λ t. (k.asks, are, (refl, inr refl), omega (arith, few, less)))
+
+    pub content-keeps : (from r : ℕ) → Goes (here env.epoch p) (node_content env p from r)
+    content-keeps from r = at-epoch (λ o. Goes o (come_by env from r p o)) (tt, tt)
+        (λ y k.
+        let part : NodePart = record p { fetches = without kind.Fetch r p.fetches } in
+        let w : Work = work_of y.0 y.1 in
+        cond_both (is_from from env.epoch (find (is_under kind.Fetch r) p.fetches)) (with_work env part [] (goes_on env (came_for (come_progress from) r w))) Drops (Goes (Some y))
+        (λ t. goes-keep y.1.asks (named_of y.1) part [] (came_for (come_progress from) r w)
+        (come-awaits part.fetches 1 (come_progress from) (come-calm files from) (come-loses from) r y.0 y.1 k
+        (without-fetches N env.serve.files env.serve.c env.epoch env.n r p.fetches (record { each = k.fetches; order = k.order })) (found-less kind.Fetch r from env.epoch p.fetches t)))
+        (λ t. (tt, tt)))
+        p.row h
+
+    pub read-keeps : (r : ℕ) → Goes (here env.epoch p) (node_read env p r)
+    read-keeps r = at-epoch (λ o. Goes o (read_by env r p o)) (tt, tt)
+        (λ y k. goes-keep y.1.asks (named_of y.1) p [] (came_for read_progress r (work_of y.0 y.1))
+        (come-awaits p.fetches 0 read_progress (read-calm files) read-loses r y.0 y.1 k (record { each = k.fetches; order = k.order }) (omega arith)))
+        p.row h
+
+    pub timer-keeps : env.epoch ≡ epoch_in p → Goes (both_of (endpoint_of p.row) p.stay) (node_timer env p)
+    timer-keeps at = at-endpoint (λ o. Goes o (fired_by env p o)) (tt, tt)
+        (λ y k.
+        let all = after-keeps y.1.asks (named_of y.1) p (work_of (after_timer y.0) y.1) (spoken env.serve (serving (after_timer y.0) y.1.served []) (ready_of env.serve (after_timer y.0) (timed y.0))).0 (begun (after_timer y.0) y.1 k) in
+        (all.0, (all.1, all.2)))
+        at p.row refl h
+
+    -- ---- its end is acknowledged
+
+    told-ended : (e : ℕ) (d : BackConn) → is_ended d ≡ true → StageKeeps e d → (without kind.Ended 0 p.kept ≡ []) × (p.fetches ≡ [])
+    told-ended e (back.Here b) is k = let no : false ≡ true = is in absurd cc
+    told-ended e back.Out is k = absurd k
+    told-ended e back.Ended is k = (ap (without kind.Ended 0) k.0.2, k.1)
+    told-ended e back.Gone is k = let no : false ≡ true = is in absurd cc
+
+    gone-keeps : (o : Option BackRow) → RowKeeps o → awaits_ack env.epoch o ≡ true → NodeRowKeeps N env.serve.files env.serve.c env.n (record p { row = gone p.row; kept = without kind.Ended 0 p.kept }) (gone o)
+    gone-keeps None k t = let no : false ≡ true = t in absurd cc
+    gone-keeps (Some row) k t = told-ended row.epoch.0 row.stage (and_parts (row.epoch.0 == env.epoch) (is_ended row.stage) t).1 k
+
+    pub acknowledged-keeps : Keeps (node_acknowledged env p)
+    acknowledged-keeps =
+        let q : NodePart = record p { row = gone p.row; kept = without kind.Ended 0 p.kept } in
+        cond_both (awaits_ack env.epoch p.row) (Does (q, saying [])) Drops Keeps (λ t. gone-keeps p.row h t) (λ t. tt)
+
+    -- ---- an Offer
+
+    is-none : (e : ℕ) (d : BackConn) → is_gone d ≡ true → StageKeeps e d → (p.kept ≡ []) × (p.fetches ≡ [])
+    is-none e (back.Here b) is k = let no : false ≡ true = is in absurd cc
+    is-none e back.Out is k = absurd k
+    is-none e back.Ended is k = let no : false ≡ true = is in absurd cc
+    is-none e back.Gone is k = k
+
+    -- where it is new, nothing is kept
+    new-none : (o : Option BackRow) → RowKeeps o → offer_answer env.epoch o ≡ New → (p.kept ≡ []) × (p.fetches ≡ [])
+    new-none None k is = k
+    new-none (Some row) k is = go (row.epoch.0 == env.epoch) is where
+      later : (b : Bool) → (nat_lt row.epoch.0 env.epoch && is_gone row.stage) ≡ b → cond b New Stale ≡ New → (p.kept ≡ []) × (p.fetches ≡ [])
+      later true t e = is-none row.epoch.0 row.stage (and_parts (nat_lt row.epoch.0 env.epoch) (is_gone row.stage) t).1 k
+      later false t e = let no : Stale ≡ New = e in absurd cc
+
+      go : (b : Bool) → cond b Again (cond (nat_lt row.epoch.0 env.epoch && is_gone row.stage) New Stale) ≡ New → (p.kept ≡ []) × (p.fetches ≡ [])
+      go true e = let no : Again ≡ New = e in absurd cc
+      go false e = later (nat_lt row.epoch.0 env.epoch && is_gone row.stage) refl e
+
+    offered-by : (parts : EndpointParts) (a : Adopt) → (a ≡ New → (p.kept ≡ []) × (p.fetches ≡ [])) → Keeps (offered_by env parts p a) × DeedFollows files env.epoch 0 [] (offered_by env parts p a)
+    offered-by parts New none =
+        let empty = none refl in
+        goes-keep 0 [] p (taken_sent env) (state_of (reads_batch env true (begins env parts)))
+        (batch-state N env p.kept p.fetches 0 [] true (begins env parts) refl
+        (empty.0, subst (λ (ks : List Kept). AreFetches N env.serve.files env.serve.c env.epoch env.n ks) (sym empty.1) (record { each = tt; order = tt }), (refl, inl refl), (let none = ap (λ (ks : List Kept). length ks) empty.1 in omega (arith, none))))
+    offered-by parts Again none = (tt, tt)
+    offered-by parts Stale none = (tt, tt)
+
+    pub offered-keeps : (parts : EndpointParts) → Keeps (node_offered env p parts) × DeedFollows files env.epoch 0 [] (node_offered env p parts)
+    offered-keeps parts = offered-by parts (offer_answer env.epoch p.row) (new-none p.row h)
+
+-- ---- its move
+
+pub node-move : (N : ℕ → Type 0) (fs : FilesAt) (x : Conn) (n : ℕ) (heads : List Seen) (d : Deed) → DeedKeeps N fs x.c n d → IsKeptByStage N fs x → IsKeptByStage N fs (grown x (node_does x n heads d))
+node-move N fs x n heads Drops k h = record { front = h.front; nodes = h.nodes }
+node-move N fs x n heads (Says ms) k h = record { front = h.front; nodes = h.nodes }
+node-move N fs x n heads (Does given) k h = record { front = h.front; nodes = put-each x.part.nodes n given.0 (λ m p. NodeKeeps N fs x.c m p) k (λ m other. h.nodes m) }

@@ -1,0 +1,224 @@
+-- The calls of the dispatcher that a step of the front end makes: they may be made, close no node, and name connections where its notes
+-- do.
+use Rattle.std.proofs.Common.{◌≡◌, ℕ, ◌+◌, ◌≤◌, ◌==◌, ◌&&◌, nat_lt, Bool, true, false, cond, List, [], ◌∷◌, ◌++◌, length, Option, Some, None, Result, Ok, Err, arith, refl, sym, ap, ◌∙◌, subst}
+use Rattle.std.proofs.lemmas.Bool.{cond_both}
+use Rattle.std.specs.List.{AllByRecursion}
+use Rattle.lard_law_connections.proofs.PolicyNumbers.{IsNumbered}
+use Rattle.lard_costs.specs.declared.later.LaterChoice.{LaterChoice}
+use Rattle.lard_dispatch.specs.declared.dispatch.Ask.{Ask}
+use Rattle.lard_dispatch.specs.declared.dispatch.First.{First}
+use Rattle.lard_dispatch.specs.declared.dispatch.First.TheVariants as first
+use Rattle.lard_dispatch.specs.declared.dispatch.Later.{Later}
+use Rattle.lard_dispatch.specs.Books.{Dispatcher}
+use Rattle.lard_dispatch.specs.Calls.{ended_answer}
+use Rattle.lard_dispatch.specs.Laws.{AreAllowed, Call, after_calls}
+use Rattle.lard_dispatch.specs.Laws as call
+use Rattle.lard_dispatch.specs.Loads.{ClosesNone, IsInRange}
+use Rattle.lard_endpoint.specs.declared.control.moving.Final.{Final}
+use Rattle.lard_endpoint.specs.Arriving.{on_segment}
+use Rattle.lard_rules.specs.declared.front.FrontRest.{FrontRest}
+use Rattle.lard_rules.specs.declared.front.FrontState.{FrontState}
+use Rattle.lard_rules.specs.declared.front.FrontTurn.{FrontTurn}
+use Rattle.lard_rules.specs.Front.{Deed, Drops, Says, Does, Did, FrontEnv, FrontPart, ask_of, asked_by, assigned_notes, assigns, begun, ends, fired, fired_by, fires_at, front_admitted, front_asked, front_ended, front_gets, front_hears, front_taken, front_timer, hears_at, is_at, leaves_by, over_note, placed, rest_of, saying, settled_by, tag_sent, taken_by, waits_on}
+use Rattle.lard_rules.specs.FrontPlace.{FrontSetting, admits, admits_too, ended_deed, front_deed, front_env, front_part, front_step, front_told, message_comes, put_back}
+use Rattle.lard_rules.specs.FrontReading.{Reading, reads}
+use Rattle.lard_rules.specs.FrontSound.{IsFrontSound, standing}
+use Rattle.lard_rules.proofs.FrontDeeds.{IsOf, asked-keeps, gets-keeps, many-choices, taken-keeps, timer-keeps}
+use Rattle.lard_rules.proofs.FrontEnded.{Comes, end-comes, may-end}
+use Rattle.lard_rules.proofs.FrontKeeping.{DeedKeeps}
+use Rattle.lard_handoff_front.specs.declared.row.FrontConn.{FrontConn}
+use Rattle.lard_handoff_front.specs.declared.row.FrontConn.TheVariants as stage
+use Rattle.lard_handoff_front.specs.declared.row.FrontRow.{FrontRow}
+use Rattle.lard_handoff_front.specs.Front.{asked_node, next_epoch}
+use Rattle.lard_history.proofs.Each.{Each}
+use Rattle.lard_journal.specs.declared.rec.Rec.{Rec}
+use Rattle.lard_journal.specs.declared.rec.Rec.TheVariants as rec
+use Rattle.lard_message.specs.declared.fault.MsgFault.{MsgFault}
+use Rattle.lard_message.specs.declared.message.Body.{Body}
+use Rattle.lard_message.specs.declared.message.Body.TheVariants as body
+use Rattle.lard_message.specs.declared.message.Message.{Message}
+use Rattle.lard_message.specs.Message.{IsOfTable}
+use Rattle.lard_message.specs.Reading.{decoded_message}
+use Rattle.lard_policy.specs.declared.first.FirstChoice.{FirstChoice}
+use Rattle.lard_law_connections.proofs.PolicyMessages.{IsTold, message-told}
+use Rattle.lard_rules.specs.declared.front.FrontIn.{FrontIn}
+use Rattle.lard_rules.specs.declared.front.FrontIn.TheVariants as input
+use Rattle.lard_rules.specs.declared.places.Out.{Out}
+use Rattle.lard_rules.specs.declared.places.Ending.{Ending}
+use Rattle.lard_rules.specs.declared.places.Ending.TheVariants as ending
+use Rattle.lard_rules.specs.declared.places.Turn.{Turn}
+use Rattle.lard_rules.specs.Tombstone.{is_plain_syn}
+use Rattle.lard_rules.specs.Serving.{Service, serving, spoken}
+use Rattle.lard_segment.specs.declared.fault.SegFault.{SegFault}
+use Rattle.lard_segment.specs.declared.segment.Dir.TheVariants.{ToCluster}
+use Rattle.lard_segment.specs.Segment.{Said, decoded}
+
+-- ---- a deed
+
+-- its calls close no node, and are in range where its notes are
+pub record AreFit (notes : List Rec) (calls : List Call) : Type 0 where
+  pub closes : AllByRecursion ClosesNone calls
+  pub in_range : Each IsNumbered notes → AllByRecursion IsInRange calls
+
+abbrev pub DeedFits : Deed → Type 0
+DeedFits Drops = Unit {0}
+DeedFits (Says t) = Unit {0}
+DeedFits (Does x) = AreFit x.turn.notes x.calls
+
+-- a list has a numbered record at its end, or before another one
+last-numbered : (rs : List Rec) (r : Rec) (more : List Rec) → Each IsNumbered (rs ++ r ∷ more) → IsNumbered r
+last-numbered [] r more e = e.0
+last-numbered (x ∷ rs) r more e = last-numbered rs r more e.1
+
+no-calls : (notes : List Rec) → AreFit notes []
+no-calls notes = record { closes = tt; in_range = λ e. tt }
+
+leaves-fit : (c : ℕ) (notes : List Rec) (e : Ending) → AreFit notes (leaves_by c e)
+leaves-fit c notes (ending.Here b count) = no-calls notes
+leaves-fit c notes (ending.Over last) = record { closes = (tt, tt); in_range = λ e. (tt, tt) }
+
+module _ (env : FrontEnv) (p : FrontPart) where
+  abbrev c : ℕ
+  c = env.serve.c
+
+  waits-fit : (row : FrontRow) (rest : FrontRest) (given : Ending × Turn) → DeedFits (waits_on env p row rest given)
+  waits-fit row rest given = leaves-fit c given.1.notes given.0
+
+  placed-fits : (row : FrontRow) (rest : FrontRest) (w : Service) (path : List ℕ) (f : First) → DeedFits (Does (placed env p row rest w path f))
+  placed-fits row rest w path (first.Go choice) = record { closes = (tt, tt); in_range = λ e. (last-numbered w.notes (rec.Admitted c) _ e, tt) }
+  placed-fits row rest w path first.Waits = go _ where
+    go : (x : Ending) → AreFit (w.notes ++ rec.Waits c ∷ []) (call.First c path env.now ∷ leaves_by c x)
+    go x = let l = leaves-fit c (w.notes ++ rec.Waits c ∷ []) x in record { closes = (tt, l.closes); in_range = λ e. (last-numbered w.notes (rec.Waits c) [] e, l.in_range e) }
+
+  settled-fits : (row : FrontRow) (rest : FrontRest) (w : Service) (target : Option (List ℕ)) → DeedFits (settled_by env p row rest w target)
+  settled-fits row rest w None = no-calls _
+  settled-fits row rest w (Some path) = placed-fits row rest w path (env.first path)
+
+  hears-fit : (row : FrontRow) (bytes : List ℕ) (said : Said) (at : FrontConn) → DeedFits (hears_at env p row bytes said at)
+  hears-fit row bytes said (stage.Held b) =
+      let x : Reading = reads env.serve (record { service = serving (on_segment b said).1 (rest_of p.rest).count []; target = None }) in
+      settled-fits row (rest_of p.rest) x.service x.target
+  hears-fit row bytes said (stage.Waiting b) = waits-fit row (rest_of p.rest) (spoken env.serve (serving (on_segment b said).1 (rest_of p.rest).count []) [])
+  hears-fit row bytes said _ = tt
+
+  gets-fit : (bytes : List ℕ) (r : Result Said SegFault) → DeedFits (front_gets env p bytes r)
+  gets-fit bytes (Err fault) = tt
+  gets-fit bytes (Ok said) = go p.row where
+    go : (o : Option FrontRow) → DeedFits (front_hears env p bytes said o)
+    go None = cond_both (is_plain_syn said) (begun env p said) Drops DeedFits (λ t. no-calls _) (λ t. tt)
+    go (Some row) = hears-fit row bytes said row.stage
+
+  timer-fits : DeedFits (front_timer env p)
+  timer-fits = go p.row where
+    at : (row : FrontRow) (conn : FrontConn) → DeedFits (fires_at env p row conn)
+    at row (stage.Held b) = no-calls []
+    at row (stage.Waiting b) = waits-fit row (rest_of p.rest) (fired env (rest_of p.rest) b)
+    at row stage.Lent = tt
+    at row (stage.Offering node epoch) = tt
+    at row (stage.Moved node epoch) = tt
+    at row (stage.Closed last) = tt
+
+    go : (o : Option FrontRow) → DeedFits (fired_by env p o)
+    go None = tt
+    go (Some row) = at row row.stage
+
+  taken-fits : (epoch : ℕ) → DeedFits (front_taken p epoch)
+  taken-fits epoch = go p.row (asked_node epoch p.row) where
+    go : (o : Option FrontRow) (a : Option ℕ) → DeedFits (taken_by p epoch o a)
+    go None a = tt
+    go (Some row) None = tt
+    go (Some row) (Some node) = no-calls _
+
+  -- an Ask has a request, and its assignment names the connection
+  assigns-numbered : (ask : Ask) (r : ℕ) (paths : List (List ℕ)) (choices : List LaterChoice) (over : Bool) → 1 ≤ length paths → length choices ≡ length paths
+      → Each IsNumbered (over_note c over ++ assigned_notes c ask r paths choices) → IsNumbered (rec.BatchOver c)
+  assigns-numbered ask r [] choices over some same e = absurd (omega (arith, some))
+  assigns-numbered ask r (path ∷ paths) [] over some same e = absurd (omega (arith, same))
+  assigns-numbered ask r (path ∷ paths) (choice ∷ choices) true some same e = e.0
+  assigns-numbered ask r (path ∷ paths) (choice ∷ choices) false some same e = e.0
+
+  asked-fits : (d : Dispatcher) → IsOf env d → (from epoch number queue size : ℕ) (paths : List (List ℕ)) → 1 ≤ length paths → length paths ≤ size → DeedFits (front_asked env p from epoch (ask_of c from number queue size paths))
+  asked-fits d of from epoch number queue size paths some within = cond_both (is_at from epoch p.row) (asked_by env p from epoch ask p.rest) Drops DeedFits (λ t. by p.rest) (λ t. tt) where
+    ask : Ask
+    ask = ask_of c from number queue size paths
+
+    many : length (env.later ask).choices ≡ length paths
+    many = ap (λ (l : Later). length l.choices) (of.later ask) ∙ many-choices d ask env.now
+
+    new : (rest : FrontRest) → DeedFits (Does (assigns env p rest from epoch ask (env.later ask)))
+    new rest = record { closes = (tt, tt); in_range = λ e. ((assigns-numbered ask rest.assigned paths (env.later ask).choices (env.later ask).over some many e, within), tt) }
+
+    by : (o : Option FrontRest) → DeedFits (asked_by env p from epoch ask o)
+    by None = tt
+    by (Some rest) =
+        let again : Deed = Says (saying (tag_sent env from epoch rest.asks rest.tag)) in
+        cond_both (ask.number == rest.asks + 1) (Does (assigns env p rest from epoch ask (env.later ask))) (cond (ask.number == rest.asks && nat_lt 0 rest.asks) again Drops) DeedFits
+        (λ t. new rest) (λ t. cond_both (ask.number == rest.asks && nat_lt 0 rest.asks) again Drops DeedFits (λ u. tt) (λ u. tt))
+
+-- ---- a step
+
+-- The dispatcher is called so.
+pub record StepCalls (d : Dispatcher) (x : FrontState × Out) : Type 0 where
+  pub calls : List Call
+  pub is : x.0.dispatch ≡ after_calls d calls
+  pub allowed : AreAllowed d calls
+  pub fit : AreFit x.1.notes calls
+
+module _ (k : FrontSetting) (s : FrontState) (sound : IsFrontSound s) where
+  abbrev Calls : FrontState × Out → Type 0
+  Calls x = StepCalls s.dispatch x
+
+  still-calls : (t : Out) → Calls (s, t)
+  still-calls t = record { calls = []; is = refl; allowed = tt; fit = no-calls t.notes }
+
+  deed-calls : (c : ℕ) (deed : Deed) → DeedKeeps s.dispatch c k.now deed → DeedFits deed → Calls (front_deed s c deed)
+  deed-calls c Drops keeps fits = still-calls _
+  deed-calls c (Says t) keeps fits = still-calls _
+  deed-calls c (Does x) keeps fits = record { calls = x.calls; is = refl; allowed = keeps.allowed; fit = fits }
+
+  env-of : (c iss : ℕ) → IsOf (front_env k s c iss) s.dispatch
+  env-of c iss = record { first = λ path. refl; later = λ ask. refl }
+
+  -- where a connection ended, and perhaps another one is admitted
+  ended-calls : (c from epoch : ℕ) (last : Final) → Calls (ended_deed k s c (front_ended (front_env k s c 0) (front_part s c) from epoch last))
+  ended-calls c from epoch last = go (front_ended (front_env k s c 0) (front_part s c) from epoch last) (end-comes (front_env k s c 0) (front_part s c) from epoch last (standing s.dispatch c) (sound.each c)) where
+    too : (x : Did) (d : ℕ) (o : Option (FrontPart × FrontTurn)) → AreAllowed s.dispatch x.calls → AreFit x.turn.notes x.calls → Calls (admits_too s (put_back s c x) c x d o)
+    too x d None allowed fit = record { calls = x.calls; is = refl; allowed = allowed; fit = fit }
+    too x d (Some y) allowed fit = record {
+      calls = x.calls;
+      is = refl;
+      allowed = allowed;
+      fit = record { closes = fit.closes; in_range = λ e. fit.in_range (before x.turn.notes y.1.notes e) };
+    } where
+      before : (xs ys : List Rec) → Each IsNumbered (xs ++ ys) → Each IsNumbered xs
+      before [] ys e = tt
+      before (r ∷ xs) ys e = (e.0, before xs ys e.1)
+
+    next : (x : Did) (o : Option (ℕ × FirstChoice)) → AreAllowed s.dispatch x.calls → AreFit x.turn.notes x.calls → Calls (admits k s (put_back s c x) c x o)
+    next x None allowed fit = record { calls = x.calls; is = refl; allowed = allowed; fit = fit }
+    next x (Some n) allowed fit = too x n.0 (front_admitted (front_env k (put_back s c x) n.0 0) (front_part (put_back s c x) n.0) n.1) allowed fit
+
+    go : (deed : Deed) → Comes (front_env k s c 0) (front_part s c) from epoch last (standing s.dispatch c) deed → Calls (ended_deed k s c deed)
+    go Drops comes = still-calls _
+    go (Says t) comes = still-calls _
+    go (Does x) comes = subst (λ (y : Did). Calls (ended_deed k s c (Does y))) (sym comes.1)
+        (next (ends (front_env k s c 0) (front_part s c) from epoch last comes.0 (next_epoch comes.0)) (ended_answer s.dispatch c k.now) (may-end s.dispatch c k.now comes.2, tt)
+        (record { closes = (tt, tt); in_range = λ e. (e.1.0, tt) }))
+
+  told-calls : (from c epoch : ℕ) (b : Body) → IsOfTable b → Calls (front_told k s from c epoch b)
+  told-calls from c epoch body.Taken table = deed-calls c (front_taken (front_part s c) epoch) (taken-keeps s.dispatch c k.now (front_part s c) epoch (sound.tags c) (sound.each c)) (taken-fits (front_env k s c 0) (front_part s c) epoch)
+  told-calls from c epoch (body.Ask number queue size paths) table = deed-calls c (front_asked (front_env k s c 0) (front_part s c) from epoch (ask_of c from number queue size paths))
+      (asked-keeps s.dispatch (front_env k s c 0) (env-of c 0) (front_part s c) epoch (ask_of c from number queue size paths) refl (record { some = table.1; within = table.2; few = table.0 }) (sound.tags c) (sound.each c))
+      (asked-fits (front_env k s c 0) (front_part s c) s.dispatch (env-of c 0) from epoch number queue size paths table.1 table.2)
+  told-calls from c epoch (body.Ended reason snd rcv count) table = ended-calls c from epoch (record { reason = reason; snd = record { 0 = snd }; rcv = record { 0 = rcv } })
+  told-calls from c epoch _ table = still-calls _
+
+  message-calls : (from : ℕ) (r : Result Message MsgFault) → IsTold r → Calls (message_comes k s from r)
+  message-calls from (Err e) told = still-calls _
+  message-calls from (Ok m) told = told-calls from m.c m.epoch.0 m.body told
+
+  pub step-calls : (i : FrontIn) → Calls (front_step k s i)
+  step-calls (input.Segment c iss bytes) = deed-calls c (front_gets (front_env k s c iss.0) (front_part s c) bytes (decoded bytes c ToCluster))
+      (gets-keeps s.dispatch (front_env k s c iss.0) (env-of c iss.0) (front_part s c) (sound.tags c) bytes (decoded bytes c ToCluster) (sound.each c)) (gets-fit (front_env k s c iss.0) (front_part s c) bytes (decoded bytes c ToCluster))
+  step-calls (input.Message from bytes) = message-calls from (decoded_message bytes) (message-told bytes)
+  step-calls (input.Timer c) = deed-calls c (front_timer (front_env k s c 0) (front_part s c)) (timer-keeps s.dispatch (front_env k s c 0) (env-of c 0) (front_part s c) (sound.tags c) (sound.each c)) (timer-fits (front_env k s c 0) (front_part s c))

@@ -1,0 +1,222 @@
+-- Who joins the line: a connection that the front end holds, which is not in it and not admitted. By what one connection sees.
+use Rattle.std.proofs.Common.{◌≡◌, ℕ, ◌^◌, ◌≤◌, Bool, true, false, cond, List, [], ◌∷◌, ◌++◌, map, Option, Some, None, refl, sym, ap, ◌∙◌, subst, ⊎_elim}
+use Rattle.std.proofs.lemmas.List.Sums.{fold-append}
+use Rattle.std.specs.List.{fold}
+use Rattle.lard_base.specs.declared.place.Place.{Place}
+use Rattle.lard_base.specs.declared.place.Place.TheVariants.{Client, Front, Node}
+use Rattle.lard_law_connections.proofs.LineFronts.{RowStands, StageStands}
+use Rattle.lard_law_connections.proofs.LineHolding.{IsRead}
+use Rattle.lard_law_connections.proofs.LineLaw.{IsLined}
+use Rattle.lard_law_connections.proofs.LineNotes.{Alone, Begins, Ends, Enters, Goes, IsLater, Noted, Reads, Shares, Waits, held_there, is_held}
+use Rattle.lard_law_connections.proofs.LineStands.{Stand, came_stand, stand_at, stand_step, unknown}
+use Rattle.lard_law_connections.proofs.LineTurns.{IsBare, IsEntry, IsNoted, Notes, noting, was_at}
+use Rattle.lard_law_connections.specs.Line.{leaves}
+use Rattle.lard_law_connections.specs.Places.{Owning, Sits, StageSits, owning}
+use Rattle.lard_law_connections.proofs.PlacesTurns.{IsPlaced}
+use Rattle.lard_law_view.specs.Carry.{IsLaw, MayMove, tale_at}
+use Rattle.lard_law_view.specs.View.{Conn, Move, Setting, grown, rows_of, seen_in, sending, timer_rows}
+use Rattle.lard_law_view.proofs.Fine.{IsFine, IsItsOwn, fine}
+use Rattle.lard_law_view.proofs.Guarded.{both, weaker}
+use Rattle.lard_law_view.proofs.Saying.{GaveAt, NotedAt}
+use Rattle.lard_law_view.proofs.Timers.{IsTimerAt, timer_rows-are}
+use Rattle.lard_handoff_front.specs.declared.row.FrontConn.{FrontConn}
+use Rattle.lard_handoff_front.specs.declared.row.FrontConn.TheVariants as stage
+use Rattle.lard_handoff_front.specs.declared.row.FrontRow.{FrontRow}
+use Rattle.lard_history.specs.Journal.{Tale, tale_step, untold}
+use Rattle.lard_history.specs.Own.{EachRow, Seen, Row, Came, seen_step, tale_of}
+use Rattle.lard_history.proofs.Each.{Each, Each-weaker}
+use Rattle.lard_history.proofs.Lifting.{each_row-append}
+use Rattle.lard_journal.specs.declared.rec.Rec.{Rec}
+use Rattle.lard_journal.specs.declared.rec.Rec.TheVariants as rec
+use Rattle.lard_segment.specs.declared.segment.Dir.TheVariants.{ToCluster}
+use Rattle.lard_segment.specs.Segment.{decoded}
+
+-- ---- where it may be told to wait
+
+-- it is not in the line, not admitted, and the front end's, in its first epoch
+pub record IsFree (s : Stand) (w : Owning) : Type 0 where
+  pub waits_is : s.waits ≡ false
+  pub inside_is : s.inside ≡ false
+  pub owning_is : w ≡ record { owner = Some Front; epoch = 1 }
+
+-- so it was by what it saw
+abbrev pub WasFree : ℕ → List Seen → Type 0
+WasFree c past = IsFree (fold (stand_step c) unknown past) (owning (tale_of c past))
+
+-- only then it is told to wait
+abbrev pub MayJoin : ℕ → List Seen → Rec → Type 0
+MayJoin c past (rec.Waits d) = WasFree c past
+MayJoin c past _ = Unit {0}
+
+-- what is seen of it so far may be so
+abbrev pub JoinsFree : Conn → Type 0
+JoinsFree x = EachRow (MayJoin x.c) [] x.seen
+
+-- ---- what leaves it free
+
+still-false : (b w : Bool) → w ≡ false → cond b false w ≡ false
+still-false true w h = refl
+still-false false w h = h
+
+came-free : (c : ℕ) (s : Stand) (w : Owning) (to from : Place) (bytes : List ℕ) → IsFree s w → IsFree (came_stand c s to from bytes) w
+came-free c s w Front (Client d) bytes h = record { waits_is = still-false (leaves s.told (decoded bytes c ToCluster)) s.waits h.waits_is; inside_is = h.inside_is; owning_is = h.owning_is }
+came-free c s w Front Front bytes h = h
+came-free c s w Front (Node n) bytes h = h
+came-free c s w (Node m) from bytes h = h
+came-free c s w (Client d) from bytes h = h
+
+bare-step : (c : ℕ) (s : Stand) (t : Tale) (x : Seen) → IsBare x → IsFree s (owning t) → IsFree (stand_step c s x) (owning (seen_step (tale_step c) t x))
+bare-step c s t (Came l) b h = came-free c s (owning t) l.to l.from l.bytes h
+bare-step c s t (Row (rec.Event i e)) b h = h
+bare-step c s t (Row (rec.Opened d isn iss wnd mss)) b h = h
+bare-step c s t (Row (rec.Injected d)) b h = h
+bare-step c s t (Row (rec.Served place d r code size via)) b h = h
+bare-step c s t (Row (rec.Reset place d total)) b h = h
+bare-step c s t (Row _) b h = absurd b
+
+bare-on : (c : ℕ) (s : Stand) (t : Tale) (xs : List Seen) → Each IsBare xs → IsFree s (owning t) → IsFree (fold (stand_step c) s xs) (owning (fold (seen_step (tale_step c)) t xs))
+bare-on c s t [] e h = h
+bare-on c s t (x ∷ xs) e h = bare-on c (stand_step c s x) (seen_step (tale_step c) t x) xs e.1 (bare-step c s t x e.0 h)
+
+bare-free : (c : ℕ) (past xs : List Seen) → Each IsBare xs → WasFree c past → WasFree c (past ++ xs)
+bare-free c past xs e h = subst (λ (s : Stand). IsFree s (owning (tale_of c (past ++ xs)))) (sym (fold-append (stand_step c) unknown past xs))
+    (subst (λ (t : Tale). IsFree (fold (stand_step c) (fold (stand_step c) unknown past) xs) (owning t)) (sym (fold-append (seen_step (tale_step c)) untold past xs))
+    (bare-on c (fold (stand_step c) unknown past) (tale_of c past) xs e h))
+
+-- ---- records that tell nobody to wait
+
+abbrev IsNoWait : Rec → Type 0
+IsNoWait (rec.Waits c) = ⊥
+IsNoWait _ = Unit {0}
+
+other-may : (c : ℕ) (past : List Seen) (r : Rec) → IsNoWait r → MayJoin c past r
+other-may c past (rec.Waits d) h = absurd h
+other-may c past _ h = tt
+
+bare-other : (r : Rec) → IsBare (Row r) → IsNoWait r
+bare-other (rec.Waits d) b = absurd b
+bare-other _ b = tt
+
+bare-rows : (c : ℕ) (past xs : List Seen) → Each IsBare xs → EachRow (MayJoin c) past xs
+bare-rows c past [] e = tt
+bare-rows c past (Row r ∷ xs) e = (other-may c past r (bare-other r e.0), bare-rows c (past ++ Row r ∷ []) xs e.1)
+bare-rows c past (Came l ∷ xs) e = bare-rows c (past ++ Came l ∷ []) xs e.1
+
+other-rows : (c : ℕ) (past : List Seen) (rs : List Rec) → Each IsNoWait rs → EachRow (MayJoin c) past (map Row rs)
+other-rows c past [] e = tt
+other-rows c past (r ∷ rs) e = (other-may c past r e.0, other-rows c (past ++ Row r ∷ []) rs e.1)
+
+-- behind others
+rows-behind : (c : ℕ) (past : List Seen) (xs ys : List Rec) → EachRow (MayJoin c) past (map Row xs) → Each IsNoWait ys → EachRow (MayJoin c) past (map Row (xs ++ ys))
+rows-behind c past [] ys h e = other-rows c past ys e
+rows-behind c past (x ∷ xs) ys h e = (h.0, rows-behind c (past ++ Row x ∷ []) xs ys h.1 e)
+
+note-other : (place : Place) (c : ℕ) (r : Rec) → (place ≡ Front → ⊥) → NotedAt place c r → IsNoWait r
+note-other Front c r never h = absurd (never refl)
+note-other (Client e) c (rec.Waits d) never h = absurd h
+note-other (Node n) c (rec.Waits d) never h = absurd h
+note-other _ c _ never h = tt
+
+gave-other : (place : Place) (c : ℕ) (r : Rec) → GaveAt place c r → IsNoWait r
+gave-other place c (rec.Waits d) h = absurd (none place h) where
+  none : (p : Place) → GaveAt p c (rec.Waits d) → ⊥
+  none Front h = h
+  none (Node n) h = h
+  none (Client e) h = h
+gave-other place c _ h = tt
+
+timer-other : (place : Place) (c : ℕ) (r : Rec) → IsTimerAt place c r → IsNoWait r
+timer-other place c (rec.Waits d) h = absurd h
+timer-other place c _ h = tt
+
+sends-other : (place : Place) (ss : List (Place × List ℕ)) → Each IsNoWait (map (sending place) ss)
+sends-other place [] = tt
+sends-other place (s ∷ ss) = (tt, sends-other place ss)
+
+read-bare : (r : Rec) → IsRead r → IsBare (Row r)
+read-bare (rec.Served place c r code size via) h = tt
+read-bare (rec.Reset place c total) h = tt
+read-bare _ h = absurd h
+
+later-other : (rs : List Rec) → Each IsLater rs → Each IsNoWait rs
+later-other rs e = Each-weaker IsLater IsNoWait one rs e where
+  one : (r : Rec) → IsLater r → IsNoWait r
+  one (rec.AssignedLater c r path n add size queue) h = tt
+  one _ h = absurd h
+
+-- ---- the notes of a turn
+
+-- One that is held is free.
+held-free : (s : Stand) (w : Owning) (x : Conn) (o : Option FrontRow) → RowStands s o → Sits w x.part.nodes o → held_there o ≡ true → IsFree s w
+held-free s w x None stands sits held = let no : false ≡ true = held in absurd cc
+held-free s w x (Some row) stands sits held = go row.stage stands sits.0 held where
+  go : (at : FrontConn) → StageStands s at → StageSits row.epoch.0 w x.part.nodes at → is_held at ≡ true → IsFree s w
+  go (stage.Held b) k sits held = record { waits_is = k.0.waits_is; inside_is = k.0.inside_is; owning_is = sits.1.0 ∙ ap (λ (e : ℕ). record { owner = Some Front; epoch = e }) sits.0 }
+  go (stage.Waiting b) k sits held = let no : false ≡ true = held in absurd cc
+  go stage.Lent k sits held = let no : false ≡ true = held in absurd cc
+  go (stage.Offering node epoch) k sits held = let no : false ≡ true = held in absurd cc
+  go (stage.Moved node epoch) k sits held = let no : false ≡ true = held in absurd cc
+  go (stage.Closed last) k sits held = let no : false ≡ true = held in absurd cc
+
+-- behind what is read it is so yet
+reads-wait : (c : ℕ) (past : List Seen) (rs : List Rec) → Each IsRead rs → WasFree c past → EachRow (MayJoin c) past (map Row (rs ++ rec.Waits c ∷ []))
+reads-wait c past [] e h = (h, tt)
+reads-wait c past (r ∷ rs) e h =
+    (other-may c past r (bare-other r (read-bare r e.0)), reads-wait c (past ++ Row r ∷ []) rs e.1 (bare-free c past (Row r ∷ []) (read-bare r e.0, tt) h))
+
+module _ (x : Conn) (lined : IsLined x) (placed : IsPlaced x) where
+  noted-rows : (heads : List Seen) → Each IsBare heads → (ns : List Rec) → Noted x.c (was_at x) ns → EachRow (MayJoin x.c) (x.seen ++ heads) (map Row ns)
+  noted-rows heads bare all (Reads rs e) = other-rows x.c (x.seen ++ heads) rs (Each-weaker IsRead IsNoWait (λ r h. bare-other r (read-bare r h)) rs e)
+  noted-rows heads bare all (Begins out) = (tt, tt)
+  noted-rows heads bare all (Waits rs e held) =
+      reads-wait x.c (x.seen ++ heads) rs e (bare-free x.c x.seen heads bare (held-free (stand_at x) (owning (tale_at x)) x x.part.front.row lined.stands placed.sits held))
+  noted-rows heads bare all (Goes rs r path n add remove e out) =
+      rows-behind x.c (x.seen ++ heads) rs (rec.Admitted x.c ∷ rec.AssignedFirst x.c r path n add remove ∷ []) (other-rows x.c (x.seen ++ heads) rs (Each-weaker IsRead IsNoWait (λ r h. bare-other r (read-bare r h)) rs e)) (tt, (tt, tt))
+  noted-rows heads bare all (Shares true rs e) = (tt, other-rows x.c ((x.seen ++ heads) ++ Row (rec.BatchOver x.c) ∷ []) rs (later-other rs e))
+  noted-rows heads bare all (Shares false rs e) = other-rows x.c (x.seen ++ heads) rs (later-other rs e)
+  noted-rows heads bare all (Ends epoch in_) = (tt, (tt, tt))
+
+  enters-rows : (past : List Seen) (ns : List Rec) → Enters x.c ns → EachRow (MayJoin x.c) past (map Row ns)
+  enters-rows past ns (Alone r path n add remove) = (tt, (tt, tt))
+
+  notes-rows : (v : Move) → IsItsOwn x v → IsNoted x v → (p : Place) → v.place ≡ p → EachRow (MayJoin x.c) (x.seen ++ v.heads) (map Row v.said.notes)
+  notes-rows v own noted Front at = ⊎_elim
+      (λ (k : Noted x.c (was_at x) v.said.notes). noted-rows v.heads noted.bare v.said.notes k)
+      (λ (k : IsEntry x v). enters-rows (x.seen ++ v.heads) v.said.notes k.enters)
+      (noted.noted at)
+  notes-rows v own noted (Node n) at = other-rows x.c (x.seen ++ v.heads) v.said.notes
+      (Each-weaker (NotedAt v.place x.c) IsNoWait (λ r h. note-other v.place x.c r (λ e. let no : Node n ≡ Front = sym at ∙ e in absurd cc) h) v.said.notes own.notes)
+  notes-rows v own noted (Client d) at = other-rows x.c (x.seen ++ v.heads) v.said.notes
+      (Each-weaker (NotedAt v.place x.c) IsNoWait (λ r h. note-other v.place x.c r (λ e. let no : Client d ≡ Front = sym at ∙ e in absurd cc) h) v.said.notes own.notes)
+
+  -- all that is seen of a move
+  move-rows : (v : Move) → IsItsOwn x v → IsNoted x v → EachRow (MayJoin x.c) x.seen (seen_in x v)
+  move-rows v own noted =
+      let c : ℕ = x.c in
+      let past : List Seen = x.seen ++ v.heads in
+      let N : List Rec = v.said.notes in
+      let S : List Rec = map (sending v.place) v.said.segments in
+      let G : List Rec = v.said.gave in
+      let M : List Rec = map (sending v.place) v.said.messages in
+      let T : List Rec = timer_rows v.place x.c x.part v.part in
+      each_row-append (MayJoin c) x.seen v.heads (map Row (rows_of x v)) (bare-rows c x.seen v.heads noted.bare)
+      (rows-behind c past (N ++ S ++ G ++ M) T
+      (rows-behind c past (N ++ S ++ G) M
+      (rows-behind c past (N ++ S) G
+      (rows-behind c past N S (notes-rows v own noted v.place refl) (sends-other v.place v.said.segments))
+      (Each-weaker (GaveAt v.place c) IsNoWait (gave-other v.place c) G own.gave))
+      (sends-other v.place v.said.messages))
+      (Each-weaker (IsTimerAt v.place c) IsNoWait (timer-other v.place c) T (timer_rows-are v.place c x.part v.part)))
+
+-- ---- every rule
+
+abbrev pub IsLinedThere : Conn → Type 0
+IsLinedThere x = IsLined x × IsPlaced x
+
+pub joining-law : (k : Setting) → k.stream ≤ 2 ^ 30 → IsLaw k IsLinedThere JoinsFree
+joining-law k small = record {
+  begins = λ c. tt;
+  moves = weaker k (λ x v. IsFine x v × Notes x v) (λ x v. MayMove IsLinedThere x → JoinsFree x → JoinsFree (grown x v))
+      (λ x v h may so. each_row-append (MayJoin x.c) [] x.seen (seen_in x v) so (move-rows x may.given.0 may.given.1 v (h.0 may.number may.sound).0 (h.1 may.given.0)))
+      (both k IsFine Notes (fine k) (noting k small));
+}

@@ -1,0 +1,445 @@
+-- At the moment of each admission, who is admitted is the first of the line, where somebody waits; and so is who is admitted directly
+-- behind a release.
+use Rattle.std.proofs.Common.{◌≡◌, ◌≢◌, ◌⊎◌, ℕ, ◌+◌, ◌-◌, nat_eq, not, ◌||◌, Bool, true, false, cond, List, [], ◌∷◌, ◌++◌, map, Option, Some, None, Ok, inl, inr, ⊎_elim, refl, sym, ap, ◌∙◌, subst, append-nil}
+use Rattle.std.proofs.lemmas.List.Sums.{fold-append}
+use Rattle.std.specs.List.{fold, list_any}
+use Rattle.lard_base.specs.declared.event.Event.{Event}
+use Rattle.lard_base.specs.declared.event.Event.TheVariants as event
+use Rattle.lard_base.specs.declared.ids.Epoch.{Epoch}
+use Rattle.lard_base.specs.declared.place.Place.{Place}
+use Rattle.lard_base.specs.declared.place.Place.TheVariants.{Client, Front, Node}
+use Rattle.lard_rules.specs.declared.machine.Machine.{Machine}
+use Rattle.lard_rules.specs.Bounds.{HasRule}
+use Rattle.lard_rules.specs.Machine.{clocked, machine_step, passed, told}
+use Rattle.lard_law_connections.proofs.LineHolding.{IsRead}
+use Rattle.lard_law_connections.proofs.LineLaw.{IsLined}
+use Rattle.lard_law_connections.proofs.LineNotes.{Alone, Begins, Ends, Enters, Goes, IsLater, Noted, Reads, Shares, Was, Waits}
+use Rattle.lard_law_connections.proofs.LineStands.{stand_at, stand_step, unknown}
+use Rattle.lard_law_connections.proofs.LineSteps.{IsNoEntry, IsQuiet, IsRising, behind-quiet, gifts-quiet, last-quiet, note-quiet, read-quiet, rows-same, timers-quiet}
+use Rattle.lard_law_connections.proofs.LineTelling.{stands-told}
+use Rattle.lard_law_connections.proofs.LineTurns.{IsEntry, IsNoted, Notes, was_at}
+use Rattle.lard_law_connections.specs.LineLaws.{AdmitsBehind, AdmitsHead, MayPass}
+use Rattle.lard_law_connections.specs.Line.{Line, leaves, left_at, left_by, line, line_step, nobody, without}
+use Rattle.lard_law_connections.proofs.PolicyCalm.{first_rows, last_rows, told-journal}
+use Rattle.lard_law_connections.proofs.PolicyHomes.{less-any}
+use Rattle.lard_law_view.specs.View.{IsViewed, Move, Part, Rules, conn, part_of, setting_of}
+use Rattle.lard_law_view.proofs.Saying.{NamesAll, NotedAt, notes-all}
+use Rattle.lard_law_view.proofs.Shapes.{Shapes, both_out, move_of}
+use Rattle.lard_law_view.proofs.Stepping.{step-has}
+use Rattle.lard_law_connections.specs.PolicyLaws.{last_of}
+use Rattle.lard_rules.specs.Front.{over_note}
+use Rattle.lard_history.specs.Laws.{EachMay}
+use Rattle.lard_history.specs.Own.{Has, Row, Seen, own, seen_on}
+use Rattle.lard_history.proofs.Each.{Each, Each-append, Each-weaker}
+use Rattle.lard_history.proofs.Seeing.{by_number, has-before, has-behind, has-each, other_number, own-append, same_number}
+use Rattle.lard_journal.specs.declared.rec.Rec.{Rec}
+use Rattle.lard_journal.specs.declared.rec.Rec.TheVariants as rec
+use Rattle.lard_net.specs.Net.{Packet, lose_at, packet_at}
+use Rattle.lard_rules.specs.declared.places.Out.{Out}
+use Rattle.lard_segment.specs.declared.segment.Dir.TheVariants.{ToCluster}
+use Rattle.lard_segment.specs.Segment.{decoded}
+use Rattle.lard_law_view.proofs.OwnRecords.{behind}
+
+abbrev has : ℕ → List ℕ → Bool
+has c xs = list_any (nat_eq c) xs
+
+-- ---- records behind a line
+
+-- nothing is due behind this record
+abbrev pub IsSettled : List ℕ → Option Rec → Type 0
+IsSettled ws before = (r : Rec) → AdmitsBehind ws before r
+
+-- Each of these records may pass, behind a line and a record, and so ends the line and the last of them.
+abbrev pub PassTo : (List ℕ → Option Rec → Type 0) → Line → Option Rec → List Rec → Type 0
+PassTo End l before [] = End l.waits before
+PassTo End l before (r ∷ rs) = (AdmitsHead l.waits r × AdmitsBehind l.waits before r) × PassTo End (line_step l r) (Some r) rs
+
+-- behind whatever record behind which nothing is due
+abbrev pub Pass : Line → List Rec → Type 0
+Pass l rs = (before : Option Rec) → IsSettled l.waits before → PassTo IsSettled l before rs
+
+pass-append : (End Last : List ℕ → Option Rec → Type 0) (l : Line) (before : Option Rec) (xs ys : List Rec) → PassTo End l before xs
+    → ((last : Option Rec) → End (fold line_step l xs).waits last → PassTo Last (fold line_step l xs) last ys) → PassTo Last l before (xs ++ ys)
+pass-append End Last l before [] ys h k = k before h
+pass-append End Last l before (x ∷ xs) ys h k = (h.0, pass-append End Last (line_step l x) (Some x) xs ys h.1 k)
+
+-- in a journal
+pub pass-on : (J rs : List Rec) → PassTo IsSettled nobody None J → Pass (fold line_step nobody J) rs → PassTo IsSettled nobody None (J ++ rs)
+pass-on J rs h k = pass-append IsSettled IsSettled nobody None J rs h k
+
+pub pass-may : (past rs : List Rec) → PassTo IsSettled (fold line_step nobody past) (last_of past) rs → EachMay MayPass past rs
+pass-may past [] h = tt
+pass-may past (r ∷ rs) h = (
+  h.0,
+  pass-may (past ++ r ∷ []) rs
+      (subst (λ (l : Line). PassTo IsSettled l (last_of (past ++ r ∷ [])) rs) (sym (fold-append line_step nobody past (r ∷ [])))
+      (subst (λ (o : Option Rec). PassTo IsSettled (line_step (fold line_step nobody past) r) o rs) (sym (fold-append (λ before r. Some r) None past (r ∷ []))) h.1)),
+)
+
+-- ---- records that admit and release nobody
+
+-- it releases nobody
+abbrev IsNoRelease : Rec → Type 0
+IsNoRelease (rec.Released c) = ⊥
+IsNoRelease _ = Unit {0}
+
+abbrev IsPlain : Rec → Type 0
+IsPlain r = IsNoEntry r × IsNoRelease r
+
+no-entry : (cs : List ℕ) (r : Rec) → IsNoEntry r → AdmitsHead cs r
+no-entry cs (rec.Admitted c) h = absurd h
+no-entry [] _ h = tt
+no-entry (c ∷ cs) _ h = tt
+
+-- nothing is due behind it
+undue : (ws : List ℕ) (r : Rec) → IsNoRelease r → IsSettled ws (Some r)
+undue [] r h q = tt
+undue (w ∷ ws) (rec.Released c) h q = absurd h
+undue (w ∷ ws) _ h q = tt
+
+plain-pass : (l : Line) (rs : List Rec) → Each IsPlain rs → Pass l rs
+plain-pass l [] e before settled = settled
+plain-pass l (r ∷ rs) e before settled = ((no-entry l.waits r e.0.0, settled r), plain-pass (line_step l r) rs e.1 (Some r) (undue (line_step l r).waits r e.0.1))
+
+quiet-plain : (r : Rec) → IsQuiet r → IsPlain r
+quiet-plain r q = (q.3, go r q.2) where
+  go : (r : Rec) → IsRising r → IsNoRelease r
+  go (rec.Released c) h = absurd h
+  go _ h = tt
+
+read-plain : (r : Rec) → IsRead r → IsPlain r
+read-plain r h = quiet-plain r (read-quiet r h)
+
+-- ---- what is read, assigned later, and so on leaves the line
+
+abbrev IsStill : Rec → Type 0
+IsStill r = (l : Line) → line_step l r ≡ l
+
+read-still : (r : Rec) → IsRead r → IsStill r
+read-still (rec.Served place c r code size via) h = λ l. refl
+read-still (rec.Reset place c total) h = λ l. refl
+read-still _ h = absurd h
+
+later-still : (r : Rec) → IsLater r → IsStill r × IsPlain r
+later-still (rec.AssignedLater c r path n add size queue) h = ((λ l. refl), (tt, tt))
+later-still _ h = absurd h
+
+shares-still : (c : ℕ) (over : Bool) (rs : List Rec) → Each IsLater rs → Each (λ r. IsStill r × IsPlain r) (over_note c over ++ rs)
+shares-still c true rs e = (((λ l. refl), (tt, tt)), Each-weaker IsLater (λ r. IsStill r × IsPlain r) later-still rs e)
+shares-still c false rs e = Each-weaker IsLater (λ r. IsStill r × IsPlain r) later-still rs e
+
+reads-still : (rs : List Rec) → Each IsRead rs → Each (λ r. IsStill r × IsPlain r) rs
+reads-still rs e = Each-weaker IsRead (λ r. IsStill r × IsPlain r) (λ r h. (read-still r h, read-plain r h)) rs e
+
+-- what is behind them is behind the same line
+still-then : (End : List ℕ → Option Rec → Type 0) (l : Line) (rs last : List Rec) → Each (λ r. IsStill r × IsPlain r) rs
+    → ((before : Option Rec) → IsSettled l.waits before → PassTo End l before last) → (before : Option Rec) → IsSettled l.waits before → PassTo End l before (rs ++ last)
+still-then End l [] last e k before settled = k before settled
+still-then End l (r ∷ rs) last e k before settled = (
+  (no-entry l.waits r e.0.1.0, settled r),
+  subst (λ (m : Line). PassTo End m (Some r) (rs ++ last)) (sym (e.0.0 l)) (still-then End l rs last e.1 k (Some r) (undue l.waits r e.0.1.1)),
+)
+
+-- ---- the line behind an event
+
+-- all of it, or all but one
+abbrev IsLess : List ℕ → List ℕ → Type 0
+IsLess xs ys = (xs ≡ ys) ⊎ ((c : ℕ) × (xs ≡ without c ys))
+
+left-less : (to from : Place) (bytes : List ℕ) (l : Line) → IsLess (left_by to from bytes l.told l.waits) l.waits
+left-less Front (Client c) bytes l = go (leaves (l.told c) (decoded bytes c ToCluster)) where
+  go : (b : Bool) → IsLess (cond b (without c l.waits) l.waits) l.waits
+  go true = inr (c, refl)
+  go false = inl refl
+left-less Front Front bytes l = inl refl
+left-less Front (Node n) bytes l = inl refl
+left-less (Node m) from bytes l = inl refl
+left-less (Client d) from bytes l = inl refl
+
+at-less : (o : Option Packet) (l : Line) → IsLess (left_at o l.told l.waits) l.waits
+at-less None l = inl refl
+at-less (Some p) l = left-less p.to p.from p.bytes l
+
+first-less : (l : Line) (i : ℕ) (e : Event) → IsLess (fold line_step l (rec.Event i e ∷ behind e)).waits l.waits
+first-less l i (event.Open c isn iss wnd mss) = inl refl
+first-less l i (event.Deliver k) = at-less (packet_at l.net k) l
+first-less l i (event.Lose k) = inl refl
+first-less l i (event.Inject c bytes) = inl refl
+first-less l i _ = inl refl
+
+none-less : (xs : List ℕ) → IsLess xs [] → xs ≡ []
+none-less xs h = ⊎_elim (λ (e : xs ≡ []). e) (λ (k : (c : ℕ) × (xs ≡ without c [])). k.1) h
+
+-- the first stays there, where it stays
+head-kept : (d : ℕ) (ds xs : List ℕ) → IsLess xs (d ∷ ds) → has d xs ≡ true → (es : List ℕ) × (xs ≡ d ∷ es)
+head-kept d ds xs h there = ⊎_elim
+    (λ (e : xs ≡ d ∷ ds). (ds, e))
+    (λ (k : (c : ℕ) × (xs ≡ without c (d ∷ ds))). by_number ((es : List ℕ) × (xs ≡ d ∷ es)) k.0 d
+    (λ same.
+    let gone : has d (without k.0 (d ∷ ds)) ≡ false = less-any d k.0 (d ∷ ds) ∙ ap (λ (b : Bool). cond b false (has d (d ∷ ds))) (ap (λ (n : ℕ). nat_eq n d) same ∙ same_number d) in
+    let no : true ≡ false = sym there ∙ ap (has d) k.1 ∙ gone in absurd cc)
+    (λ apart. (without k.0 ds, k.1 ∙ ap (λ (b : Bool). cond (not b) (d ∷ without k.0 ds) (without k.0 ds)) (other_number k.0 d apart))))
+    h
+
+-- ---- whom a release lets in
+
+-- the first of the line is admitted, if somebody waits
+abbrev pub HeadEnters : List ℕ → List Rec → Type 0
+HeadEnters [] rs = Unit {0}
+HeadEnters (c ∷ cs) rs = Has (rec.Admitted c) rs
+
+-- wherever one is released
+abbrev pub LetsIn : List ℕ → List Rec → Type 0
+LetsIn ws rs = (c : ℕ) → Has (rec.Released c) rs → HeadEnters ws rs
+
+has-either : (a : Rec) (xs ys : List Rec) → Has a (xs ++ ys) → Has a xs ⊎ Has a ys
+has-either a [] ys h = inr h
+has-either a (x ∷ xs) ys h = ⊎_elim (λ (e : x ≡ a). inl (inl e)) (λ (k : Has a (xs ++ ys)). ⊎_elim (λ (m : Has a xs). inl (inr m)) (λ (m : Has a ys). inr m) (has-either a xs ys k)) h
+
+-- quiet records before and behind let nobody in
+between-enters : (ws : List ℕ) (xs rs ys : List Rec) → Each IsQuiet xs → Each IsQuiet ys → HeadEnters ws (xs ++ rs ++ ys) → HeadEnters ws rs
+between-enters [] xs rs ys before after h = tt
+between-enters (c ∷ cs) xs rs ys before after h = ⊎_elim
+    (λ (k : Has (rec.Admitted c) (xs ++ rs)). ⊎_elim (λ (m : Has (rec.Admitted c) xs). absurd (has-each (rec.Admitted c) IsQuiet xs m before).3) (λ (m : Has (rec.Admitted c) rs). m) (has-either (rec.Admitted c) xs rs k))
+    (λ (k : Has (rec.Admitted c) ys). absurd (has-each (rec.Admitted c) IsQuiet ys k after).3)
+    (has-either (rec.Admitted c) (xs ++ rs) ys h)
+
+between-lets : (ws : List ℕ) (xs rs ys : List Rec) → Each IsQuiet xs → Each IsQuiet ys → LetsIn ws (xs ++ rs ++ ys) → LetsIn ws rs
+between-lets ws xs rs ys before after h c k =
+    between-enters ws xs rs ys before after (h c (has-before (rec.Released c) (xs ++ rs) ys (has-behind (rec.Released c) xs rs k)))
+
+-- ---- the notes of a turn
+
+-- who is the first of the line, whatever the record before
+abbrev IsFirst : ℕ → List ℕ → Option Rec → Type 0
+IsFirst d ws before = (rest : List ℕ) × (ws ≡ d ∷ rest)
+
+first-pass : (d : ℕ) (before : Option Rec) (es : List ℕ) → AdmitsBehind (d ∷ es) before (rec.Admitted d)
+first-pass d (Some (rec.Released c)) es = refl
+first-pass d None es = tt
+first-pass d _ es = tt
+
+-- it is admitted
+entry-pass : (d : ℕ) (k : Line) (before : Option Rec) (ys : List Rec) → IsFirst d k.waits before → Enters d ys → PassTo IsSettled k before ys
+entry-pass d k before ys first (Alone r path n add remove) =
+    let now : AdmitsHead k.waits (rec.Admitted d) × AdmitsBehind k.waits before (rec.Admitted d) =
+    subst (λ (ws : List ℕ). AdmitsHead ws (rec.Admitted d) × AdmitsBehind ws before (rec.Admitted d)) (sym first.1) (refl, first-pass d before first.0) in
+    (now, plain-pass (line_step k (rec.Admitted d)) (rec.AssignedFirst d r path n add remove ∷ []) ((tt, tt), tt) (Some (rec.Admitted d)) (undue (line_step k (rec.Admitted d)).waits (rec.Admitted d) tt))
+
+still-keeps : (d : ℕ) (es : List ℕ) (l : Line) (rs : List Rec) → l.waits ≡ d ∷ es → Each (λ r. IsStill r × IsPlain r) rs → (before : Option Rec) → IsSettled l.waits before → PassTo (IsFirst d) l before rs
+still-keeps d es l rs e still before settled = subst (PassTo (IsFirst d) l before) (append-nil rs) (still-then (IsFirst d) l rs [] still (λ o s. (es, e)) before settled)
+
+-- one is released
+release-pass : (End : List ℕ → Option Rec → Type 0) (c : ℕ) (epoch : Epoch) (l : Line) → End l.waits (Some (rec.Released c)) → (before : Option Rec) → IsSettled l.waits before
+    → PassTo End l before (rec.Took Front c epoch ∷ rec.Released c ∷ [])
+release-pass End c epoch l end before settled = (
+  (no-entry l.waits (rec.Took Front c epoch) tt, settled (rec.Took Front c epoch)),
+  ((no-entry l.waits (rec.Released c) tt, undue l.waits (rec.Took Front c epoch) tt (rec.Released c)), end),
+)
+
+-- it has an admission of c, which the first of the line is
+enters-head : (c w : ℕ) (ws : List ℕ) (rs last : List Rec) → Each (AdmitsHead (w ∷ ws)) (rs ++ rec.Admitted c ∷ last) → c ≡ w
+enters-head c w ws [] last e = e.0
+enters-head c w ws (r ∷ rs) last e = enters-head c w ws rs last e.1
+
+module _ (L : List ℕ) (l : Line) (less : IsLess l.waits L) where
+  -- of a connection that stood so, by the line before the step
+  noted-pass : (c : ℕ) (s : Was) → has c L ≡ s.waits → (rs : List Rec) → Noted c s rs → Each (AdmitsHead L) rs → LetsIn L rs → Pass l rs
+  noted-pass c s is all (Reads rs e) heads lets = plain-pass l rs (Each-weaker IsRead IsPlain read-plain rs e)
+  noted-pass c s is all (Begins out) heads lets = plain-pass l (rec.Took Front c (record { 0 = 1 }) ∷ []) ((tt, tt), tt)
+  noted-pass c s is all (Waits rs e held) heads lets = plain-pass l (rs ++ rec.Waits c ∷ []) (Each-append IsPlain rs (rec.Waits c ∷ []) (Each-weaker IsRead IsPlain read-plain rs e) ((tt, tt), tt))
+  noted-pass c s is all (Shares over rs e) heads lets = plain-pass l (over_note c over ++ rs) (Each-weaker (λ r. IsStill r × IsPlain r) IsPlain (λ r h. h.1) (over_note c over ++ rs) (shares-still c over rs e))
+  noted-pass c s is all (Ends epoch in_) heads lets = release-pass IsSettled c epoch l (subst (λ (ws : List ℕ). IsSettled ws (Some (rec.Released c))) (sym (none-less l.waits (subst (IsLess l.waits) (nobody-left L (lets c (inr (inl refl)))) less))) (λ r. tt))
+    where
+      -- none of the line is let in, so nobody waits
+      nobody-left : (K : List ℕ) → HeadEnters K (rec.Took Front c epoch ∷ rec.Released c ∷ []) → K ≡ []
+      nobody-left [] h = refl
+      nobody-left (w ∷ ws) h = ⊎_elim (λ (e : rec.Took Front c epoch ≡ rec.Admitted w). absurd (cc)) (λ k. ⊎_elim (λ (e : rec.Released c ≡ rec.Admitted w). absurd (cc)) (λ none. absurd none) k) h
+  noted-pass c s is all (Goes rs r path n add remove e out) heads lets = still-then IsSettled l rs last (reads-still rs e) (λ before settled. (
+    (empty L refl, settled (rec.Admitted c)),
+    plain-pass (line_step l (rec.Admitted c)) (rec.AssignedFirst c r path n add remove ∷ []) ((tt, tt), tt) (Some (rec.Admitted c)) (undue (line_step l (rec.Admitted c)).waits (rec.Admitted c) tt),
+  )) where
+    last : List Rec
+    last = rec.Admitted c ∷ rec.AssignedFirst c r path n add remove ∷ []
+
+    -- somebody who is not in the line is its first only where there is none
+    empty : (K : List ℕ) → L ≡ K → AdmitsHead l.waits (rec.Admitted c)
+    empty [] same = subst (λ (cs : List ℕ). AdmitsHead cs (rec.Admitted c)) (sym (none-less l.waits (subst (IsLess l.waits) same less))) tt
+    empty (w ∷ ws) same =
+        let first : c ≡ w = enters-head c w ws rs (rec.AssignedFirst c r path n add remove ∷ []) (subst (λ (K : List ℕ). Each (AdmitsHead K) (rs ++ last)) same heads) in
+        let there : has c L ≡ true = ap (has c) same ∙ ap (λ (k : ℕ). nat_eq c k || has c ws) (sym first) ∙ ap (λ (b : Bool). b || has c ws) (same_number c) in
+        let no : true ≡ false = sym there ∙ is ∙ out in absurd cc
+
+  -- who is in the line, and is seen to stay there, is its first where it is admitted
+  first-there : (d : ℕ) (last : List Rec) → has d L ≡ true → has d l.waits ≡ true → Each (AdmitsHead L) (rec.Admitted d ∷ last) → (es : List ℕ) × (l.waits ≡ d ∷ es)
+  first-there d last in_ stays heads = go L refl where
+    go : (K : List ℕ) → L ≡ K → (es : List ℕ) × (l.waits ≡ d ∷ es)
+    go [] same = let no : true ≡ false = sym in_ ∙ ap (has d) same in absurd cc
+    go (w ∷ ws) same =
+        let first : d ≡ w = (subst (λ (K : List ℕ). Each (AdmitsHead K) (rec.Admitted d ∷ last)) same heads).0 in
+        head-kept d ws l.waits (subst (IsLess l.waits) (same ∙ (λ i. sym first i ∷ ws)) less) stays
+
+  alone-pass : (d : ℕ) (ys : List Rec) → has d L ≡ true → has d l.waits ≡ true → Each (AdmitsHead L) ys → Enters d ys → Pass l ys
+  alone-pass d ys in_ stays heads (Alone r path n add remove) before settled =
+      entry-pass d l before _ (first-there d (rec.AssignedFirst d r path n add remove ∷ []) in_ stays heads) (Alone r path n add remove)
+
+  -- another one, which is not the first, is not admitted before it
+  not-first : (c d : ℕ) → d ≢ c → has d L ≡ true → (rs last ys : List Rec) → Each (AdmitsHead L) (rs ++ rec.Admitted c ∷ last) → Enters d ys → Each (AdmitsHead L) ys → ⊥
+  not-first c d apart in_ rs last ys heads (Alone r path n add remove) then = go L refl where
+    go : (K : List ℕ) → L ≡ K → ⊥
+    go [] same = let no : true ≡ false = sym in_ ∙ ap (has d) same in absurd cc
+    go (w ∷ ws) same =
+        let mine : c ≡ w = enters-head c w ws rs last (subst (λ (K : List ℕ). Each (AdmitsHead K) (rs ++ rec.Admitted c ∷ last)) same heads) in
+        let its : d ≡ w = (subst (λ (K : List ℕ). Each (AdmitsHead K) (rec.Admitted d ∷ rec.AssignedFirst d r path n add remove ∷ [])) same then).0 in
+        apart (its ∙ sym mine)
+
+  module _ (c d : ℕ) (s : Was) (apart : d ≢ c) (es : List ℕ) (there : l.waits ≡ d ∷ es) (in_ : has d L ≡ true) (ys : List Rec) (enters : Enters d ys) (then : Each (AdmitsHead L) ys) where
+    -- behind the notes of another connection it is the first yet
+    first-keeps : (xs : List Rec) → Noted c s xs → Each (AdmitsHead L) xs → (before : Option Rec) → IsSettled l.waits before → PassTo (IsFirst d) l before xs
+    first-keeps all (Reads rs e) heads = still-keeps d es l rs there (reads-still rs e)
+    first-keeps all (Begins out) heads = still-keeps d es l (rec.Took Front c (record { 0 = 1 }) ∷ []) there (((λ l. refl), (tt, tt)), tt)
+    first-keeps all (Shares over rs e) heads = still-keeps d es l (over_note c over ++ rs) there (shares-still c over rs e)
+    first-keeps all (Ends epoch in_) heads = release-pass (IsFirst d) c epoch l (es, there)
+    first-keeps all (Goes rs r path n add remove e out) heads = absurd (not-first c d apart in_ rs (rec.AssignedFirst c r path n add remove ∷ []) ys heads enters then)
+    first-keeps all (Waits rs e held) heads =
+        still-then (IsFirst d) l rs (rec.Waits c ∷ []) (reads-still rs e) (λ before settled. ((no-entry l.waits (rec.Waits c) tt, settled (rec.Waits c)), (es ++ c ∷ [], ap (λ (cs : List ℕ). cs ++ c ∷ []) there)))
+
+    alone-keeps : (xs : List Rec) → Enters c xs → Each (AdmitsHead L) xs → (before : Option Rec) → IsSettled l.waits before → PassTo (IsFirst d) l before xs
+    alone-keeps xs (Alone r path n add remove) heads = absurd (not-first c d apart in_ [] (rec.AssignedFirst c r path n add remove ∷ []) ys heads enters then)
+
+    both-pass : (xs : List Rec) → Noted c s xs ⊎ Enters c xs → Each (AdmitsHead L) xs → Pass l (xs ++ ys)
+    both-pass xs h heads before settled = pass-append (IsFirst d) IsSettled l before xs ys
+        (⊎_elim (λ (k : Noted c s xs). first-keeps xs k heads before settled) (λ (k : Enters c xs). alone-keeps xs k heads before settled) h)
+        (λ last first. entry-pass d (fold line_step l xs) last ys first enters)
+
+-- ---- a step
+
+module _ (m : Machine) (view : IsViewed m) (lined : (q : ℕ) → IsLined (conn m q)) where
+  -- the line before it
+  abbrev before : Line
+  before = fold line_step nobody m.journal
+
+  abbrev behind_first : ℕ → Event → Line
+  behind_first i e = fold line_step before (rec.Event i e ∷ behind e)
+
+  -- the first of that line is admitted, by these records, and so it is where one is released
+  abbrev LetsFirst : List Rec → Type 0
+  LetsFirst rs = Each (AdmitsHead (line m.journal)) rs × LetsIn (line m.journal) rs
+
+  -- Then the first is, at each moment.
+  abbrev pub Adds : Machine → Type 0
+  Adds n = (rs : List Rec) × (n.journal ≡ m.journal ++ rs) × (LetsFirst rs → Pass before rs)
+
+  -- how a connection stands is told by the line
+  waits-told : (c : ℕ) → has c (line m.journal) ≡ (stand_at (conn m c)).waits
+  unfolding conn
+  waits-told c = (stands-told c m.journal).waits_is
+
+  -- what a connection sees nothing of leaves it in the line
+  unseen-stays : (c i : ℕ) (e : Event) → seen_on c m.net (rec.Event i e ∷ behind e) ≡ [] → has c (behind_first i e).waits ≡ has c (line m.journal)
+  unseen-stays c i e none =
+      let rows : List Rec = rec.Event i e ∷ behind e in
+      let seen : own c (m.journal ++ rows) ≡ own c m.journal = own-append c m.journal rows ∙ ap (λ (net : List Packet). own c m.journal ++ seen_on c net rows) view.told
+      ∙ ap (λ (ss : List Seen). own c m.journal ++ ss) none ∙ append-nil (own c m.journal) in
+      ap (λ (l : Line). has c l.waits) (sym (fold-append line_step nobody m.journal rows)) ∙ (stands-told c (m.journal ++ rows)).waits_is ∙ ap (λ (ss : List Seen). (fold (stand_step c) unknown ss).waits) seen ∙ sym (stands-told c m.journal).waits_is
+
+  part-before : (P : Rec → Type 0) (xs ys : List Rec) → Each P (xs ++ ys) → Each P xs
+  part-before P [] ys e = tt
+  part-before P (x ∷ xs) ys e = (e.0, part-before P xs ys e.1)
+
+  part-behind : (P : Rec → Type 0) (xs ys : List Rec) → Each P (xs ++ ys) → Each P ys
+  part-behind P [] ys e = e
+  part-behind P (x ∷ xs) ys e = part-behind P xs ys e.1
+
+  quiet-pass : (l : Line) (rs : List Rec) → Each IsQuiet rs → Pass l rs
+  quiet-pass l rs e = plain-pass l rs (Each-weaker IsQuiet IsPlain quiet-plain rs e)
+
+  passed-adds : (w : Machine) (e : Event) (own : List Rec) → w.journal ≡ m.journal → Each IsQuiet own → Adds (passed w e own)
+  passed-adds w e own same quiet =
+      (rec.Event (w.events + 1) e ∷ own, ap (λ (J : List Rec). J ++ rec.Event (w.events + 1) e ∷ own) same, λ lets. quiet-pass before (rec.Event (w.events + 1) e ∷ own) (((λ i. refl), tt, tt, tt), quiet))
+
+  told-adds : (w : Machine) (e : Event) (place : Place) (o : Out) → w.journal ≡ m.journal → Each IsQuiet o.gave → Each IsQuiet o.timers
+      → (LetsFirst o.notes → Pass (behind_first (w.events + 1) e) o.notes) → Adds (told w e (behind e) place o)
+  told-adds w e place o same gave timers notes =
+      let first : List Rec = first_rows w e in
+      let last : List Rec = last_rows w place o in
+      let quiet : Each IsQuiet first = (((λ i. refl), tt, tt, tt), behind-quiet e) in
+      let still : Each IsQuiet last = last-quiet w place o gave timers in (
+        first ++ o.notes ++ last,
+        told-journal w e place o ∙ ap (λ (J : List Rec). J ++ (first ++ o.notes ++ last)) same,
+        λ lets at settled. pass-append IsSettled IsSettled before at (first ++ o.notes) last
+            (pass-append IsSettled IsSettled before at first o.notes (quiet-pass before first quiet at settled)
+            (notes (part-behind (AdmitsHead (line m.journal)) first o.notes (part-before (AdmitsHead (line m.journal)) (first ++ o.notes) last lets.0), between-lets (line m.journal) first o.notes last quiet still lets.1)))
+            (quiet-pass (fold line_step before (first ++ o.notes)) last still),
+      )
+
+  other-pass : (place : Place) (c : ℕ) (l : Line) (rs : List Rec) → (place ≡ Front → ⊥) → Each (NotedAt place c) rs → Pass l rs
+  other-pass place c l rs never e = quiet-pass l rs (Each-weaker (NotedAt place c) IsQuiet (λ r h. note-quiet place c r never h) rs e)
+
+  -- of one connection
+  own-pass : (i : ℕ) (e : Event) (c : ℕ) (v : Move) → seen_on c m.net (rec.Event i e ∷ behind e) ≡ v.heads → IsNoted (conn m c) v → v.place ≡ Front → LetsFirst v.said.notes → Pass (behind_first i e) v.said.notes
+  unfolding conn
+  own-pass i e c v seen h at lets = ⊎_elim
+      (λ (k : Noted c (was_at (conn m c)) v.said.notes). noted-pass (line m.journal) (behind_first i e) (first-less before i e) c (was_at (conn m c)) (waits-told c) v.said.notes k lets.0 lets.1)
+      (λ (k : IsEntry (conn m c) v).
+      let in_ : has c (line m.journal) ≡ true = waits-told c ∙ k.waits in
+      alone-pass (line m.journal) (behind_first i e) (first-less before i e) c v.said.notes in_ (unseen-stays c i e (seen ∙ k.none) ∙ in_) lets.0 k.enters)
+      (h.noted at)
+
+  notes-pass : (i : ℕ) (e : Event) (place : Place) (c : ℕ) (heads : List Seen) (ns : List Rec) (o : Out) (p : Part) → seen_on c m.net (rec.Event i e ∷ behind e) ≡ heads → Each (NotedAt place c) o.notes
+      → ((net : List Packet) → seen_on c net o.notes ≡ map Row ns) → Notes (conn m c) (move_of place heads ns o p) → LetsFirst o.notes → Pass (behind_first i e) o.notes
+  notes-pass i e Front c heads ns o p first noted seen does lets =
+      let same : o.notes ≡ ns = rows-same o.notes ns (sym (notes-all Front c [] o.notes tt noted) ∙ seen []) in
+      subst (Pass (behind_first i e)) (sym same) (own-pass i e c (move_of Front heads ns o p) first (does (lined c)) refl (subst LetsFirst same lets))
+  notes-pass i e (Node n) c heads ns o p first noted seen does lets = other-pass (Node n) c (behind_first i e) o.notes (λ e. let no : Node n ≡ Front = e in absurd cc) noted
+  notes-pass i e (Client d) c heads ns o p first noted seen does lets = other-pass (Client d) c (behind_first i e) o.notes (λ e. let no : Client d ≡ Front = e in absurd cc) noted
+
+  -- of two
+  pair-pass : (i : ℕ) (e : Event) (c d : ℕ) (v z : Move) → d ≢ c → seen_on d m.net (rec.Event i e ∷ behind e) ≡ [] → IsNoted (conn m c) v → IsNoted (conn m d) z → v.place ≡ Front → z.place ≡ Front → z.heads ≡ []
+      → LetsFirst (v.said.notes ++ z.said.notes) → Pass (behind_first i e) (v.said.notes ++ z.said.notes)
+  unfolding conn
+  pair-pass i e c d v z apart unseen h k at too none lets =
+      let L : List ℕ = line m.journal in
+      let l : Line = behind_first i e in
+      let entry : IsEntry (conn m d) z = k.alone too none in
+      let in_ : has d L ≡ true = waits-told d ∙ entry.waits in
+      let mine : Each (AdmitsHead L) v.said.notes = part-before (AdmitsHead L) v.said.notes z.said.notes lets.0 in
+      let its : Each (AdmitsHead L) z.said.notes = part-behind (AdmitsHead L) v.said.notes z.said.notes lets.0 in
+      let there : (es : List ℕ) × (l.waits ≡ d ∷ es) = its-there L l d z.said.notes (first-less before i e) in_ (unseen-stays d i e unseen ∙ in_) its entry.enters in
+      both-pass L l (first-less before i e) c d (was_at (conn m c)) apart there.0 there.1 in_ z.said.notes entry.enters its v.said.notes
+      (⊎_elim (λ (n : Noted c (was_at (conn m c)) v.said.notes). inl n) (λ (n : IsEntry (conn m c) v). inr n.enters) (h.noted at)) mine
+    where
+      its-there : (L : List ℕ) (l : Line) (d : ℕ) (ys : List Rec) → IsLess l.waits L → has d L ≡ true → has d l.waits ≡ true → Each (AdmitsHead L) ys → Enters d ys → (es : List ℕ) × (l.waits ≡ d ∷ es)
+      its-there L l d ys less in_ stays heads (Alone r path n add remove) = first-there L l less d (rec.AssignedFirst d r path n add remove ∷ []) in_ stays heads
+
+  both-notes : (i : ℕ) (e : Event) (place : Place) (c d : ℕ) (heads : List Seen) (a b : Out) (p r : Part) → NamesAll place → d ≢ c → seen_on d m.net (rec.Event i e ∷ behind e) ≡ [] → Each (NotedAt place c) a.notes → Each (NotedAt place d) b.notes
+      → Notes (conn m c) (move_of place heads a.notes a p) → Notes (conn m d) (move_of place [] b.notes b r) → LetsFirst (a.notes ++ b.notes) → Pass (behind_first i e) (a.notes ++ b.notes)
+  both-notes i e Front c d heads a b p r names apart unseen noted too does then lets =
+      pair-pass i e c d (move_of Front heads a.notes a p) (move_of Front [] b.notes b r) apart unseen (does (lined c)) (then (lined d)) refl refl refl lets
+  both-notes i e (Node n) c d heads a b p r names apart unseen noted too does then lets = absurd names
+  both-notes i e (Client q) c d heads a b p r names apart unseen noted too does then lets =
+      let never : Client q ≡ Front → ⊥ = λ e. absurd (cc) in
+      let behind_a : Line = fold line_step (behind_first i e) a.notes in
+      λ at settled. pass-append IsSettled IsSettled (behind_first i e) at a.notes b.notes (other-pass (Client q) c (behind_first i e) a.notes never noted at settled) (other-pass (Client q) d behind_a b.notes never too)
+
+  shapes-pass : Shapes m Notes (λ e n. Adds n)
+  unfolding clocked
+  shapes-pass = record {
+    one = λ w e place o c heads ns p act does. told-adds w e place o act.put.journal (gifts-quiet place c o.gave act.said.gave) (timers-quiet place c (part_of m c) p o.timers act.timers)
+        (notes-pass (w.events + 1) e place c heads ns o p (act.begins.mine (w.events + 1)) act.said.notes act.notes does);
+    two = λ w e place a b rows c d heads p r act does too.
+        let s : Each IsQuiet a.timers = timers-quiet place c (part_of m c) p a.timers act.timers in
+        let t : Each IsQuiet b.timers = timers-quiet place d (part_of m d) r b.timers act.timers_too in
+        told-adds w e place (both_out a b rows) act.put.journal (Each-append IsQuiet a.gave b.gave (gifts-quiet place c a.gave act.said.gave) (gifts-quiet place d b.gave act.said_too.gave))
+        (⊎_elim
+        (λ (is : rows ≡ a.timers ++ b.timers). subst (Each IsQuiet) (sym is) (Each-append IsQuiet a.timers b.timers s t))
+        (λ (is : rows ≡ b.timers ++ a.timers). subst (Each IsQuiet) (sym is) (Each-append IsQuiet b.timers a.timers t s))
+        act.order)
+        (both-notes (w.events + 1) e place c d heads a b p r act.names act.apart (act.begins.others (w.events + 1) d act.apart) act.said.notes act.said_too.notes does too);
+    nobody = λ k l at there. passed-adds m (event.Deliver k) (rec.Got k ∷ []) refl (((λ i. refl), tt, tt, tt), tt);
+    loses = λ k l at there. passed-adds (record m { net = lose_at (k - 1) m.net }) (event.Lose k) (rec.Lost k ∷ []) refl (((λ i. refl), tt, tt, tt), tt);
+    clocks = λ ms. passed-adds (record m { now = m.now + ms }) (event.Clock ms) (rec.Clock (record { 0 = m.now + ms }) ∷ []) refl (((λ i. refl), tt, tt, tt), tt);
+  }
+
+  pub step-pass : Rules (setting_of m) Notes → (n : Machine) (e : Event) → HasRule e → machine_step m e ≡ Ok n → Adds n
+  step-pass rules n e rule is = step-has m view Notes rules (λ d k. Adds k) shapes-pass e n rule is

@@ -1,0 +1,343 @@
+-- The records of a step: each release that is due stands directly behind its record; and what takes from loads stands before what adds
+-- to them.
+use Rattle.std.proofs.Common.{◌≡◌, ℕ, ◌+◌, ◌-◌, Bool, true, false, cond, List, [], ◌∷◌, ◌++◌, map, length, Option, Ok, refl, sym, ap, ◌∙◌, subst, append_assoc, append-nil, ⊎_elim, ◌||◌, nat_lt, ◌⊎◌, inl, inr}
+use Rattle.lard_base.specs.declared.event.Event.{Event}
+use Rattle.lard_base.specs.declared.event.Event.TheVariants as event
+use Rattle.lard_base.specs.declared.ids.Epoch.{Epoch}
+use Rattle.lard_base.specs.declared.place.Place.{Place}
+use Rattle.lard_base.specs.declared.place.Place.TheVariants.{Client, Front, Node}
+use Rattle.lard_rules.specs.declared.machine.Machine.{Machine}
+use Rattle.lard_rules.specs.Bounds.{HasRule}
+use Rattle.lard_rules.specs.Machine.{clocked, machine_step, passed, segments_sent, told}
+use Rattle.lard_law_connections.proofs.LineHolding.{IsRead}
+use Rattle.lard_law_connections.proofs.LineLaw.{IsLined}
+use Rattle.lard_law_connections.proofs.LineNotes.{Begins, Ends, Enters, Alone, Goes, IsLater, Noted, Reads, Shares, Was, Waits}
+use Rattle.lard_law_connections.proofs.LineStands.{stand_at}
+use Rattle.lard_law_connections.proofs.LineTurns.{IsEntry, IsNoted, Notes, was_at}
+use Rattle.lard_law_connections.specs.LineLaws.{AreReleased, Due, Nothing, Release, due_behind}
+use Rattle.lard_law_connections.proofs.PolicyCalm.{first_rows, last_rows, told-journal}
+use Rattle.lard_law_view.specs.View.{IsViewed, Move, Part, Rules, conn, part_of, setting_of, timer_rows}
+use Rattle.lard_law_view.proofs.Saying.{GaveAt, NamesAll, NotedAt, notes-all}
+use Rattle.lard_law_view.proofs.Shapes.{IsPut, Shapes, both_out, move_of}
+use Rattle.lard_law_view.proofs.Stepping.{step-has}
+use Rattle.lard_law_view.proofs.Timers.{IsTimerAt, timer_rows-are}
+use Rattle.lard_rules.specs.Front.{over_note}
+use Rattle.lard_history.specs.Own.{Row, Seen, seen_on}
+use Rattle.lard_history.proofs.Each.{Each, Each-append, Each-weaker}
+use Rattle.lard_journal.specs.declared.rec.Rec.{Rec}
+use Rattle.lard_journal.specs.declared.rec.Rec.TheVariants as rec
+use Rattle.lard_rules.specs.Sent.{sent_records}
+use Rattle.lard_net.specs.Net.{Packet, lose_at}
+use Rattle.lard_rules.specs.declared.places.Out.{Out}
+use Rattle.lard_law_view.proofs.OwnRecords.{behind}
+
+-- it adds to no load
+abbrev pub IsFalling : Rec → Type 0
+IsFalling (rec.AssignedFirst c r path n add remove) = ⊥
+IsFalling (rec.AssignedLater c r path n add size queue) = ⊥
+IsFalling _ = Unit {0}
+
+-- it takes from no load
+abbrev pub IsRising : Rec → Type 0
+IsRising (rec.Released c) = ⊥
+IsRising (rec.BatchOver c) = ⊥
+IsRising _ = Unit {0}
+
+-- it admits nobody
+abbrev pub IsNoEntry : Rec → Type 0
+IsNoEntry (rec.Admitted c) = ⊥
+IsNoEntry _ = Unit {0}
+
+-- it does none of these, and no release is due behind it
+abbrev pub IsQuiet : Rec → Type 0
+IsQuiet r = ((inside : ℕ → Bool) → due_behind inside r ≡ Nothing) × IsFalling r × IsRising r × IsNoEntry r
+
+-- ---- what another place notes, what is sent, given up and told of timers is quiet
+
+pub read-quiet : (r : Rec) → IsRead r → IsQuiet r
+read-quiet (rec.Served place c r code size via) h = ((λ inside. refl), tt, tt, tt)
+read-quiet (rec.Reset place c total) h = ((λ inside. refl), tt, tt, tt)
+read-quiet _ h = absurd h
+
+pub note-quiet : (place : Place) (c : ℕ) (r : Rec) → (place ≡ Front → ⊥) → NotedAt place c r → IsQuiet r
+note-quiet Front c r never h = absurd (never refl)
+note-quiet (Client e) c (rec.Wrote d bytes) never h = ((λ inside. refl), tt, tt, tt)
+note-quiet (Client e) c (rec.Accepted d bytes) never h = ((λ inside. refl), tt, tt, tt)
+note-quiet (Client e) c (rec.Eof d) never h = ((λ inside. refl), tt, tt, tt)
+note-quiet (Client e) c (rec.Aborted d) never h = ((λ inside. refl), tt, tt, tt)
+note-quiet (Node n) c (rec.Took (Node k) d epoch) never h = ((λ inside. refl), tt, tt, tt)
+note-quiet (Node n) c (rec.Served (Node k) d r code size via) never h = ((λ inside. refl), tt, tt, tt)
+note-quiet (Node n) c (rec.Reset (Node k) d total) never h = ((λ inside. refl), tt, tt, tt)
+note-quiet (Node n) c (rec.Queued k o d r path) never h = ((λ inside. refl), tt, tt, tt)
+note-quiet (Node n) c (rec.Read k o d r path) never h = ((λ inside. refl), tt, tt, tt)
+note-quiet (Node n) c (rec.Hit k path) never h = ((λ inside. refl), tt, tt, tt)
+note-quiet _ c _ never h = absurd h
+
+gave-quiet : (place : Place) (c : ℕ) (r : Rec) → GaveAt place c r → IsQuiet r
+gave-quiet Front c (rec.Gave Front d epoch) h = ((λ inside. refl), tt, tt, tt)
+gave-quiet (Node n) c (rec.Gave (Node k) d epoch) h = ((λ inside. refl), tt, tt, tt)
+gave-quiet _ c _ h = absurd h
+
+timer-quiet : (place : Place) (c : ℕ) (r : Rec) → IsTimerAt place c r → IsQuiet r
+timer-quiet place c (rec.Armed p d kind) h = ((λ inside. refl), tt, tt, tt)
+timer-quiet place c (rec.Cleared p d kind) h = ((λ inside. refl), tt, tt, tt)
+timer-quiet place c _ h = absurd h
+
+sents-quiet : (k : ℕ) (place : Place) (ss : List (Place × List ℕ)) → Each IsQuiet (sent_records k place ss)
+sents-quiet k place [] = tt
+sents-quiet k place (s ∷ ss) = (((λ inside. refl), tt, tt, tt), sents-quiet (k + 1) place ss)
+
+pub behind-quiet : (e : Event) → Each IsQuiet (behind e)
+behind-quiet (event.Open c isn iss wnd mss) = (((λ inside. refl), tt, tt, tt), tt)
+behind-quiet (event.Deliver k) = (((λ inside. refl), tt, tt, tt), tt)
+behind-quiet (event.Lose k) = (((λ inside. refl), tt, tt, tt), tt)
+behind-quiet (event.Inject c bytes) = (((λ inside. refl), tt, tt, tt), tt)
+behind-quiet _ = tt
+
+pub last-quiet : (w : Machine) (place : Place) (o : Out) → Each IsQuiet o.gave → Each IsQuiet o.timers → Each IsQuiet (last_rows w place o)
+last-quiet w place o gave timers =
+    let S : List Rec = sent_records (length w.net + 1) place o.segments in
+    let M : List Rec = sent_records (length (segments_sent w place o) + 1) place o.messages in
+    Each-append IsQuiet (S ++ o.gave ++ M) o.timers
+    (Each-append IsQuiet (S ++ o.gave) M (Each-append IsQuiet S o.gave (sents-quiet (length w.net + 1) place o.segments) gave) (sents-quiet (length (segments_sent w place o) + 1) place o.messages))
+    timers
+
+pub timers-quiet : (place : Place) (c : ℕ) (p q : Part) (rs : List Rec) → rs ≡ timer_rows place c p q → Each IsQuiet rs
+timers-quiet place c p q rs e = subst (Each IsQuiet) (sym e) (Each-weaker (IsTimerAt place c) IsQuiet (timer-quiet place c) (timer_rows place c p q) (timer_rows-are place c p q))
+
+pub gifts-quiet : (place : Place) (c : ℕ) (rs : List Rec) → Each (GaveAt place c) rs → Each IsQuiet rs
+gifts-quiet place c rs e = Each-weaker (GaveAt place c) IsQuiet (gave-quiet place c) rs e
+
+-- ---- lists of records
+
+module _ (inside : ℕ → Bool) where
+  released-append : (o : Due) (xs ys : List Rec) → AreReleased inside o xs → AreReleased inside Nothing ys → AreReleased inside o (xs ++ ys)
+  released-append Nothing [] ys h k = k
+  released-append (Release c) [] ys h k = absurd h
+  released-append Nothing (x ∷ xs) ys h k = released-append (due_behind inside x) xs ys h k
+  released-append (Release c) (x ∷ xs) ys h k = (h.0, released-append Nothing xs ys h.1 k)
+
+  -- where nothing is due
+  none-due : (rs : List Rec) → Each (λ r. due_behind inside r ≡ Nothing) rs → AreReleased inside Nothing rs
+  none-due [] e = tt
+  none-due (r ∷ rs) e = subst (λ (o : Due). AreReleased inside o rs) (sym e.0) (none-due rs e.1)
+
+  quiet-released : (rs : List Rec) → Each IsQuiet rs → AreReleased inside Nothing rs
+  quiet-released rs e = none-due rs (Each-weaker IsQuiet (λ r. due_behind inside r ≡ Nothing) (λ r q. q.0 inside) rs e)
+
+  -- Each release that is due stands there; and the records fall first, and then rise.
+  pub record IsInOrder (rs : List Rec) : Type 0 where
+    pub released : AreReleased inside Nothing rs
+    pub falls : List Rec
+    pub rises : List Rec
+    pub split : rs ≡ falls ++ rises
+    pub falling : Each IsFalling falls
+    pub rising : Each IsRising rises
+
+  pub quiet-order : (rs : List Rec) → Each IsQuiet rs → IsInOrder rs
+  quiet-order rs e = record {
+    released = quiet-released rs e;
+    falls = rs;
+    rises = [];
+    split = sym (append-nil rs);
+    falling = Each-weaker IsQuiet IsFalling (λ r q. q.1) rs e;
+    rising = tt;
+  }
+
+  -- between quiet ones
+  between-order : (xs rs ys : List Rec) → Each IsQuiet xs → IsInOrder rs → Each IsQuiet ys → IsInOrder (xs ++ rs ++ ys)
+  between-order xs rs ys before o after = record {
+    released = released-append Nothing (xs ++ rs) ys (released-append Nothing xs rs (quiet-released xs before) o.released) (quiet-released ys after);
+    falls = xs ++ o.falls;
+    rises = o.rises ++ ys;
+    split = ap (λ (zs : List Rec). xs ++ zs ++ ys) o.split ∙ ap (λ (zs : List Rec). zs ++ ys) (sym (append_assoc xs o.falls o.rises)) ∙ append_assoc (xs ++ o.falls) o.rises ys;
+    falling = Each-append IsFalling xs o.falls (Each-weaker IsQuiet IsFalling (λ r q. q.1) xs before) o.falling;
+    rising = Each-append IsRising o.rises ys o.rising (Each-weaker IsQuiet IsRising (λ r q. q.2) ys after);
+  }
+
+  -- ---- the notes of a turn
+
+  later-released : (rs : List Rec) → Each IsLater rs → AreReleased inside Nothing rs
+  later-released rs e = none-due rs (Each-weaker IsLater (λ r. due_behind inside r ≡ Nothing) one rs e) where
+    one : (r : Rec) → IsLater r → due_behind inside r ≡ Nothing
+    one (rec.AssignedLater c r path n add size queue) h = refl
+    one _ h = absurd h
+
+  later-rising : (rs : List Rec) → Each IsLater rs → Each IsRising rs
+  later-rising rs e = Each-weaker IsLater IsRising one rs e where
+    one : (r : Rec) → IsLater r → IsRising r
+    one (rec.AssignedLater c r path n add size queue) h = tt
+    one _ h = absurd h
+
+  -- behind what was read
+  behind-read : (rs last : List Rec) → Each IsRead rs → AreReleased inside Nothing last → Each IsRising last → IsInOrder (rs ++ last)
+  behind-read rs last e released rising =
+      let quiet : Each IsQuiet rs = Each-weaker IsRead IsQuiet read-quiet rs e in
+      record {
+        released = released-append Nothing rs last (quiet-released rs quiet) released;
+        falls = rs;
+        rises = last;
+        split = refl;
+        falling = Each-weaker IsQuiet IsFalling (λ r q. q.1) rs quiet;
+        rising = rising;
+      }
+
+  over-order : (c : ℕ) (over : Bool) (rs : List Rec) → Each IsLater rs → IsInOrder (over_note c over ++ rs)
+  over-order c true rs e = record {
+    released = later-released rs e;
+    falls = rec.BatchOver c ∷ [];
+    rises = rs;
+    split = refl;
+    falling = (tt, tt);
+    rising = later-rising rs e;
+  }
+  over-order c false rs e = record { released = later-released rs e; falls = []; rises = rs; split = refl; falling = tt; rising = later-rising rs e }
+
+  begins-order : (c : ℕ) → inside c ≡ false → IsInOrder (rec.Took Front c (record { 0 = 1 }) ∷ [])
+  begins-order c out = record {
+    released = subst (λ (b : Bool). AreReleased inside (cond b (Release c) Nothing) []) (sym (ap (λ (b : Bool). b || false) out)) tt;
+    falls = rec.Took Front c (record { 0 = 1 }) ∷ [];
+    rises = [];
+    split = refl;
+    falling = (tt, tt);
+    rising = tt;
+  }
+
+  -- what is behind the release of one that was admitted
+  ends-released : (c : ℕ) (epoch : Epoch) (last : List Rec) → inside c ≡ true → AreReleased inside Nothing last → AreReleased inside Nothing (rec.Took Front c epoch ∷ rec.Released c ∷ last)
+  ends-released c epoch last in_ h =
+      subst (λ (b : Bool). AreReleased inside (cond b (Release c) Nothing) (rec.Released c ∷ last)) (sym (ap (λ (b : Bool). b || nat_lt 1 epoch.0) in_)) (refl, h)
+
+  ends-order : (c : ℕ) (epoch : Epoch) → inside c ≡ true → IsInOrder (rec.Took Front c epoch ∷ rec.Released c ∷ [])
+  ends-order c epoch in_ = record {
+    released = ends-released c epoch [] in_ tt;
+    falls = rec.Took Front c epoch ∷ rec.Released c ∷ [];
+    rises = [];
+    split = refl;
+    falling = (tt, (tt, tt));
+    rising = tt;
+  }
+
+  pub noted-order : (c : ℕ) (s : Was) → inside c ≡ s.inside → (rs : List Rec) → Noted c s rs → IsInOrder rs
+  noted-order c s is all (Reads rs e) = quiet-order rs (Each-weaker IsRead IsQuiet read-quiet rs e)
+  noted-order c s is all (Begins out) = begins-order c (is ∙ out)
+  noted-order c s is all (Waits reads e held) = behind-read reads (rec.Waits c ∷ []) e tt (tt, tt)
+  noted-order c s is all (Goes reads r path n add remove e out) = behind-read reads (rec.Admitted c ∷ rec.AssignedFirst c r path n add remove ∷ []) e tt (tt, (tt, tt))
+  noted-order c s is all (Shares over later e) = over-order c over later e
+  noted-order c s is all (Ends epoch in_) = ends-order c epoch (is ∙ in_)
+
+  -- ---- and of an admission behind them
+
+  module _ (d r : ℕ) (path : List ℕ) (n : ℕ) (add remove : Option ℕ) where
+    abbrev entry : List Rec
+    entry = rec.Admitted d ∷ rec.AssignedFirst d r path n add remove ∷ []
+
+    entry-order : (c : ℕ) (s : Was) → inside c ≡ s.inside → (xs : List Rec) → Noted c s xs → IsInOrder (xs ++ entry)
+    entry-order c s is xs noted =
+        let o : IsInOrder xs = noted-order c s is xs noted in
+        record {
+          released = released-append Nothing xs entry o.released tt;
+          falls = o.falls;
+          rises = o.rises ++ entry;
+          split = ap (λ (zs : List Rec). zs ++ entry) o.split ∙ append_assoc o.falls o.rises entry;
+          falling = o.falling;
+          rising = Each-append IsRising o.rises entry o.rising (tt, (tt, tt));
+        }
+
+  pub enters-order : (c : ℕ) (s : Was) → inside c ≡ s.inside → (d : ℕ) (xs ys : List Rec) → Noted c s xs → Enters d ys → IsInOrder (xs ++ ys)
+  enters-order c s is d xs ys noted (Alone r path n add remove) = entry-order d r path n add remove c s is xs noted
+
+  -- an admission by itself, and one behind another
+  pub alone-order : (d : ℕ) (ys : List Rec) → Enters d ys → IsInOrder ys
+  alone-order d ys (Alone r path n add remove) = behind-read [] (rec.Admitted d ∷ rec.AssignedFirst d r path n add remove ∷ []) tt tt (tt, (tt, tt))
+
+  pub both-enter : (c d : ℕ) (xs ys : List Rec) → Enters c xs → Enters d ys → IsInOrder (xs ++ ys)
+  both-enter c d xs ys (Alone r path n add remove) (Alone r2 path2 n2 add2 remove2) =
+      behind-read [] (rec.Admitted c ∷ rec.AssignedFirst c r path n add remove ∷ rec.Admitted d ∷ rec.AssignedFirst d r2 path2 n2 add2 remove2 ∷ []) tt tt (tt, (tt, (tt, (tt, tt))))
+
+-- ---- a step
+
+-- a list is known by what is seen of it
+pub rows-same : (xs ys : List Rec) → map Row xs ≡ map Row ys → xs ≡ ys
+rows-same [] [] e = refl
+rows-same [] (y ∷ ys) e = let no : [] ≡ Row y ∷ map Row ys = e in absurd cc
+rows-same (x ∷ xs) [] e = let no : Row x ∷ map Row xs ≡ [] = e in absurd cc
+rows-same (x ∷ xs) (y ∷ ys) e =
+    let one : x ≡ y = cc in
+    let rest : map Row xs ≡ map Row ys = cc in
+    λ i. one i ∷ rows-same xs ys rest i
+
+module _ (m : Machine) (lined : (q : ℕ) → IsLined (conn m q)) (inside : ℕ → Bool) (told_is : (q : ℕ) → inside q ≡ (stand_at (conn m q)).inside) where
+  -- what a step adds is in order
+  abbrev pub Adds : Machine → Type 0
+  Adds n = (rs : List Rec) × (n.journal ≡ m.journal ++ rs) × IsInOrder inside rs
+
+  passed-adds : (w : Machine) (e : Event) (own : List Rec) → w.journal ≡ m.journal → Each IsQuiet own → Adds (passed w e own)
+  passed-adds w e own same quiet =
+      (rec.Event (w.events + 1) e ∷ own, ap (λ (J : List Rec). J ++ rec.Event (w.events + 1) e ∷ own) same, quiet-order inside (rec.Event (w.events + 1) e ∷ own) (((λ i. refl), tt, tt, tt), quiet))
+
+  told-adds : (w : Machine) (e : Event) (place : Place) (o : Out) → IsPut m w → IsInOrder inside o.notes → Each IsQuiet o.gave → Each IsQuiet o.timers → Adds (told w e (behind e) place o)
+  told-adds w e place o put notes gave timers = (
+    first_rows w e ++ o.notes ++ last_rows w place o,
+    told-journal w e place o ∙ ap (λ (J : List Rec). J ++ (first_rows w e ++ o.notes ++ last_rows w place o)) put.journal,
+    between-order inside (first_rows w e) o.notes (last_rows w place o) (((λ i. refl), tt, tt, tt), behind-quiet e) notes (last-quiet w place o gave timers),
+  )
+
+  -- a connection has its number
+  own-noted : (c : ℕ) (v : Move) → IsNoted (conn m c) v → v.place ≡ Front → Noted c (was_at (conn m c)) v.said.notes ⊎ Enters c v.said.notes
+  unfolding conn
+  own-noted c v h at = ⊎_elim (λ (k : Noted c (was_at (conn m c)) v.said.notes). inl k) (λ (k : IsEntry (conn m c) v). inr k.enters) (h.noted at)
+
+  own-enters : (c : ℕ) (v : Move) → IsNoted (conn m c) v → v.place ≡ Front → v.heads ≡ [] → Enters c v.said.notes
+  unfolding conn
+  own-enters c v h at none = (h.alone at none).enters
+
+  turn-order : (c : ℕ) (rs : List Rec) → Noted c (was_at (conn m c)) rs ⊎ Enters c rs → IsInOrder inside rs
+  turn-order c rs h = ⊎_elim (λ (k : Noted c (was_at (conn m c)) rs). noted-order inside c (was_at (conn m c)) (told_is c) rs k) (λ (k : Enters c rs). alone-order inside c rs k) h
+
+  turns-order : (c d : ℕ) (xs ys : List Rec) → Noted c (was_at (conn m c)) xs ⊎ Enters c xs → Enters d ys → IsInOrder inside (xs ++ ys)
+  turns-order c d xs ys h e = ⊎_elim (λ (k : Noted c (was_at (conn m c)) xs). enters-order inside c (was_at (conn m c)) (told_is c) d xs ys k e) (λ (k : Enters c xs). both-enter inside c d xs ys k e) h
+
+  -- what another place than the front end notes
+  other-order : (place : Place) (c : ℕ) (rs : List Rec) → (place ≡ Front → ⊥) → Each (NotedAt place c) rs → IsInOrder inside rs
+  other-order place c rs never e = quiet-order inside rs (Each-weaker (NotedAt place c) IsQuiet (λ r h. note-quiet place c r never h) rs e)
+
+  notes-order : (place : Place) (c : ℕ) (heads : List Seen) (ns : List Rec) (o : Out) (p : Part) → Each (NotedAt place c) o.notes → ((net : List Packet) → seen_on c net o.notes ≡ map Row ns) → Notes (conn m c) (move_of place heads ns o p)
+      → IsInOrder inside o.notes
+  notes-order Front c heads ns o p noted seen does =
+      let same : o.notes ≡ ns = rows-same o.notes ns (sym (notes-all Front c [] o.notes tt noted) ∙ seen []) in
+      subst (IsInOrder inside) (sym same) (turn-order c ns (own-noted c (move_of Front heads ns o p) (does (lined c)) refl))
+  notes-order (Node n) c heads ns o p noted seen does = other-order (Node n) c o.notes (λ e. let no : Node n ≡ Front = e in absurd cc) noted
+  notes-order (Client d) c heads ns o p noted seen does = other-order (Client d) c o.notes (λ e. let no : Client d ≡ Front = e in absurd cc) noted
+
+  both-order : (place : Place) (c d : ℕ) (heads : List Seen) (a b : Out) (p r : Part) → NamesAll place → Each (NotedAt place c) a.notes → Each (NotedAt place d) b.notes
+      → Notes (conn m c) (move_of place heads a.notes a p) → Notes (conn m d) (move_of place [] b.notes b r) → IsInOrder inside (a.notes ++ b.notes)
+  both-order Front c d heads a b p r names noted too does then =
+      turns-order c d a.notes b.notes (own-noted c (move_of Front heads a.notes a p) (does (lined c)) refl) (own-enters d (move_of Front [] b.notes b r) (then (lined d)) refl refl)
+  both-order (Node n) c d heads a b p r names noted too does then = absurd names
+  both-order (Client q) c d heads a b p r names noted too does then =
+      let never : Client q ≡ Front → ⊥ = λ e. absurd (cc) in
+      quiet-order inside (a.notes ++ b.notes) (Each-append IsQuiet a.notes b.notes
+      (Each-weaker (NotedAt (Client q) c) IsQuiet (λ r h. note-quiet (Client q) c r never h) a.notes noted)
+      (Each-weaker (NotedAt (Client q) d) IsQuiet (λ r h. note-quiet (Client q) d r never h) b.notes too))
+
+  shapes-add : Shapes m Notes (λ e n. Adds n)
+  unfolding clocked
+  shapes-add = record {
+    one = λ w e place o c heads ns p act does. told-adds w e place o act.put (notes-order place c heads ns o p act.said.notes act.notes does) (gifts-quiet place c o.gave act.said.gave) (timers-quiet place c (part_of m c) p o.timers act.timers);
+    two = λ w e place a b rows c d heads p r act does too.
+        let s : Each IsQuiet a.timers = timers-quiet place c (part_of m c) p a.timers act.timers in
+        let t : Each IsQuiet b.timers = timers-quiet place d (part_of m d) r b.timers act.timers_too in
+        told-adds w e place (both_out a b rows) act.put (both-order place c d heads a b p r act.names act.said.notes act.said_too.notes does too)
+        (Each-append IsQuiet a.gave b.gave (gifts-quiet place c a.gave act.said.gave) (gifts-quiet place d b.gave act.said_too.gave))
+        (⊎_elim
+        (λ (is : rows ≡ a.timers ++ b.timers). subst (Each IsQuiet) (sym is) (Each-append IsQuiet a.timers b.timers s t))
+        (λ (is : rows ≡ b.timers ++ a.timers). subst (Each IsQuiet) (sym is) (Each-append IsQuiet b.timers a.timers t s))
+        act.order);
+    nobody = λ k l at there. passed-adds m (event.Deliver k) (rec.Got k ∷ []) refl (((λ i. refl), tt, tt, tt), tt);
+    loses = λ k l at there. passed-adds (record m { net = lose_at (k - 1) m.net }) (event.Lose k) (rec.Lost k ∷ []) refl (((λ i. refl), tt, tt, tt), tt);
+    clocks = λ ms. passed-adds (record m { now = m.now + ms }) (event.Clock ms) (rec.Clock (record { 0 = m.now + ms }) ∷ []) refl (((λ i. refl), tt, tt, tt), tt);
+  }
+
+  pub step-adds : IsViewed m → Rules (setting_of m) Notes → (n : Machine) (e : Event) → HasRule e → machine_step m e ≡ Ok n → Adds n
+  step-adds view rules n e rule is = step-has m view Notes rules (λ d k. Adds k) shapes-add e n rule is

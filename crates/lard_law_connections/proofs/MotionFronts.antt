@@ -1,0 +1,586 @@
+-- What each rule of the front end makes of a connection's way.
+use Rattle.std.proofs.Common.{◌≡◌, ◌<◌, ◌+◌, ◌^◌, ◌==◌, ◌||◌, ◌&&◌, not, nat_lt, ℕ, Bool, true, false, cond, List, [], ◌∷◌, ◌++◌, map, Option, Some, None, inl, refl, sym, ap, ◌∙◌, subst, arith, append-nil, eqb-true, eq-eqb}
+use Rattle.std.proofs.lemmas.Bool.{both_ways, cond_both}
+use Rattle.std.proofs.lemmas.List.Folds.{list_any-append}
+use Rattle.std.proofs.lemmas.List.Sums.{fold-append}
+use Rattle.std.specs.List.{fold}
+use Rattle.lard_base.specs.declared.ids.Epoch.{Epoch}
+use Rattle.lard_base.specs.declared.place.Place.{Place}
+use Rattle.lard_base.specs.declared.place.Place.TheVariants.{Client, Front, Node}
+use Rattle.lard_base.specs.declared.place.TimerKind.TheVariants as timer
+use Rattle.lard_law_connections.specs.Motion.{IsHandedOff, first_end, first_syn, first_takes, forwards_by, forwards_of, later_takes}
+use Rattle.lard_law_connections.specs.MotionStory.{Story, first_node, forward_to, front_gave, front_took, is_among, row_step, story, to_node}
+use Rattle.lard_law_connections.proofs.MotionAnswers.{reads-answers}
+use Rattle.lard_law_connections.proofs.MotionElsewhere.{Helps, IsAway, IsHeld, IsKnown, IsNotOfClient, IsOfferKept, IsOver, Lists, Moves, Parts, RowKnown, SomeDecided, StageKnown, by-lists, machine-letters, no-end, no-forwards, no-syn, no-takes, seen-ended, seen-firsts, seen-forwards, seen-gives, seen-said, seen-segments, seen-syn, seen-takes}
+use Rattle.lard_law_connections.proofs.MotionPicking.{IsStill, pick, pick-append, segments-none, still-all, stills-first, stills-took, story-grown}
+use Rattle.lard_law_connections.specs.Places.{ArePast, IsDecided, IsPast, Owning, Sits, StageSits, owning}
+use Rattle.lard_law_connections.proofs.PlacesHeads.{spelled-head}
+use Rattle.lard_law_connections.proofs.PlacesLoops.{settled-is, spoken-to}
+use Rattle.lard_law_connections.proofs.PlacesTurns.{IsPlaced}
+use Rattle.lard_law_view.specs.Carry.{tale_at}
+use Rattle.lard_law_view.specs.View.{Conn, IsFrontEnv, Move, Setting, by_front, front_does, letter, letters_of, seen_in, sending, with_front}
+use Rattle.lard_dispatch.specs.declared.dispatch.Ask.{Ask}
+use Rattle.lard_dispatch.specs.declared.dispatch.First.{First}
+use Rattle.lard_dispatch.specs.declared.dispatch.First.TheVariants as first
+use Rattle.lard_dispatch.specs.declared.dispatch.Later.{Later}
+use Rattle.lard_dispatch.specs.Laws.{Call}
+use Rattle.lard_dispatch.specs.Laws as call
+use Rattle.lard_endpoint.specs.declared.control.moving.Final.{Final}
+use Rattle.lard_endpoint.specs.Arriving.{on_segment}
+use Rattle.lard_endpoint.specs.Control.{ControlBlock, listening}
+use Rattle.lard_endpoint.specs.Leaving.{after_timer, timed}
+use Rattle.lard_rules.specs.declared.front.FrontRest.{FrontRest}
+use Rattle.lard_rules.specs.declared.front.FrontTurn.{FrontTurn}
+use Rattle.lard_rules.specs.Front.{Deed, Did, Drops, Says, Does, FrontEnv, FrontPart, ack_sent, admitted_at, admitted_by, admitted_with, asked_by, assigned_notes, assigns, begun, ended_by, ends, fired, fired_by, fires_at, front_admitted, front_asked, front_ended, front_hears, front_taken, front_timer, handed_off, heard, hears_at, is_at, leaves_by, message, met, over_note, placed, rest_of, rests, saying, settled_by, stage_after, tag_sent, taken_by, turn_here}
+use Rattle.lard_rules.specs.FrontReading.{Reading, reads}
+use Rattle.lard_handoff_back.specs.declared.row.BackRow.{BackRow}
+use Rattle.lard_handoff_front.specs.declared.row.FrontConn.{FrontConn}
+use Rattle.lard_handoff_front.specs.declared.row.FrontConn.TheVariants as stage
+use Rattle.lard_handoff_front.specs.declared.row.FrontRow.{FrontRow}
+use Rattle.lard_handoff_front.specs.declared.table.OnEnded.TheVariants.{New, Again, Stale}
+use Rattle.lard_handoff_front.specs.Front.{asked_node, end_answer, ended_with, next_epoch}
+use Rattle.lard_handoff_front.specs.Row.{is_away, offered_to}
+use Rattle.lard_history.specs.Own.{Seen}
+use Rattle.lard_history.proofs.Each.{Each, Each-append}
+use Rattle.lard_journal.specs.declared.rec.Rec.{Rec}
+use Rattle.lard_journal.specs.declared.rec.Rec.TheVariants as rec
+use Rattle.lard_message.specs.declared.message.Body.TheVariants as body
+use Rattle.lard_rules.specs.Node.{NodePart}
+use Rattle.lard_policy.specs.declared.first.FirstChoice.{FirstChoice}
+use Rattle.lard_resend.specs.Kept.{without}
+use Rattle.lard_resend.specs.Pending.{sent_of}
+use Rattle.lard_rules.specs.declared.places.Ending.{Ending}
+use Rattle.lard_rules.specs.declared.places.Ending.TheVariants as ending
+use Rattle.lard_rules.specs.declared.places.Turn.{Turn}
+use Rattle.lard_rules.specs.Tombstone.{is_plain_syn, last_words, tombstone}
+use Rattle.lard_rules.specs.Speaking.{listed}
+use Rattle.lard_rules.specs.Serving.{Service, ready_of, serving, settled, spoken}
+use Rattle.lard_segment.specs.Segment.{Said as Segment}
+use Rattle.lard_law_view.proofs.EndpointSends.{AllTo, ready-to}
+use Rattle.lard_law_connections.proofs.MotionComings.{assigned-still, over-still, Heads, answers-still, behind_heads, forwarded-is, not-forwarded, resent-none, row-behind, without-kept}
+
+-- ---- one connection
+
+module _ (k : Setting) (x : Conn) (at_place : IsPlaced x) (known : IsKnown x) (heads : List Seen) (syn : Bool) (es : List ℕ) (segments : List (List ℕ)) (came : Heads x heads syn es segments) (env : FrontEnv) (is : IsFrontEnv k x.c env)
+    (some_ended : (e : ℕ) → is_among e ((story x.c x.seen).ended ++ es) ≡ true → SomeDecided e x.part.nodes) where
+  abbrev p : FrontPart
+  p = x.part.front
+
+  abbrev nodes : ℕ → NodePart
+  nodes = x.part.nodes
+
+  abbrev own : Owning
+  own = owning (tale_at x)
+
+  abbrev t : Story
+  t = story x.c x.seen
+
+  abbrev u : Story
+  u = behind_heads t syn es
+
+  -- it is given
+  abbrev pub Goes : Deed → Type 0
+  Goes d = Helps x (front_does x heads d) → Moves x (front_does x heads d)
+
+  -- ---- a move, by its lists
+
+  pub record Turns (part : FrontPart) (turn : FrontTurn) (takes gives firsts : List ℕ) (forwards : List (ℕ × List ℕ)) (then : Story) : Type 0 where
+    pub takes_are : pick front_took turn.notes ≡ takes
+    pub gives_are : pick front_gave turn.gave ≡ gives
+    pub firsts_are : pick first_node turn.notes ≡ firsts
+    pub forwards_are : pick forward_to (map (sending Front) turn.messages) ≡ forwards
+    pub to : AllTo (Client x.c) turn.segments
+    pub tells : fold row_step (fold row_step u turn.notes) turn.gave ≡ then
+    pub first : first_takes t takes ≡ first_syn t syn
+    pub off : IsHandedOff gives firsts (pick to_node (map (sending Front) turn.messages))
+    pub back : later_takes t takes ≡ first_end t es
+    pub forth : forwards ≡ forwards_of x.c t segments
+    pub row : RowKnown then part.row
+    pub ended : then.ended ≡ u.ended
+    pub kept : Each IsOfferKept part.kept
+
+  abbrev move : FrontPart → FrontTurn → Move
+  move part turn = record { place = Front; heads = heads; said = by_front turn; part = with_front x.part part }
+
+  fresh-on : (part : FrontPart) (turn : FrontTurn) → (x.part.station ≡ None → Each IsNotOfClient (x.letters ++ letters_of (move part turn)))
+  fresh-on part turn none = Each-append IsNotOfClient x.letters (letters_of (move part turn)) (known.fresh none)
+      (Each-append IsNotOfClient (map (letter Front) turn.segments) (map (letter Front) turn.messages) (machine-letters Front turn.segments tt) (machine-letters Front turn.messages tt))
+
+  pub turns-move : (part : FrontPart) (turn : FrontTurn) (takes gives firsts : List ℕ) (forwards : List (ℕ × List ℕ)) (then : Story) → Turns part turn takes gives firsts forwards then
+      → Helps x (move part turn) → Moves x (move part turn)
+  turns-move part turn takes gives firsts forwards then m help =
+      let v : Move = move part turn in
+      let parts : Parts x v = record { heads = came.bare; segments = segments-none forward_to Front x.c (λ i bytes. refl) turn.segments m.to } in
+      let lists : Lists x v takes gives firsts forwards syn es segments = record {
+        takes_are = seen-takes x v help.own parts takes m.takes_are;
+        gives_are = seen-gives x v help.own parts gives m.gives_are;
+        firsts_are = seen-firsts x v help.own parts firsts m.firsts_are;
+        forwards_are = seen-forwards x v help.own parts forwards m.forwards_are;
+        syn_is = seen-syn x v help.own parts syn came.syn_is;
+        ended_are = seen-ended x v help.own parts es came.ends_are;
+        segments_are = seen-segments x v help.own parts segments came.segments_are;
+      } in
+      let now : story x.c (x.seen ++ seen_in x v) ≡ then =
+      story-grown x v ∙ ap (λ (s : Story). fold row_step (fold row_step s turn.notes) turn.gave) came.tells ∙ m.tells in (
+        by-lists x v takes gives firsts forwards syn es segments lists m.first (subst (IsHandedOff gives firsts) (sym (seen-said x v help.own parts (pick to_node (map (sending Front) turn.messages)) (segments-none to_node Front x.c (λ i bytes. refl) turn.segments m.to) refl)) m.off) m.back m.forth,
+        record {
+          row = subst (λ (s : Story). RowKnown s part.row) (sym now) m.row;
+          ended = λ e among. some_ended e (ap (λ (l : List ℕ). is_among e l) (sym (ap (λ (s : Story). s.ended) now ∙ m.ended)) ∙ among);
+          kept = m.kept;
+          fresh = fresh-on part turn;
+        },
+      )
+
+  -- ---- nothing of the way is done
+
+  -- what the lists must be where it neither takes it nor gives it up
+  record Calm (forwards : List (ℕ × List ℕ)) : Type 0 where
+    first : [] ≡ first_syn t syn
+    back : [] ≡ first_end t es
+    forth : forwards ≡ forwards_of x.c t segments
+
+  calm-move : (part : FrontPart) (turn : FrontTurn) (forwards : List (ℕ × List ℕ)) → Calm forwards → Each IsStill turn.notes → turn.gave ≡ [] → pick forward_to (map (sending Front) turn.messages) ≡ forwards
+      → AllTo (Client x.c) turn.segments → RowKnown u part.row → Each IsOfferKept part.kept → Helps x (move part turn) → Moves x (move part turn)
+  calm-move part turn forwards calm notes none messages to row kept = turns-move part turn [] [] [] forwards u (record {
+    takes_are = stills-took turn.notes notes;
+    gives_are = ap (pick front_gave) none;
+    firsts_are = stills-first turn.notes notes;
+    forwards_are = messages;
+    to = to;
+    tells = ap (λ (gs : List Rec). fold row_step (fold row_step u turn.notes) gs) none ∙ still-all u turn.notes notes;
+    first = (no-takes t).0 ∙ calm.first;
+    off = tt;
+    back = (no-takes t).1 ∙ calm.back;
+    forth = calm.forth;
+    row = row;
+    ended = refl;
+    kept = kept;
+  })
+
+  -- once it took the connection, no SYN is the first
+  taken-first : t.syn ≡ true → [] ≡ first_syn t syn
+  taken-first e = ap (λ b. cond (not b && syn) (1 ∷ []) []) (sym e)
+
+  unended : t.epoch ≡ None → [] ≡ first_end t es
+  unended e = ap (λ o. elim o as (λ q. List ℕ) [ None ↦ [] | Some d ↦ cond (not (is_among d t.ended) && is_among d es) ((d + 1) ∷ []) [] ]) (sym e)
+
+  at-home : t.away ≡ false → [] ≡ forwards_of x.c t segments
+  at-home e = ap (λ b. cond b (forwards_by x.c t.node t.epoch segments) []) (sym e)
+
+  -- where it is held here
+  held-calm : (row : FrontRow) → p.row ≡ Some row → IsHeld t → Calm []
+  held-calm row found h =
+      let r : RowKnown t (Some row) = subst (RowKnown t) found known.row in
+      record { first = taken-first r.1; back = unended h.epoch; forth = at-home h.away }
+
+  row-of : (row : FrontRow) → p.row ≡ Some row → RowKnown t (Some row)
+  row-of row found = subst (RowKnown t) found known.row
+
+  held-behind : IsHeld t → IsHeld u
+  held-behind h = record { away = h.away; epoch = h.epoch }
+
+  -- a turn of an endpoint that is here
+  ends-move : (row : FrontRow) → p.row ≡ Some row → IsHeld t → (rest : FrontRest) (stays : ControlBlock → FrontConn) → ((b : ControlBlock) → StageKnown u (stays b)) → (given : Ending × Turn) (calls : List Call)
+      → Each IsStill given.1.notes → AllTo (Client env.serve.c) given.1.segments → Goes (Does (record { part = rests p row rest stays given.0; turn = turn_here given.1; calls = calls }))
+  ends-move row found h rest stays stay given calls notes to =
+      let r : RowKnown t (Some row) = row-of row found in
+      calm-move (rests p row rest stays given.0) (turn_here given.1) [] (held-calm row found h) notes refl refl (subst (λ (c : ℕ). AllTo (Client c) given.1.segments) is.number to)
+      (r.0, ap (λ b. b || syn) r.1, go given.0) known.kept where
+        go : (e : Ending) → StageKnown u (stage_after stays e)
+        go (ending.Here b count) = stay b
+        go (ending.Over last) = record { away = h.away; ended = λ e some. let no : None ≡ Some e = sym h.epoch ∙ some in absurd cc }
+
+  -- it is handed off
+  handed-move : (row : FrontRow) → p.row ≡ Some row → IsHeld t → row.epoch.0 ≡ 1 → ArePast 1 nodes → es ≡ [] → (s : Service) (path : List ℕ) (choice : FirstChoice) (calls : List Call) → Each IsStill s.notes
+      → Goes (Does (record { part = (handed_off env row s path choice).0; turn = (handed_off env row s path choice).1; calls = calls }))
+  handed-move row found h one past none s path choice calls notes =
+      let given : FrontPart × FrontTurn = handed_off env row s path choice in
+      let e : ℕ = row.epoch.0 in
+      let more : List Rec = rec.Admitted env.serve.c ∷ rec.AssignedFirst env.serve.c (s.count + 1) path choice.node choice.add choice.remove ∷ [] in
+      let then : Story = record u { node = Some choice.node; away = true; epoch = Some (e + 1) } in
+      let small : e + 1 < 2 ^ 16 = omega (arith, one) in
+      let two : e + 1 ≡ 2 = omega (arith, one) in
+      let r : RowKnown t (Some row) = row-of row found in
+      let calm = held-calm row found h in
+      turns-move given.0 given.1 [] (e ∷ []) (choice.node ∷ []) [] then (record {
+        takes_are = pick-append front_took s.notes more ∙ ap (λ l. l ++ []) (stills-took s.notes notes);
+        gives_are = refl;
+        firsts_are = pick-append first_node s.notes more ∙ ap (λ l. l ++ choice.node ∷ []) (stills-first s.notes notes);
+        forwards_are = ap (λ o. listed o ++ []) (not-forwarded choice.node env.serve.c (e + 1) (body.Offer _) (λ i. cc));
+        to = tt;
+        tells = ap (λ (v : Story). fold row_step v given.1.gave) (fold-append row_step u s.notes more ∙ ap (λ (v : Story). fold row_step v more) (still-all u s.notes notes));
+        first = (no-takes t).0 ∙ calm.first;
+        off = inl (refl, spelled-head _ small);
+        back = (no-takes t).1 ∙ calm.back;
+        forth = calm.forth;
+        row = (r.0, ap (λ b. b || syn) r.1, record { away = refl; epoch = refl; node = refl; ended = undone (e + 1) two });
+        ended = refl;
+        kept = ((e + 1, spelled-head _ small), tt);
+      }) where
+        undecided : (o : Option BackRow) → IsPast 1 o → IsDecided 2 o → ⊥
+        undecided None q d = d
+        undecided (Some b) q d = omega (arith, q.0, d)
+
+        -- no node told that it ended in the next epoch
+        undone : (d : ℕ) → d ≡ 2 → is_among d (t.ended ++ es) ≡ false
+        undone d two = go (is_among d (t.ended ++ es)) refl where
+          go : (b : Bool) → is_among d (t.ended ++ es) ≡ b → b ≡ false
+          go false f = refl
+          go true f = let some : SomeDecided d nodes = some_ended d f in absurd (undecided (nodes some.0).row (past some.0) (subst (λ (n : ℕ). IsDecided n (nodes some.0).row) two some.1))
+
+  placed-move : (row : FrontRow) → p.row ≡ Some row → IsHeld t → row.epoch.0 ≡ 1 → ArePast 1 nodes → es ≡ [] → (rest : FrontRest) (s : Service) (path : List ℕ) (f : First) → Each IsStill s.notes
+      → Goes (Does (placed env p row rest s path f))
+  placed-move row found h one past none rest s path (first.Go choice) notes = handed-move row found h one past none s path choice (call.First env.serve.c path env.now ∷ []) notes
+  placed-move row found h one past none rest s path first.Waits notes =
+      let w : Service = record s { notes = s.notes ++ rec.Waits env.serve.c ∷ [] } in
+      ends-move row found h (record rest { target = Some path }) stage.Waiting (λ b. held-behind h) (spoken env.serve w []) (call.First env.serve.c path env.now ∷ leaves_by env.serve.c (spoken env.serve w []).0)
+      (Each-append IsStill s.notes (rec.Waits env.serve.c ∷ []) notes (tt, tt)) (spoken-to env.serve w [] tt)
+
+  settled-move : (row : FrontRow) → p.row ≡ Some row → IsHeld t → row.epoch.0 ≡ 1 → ArePast 1 nodes → es ≡ [] → (rest : FrontRest) (s : Service) (o : Option (List ℕ)) → Each IsStill s.notes → Goes (settled_by env p row rest s o)
+  settled-move row found h one past none rest s None notes =
+      let done = settled-is env.serve s in
+      ends-move row found h rest stage.Held (λ b. held-behind h) (settled env.serve s) [] (subst (Each IsStill) (sym done.notes) notes) done.to
+  settled-move row found h one past none rest s (Some path) notes = placed-move row found h one past none rest s path (env.first path) notes
+
+  heard-move : (row : FrontRow) → p.row ≡ Some row → IsHeld t → row.epoch.0 ≡ 1 → ArePast 1 nodes → es ≡ [] → (rest : FrontRest) (b : ControlBlock) → Goes (heard env p row rest b)
+  heard-move row found h one past none rest b =
+      let r : Reading = reads env.serve (record { service = serving b rest.count []; target = None }) in
+      settled-move row found h one past none rest r.service r.target (answers-still r.service.notes (reads-answers env.serve (record { service = serving b rest.count []; target = None }) tt))
+
+  -- ---- what is kept is as it was
+
+  -- no row becomes another
+  same-row : (p.row ≡ None → syn ≡ false) → ((n e : ℕ) → IsAway t n e → is_among e (t.ended ++ es) ≡ false) → RowKnown u p.row
+  same-row plain none = row-behind t syn es p.row plain none known.row
+
+  drops-move : Calm [] → RowKnown u p.row → Goes Drops
+  drops-move calm row = calm-move p (saying []) [] calm tt refl refl tt row known.kept
+
+  says-move : (turn : FrontTurn) (forwards : List (ℕ × List ℕ)) → Calm forwards → RowKnown u p.row → turn.notes ≡ [] → turn.gave ≡ [] → pick forward_to (map (sending Front) turn.messages) ≡ forwards → AllTo (Client x.c) turn.segments
+      → Goes (Says turn)
+  says-move turn forwards calm row notes none messages to = calm-move p turn forwards calm (subst (Each IsStill) (sym notes) tt) none messages to row known.kept
+
+  -- ---- where no Ended comes
+
+  module _ (none_ended : es ≡ []) where
+    ends-none : [] ≡ first_end t es
+    ends-none = sym (no-end t) ∙ ap (first_end t) (sym none_ended)
+
+    still-away : (n e : ℕ) → IsAway t n e → is_among e (t.ended ++ es) ≡ false
+    still-away n e h = ap (λ l. is_among e (t.ended ++ l)) none_ended ∙ ap (is_among e) (append-nil t.ended) ∙ h.ended
+
+    -- its row stays
+    row-stays : (p.row ≡ None → syn ≡ false) → RowKnown u p.row
+    row-stays plain = same-row plain still-away
+
+    some-plain : (row : FrontRow) → p.row ≡ Some row → p.row ≡ None → syn ≡ false
+    some-plain row found none = let no : Some row ≡ None = sym found ∙ none in absurd cc
+
+    -- what comes is no segment, and no SYN
+    nothing-calm : segments ≡ [] → syn ≡ false → Calm []
+    nothing-calm no_segments no_syn = record {
+      first = sym (no-syn t) ∙ ap (first_syn t) (sym no_syn);
+      back = ends-none;
+      forth = sym (no-forwards x.c t) ∙ ap (forwards_of x.c t) (sym no_segments);
+    }
+
+    pub nothing-drops : segments ≡ [] → syn ≡ false → Goes Drops
+    nothing-drops no_segments no_syn = drops-move (nothing-calm no_segments no_syn) (row-stays (λ e. no_syn))
+
+    nothing-says : segments ≡ [] → syn ≡ false → (ms : List (Place × List ℕ)) → pick forward_to (map (sending Front) ms) ≡ [] → Goes (Says (saying ms))
+    nothing-says no_segments no_syn ms messages = says-move (saying ms) [] (nothing-calm no_segments no_syn) (row-stays (λ e. no_syn)) refl refl messages tt
+
+    -- ---- a segment
+
+    -- it is taken first
+    begun-move : (s : Segment) → p.row ≡ None → syn ≡ true → Goes (begun env p s)
+    begun-move s none plain =
+        let row : FrontRow = record { stage = stage.Lent; epoch = record { 0 = 1 }; ended_by = None } in
+        let w : Service = serving (listening s env.iss) 0 (rec.Took Front env.serve.c (record { 0 = 1 }) ∷ []) in
+        let given : Ending × Turn = spoken env.serve w [] in
+        let then : Story = record u { took = true; away = false } in
+        let r : RowKnown t None = subst (RowKnown t) none known.row in
+        let free : first_takes t (1 ∷ []) ≡ 1 ∷ [] = ap (λ b. cond b [] (1 ∷ [])) r.0 in
+        let now : first_syn t syn ≡ 1 ∷ [] = λ i. cond (not (r.1 i) && plain i) (1 ∷ []) [] in
+        let part : FrontPart = rests p row (rest_of None) stage.Held given.0 in
+        turns-move part (turn_here given.1) (1 ∷ []) [] [] [] then (record {
+          takes_are = refl;
+          gives_are = refl;
+          firsts_are = refl;
+          forwards_are = refl;
+          to = subst (λ (c : ℕ). AllTo (Client c) given.1.segments) is.number (spoken-to env.serve w [] tt);
+          tells = refl;
+          first = free ∙ sym now;
+          off = tt;
+          back = ap (λ b. cond b (1 ∷ []) []) r.0 ∙ ends-none;
+          forth = at-home r.2.away;
+          row = (refl, (λ i. r.1 i || plain i), go given.0 r.2.epoch);
+          ended = refl;
+          kept = known.kept;
+        }) where
+          go : (e : Ending) → t.epoch ≡ None → StageKnown (record u { took = true; away = false }) (stage_after stage.Held e)
+          go (ending.Here b count) none = record { away = refl; epoch = none }
+          go (ending.Over last) none = record { away = refl; ended = λ d some. let no : None ≡ Some d = sym none ∙ some in absurd cc }
+
+    met-move : (s : Segment) → p.row ≡ None → syn ≡ is_plain_syn s → Goes (met env p s)
+    met-move s none plain =
+        let r : RowKnown t None = subst (RowKnown t) none known.row in
+        cond_both (is_plain_syn s) (begun env p s) Drops Goes
+        (λ e. begun-move s none (plain ∙ e))
+        (λ e.
+        let no_syn : syn ≡ false = plain ∙ e in
+        drops-move (record { first = sym (no-syn t) ∙ ap (first_syn t) (sym no_syn); back = ends-none; forth = at-home r.2.away }) (row-stays (λ i. no_syn)))
+
+    sits-row : (row : FrontRow) → p.row ≡ Some row → StageSits row.epoch.0 own nodes row.stage
+    sits-row row found = let at : Sits own nodes (Some row) = subst (Sits own nodes) found at_place.sits in at.0
+
+    module _ (bytes : List ℕ) (comes : segments ≡ bytes ∷ []) where
+      forwards-move : (row : FrontRow) (n : ℕ) (d : Epoch) → p.row ≡ Some row → IsAway t n d.0 → Goes (Says (saying ((Node n, message env.serve.c d.0 (body.Forward bytes)) ∷ [])))
+      forwards-move row n d found h =
+          let turn : FrontTurn = saying ((Node n, message env.serve.c d.0 (body.Forward bytes)) ∷ []) in
+          let sent : List (ℕ × List ℕ) = (n, message env.serve.c d.0 (body.Forward bytes)) ∷ [] in
+          let mine : sent ≡ (n, message x.c d.0 (body.Forward bytes)) ∷ [] = ap (λ (c : ℕ). (n, message c d.0 (body.Forward bytes)) ∷ []) is.number in
+          let due : forwards_of x.c t segments ≡ (n, message x.c d.0 (body.Forward bytes)) ∷ [] = λ i. cond (h.away i) (forwards_by x.c (h.node i) (h.epoch i) (comes i)) [] in
+          says-move turn sent (record { first = taken-first (row-of row found).1; back = ends-none; forth = mine ∙ sym due }) (row-stays (some-plain row found)) refl refl
+          (ap (λ o. listed o ++ []) (forwarded-is n env.serve.c d.0 bytes)) tt
+
+      tombstone-move : (row : FrontRow) → p.row ≡ Some row → IsOver t → (o : Option Segment) → Goes (Says (turn_here (tombstone env.serve o)))
+      tombstone-move row found h None = says-move (turn_here (tombstone env.serve None)) [] (record { first = taken-first (row-of row found).1; back = ends-none; forth = at-home h.away }) (row-stays (some-plain row found)) refl refl refl tt
+      tombstone-move row found h (Some s) = says-move (turn_here (tombstone env.serve (Some s))) [] (record { first = taken-first (row-of row found).1; back = ends-none; forth = at-home h.away }) (row-stays (some-plain row found)) refl refl refl
+          (ap Client is.number, tt)
+
+      hears-at : (s : Segment) (row : FrontRow) → p.row ≡ Some row → (st : FrontConn) → row.stage ≡ st → Goes (hears_at env p row bytes s st)
+      hears-at s row found (stage.Held b) at =
+          let sits : StageSits row.epoch.0 own nodes (stage.Held b) = subst (StageSits row.epoch.0 own nodes) at (sits-row row found) in
+          heard-move row found (subst (StageKnown t) at (row-of row found).2) sits.0 (subst (λ (e : ℕ). ArePast e nodes) sits.0 sits.1.1) none_ended (rest_of p.rest) (on_segment b s).1
+      hears-at s row found (stage.Waiting b) at =
+          let w : Service = serving (on_segment b s).1 (rest_of p.rest).count [] in
+          let h : IsHeld t = subst (StageKnown t) at (row-of row found).2 in
+          ends-move row found h (rest_of p.rest) stage.Waiting (λ c. held-behind h) (spoken env.serve w []) (leaves_by env.serve.c (spoken env.serve w []).0) tt (spoken-to env.serve w [] tt)
+      hears-at s row found stage.Lent at = let sits : StageSits row.epoch.0 own nodes stage.Lent = subst (StageSits row.epoch.0 own nodes) at (sits-row row found) in absurd sits
+      hears-at s row found (stage.Offering n d) at = forwards-move row n d found (subst (StageKnown t) at (row-of row found).2)
+      hears-at s row found (stage.Moved n d) at = forwards-move row n d found (subst (StageKnown t) at (row-of row found).2)
+      hears-at s row found (stage.Closed last) at = tombstone-move row found (subst (StageKnown t) at (row-of row found).2) (last_words last.reason last s)
+
+      pub hears-move : (s : Segment) → syn ≡ is_plain_syn s → (o : Option FrontRow) → p.row ≡ o → Goes (front_hears env p bytes s o)
+      hears-move s plain None found = met-move s found plain
+      hears-move s plain (Some row) found = hears-at s row found row.stage refl
+
+    -- ---- no segment comes
+
+    module _ (no_segments : segments ≡ []) (no_syn : syn ≡ false) where
+      -- timers
+      fires-at : (row : FrontRow) → p.row ≡ Some row → (st : FrontConn) → row.stage ≡ st → Goes (fires_at env p row st)
+      fires-at row found (stage.Held b) at =
+          let h : IsHeld t = subst (StageKnown t) at (row-of row found).2 in
+          let given : Ending × Turn = fired env (rest_of p.rest) b in
+          ends-move row found h (rest_of p.rest) stage.Held (λ c. held-behind h) given [] tt (spoken-to env.serve (serving (after_timer b) (rest_of p.rest).count []) (ready_of env.serve (after_timer b) (timed b)) (ready-to env.serve (after_timer b) (timed b)))
+      fires-at row found (stage.Waiting b) at =
+          let h : IsHeld t = subst (StageKnown t) at (row-of row found).2 in
+          let given : Ending × Turn = fired env (rest_of p.rest) b in
+          ends-move row found h (rest_of p.rest) stage.Waiting (λ c. held-behind h) given (leaves_by env.serve.c given.0) tt
+          (spoken-to env.serve (serving (after_timer b) (rest_of p.rest).count []) (ready_of env.serve (after_timer b) (timed b)) (ready-to env.serve (after_timer b) (timed b)))
+      fires-at row found (stage.Offering n d) at = nothing-says no_segments no_syn (map sent_of p.kept) (resent-none p.kept known.kept)
+      fires-at row found _ at = nothing-drops no_segments no_syn
+
+      fires : (o : Option FrontRow) → p.row ≡ o → Goes (fired_by env p o)
+      fires None found = nothing-drops no_segments no_syn
+      fires (Some row) found = fires-at row found row.stage refl
+
+      pub fires-move : Goes (front_timer env p)
+      fires-move = fires p.row refl
+
+      -- a Taken: it is where it was offered
+      taken-row : (row : FrontRow) (n : ℕ) (d : Epoch) (epoch : ℕ) → p.row ≡ Some row → row.stage ≡ stage.Offering n d → d.0 ≡ epoch → Goes (taken_by p epoch (Some row) (Some n))
+      taken-row row n d epoch found at same =
+          let part : FrontPart = record p { row = Some (record row { stage = stage.Moved n (record { 0 = epoch }) }); kept = without timer.Offer 0 p.kept } in
+          let r : RowKnown t (Some row) = row-of row found in
+          let h : IsAway t n d.0 = subst (StageKnown t) at r.2 in
+          let away : IsAway u n d.0 = record { away = h.away; epoch = h.epoch; node = h.node; ended = still-away n d.0 h } in
+          calm-move part (saying []) [] (nothing-calm no_segments no_syn) tt refl refl tt (r.0, ap (λ b. b || syn) r.1, subst (IsAway u n) same away) (without-kept p.kept known.kept)
+
+      taken-at : (epoch : ℕ) (row : FrontRow) → p.row ≡ Some row → (st : FrontConn) → row.stage ≡ st → Goes (taken_by p epoch (Some row) (offered_to epoch st))
+      taken-at epoch row found (stage.Offering n d) at = go (d.0 == epoch) refl where
+        go : (b : Bool) → (d.0 == epoch) ≡ b → Goes (taken_by p epoch (Some row) (cond b (Some n) None))
+        go true e = taken-row row n d epoch found at (eqb-true d.0 epoch e)
+        go false e = nothing-drops no_segments no_syn
+      taken-at epoch row found _ at = nothing-drops no_segments no_syn
+
+      taken-by : (epoch : ℕ) (o : Option FrontRow) → p.row ≡ o → Goes (taken_by p epoch o (asked_node epoch o))
+      taken-by epoch None found = nothing-drops no_segments no_syn
+      taken-by epoch (Some row) found = taken-at epoch row found row.stage refl
+
+      pub taken-move : (epoch : ℕ) → Goes (front_taken p epoch)
+      taken-move epoch = taken-by epoch p.row refl
+
+      -- an Ask
+      tag-none : (n epoch number : ℕ) (tags : List ℕ) → pick forward_to (map (sending Front) (tag_sent env n epoch number tags)) ≡ []
+      tag-none n epoch number tags = ap (λ o. listed o ++ []) (not-forwarded n env.serve.c epoch (body.Tag number tags) (λ i. cc))
+
+      asked-by : (n epoch : ℕ) (ask : Ask) (o : Option FrontRest) → Goes (asked_by env p n epoch ask o)
+      asked-by n epoch ask None = nothing-drops no_segments no_syn
+      asked-by n epoch ask (Some rest) =
+          let l : Later = env.later ask in
+          let did : Did = assigns env p rest n epoch ask l in
+          cond_both (ask.number == rest.asks + 1) (Does did) (cond (ask.number == rest.asks && nat_lt 0 rest.asks) (Says (saying (tag_sent env n epoch rest.asks rest.tag))) Drops) Goes
+          (λ e. calm-move did.part did.turn [] (nothing-calm no_segments no_syn)
+          (Each-append IsStill (over_note env.serve.c l.over) (assigned_notes env.serve.c ask rest.assigned ask.paths l.choices) (over-still env.serve.c l.over) (assigned-still env.serve.c ask rest.assigned ask.paths l.choices))
+          refl (tag-none n epoch ask.number _) tt (row-stays (λ e. no_syn)) known.kept)
+          (λ e. cond_both (ask.number == rest.asks && nat_lt 0 rest.asks) (Says (saying (tag_sent env n epoch rest.asks rest.tag))) Drops Goes
+          (λ f. nothing-says no_segments no_syn (tag_sent env n epoch rest.asks rest.tag) (tag-none n epoch rest.asks rest.tag)) (λ f. nothing-drops no_segments no_syn))
+
+      pub asked-move : (n epoch : ℕ) (ask : Ask) → Goes (front_asked env p n epoch ask)
+      asked-move n epoch ask = cond_both (is_at n epoch p.row) (asked_by env p n epoch ask p.rest) Drops Goes (λ e. asked-by n epoch ask p.rest) (λ e. nothing-drops no_segments no_syn)
+
+  -- ---- an Ended comes
+
+  module _ (n epoch : ℕ) (comes : es ≡ epoch ∷ []) (no_segments : segments ≡ []) (no_syn : syn ≡ false) where
+    abbrev end_in : Option ℕ → List ℕ
+    end_in o = elim o as (λ q. List ℕ) [ None ↦ [] | Some e ↦ cond (not (is_among e t.ended) && is_among e (epoch ∷ [])) ((e + 1) ∷ []) [] ]
+
+    end-is : first_end t es ≡ end_in t.epoch
+    end-is = ap (first_end t) comes
+
+    no-away : IsHeld t → (m e : ℕ) → IsAway t m e → (P : Type 0) → P
+    no-away h m e a P = absurd (both_ways t.away h.away a.away)
+
+    -- it is away in another epoch
+    other-among : (d : Epoch) → (d.0 == epoch) ≡ false → is_among d.0 (epoch ∷ []) ≡ false
+    other-among d e = ap (λ b. b || false) (go (epoch == d.0) refl) where
+      go : (b : Bool) → (epoch == d.0) ≡ b → b ≡ false
+      go false f = refl
+      go true f = absurd (both_ways (d.0 == epoch) e (eq-eqb d.0 epoch (sym (eqb-true epoch d.0 f))))
+
+    other-back : (m : ℕ) (d : Epoch) → IsAway t m d.0 → (d.0 == epoch) ≡ false → [] ≡ end_in t.epoch
+    other-back m d h e =
+        let o : end_in t.epoch ≡ cond (not (is_among d.0 t.ended) && is_among d.0 (epoch ∷ [])) ((d.0 + 1) ∷ []) [] = ap end_in h.epoch in
+        sym (o ∙ (λ i. cond (not (h.ended i) && other-among d e i) ((d.0 + 1) ∷ []) []))
+
+    -- the stage is not away in this epoch
+    stays-back : (st : FrontConn) → StageKnown t st → is_away epoch st ≡ false → [] ≡ end_in t.epoch
+    stays-back (stage.Held b) h e = ap end_in (sym h.epoch)
+    stays-back (stage.Waiting b) h e = ap end_in (sym h.epoch)
+    stays-back stage.Lent h e = ap end_in (sym h.epoch)
+    stays-back (stage.Offering m d) h e = other-back m d h e
+    stays-back (stage.Moved m d) h e = other-back m d h e
+    stays-back (stage.Closed last) h e = go t.epoch refl where
+      go : (o : Option ℕ) → t.epoch ≡ o → [] ≡ end_in o
+      go None f = refl
+      go (Some d) f = ap (λ b. cond (not b && is_among d (epoch ∷ [])) ((d + 1) ∷ []) []) (sym (h.ended d f))
+
+    away-same : (m i d e : ℕ) → IsAway t m d → IsAway t i e → d ≡ e
+    away-same m i d e a b = some-same d e (sym a.epoch ∙ b.epoch) where
+      some-same : (d e : ℕ) → Some d ≡ Some e → d ≡ e
+      some-same d e f = cc
+
+    among-behind : (e : ℕ) → is_among e t.ended ≡ false → is_among e (epoch ∷ []) ≡ false → is_among e (t.ended ++ es) ≡ false
+    among-behind e a b = ap (λ l. is_among e (t.ended ++ l)) comes ∙ list_any-append (λ d. d == e) t.ended (epoch ∷ []) ∙ (λ i. a i || b i)
+
+    stays-away : (st : FrontConn) → StageKnown t st → is_away epoch st ≡ false → (i e : ℕ) → IsAway t i e → is_among e (t.ended ++ es) ≡ false
+    stays-away (stage.Held b) h f i e a = no-away h i e a _
+    stays-away (stage.Waiting b) h f i e a = no-away h i e a _
+    stays-away stage.Lent h f i e a = no-away h i e a _
+    stays-away (stage.Offering m d) h f i e a = subst (λ (j : ℕ). is_among j (t.ended ++ es) ≡ false) (away-same m i d.0 e h a) (among-behind d.0 h.ended (other-among d f))
+    stays-away (stage.Moved m d) h f i e a = subst (λ (j : ℕ). is_among j (t.ended ++ es) ≡ false) (away-same m i d.0 e h a) (among-behind d.0 h.ended (other-among d f))
+    stays-away (stage.Closed last) h f i e a = absurd (both_ways t.away h.away a.away)
+
+    no-forth : [] ≡ forwards_of x.c t segments
+    no-forth = sym (no-forwards x.c t) ∙ ap (forwards_of x.c t) (sym no_segments)
+
+    plain-first : [] ≡ first_syn t syn
+    plain-first = sym (no-syn t) ∙ ap (first_syn t) (sym no_syn)
+
+    -- of one that nobody took
+    unknown-drops : p.row ≡ None → Goes Drops
+    unknown-drops none =
+        let r : RowKnown t None = subst (RowKnown t) none known.row in
+        drops-move (record { first = plain-first; back = unended r.2.epoch; forth = no-forth }) (same-row (λ e. no_syn) (λ m e a. no-away r.2 m e a _))
+
+    stays-calm : (row : FrontRow) → p.row ≡ Some row → is_away epoch row.stage ≡ false → Calm [] × RowKnown u p.row
+    stays-calm row found other =
+        let r : RowKnown t (Some row) = row-of row found in
+        (record { first = plain-first; back = stays-back row.stage r.2 other ∙ sym end-is; forth = no-forth }, same-row (λ e. no_syn) (stays-away row.stage r.2 other))
+
+    ack-none : pick forward_to (map (sending Front) (ack_sent env n epoch)) ≡ []
+    ack-none = ap (λ o. listed o ++ []) (not-forwarded n env.serve.c epoch body.EndedAck (λ i. cc))
+
+    -- it ended where it is away
+    away-ends : (last : Final) (row : FrontRow) → p.row ≡ Some row → (m : ℕ) (d : Epoch) → IsAway t m d.0 → d.0 ≡ epoch → row.epoch.0 ≡ d.0 → Goes (Does (ends env p n epoch last row (next_epoch row)))
+    away-ends last row found m d h same at =
+        let did : Did = ends env p n epoch last row (next_epoch row) in
+        let next : List ℕ = (row.epoch.0 + 1) ∷ [] in
+        let then : Story = record u { took = true; away = false } in
+        let r : RowKnown t (Some row) = row-of row found in
+        let one : is_among d.0 (epoch ∷ []) ≡ true = ap (λ b. b || false) (eq-eqb epoch d.0 (sym same)) in
+        let due : end_in t.epoch ≡ (d.0 + 1) ∷ [] = ap end_in h.epoch ∙ (λ i. cond (not (h.ended i) && one i) ((d.0 + 1) ∷ []) []) in
+        turns-move did.part did.turn next [] [] [] then (record {
+          takes_are = refl;
+          gives_are = refl;
+          firsts_are = refl;
+          forwards_are = ack-none;
+          to = tt;
+          tells = refl;
+          first = ap (λ b. cond b [] next) r.0 ∙ taken-first r.1;
+          off = tt;
+          back = ap (λ b. cond b next []) r.0 ∙ ap (λ (e : ℕ). (e + 1) ∷ []) at ∙ sym (end-is ∙ due);
+          forth = no-forth;
+          row = (refl, ap (λ b. b || syn) r.1, record { away = refl; ended = λ e some. over e some });
+          ended = refl;
+          kept = without-kept p.kept known.kept;
+        }) where
+          some-same : (d e : ℕ) → Some d ≡ Some e → d ≡ e
+          some-same d e f = cc
+
+          or-true : (b : Bool) → b || true ≡ true
+          or-true true = refl
+          or-true false = refl
+
+          over : (e : ℕ) → t.epoch ≡ Some e → is_among e (t.ended ++ es) ≡ true
+          over e some =
+              let it : epoch ≡ e = sym same ∙ some-same d.0 e (sym h.epoch ∙ some) in
+              ap (λ l. is_among e (t.ended ++ l)) comes ∙ list_any-append (λ i. i == e) t.ended (epoch ∷ []) ∙ ap (λ b. is_among e t.ended || (b || false)) (eq-eqb epoch e it) ∙ or-true (is_among e t.ended)
+
+    away-by : (last : Final) (row : FrontRow) → p.row ≡ Some row → (st : FrontConn) → row.stage ≡ st → is_away epoch st ≡ true → StageSits row.epoch.0 own nodes st → Goes (Does (ends env p n epoch last row (next_epoch row)))
+    away-by last row found (stage.Offering m d) at away sits = away-ends last row found m d (subst (StageKnown t) at (row-of row found).2) (eqb-true d.0 epoch away) (sym sits.1)
+    away-by last row found (stage.Moved m d) at away sits = away-ends last row found m d (subst (StageKnown t) at (row-of row found).2) (eqb-true d.0 epoch away) (sym sits.1)
+    away-by last row found _ at away sits = let no : false ≡ true = away in absurd cc
+
+    ended-row : (last : Final) (row : FrontRow) → p.row ≡ Some row → Goes (ended_by env p n epoch last (Some row) (end_answer epoch (Some row)))
+    ended-row last row found = go (is_away epoch row.stage) refl (ended_with epoch row.ended_by) where
+      go : (a : Bool) → is_away epoch row.stage ≡ a → (b : Bool) → Goes (ended_by env p n epoch last (Some row) (cond a (New (next_epoch row)) (cond b Again Stale)))
+      go true e b = away-by last row found row.stage refl e (let at : Sits own nodes (Some row) = subst (Sits own nodes) found at_place.sits in at.0)
+      go false e true = let calm = stays-calm row found e in says-move (saying (ack_sent env n epoch)) [] calm.0 calm.1 refl refl ack-none tt
+      go false e false = let calm = stays-calm row found e in drops-move calm.0 calm.1
+
+    ended-by : (last : Final) (o : Option FrontRow) → p.row ≡ o → Goes (ended_by env p n epoch last o (end_answer epoch o))
+    ended-by last None found = unknown-drops found
+    ended-by last (Some row) found = ended-row last row found
+
+    pub ended-move : (last : Final) → Goes (front_ended env p n epoch last)
+    ended-move last = ended-by last p.row refl
+
+  -- ---- the head of the line
+
+  module _ (none_ended : es ≡ []) (choice : FirstChoice) (given : FrontPart × FrontTurn) where
+    abbrev Admitted : FrontPart × FrontTurn → Type 0
+    Admitted g = Goes (Does (record { part = g.0; turn = g.1; calls = [] }))
+
+    admitted-with : (row : FrontRow) (b : ControlBlock) (o : Option (List ℕ)) → p.row ≡ Some row → row.stage ≡ stage.Waiting b → admitted_with env row (rest_of p.rest) b choice o ≡ Some given → Admitted given
+    admitted-with row b None found at e = let no : None ≡ Some given = e in absurd cc
+    admitted-with row b (Some path) found at e =
+        let s : Service = serving b (rest_of p.rest).count [] in
+        let handed : FrontPart × FrontTurn = handed_off env row s path choice in
+        let same : handed ≡ given = cc in
+        let sits : StageSits row.epoch.0 own nodes (stage.Waiting b) = subst (StageSits row.epoch.0 own nodes) at (let q : Sits own nodes (Some row) = subst (Sits own nodes) found at_place.sits in q.0) in
+        subst Admitted same (handed-move row found (subst (StageKnown t) at (row-of row found).2) sits.0 (subst (λ (e : ℕ). ArePast e nodes) sits.0 sits.1.1) none_ended s path choice [] tt)
+
+    admitted-at : (row : FrontRow) (st : FrontConn) → p.row ≡ Some row → row.stage ≡ st → admitted_at env p choice row st ≡ Some given → Admitted given
+    admitted-at row (stage.Waiting b) found at e = admitted-with row b (rest_of p.rest).target found at e
+    admitted-at row _ found at e = let no : None ≡ Some given = e in absurd cc
+
+    admitted-by : (o : Option FrontRow) → p.row ≡ o → admitted_by env p choice o ≡ Some given → Admitted given
+    admitted-by None found e = let no : None ≡ Some given = e in absurd cc
+    admitted-by (Some row) found e = admitted-at row row.stage found refl e
+
+    pub admitted-move : front_admitted env p choice ≡ Some given → Admitted given
+    admitted-move e = admitted-by p.row refl e

@@ -1,0 +1,199 @@
+-- What each rule makes of a connection's way at the nodes.
+use Rattle.std.proofs.Common.{◌≡◌, ◌≢◌, ◌≤◌, max, ℕ, false, cond, List, [], ◌∷◌, ◌++◌, map, Option, Some, None, refl, sym, ap, ◌∙◌, subst, arith, append-nil}
+use Rattle.lard_base.specs.declared.place.Place.{Place}
+use Rattle.lard_base.specs.declared.place.Place.TheVariants.{Client, Front, Node}
+use Rattle.lard_rules.specs.Machine.{is_no_node}
+use Rattle.lard_law_connections.specs.Motion.{EachIsTold, NodeEnds, NodeTakes, above}
+use Rattle.lard_law_connections.specs.MotionStory.{from_node, highest, node_gave, node_took, of_row, offer_in, picked}
+use Rattle.lard_law_connections.proofs.MotionPicking.{came-none, pick, pick-none, pick-parts, pick-seen, picked-append, picked-none, timers-none}
+use Rattle.lard_law_view.specs.View.{Conn, Move, epoch_in, grown, rows_of, seen_in, sending, timer_rows}
+use Rattle.lard_law_view.proofs.Fine.{IsItsOwn}
+use Rattle.lard_law_view.proofs.Saying.{GaveAt, NotedAt}
+use Rattle.lard_law_view.proofs.Timers.{IsTimerAt}
+use Rattle.lard_handoff_back.specs.declared.row.BackRow.{BackRow}
+use Rattle.lard_history.specs.Own.{Came, Row, Seen}
+use Rattle.lard_history.proofs.Each.{Each, Each-weaker}
+use Rattle.lard_history.proofs.Seeing.{other_number}
+use Rattle.lard_journal.specs.declared.rec.Rec.{Rec}
+use Rattle.lard_journal.specs.declared.rec.Rec.TheVariants as rec
+use Rattle.lard_rules.specs.Node.{NodePart}
+
+-- ---- what is known of the way at the nodes
+
+-- a stay at a node is of epoch 2, or of a later one
+abbrev pub IsLate : Option BackRow → Type 0
+IsLate None = Unit {0}
+IsLate (Some row) = 2 ≤ row.epoch.0
+
+pub record NodesKnown (x : Conn) : Type 0 where
+  pub highest_is : (n : ℕ) → highest (picked (of_row (node_took n)) x.seen) ≡ epoch_in (x.part.nodes n)
+  pub late : (n : ℕ) → IsLate (x.part.nodes n).row
+
+-- ---- what a step must be
+
+pub record NodesMove (nodes : ℕ) (past step : List Seen) : Type 0 where
+  pub takes : (n : ℕ) → is_no_node nodes n ≡ false → NodeTakes n past step
+  pub ends : (n : ℕ) → NodeEnds n step
+
+abbrev pub NodesGo : ℕ → Conn → Move → Type 0
+NodesGo nodes x v = NodesMove nodes x.seen (seen_in x v) × NodesKnown (grown x v)
+
+-- ---- of one node
+
+-- what is seen of node n in a move
+pub record At (nodes : ℕ) (x : Conn) (v : Move) (n : ℕ) : Type 0 where
+  pub takes : List ℕ
+  pub takes_are : picked (of_row (node_took n)) (seen_in x v) ≡ takes
+  pub due : is_no_node nodes n ≡ false → takes ≡ above (highest (picked (of_row (node_took n)) x.seen)) (picked (offer_in n) (seen_in x v))
+  pub ends : NodeEnds n (seen_in x v)
+  pub then : max (highest (picked (of_row (node_took n)) x.seen)) (highest takes) ≡ epoch_in (v.part.nodes n)
+  pub late : IsLate (v.part.nodes n).row
+
+highest-append : (xs ys : List ℕ) → highest (xs ++ ys) ≡ max (highest xs) (highest ys)
+highest-append [] ys = omega arith
+highest-append (x ∷ xs) ys = let e = highest-append xs ys in omega (arith, e)
+
+pub nodes-go : (nodes : ℕ) (x : Conn) (v : Move) → ((n : ℕ) → At nodes x v n) → NodesGo nodes x v
+nodes-go nodes x v at = (
+  record { takes = λ n there. (at n).takes_are ∙ (at n).due there; ends = λ n. (at n).ends },
+  record {
+    highest_is = λ n. ap highest (picked-append (of_row (node_took n)) x.seen (seen_in x v) ∙ ap (λ l. picked (of_row (node_took n)) x.seen ++ l) (at n).takes_are)
+        ∙ highest-append (picked (of_row (node_took n)) x.seen) (at n).takes ∙ (at n).then;
+    late = λ n. (at n).late;
+  },
+)
+
+-- ---- what is seen first
+
+-- an event, or what stands directly behind it, or a packet
+abbrev pub IsFirst : Seen → Type 0
+IsFirst (Row (rec.Event i e)) = Unit {0}
+IsFirst (Row (rec.Opened c isn iss wnd mss)) = Unit {0}
+IsFirst (Row (rec.Injected c)) = Unit {0}
+IsFirst (Row _) = ⊥
+IsFirst (Came l) = Unit {0}
+
+-- what is picked of no such record
+abbrev IsBehind : {A : Type 0} → (Rec → Option A) → Type 0
+IsBehind f = (s : Seen) → IsFirst s → of_row f s ≡ None
+
+took-behind : (n : ℕ) → IsBehind (node_took n)
+took-behind n (Row (rec.Event i e)) h = refl
+took-behind n (Row (rec.Opened c isn iss wnd mss)) h = refl
+took-behind n (Row (rec.Injected c)) h = refl
+took-behind n (Row _) h = absurd h
+took-behind n (Came l) h = refl
+
+gave-behind : (n : ℕ) → IsBehind (node_gave n)
+gave-behind n (Row (rec.Event i e)) h = refl
+gave-behind n (Row (rec.Opened c isn iss wnd mss)) h = refl
+gave-behind n (Row (rec.Injected c)) h = refl
+gave-behind n (Row _) h = absurd h
+gave-behind n (Came l) h = refl
+
+-- ---- records of node n
+
+timer-took : (n : ℕ) (place : Place) (d : ℕ) (r : Rec) → IsTimerAt place d r → node_took n r ≡ None
+timer-took n place d (rec.Armed p k kind) h = refl
+timer-took n place d (rec.Cleared p k kind) h = refl
+timer-took n place d _ h = absurd h
+
+timer-gave : (n : ℕ) (place : Place) (d : ℕ) (r : Rec) → IsTimerAt place d r → node_gave n r ≡ None
+timer-gave n place d (rec.Armed p k kind) h = refl
+timer-gave n place d (rec.Cleared p k kind) h = refl
+timer-gave n place d _ h = absurd h
+
+sends-took : (n : ℕ) (place : Place) (ss : List (Place × List ℕ)) → pick (node_took n) (map (sending place) ss) ≡ []
+sends-took n place [] = refl
+sends-took n place (s ∷ ss) = sends-took n place ss
+
+sends-gave : (n : ℕ) (place : Place) (ss : List (Place × List ℕ)) → pick (node_gave n) (map (sending place) ss) ≡ []
+sends-gave n place [] = refl
+sends-gave n place (s ∷ ss) = sends-gave n place ss
+
+-- no note gives anything up, and what is given up is not taken
+note-gave : (n : ℕ) (place : Place) (c : ℕ) (r : Rec) → NotedAt place c r → node_gave n r ≡ None
+note-gave n Front c (rec.Gave p d epoch) h = absurd h
+note-gave n (Node m) c (rec.Gave p d epoch) h = absurd h
+note-gave n (Client e) c (rec.Gave p d epoch) h = absurd h
+note-gave n place c _ h = refl
+
+gave-took : (n : ℕ) (place : Place) (c : ℕ) (r : Rec) → GaveAt place c r → node_took n r ≡ None
+gave-took n Front c (rec.Took p d epoch) h = absurd h
+gave-took n (Node m) c (rec.Took p d epoch) h = absurd h
+gave-took n (Client e) c (rec.Took p d epoch) h = absurd h
+gave-took n place c _ h = refl
+
+module _ (n : ℕ) (x : Conn) (v : Move) (own : IsItsOwn x v) (first : Each IsFirst v.heads) where
+  pub seen-took : (takes : List ℕ) → pick (node_took n) v.said.notes ≡ takes → picked (of_row (node_took n)) (seen_in x v) ≡ takes
+  seen-took takes e =
+      pick-seen (node_took n) x v
+      ∙ ap (λ l. l ++ pick (node_took n) (rows_of x v)) (picked-none (of_row (node_took n)) v.heads (Each-weaker IsFirst (λ s. of_row (node_took n) s ≡ None) (took-behind n) v.heads first))
+      ∙ pick-parts (node_took n) x v
+      ∙ (λ i. e i ++ sends-took n v.place v.said.segments i
+      ++ pick-none (node_took n) v.said.gave (Each-weaker (GaveAt v.place x.c) (λ r. node_took n r ≡ None) (gave-took n v.place x.c) v.said.gave own.gave) i
+      ++ sends-took n v.place v.said.messages i ++ pick-none (node_took n) (timer_rows v.place x.c x.part v.part) (timers-none (node_took n) (timer-took n) v.place x.c x.part v.part) i)
+      ∙ append-nil (takes ++ [] ++ [] ++ []) ∙ append-nil (takes ++ [] ++ []) ∙ append-nil (takes ++ []) ∙ append-nil takes
+
+  pub seen-gave : (gives : List ℕ) → pick (node_gave n) v.said.gave ≡ gives → picked (of_row (node_gave n)) (seen_in x v) ≡ gives
+  seen-gave gives e =
+      pick-seen (node_gave n) x v
+      ∙ ap (λ l. l ++ pick (node_gave n) (rows_of x v)) (picked-none (of_row (node_gave n)) v.heads (Each-weaker IsFirst (λ s. of_row (node_gave n) s ≡ None) (gave-behind n) v.heads first))
+      ∙ pick-parts (node_gave n) x v
+      ∙ (λ i. pick-none (node_gave n) v.said.notes (Each-weaker (NotedAt v.place x.c) (λ r. node_gave n r ≡ None) (note-gave n v.place x.c) v.said.notes own.notes) i
+      ++ sends-gave n v.place v.said.segments i ++ e i
+      ++ sends-gave n v.place v.said.messages i ++ pick-none (node_gave n) (timer_rows v.place x.c x.part v.part) (timers-none (node_gave n) (timer-gave n) v.place x.c x.part v.part) i)
+      ∙ append-nil (gives ++ []) ∙ append-nil gives
+
+  -- the Offers that come are seen first
+  pub seen-offers : (offers : List ℕ) → picked (offer_in n) v.heads ≡ offers → picked (offer_in n) (seen_in x v) ≡ offers
+  seen-offers offers e = picked-append (offer_in n) v.heads (map Row (rows_of x v)) ∙ (λ i. e i ++ came-none (offer_in n) (λ r. refl) (rows_of x v) i) ∙ append-nil offers
+
+-- ---- where node n does nothing of it
+
+pub max-none : (h : ℕ) → max h 0 ≡ h
+max-none h = omega arith
+
+pub quiet-at : (nodes n : ℕ) (x : Conn) (v : Move) → IsItsOwn x v → NodesKnown x → Each IsFirst v.heads → picked (offer_in n) v.heads ≡ [] → pick (node_took n) v.said.notes ≡ [] → pick (node_gave n) v.said.gave ≡ []
+    → epoch_in (v.part.nodes n) ≡ epoch_in (x.part.nodes n) → IsLate (v.part.nodes n).row → At nodes x v n
+quiet-at nodes n x v own known first offers took gave same late = record {
+  takes = [];
+  takes_are = seen-took n x v own first [] took;
+  due = λ there. ap (above (highest (picked (of_row (node_took n)) x.seen))) (sym (seen-offers n x v own first [] offers));
+  ends = subst (λ (l : List ℕ). EachIsTold l (picked (of_row (from_node n)) (seen_in x v))) (sym (seen-gave n x v own first [] gave)) tt;
+  then = max-none (highest (picked (of_row (node_took n)) x.seen)) ∙ known.highest_is n ∙ sym same;
+  late = late;
+}
+
+-- ---- a move of another place
+
+abbrev pub IsOther : ℕ → Place → Type 0
+IsOther n Front = Unit {0}
+IsOther n (Client d) = Unit {0}
+IsOther n (Node m) = m ≢ n
+
+other-took : (n : ℕ) (place : Place) (c : ℕ) (r : Rec) → IsOther n place → NotedAt place c r → node_took n r ≡ None
+other-took n Front c (rec.Took Front d epoch) o h = refl
+other-took n Front c (rec.Took (Node m) d epoch) o h = absurd h
+other-took n Front c (rec.Took (Client e) d epoch) o h = refl
+other-took n (Client e) c (rec.Took p d epoch) o h = absurd h
+other-took n (Node m) c (rec.Took Front d epoch) o h = refl
+other-took n (Node m) c (rec.Took (Client e) d epoch) o h = refl
+other-took n (Node m) c (rec.Took (Node k) d epoch) o h = ap (λ b. cond b (Some epoch.0) None) (other_number k n (λ same. o (sym h.0 ∙ same)))
+other-took n place c _ o h = refl
+
+other-gave : (n : ℕ) (place : Place) (c : ℕ) (r : Rec) → IsOther n place → GaveAt place c r → node_gave n r ≡ None
+other-gave n Front c (rec.Gave Front d epoch) o h = refl
+other-gave n Front c (rec.Gave (Node m) d epoch) o h = absurd h
+other-gave n Front c (rec.Gave (Client e) d epoch) o h = refl
+other-gave n (Client e) c (rec.Gave p d epoch) o h = absurd h
+other-gave n (Node m) c (rec.Gave Front d epoch) o h = refl
+other-gave n (Node m) c (rec.Gave (Client e) d epoch) o h = refl
+other-gave n (Node m) c (rec.Gave (Node k) d epoch) o h = ap (λ b. cond b (Some epoch.0) None) (other_number k n (λ same. o (sym h.0 ∙ same)))
+other-gave n place c _ o h = refl
+
+pub other-at : (nodes n : ℕ) (x : Conn) (v : Move) → IsItsOwn x v → NodesKnown x → Each IsFirst v.heads → picked (offer_in n) v.heads ≡ [] → IsOther n v.place → v.part.nodes n ≡ x.part.nodes n → At nodes x v n
+other-at nodes n x v own known first offers other same = quiet-at nodes n x v own known first offers
+    (pick-none (node_took n) v.said.notes (Each-weaker (NotedAt v.place x.c) (λ r. node_took n r ≡ None) (λ r. other-took n v.place x.c r other) v.said.notes own.notes))
+    (pick-none (node_gave n) v.said.gave (Each-weaker (GaveAt v.place x.c) (λ r. node_gave n r ≡ None) (λ r. other-gave n v.place x.c r other) v.said.gave own.gave))
+    (ap epoch_in same) (subst (λ (p : NodePart). IsLate p.row) (sym same) (known.late n))

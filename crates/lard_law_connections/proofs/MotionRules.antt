@@ -1,0 +1,472 @@
+-- Each rule keeps what is known of a connection's way, and moves it as it must be moved.
+use Rattle.std.proofs.Common.{◌≡◌, ◌≢◌, ◌⊎◌, ◌||◌, ℕ, Bool, true, false, cond, List, [], ◌∷◌, ◌++◌, map, Option, Some, None, Result, Ok, Err, refl, sym, ap, ◌∙◌, subst, nat_eq, append-nil, ◌==◌, eqb-true}
+use Rattle.std.proofs.lemmas.Bool.{both_ways}
+use Rattle.std.proofs.lemmas.List.Folds.{list_any-append}
+use Rattle.lard_base.specs.declared.event.Event.TheVariants as event
+use Rattle.lard_base.specs.declared.parts.EndpointParts.{EndpointParts}
+use Rattle.lard_base.specs.declared.place.Place.{Place}
+use Rattle.lard_base.specs.declared.place.Place.TheVariants.{Client, Front, Node}
+use Rattle.lard_client.specs.Control.{ClientBlock}
+use Rattle.lard_rules.specs.Machine.{is_no_node}
+use Rattle.lard_law_connections.specs.Motion.{EachIsTold, above}
+use Rattle.lard_law_connections.specs.MotionStory.{Story, decoded_bytes, ended_epoch, ended_on, from_node, highest, is_among, is_syn, node_took, offer_epoch, offer_in, offer_on, of_row, picked, segment_on, story, syn_on}
+use Rattle.lard_law_connections.proofs.MotionElsewhere.{Helps, IsBare, IsKnown, IsNotOfClient, Moves, SomeDecided, else-moves, machine-letters, quiet-moves}
+use Rattle.lard_law_connections.proofs.MotionFronts as fronts
+use Rattle.lard_law_connections.proofs.MotionComings.{Heads}
+use Rattle.lard_law_connections.proofs.MotionNodes.{IsFirst, NodesGo, NodesKnown, NodesMove, max-none, nodes-go, seen-gave, other-at, quiet-at, seen-offers, seen-took}
+use Rattle.lard_law_connections.proofs.MotionNodeTurns as turns
+use Rattle.lard_law_connections.proofs.MotionPicking.{IsApart, or-false, pick, picked-append}
+use Rattle.lard_law_connections.specs.Places.{IsDecided, IsOffered, IsOver}
+use Rattle.lard_law_connections.proofs.PlacesFrontMessages.{came-says}
+use Rattle.lard_law_connections.proofs.PlacesFrontRules.{has-each}
+use Rattle.lard_law_connections.proofs.PlacesTurns.{IsPlaced, Owes}
+use Rattle.lard_law_view.specs.Carry.{MayMove}
+use Rattle.lard_law_view.specs.View.{ClientRules, Conn, IsFrontEnv, IsNodeEnv, IsForFront, IsForNode, IsNobody, IsUnheard, Move, Rules, Setting, Spells, Was, client_begins, client_does, contents, epoch_in, event_seen, front_admits, front_does, inject_seen, letter, node_does, nothing_said, packet_seen, reads_first, rows_of, seen_in, stands}
+use Rattle.lard_law_view.proofs.Fine.{IsItsOwn}
+use Rattle.lard_rules.specs.declared.front.FrontTurn.{FrontTurn}
+use Rattle.lard_rules.specs.Front as front
+use Rattle.lard_rules.specs.Front.{FrontEnv, FrontPart, ask_of, front_asked, front_ended, front_gets, front_hears, front_taken, front_timer}
+use Rattle.lard_handoff_back.specs.declared.row.BackRow.{BackRow}
+use Rattle.lard_history.specs.Journal.{request}
+use Rattle.lard_history.specs.Own.{Row, Seen}
+use Rattle.lard_history.proofs.Each.{Each, Each-append}
+use Rattle.lard_history.proofs.Seeing.{other_number, same_number}
+use Rattle.lard_journal.specs.declared.rec.Rec.{Rec}
+use Rattle.lard_journal.specs.declared.rec.Rec.TheVariants as rec
+use Rattle.lard_message.specs.declared.fault.MsgFault.{MsgFault}
+use Rattle.lard_message.specs.declared.message.Body.{Body}
+use Rattle.lard_message.specs.declared.message.Body.TheVariants as body
+use Rattle.lard_message.specs.declared.message.Message.{Message}
+use Rattle.lard_message.specs.Message.{kind_of}
+use Rattle.lard_message.specs.Reading.{decoded_message}
+use Rattle.lard_rules.specs.Node as node
+use Rattle.lard_rules.specs.Node.{NodePart, node_acknowledged, node_content, node_forwarded, node_offered, node_read, node_tagged, node_timer}
+use Rattle.lard_rules.specs.Stay.{NodeEnv}
+use Rattle.lard_rules.specs.declared.places.Station.{Station}
+use Rattle.lard_rules.specs.declared.places.Turn.{Turn}
+use Rattle.lard_rules.specs.Client.{client_aborts, client_gets, client_holds, client_injects, client_opens, client_shuts, client_takes, client_timer, client_writes}
+use Rattle.lard_rules.specs.Speaking.{listed}
+use Rattle.lard_segment.specs.declared.fault.SegFault.{SegFault}
+use Rattle.lard_segment.specs.declared.segment.Dir.TheVariants.{ToClient, ToCluster}
+use Rattle.lard_segment.specs.Segment.{Said as Segment, decoded}
+
+-- what is known of a connection's way
+pub record Way (x : Conn) : Type 0 where
+  pub front : IsKnown x
+  pub nodes : NodesKnown x
+
+-- the move is as it must be, and what is known stays known
+abbrev pub Goes : Setting → Conn → Move → Type 0
+Goes k x v = MayMove IsPlaced x → Way x → Helps x v → Moves x v × NodesGo k.nodes x v
+
+-- ---- what is seen first
+
+-- nothing of the way comes, and no Offer
+pub record IsClear (x : Conn) (heads : List Seen) : Type 0 where
+  pub apart : Each (IsApart x.c) heads
+  pub bare : Each IsBare heads
+  pub first : Each IsFirst heads
+  pub offers : (n : ℕ) → picked (offer_in n) heads ≡ []
+
+-- a packet that comes to a client
+client-clear : (x : Conn) (from : Place) (d : ℕ) (bytes : List ℕ) → IsClear x (packet_seen from (Client d) bytes)
+client-clear x Front d bytes = record { apart = ((refl, refl, refl), tt); bare = (tt, tt); first = (tt, tt); offers = λ n. refl }
+client-clear x (Node m) d bytes = record { apart = ((refl, refl, refl), tt); bare = (tt, tt); first = (tt, tt); offers = λ n. refl }
+client-clear x (Client e) d bytes = record { apart = ((refl, refl, refl), tt); bare = (tt, tt); first = (tt, tt); offers = λ n. refl }
+
+-- ---- a client
+
+module _ (k : Setting) (x : Conn) where
+  client-goes : (heads : List Seen) (s : Station) (given : ClientBlock × Turn) → IsClear x heads → Goes k x (client_does x s heads given)
+  client-goes heads s given clear may way help =
+      let v : Move = client_does x s heads given in (
+        else-moves x v help way.front tt clear.apart clear.bare refl (λ none. let no : Some _ ≡ None = none in absurd cc),
+        nodes-go k.nodes x v (λ n. other-at k.nodes n x v help.own way.nodes clear.first (clear.offers n) tt refl),
+      )
+
+  event-clear : (e : _) → IsClear x (event_seen e)
+  event-clear e = record { apart = (tt, tt); bare = ((tt, tt), tt); first = (tt, tt); offers = λ n. refl }
+
+  begins-goes : (isn iss wnd mss : ℕ) → Goes k x (client_begins x isn iss wnd mss)
+  begins-goes isn iss wnd mss = client-goes (client_begins x isn iss wnd mss).heads (record { client = (client_opens x.c isn wnd mss).0; iss = iss }) (client_opens x.c isn wnd mss)
+      (record { apart = (tt, (tt, tt)); bare = ((tt, tt), ((tt, tt), tt)); first = (tt, (tt, tt)); offers = λ n. refl })
+
+  injects-goes : (s : Station) (bytes : List ℕ) → Goes k x (client_does x s (inject_seen x.c bytes) (client_injects s.client bytes))
+  injects-goes s bytes = client-goes (inject_seen x.c bytes) s (client_injects s.client bytes) (record { apart = (tt, (tt, tt)); bare = ((tt, tt), ((tt, tt), tt)); first = (tt, (tt, tt)); offers = λ n. refl })
+
+-- ---- the front end
+
+-- nothing came but what is known
+module _ (x : Conn) where
+  abbrev t : Story
+  t = story x.c x.seen
+
+  same-story : t ≡ record t { syn = t.syn || false; ended = t.ended ++ [] }
+  same-story = λ i. record t { syn = sym (or-false t.syn) i; ended = sym (append-nil t.ended) i }
+
+  timer-heads : Heads x (event_seen (event.Timer Front x.c)) false [] []
+  timer-heads = record { bare = ((tt, tt), tt); syn_is = refl; ends_are = refl; segments_are = refl; tells = same-story }
+
+  no-heads : Heads x [] false [] []
+  no-heads = record { bare = tt; syn_is = refl; ends_are = refl; segments_are = refl; tells = same-story }
+
+  segment-heads : (bytes : List ℕ) (r : Result Segment SegFault) → decoded bytes x.c ToCluster ≡ r → Heads x (packet_seen (Client x.c) Front bytes) (is_syn r) [] (listed (decoded_bytes bytes r))
+  segment-heads bytes r e = record {
+    bare = (tt, tt);
+    syn_is = or-false (is_syn (decoded bytes x.c ToCluster)) ∙ ap is_syn e;
+    ends_are = refl;
+    segments_are = append-nil (listed (decoded_bytes bytes (decoded bytes x.c ToCluster))) ∙ ap (λ q. listed (decoded_bytes bytes q)) e;
+    tells = λ i. record t { syn = t.syn || is_syn (e i); ended = t.ended ++ [] };
+  }
+
+  message-heads : (n : ℕ) (bytes : List ℕ) (o : Option ℕ) → ended_epoch (decoded_message bytes) ≡ o → Heads x (packet_seen (Node n) Front bytes) false (listed o) []
+  message-heads n bytes o e = record {
+    bare = (tt, tt);
+    syn_is = refl;
+    ends_are = append-nil (listed (ended_epoch (decoded_message bytes))) ∙ ap listed e;
+    segments_are = refl;
+    tells = λ i. record t { syn = t.syn || false; ended = t.ended ++ listed (e i) };
+  }
+
+  -- each Ended that came was told by a node that took it
+  still-ended : (known : IsKnown x) (e : ℕ) → is_among e (t.ended ++ []) ≡ true → SomeDecided e x.part.nodes
+  still-ended known e among = known.ended e (ap (is_among e) (sym (append-nil t.ended)) ∙ among)
+
+module _ (k : Setting) (x : Conn) where
+  -- the nodes are as they were
+  front-nodes : (heads : List Seen) → Each IsFirst heads → ((n : ℕ) → picked (offer_in n) heads ≡ []) → NodesKnown x → (d : front.Deed) → IsItsOwn x (front_does x heads d) → NodesGo k.nodes x (front_does x heads d)
+  front-nodes heads first offers known front.Drops own = nodes-go k.nodes x (front_does x heads front.Drops) (λ n. other-at k.nodes n x (front_does x heads front.Drops) own known first (offers n) tt refl)
+  front-nodes heads first offers known (front.Says turn) own = nodes-go k.nodes x (front_does x heads (front.Says turn)) (λ n. other-at k.nodes n x (front_does x heads (front.Says turn)) own known first (offers n) tt refl)
+  front-nodes heads first offers known (front.Does did) own = nodes-go k.nodes x (front_does x heads (front.Does did)) (λ n. other-at k.nodes n x (front_does x heads (front.Does did)) own known first (offers n) tt refl)
+
+  hears-goes : (env : FrontEnv) → IsFrontEnv k x.c env → (bytes : List ℕ) → Goes k x (front_does x (packet_seen (Client x.c) Front bytes) (front_gets env x.part.front bytes (decoded bytes x.c ToCluster)))
+  hears-goes env is bytes may way help = (
+    go (decoded bytes x.c ToCluster) refl,
+    front-nodes (packet_seen (Client x.c) Front bytes) (tt, tt) (λ n. refl) way.nodes (front_gets env x.part.front bytes (decoded bytes x.c ToCluster)) help.own,
+  ) where
+    heads : List Seen
+    heads = packet_seen (Client x.c) Front bytes
+
+    go : (r : Result Segment SegFault) → decoded bytes x.c ToCluster ≡ r → Moves x (front_does x heads (front_gets env x.part.front bytes (decoded bytes x.c ToCluster)))
+    go (Err fault) e =
+        subst (λ (r : Result Segment SegFault). Helps x (front_does x heads (front_gets env x.part.front bytes r)) → Moves x (front_does x heads (front_gets env x.part.front bytes r))) (sym e)
+        (fronts.nothing-drops k x may.given way.front heads false [] [] (segment-heads x bytes (Err fault) e) env is (still-ended x way.front) refl refl refl) help
+    go (Ok s) e =
+        subst (λ (r : Result Segment SegFault). Helps x (front_does x heads (front_gets env x.part.front bytes r)) → Moves x (front_does x heads (front_gets env x.part.front bytes r))) (sym e)
+        (fronts.hears-move k x may.given way.front heads (is_syn (Ok s)) [] (bytes ∷ []) (segment-heads x bytes (Ok s) e) env is (still-ended x way.front) refl bytes refl s refl x.part.front.row refl) help
+
+  fires-goes : (env : FrontEnv) → IsFrontEnv k x.c env → Goes k x (front_does x (event_seen (event.Timer Front x.c)) (front_timer env x.part.front))
+  fires-goes env is may way help = (
+    fronts.fires-move k x may.given way.front (event_seen (event.Timer Front x.c)) false [] [] (timer-heads x) env is (still-ended x way.front) refl refl refl help,
+    front-nodes (event_seen (event.Timer Front x.c)) (tt, tt) (λ n. refl) way.nodes (front_timer env x.part.front) help.own,
+  )
+
+  taken-goes : (env : FrontEnv) → IsFrontEnv k x.c env → (n epoch : ℕ) (bytes : List ℕ) → Spells x.c epoch body.Taken bytes → Goes k x (front_does x (packet_seen (Node n) Front bytes) (front_taken x.part.front epoch))
+  taken-goes env is n epoch bytes spells may way help = (
+    fronts.taken-move k x may.given way.front (packet_seen (Node n) Front bytes) false [] [] (message-heads x n bytes None (ap ended_epoch spells)) env is (still-ended x way.front) refl refl refl epoch help,
+    front-nodes (packet_seen (Node n) Front bytes) (tt, tt) (λ m. refl) way.nodes (front_taken x.part.front epoch) help.own,
+  )
+
+  asked-goes : (env : FrontEnv) → IsFrontEnv k x.c env → (n epoch number queue size : ℕ) (paths : List (List ℕ)) (bytes : List ℕ) → Spells x.c epoch (body.Ask number queue size paths) bytes
+      → Goes k x (front_does x (packet_seen (Node n) Front bytes) (front_asked env x.part.front n epoch (ask_of x.c n number queue size paths)))
+  asked-goes env is n epoch number queue size paths bytes spells may way help = (
+    fronts.asked-move k x may.given way.front (packet_seen (Node n) Front bytes) false [] [] (message-heads x n bytes None (ap ended_epoch spells)) env is (still-ended x way.front) refl refl refl n epoch (ask_of x.c n number queue size paths) help,
+    front-nodes (packet_seen (Node n) Front bytes) (tt, tt) (λ m. refl) way.nodes (front_asked env x.part.front n epoch (ask_of x.c n number queue size paths)) help.own,
+  )
+
+  ended-goes : (env : FrontEnv) → IsFrontEnv k x.c env → (n epoch : ℕ) (reason : _) (snd rcv count : ℕ) (bytes : List ℕ) → Spells x.c epoch (body.Ended reason snd rcv count) bytes → Was x (Node n) Front bytes
+      → Goes k x (front_does x (packet_seen (Node n) Front bytes) (front_ended env x.part.front n epoch (record { reason = reason; snd = record { 0 = snd }; rcv = record { 0 = rcv } })))
+  ended-goes env is n epoch reason snd rcv count bytes spells was may way help = (
+    fronts.ended-move k x may.given way.front (packet_seen (Node n) Front bytes) false (epoch ∷ []) [] (message-heads x n bytes (Some epoch) (ap ended_epoch spells)) env is ended n epoch refl refl refl
+        (record { reason = reason; snd = record { 0 = snd }; rcv = record { 0 = rcv } }) help,
+    front-nodes (packet_seen (Node n) Front bytes) (tt, tt) (λ m. refl) way.nodes (front_ended env x.part.front n epoch (record { reason = reason; snd = record { 0 = snd }; rcv = record { 0 = rcv } })) help.own,
+  ) where
+    over-decided : (e : ℕ) (o : Option BackRow) → IsOver e o → IsDecided e o
+    over-decided e None h = h
+    over-decided e (Some row) h = h.0
+
+    told : IsDecided epoch (x.part.nodes n).row
+    told = over-decided epoch (x.part.nodes n).row (came-says x (Node n) Front epoch (body.Ended reason snd rcv count) bytes may.given.letters was spells)
+
+    ended : (e : ℕ) → is_among e ((story x.c x.seen).ended ++ epoch ∷ []) ≡ true → SomeDecided e x.part.nodes
+    ended e among = go (is_among e (story x.c x.seen).ended) refl (epoch == e) refl (sym (list_any-append (λ d. d == e) (story x.c x.seen).ended (epoch ∷ [])) ∙ among) where
+      go : (a : Bool) → is_among e (story x.c x.seen).ended ≡ a → (b : Bool) → (epoch == e) ≡ b → a || (b || false) ≡ true → SomeDecided e x.part.nodes
+      go true f b g h = way.front.ended e f
+      go false f true g h = (n, subst (λ (d : ℕ). IsDecided d (x.part.nodes n).row) (eqb-true epoch e g) told)
+      go false f false g h = let no : false ≡ true = h in absurd cc
+
+  admitted-goes : (env : FrontEnv) → IsFrontEnv k x.c env → (choice : _) (given : FrontPart × FrontTurn) → front.front_admitted env x.part.front choice ≡ Some given → Goes k x (front_admits x given)
+  admitted-goes env is choice given e may way help = (
+    fronts.admitted-move k x may.given way.front [] false [] [] (no-heads x) env is (still-ended x way.front) refl choice given e help,
+    nodes-go k.nodes x (front_admits x given) (λ n. other-at k.nodes n x (front_admits x given) help.own way.nodes tt refl tt refl),
+  )
+
+-- ---- a node
+
+module _ (k : Setting) (x : Conn) (n : ℕ) where
+  -- packets of a node are no client's
+  node-fresh : (known : IsKnown x) (ss ms : List (Place × List ℕ)) → x.part.station ≡ None → Each IsNotOfClient (x.letters ++ (map (letter (Node n)) ss ++ map (letter (Node n)) ms))
+  node-fresh known ss ms none = Each-append IsNotOfClient x.letters (map (letter (Node n)) ss ++ map (letter (Node n)) ms) (known.fresh none)
+      (Each-append IsNotOfClient (map (letter (Node n)) ss) (map (letter (Node n)) ms) (machine-letters (Node n) ss tt) (machine-letters (Node n) ms tt))
+
+  -- the front end is as it was
+  node-front : (heads : List Seen) → Each (IsApart x.c) heads → Each IsBare heads → IsKnown x → (d : node.Deed) → Helps x (node_does x n heads d) → Moves x (node_does x n heads d)
+  node-front heads apart bare known node.Drops help = else-moves x (node_does x n heads node.Drops) help known tt apart bare refl (node-fresh known [] [])
+  node-front heads apart bare known (node.Says ms) help = else-moves x (node_does x n heads (node.Says ms)) help known tt apart bare refl (node-fresh known [] ms)
+  node-front heads apart bare known (node.Does y) help = else-moves x (node_does x n heads (node.Does y)) help known tt apart bare refl (node-fresh known y.1.segments y.1.messages)
+
+  -- and so it is behind the record of a job
+  read-front : (r : Rec) → IsKnown x → (d : node.Deed) → Helps x (reads_first r (node_does x n [] d)) → Moves x (reads_first r (node_does x n [] d))
+  read-front r known node.Drops help = else-moves x (reads_first r (node_does x n [] node.Drops)) help known tt tt tt refl (node-fresh known [] [])
+  read-front r known (node.Says ms) help = else-moves x (reads_first r (node_does x n [] (node.Says ms))) help known tt tt tt refl (node-fresh known [] ms)
+  read-front r known (node.Does y) help = else-moves x (reads_first r (node_does x n [] (node.Does y))) help known tt tt tt refl (node-fresh known y.1.segments y.1.messages)
+
+  -- no other node hears what comes to this one
+  others-unheard : (from : Place) (bytes : List ℕ) (m : ℕ) → m ≢ n → picked (offer_in m) (packet_seen from (Node n) bytes) ≡ []
+  others-unheard Front bytes m other = append-nil (listed (cond (nat_eq n m) (offer_epoch (decoded_message bytes)) None)) ∙ ap (λ b. listed (cond b (offer_epoch (decoded_message bytes)) None)) (other_number n m (λ e. other (sym e)))
+  others-unheard (Node j) bytes m other = refl
+  others-unheard (Client d) bytes m other = refl
+
+  -- what comes to it from the front end
+  this-hears : (bytes : List ℕ) (o : Option ℕ) → offer_epoch (decoded_message bytes) ≡ o → picked (offer_in n) (packet_seen Front (Node n) bytes) ≡ listed o
+  this-hears bytes o e =
+      append-nil (listed (cond (nat_eq n n) (offer_epoch (decoded_message bytes)) None)) ∙ ap (λ b. listed (cond b (offer_epoch (decoded_message bytes)) None)) (same_number n) ∙ ap listed e
+
+  front-apart : (bytes : List ℕ) → Each (IsApart x.c) (packet_seen Front (Node n) bytes)
+  front-apart bytes = ((refl, refl, refl), tt)
+
+  node-apart : (from : ℕ) (bytes : List ℕ) → Each (IsApart x.c) (packet_seen (Node from) (Node n) bytes)
+  node-apart from bytes = ((refl, refl, refl), tt)
+
+  offered-goes : (epoch : ℕ) (env : NodeEnv) (parts : EndpointParts) (bytes : List ℕ) → IsNodeEnv k x.c n epoch env → Spells x.c epoch (body.Offer parts) bytes → Was x Front (Node n) bytes
+      → Goes k x (node_does x n (packet_seen Front (Node n) bytes) (node_offered env (x.part.nodes n) parts))
+  offered-goes epoch env parts bytes is spells was may way help = (
+    node-front (packet_seen Front (Node n) bytes) (front-apart bytes) (tt, tt) way.front (node_offered env (x.part.nodes n) parts) help,
+    turns.offered-go k x may.given way.nodes n epoch env is (packet_seen Front (Node n) bytes) (tt, tt) (others-unheard Front bytes) parts
+        (this-hears bytes (Some epoch) (ap offer_epoch spells) ∙ ap (λ (e : ℕ). e ∷ []) (sym is.epoch_is))
+        (subst (λ (e : ℕ). IsDecided e (x.part.nodes n).row ⊎ IsOffered n e x.part.front.row) (sym is.epoch_is) (came-says x Front (Node n) epoch (body.Offer parts) bytes may.given.letters was spells)) help,
+  )
+
+  forwarded-goes : (epoch : ℕ) (env : NodeEnv) (segment bytes : List ℕ) → IsNodeEnv k x.c n epoch env → Spells x.c epoch (body.Forward segment) bytes
+      → Goes k x (node_does x n (packet_seen Front (Node n) bytes) (node_forwarded env (x.part.nodes n) (decoded segment x.c ToCluster)))
+  forwarded-goes epoch env segment bytes is spells may way help = (
+    node-front (packet_seen Front (Node n) bytes) (front-apart bytes) (tt, tt) way.front (node_forwarded env (x.part.nodes n) (decoded segment x.c ToCluster)) help,
+    turns.forwarded-go k x may.given way.nodes n epoch env is (packet_seen Front (Node n) bytes) (tt, tt) (others-unheard Front bytes) (this-hears bytes None (ap offer_epoch spells)) (decoded segment x.c ToCluster) help,
+  )
+
+  tagged-goes : (epoch number : ℕ) (tags : List ℕ) (env : NodeEnv) (bytes : List ℕ) → IsNodeEnv k x.c n epoch env → Spells x.c epoch (body.Tag number tags) bytes
+      → Goes k x (node_does x n (packet_seen Front (Node n) bytes) (node_tagged env (x.part.nodes n) number tags))
+  tagged-goes epoch number tags env bytes is spells may way help = (
+    node-front (packet_seen Front (Node n) bytes) (front-apart bytes) (tt, tt) way.front (node_tagged env (x.part.nodes n) number tags) help,
+    turns.tagged-go k x may.given way.nodes n epoch env is (packet_seen Front (Node n) bytes) (tt, tt) (others-unheard Front bytes) (this-hears bytes None (ap offer_epoch spells)) number tags help,
+  )
+
+  content-goes : (from epoch r : ℕ) (env : NodeEnv) (bytes : List ℕ) → IsNodeEnv k x.c n epoch env → Goes k x (node_does x n (packet_seen (Node from) (Node n) bytes) (node_content env (x.part.nodes n) from r))
+  content-goes from epoch r env bytes is may way help = (
+    node-front (packet_seen (Node from) (Node n) bytes) (node-apart from bytes) (tt, tt) way.front (node_content env (x.part.nodes n) from r) help,
+    turns.content-go k x may.given way.nodes n epoch env is (packet_seen (Node from) (Node n) bytes) (tt, tt) (others-unheard (Node from) bytes) refl from r help,
+  )
+
+  acknowledged-goes : (epoch : ℕ) (env : NodeEnv) (bytes : List ℕ) → IsNodeEnv k x.c n epoch env → Spells x.c epoch body.EndedAck bytes
+      → Goes k x (node_does x n (packet_seen Front (Node n) bytes) (node_acknowledged env (x.part.nodes n)))
+  acknowledged-goes epoch env bytes is spells may way help = (
+    node-front (packet_seen Front (Node n) bytes) (front-apart bytes) (tt, tt) way.front (node_acknowledged env (x.part.nodes n)) help,
+    turns.acknowledged-go k x may.given way.nodes n epoch env is (packet_seen Front (Node n) bytes) (tt, tt) (others-unheard Front bytes) (this-hears bytes None (ap offer_epoch spells)) help,
+  )
+
+  fires-at-node : (env : NodeEnv) → IsNodeEnv k x.c n (epoch_in (x.part.nodes n)) env → Goes k x (node_does x n (event_seen (event.Timer (Node n) x.c)) (node_timer env (x.part.nodes n)))
+  fires-at-node env is may way help = (
+    node-front (event_seen (event.Timer (Node n) x.c)) (tt, tt) ((tt, tt), tt) way.front (node_timer env (x.part.nodes n)) help,
+    turns.fires-go k x may.given way.nodes n env is (event_seen (event.Timer (Node n) x.c)) (tt, tt) (λ m. refl) help,
+  )
+
+  -- ---- a job of its own
+
+  -- the move without the record of the job
+  behind-read : (r : ℕ) (path : List ℕ) (v : Move) → Helps x (reads_first (rec.Read n n x.c r path) v) → Helps x v
+  behind-read r path v help = record {
+    number = help.number;
+    sound = help.sound;
+    placed = help.placed;
+    owes = let o : Owes x (reads_first (rec.Read n n x.c r path) v) = help.owes in record { heads = o.heads; same = o.same; rows = o.rows.1; sits = o.sits; grows = o.grows; letters = o.letters };
+    own = record { notes = help.own.notes.1; segments = help.own.segments; gave = help.own.gave; messages = help.own.messages };
+  }
+
+  read-nodes : (r : ℕ) (path : List ℕ) (v : Move) → v.heads ≡ [] → NodesGo k.nodes x v → NodesGo k.nodes x (reads_first (rec.Read n n x.c r path) v)
+  read-nodes r path v none h =
+      let first : Seen = Row (rec.Read n n x.c r path) in
+      let u : Move = reads_first (rec.Read n n x.c r path) v in
+      let is : seen_in x u ≡ first ∷ seen_in x v = ap (λ hs. hs ++ first ∷ map Row (rows_of x v)) none ∙ ap (λ hs. first ∷ (hs ++ map Row (rows_of x v))) (sym none) in (
+        subst (λ (ss : List Seen). NodesMove k.nodes x.seen ss) (sym is) (record { takes = h.0.takes; ends = h.0.ends }),
+        record {
+          highest_is = λ m.
+              ap highest (ap (λ ss. picked (of_row (node_took m)) (x.seen ++ ss)) is ∙ picked-append (of_row (node_took m)) x.seen (first ∷ seen_in x v) ∙ sym (picked-append (of_row (node_took m)) x.seen (seen_in x v)))
+              ∙ h.1.highest_is m;
+          late = h.1.late;
+        },
+      )
+
+  no-heads-at : (d : node.Deed) → (node_does x n [] d).heads ≡ []
+  no-heads-at node.Drops = refl
+  no-heads-at (node.Says ms) = refl
+  no-heads-at (node.Does y) = refl
+
+  read-goes : (epoch r : ℕ) (env : NodeEnv) (path : List ℕ) → IsNodeEnv k x.c n epoch env → Goes k x (reads_first (rec.Read n n x.c r path) (node_does x n [] (node_read env (x.part.nodes n) r)))
+  read-goes epoch r env path is may way help =
+      let d : node.Deed = node_read env (x.part.nodes n) r in
+      let v : Move = node_does x n [] d in (
+        read-front (rec.Read n n x.c r path) way.front d help,
+        read-nodes r path v (no-heads-at d) (turns.read-go k x may.given way.nodes n epoch env is [] tt (λ m other. refl) refl r (behind-read r path v help)),
+      )
+
+  -- ---- what it does for another one
+
+  stands-goes : (heads : List Seen) (notes : List Rec) (ms : List (Place × List ℕ)) → IsClear x heads → ((m : ℕ) → pick (node_took m) notes ≡ []) → Goes k x (stands x (Node n) heads (record { notes = notes; segments = []; gave = []; messages = ms }))
+  stands-goes heads notes ms clear none may way help =
+      let v : Move = stands x (Node n) heads (record { notes = notes; segments = []; gave = []; messages = ms }) in (
+        else-moves x v help way.front tt clear.apart clear.bare refl (node-fresh way.front [] ms),
+        nodes-go k.nodes x v (λ m. quiet-at k.nodes m x v help.own way.nodes clear.first (clear.offers m) (none m) refl refl (way.nodes.late m)),
+      )
+
+  between-clear : (from : ℕ) (bytes : List ℕ) → IsClear x (packet_seen (Node from) (Node n) bytes)
+  between-clear from bytes = record { apart = node-apart from bytes; bare = (tt, tt); first = (tt, tt); offers = λ m. refl }
+
+  nothing-clear : IsClear x []
+  nothing-clear = record { apart = tt; bare = tt; first = tt; offers = λ m. refl }
+
+-- ---- a packet that no rule hears
+
+module _ (k : Setting) (x : Conn) (from to : Place) (bytes : List ℕ) where
+  -- it is no Ended
+  no-ended : (n : ℕ) → ((m : Message) → decoded_message bytes ≡ Ok m → IsForFront (kind_of m.body) → ⊥) → ended_epoch (decoded_message bytes) ≡ None
+  no-ended n other = go (decoded_message bytes) refl where
+    body-of : (m : Message) → decoded_message bytes ≡ Ok m → (b : Body) → m.body ≡ b → ended_epoch (Ok (record m { body = b })) ≡ None
+    body-of m e (body.Offer parts) is = refl
+    body-of m e body.Taken is = refl
+    body-of m e (body.Forward segment) is = refl
+    body-of m e (body.Ask number queue size paths) is = refl
+    body-of m e (body.Tag number tags) is = refl
+    body-of m e (body.Fetch r path) is = refl
+    body-of m e (body.Content r file) is = refl
+    body-of m e (body.Ended reason snd rcv count) is = absurd (other m e (subst (λ (b : Body). IsForFront (kind_of b)) (sym is) tt))
+    body-of m e body.EndedAck is = refl
+
+    go : (r : Result Message MsgFault) → decoded_message bytes ≡ r → ended_epoch r ≡ None
+    go (Err fault) e = refl
+    go (Ok m) e = body-of m e m.body refl
+
+  unheard-apart : IsKnown x → Was x from to bytes → IsUnheard k.nodes x.part.station from to bytes → Each (IsApart x.c) (packet_seen from to bytes)
+  unheard-apart known was unheard = (one from to was unheard, tt) where
+    one : (from to : Place) → Was x from to bytes → IsUnheard k.nodes x.part.station from to bytes → (segment_on x.c from to bytes ≡ None) × (syn_on x.c from to bytes ≡ false) × (ended_on from to bytes ≡ None)
+    one (Client d) Front w none = absurd (has-each IsNotOfClient (record { from = Client d; to = Front; bytes = bytes }) x.letters w (known.fresh none))
+    one (Client d) (Client e) w u = (refl, refl, refl)
+    one (Client d) (Node m) w u = (refl, refl, refl)
+    one (Node n) Front w u = (refl, refl, no-ended n u)
+    one (Node n) (Client e) w u = (refl, refl, refl)
+    one (Node n) (Node m) w u = (refl, refl, refl)
+    one Front Front w u = (refl, refl, refl)
+    one Front (Client e) w u = (refl, refl, refl)
+    one Front (Node m) w u = (refl, refl, refl)
+
+  -- no Offer comes to a node that is there
+  no-offer : (n : ℕ) → IsUnheard k.nodes x.part.station from to bytes → is_no_node k.nodes n ≡ false → picked (offer_in n) (packet_seen from to bytes) ≡ []
+  no-offer n unheard there = append-nil (listed (offer_on n from to bytes)) ∙ ap listed (one from to unheard) where
+    by-number : (m : ℕ) → ((msg : Message) → decoded_message bytes ≡ Ok msg → IsForNode (kind_of msg.body) → is_no_node k.nodes m ≡ true) → (b : Bool) → nat_eq m n ≡ b → cond b (offer_epoch (decoded_message bytes)) None ≡ None
+    by-number m unheard false e = refl
+    by-number m unheard true e = go (decoded_message bytes) refl where
+      same : m ≡ n
+      same = eqb-true m n e
+
+      body-of : (msg : Message) → decoded_message bytes ≡ Ok msg → (b : Body) → msg.body ≡ b → offer_epoch (Ok (record msg { body = b })) ≡ None
+      body-of msg f (body.Offer parts) is =
+          let none : is_no_node k.nodes n ≡ true = ap (is_no_node k.nodes) (sym same) ∙ unheard msg f (subst (λ (b : Body). IsForNode (kind_of b)) (sym is) tt) in
+          absurd (both_ways (is_no_node k.nodes n) there none)
+      body-of msg f body.Taken is = refl
+      body-of msg f (body.Forward segment) is = refl
+      body-of msg f (body.Ask number queue size paths) is = refl
+      body-of msg f (body.Tag number tags) is = refl
+      body-of msg f (body.Fetch r path) is = refl
+      body-of msg f (body.Content r file) is = refl
+      body-of msg f (body.Ended reason snd rcv count) is = refl
+      body-of msg f body.EndedAck is = refl
+
+      go : (r : Result Message MsgFault) → decoded_message bytes ≡ r → offer_epoch r ≡ None
+      go (Err fault) f = refl
+      go (Ok msg) f = body-of msg f msg.body refl
+
+    one : (from to : Place) → IsUnheard k.nodes x.part.station from to bytes → offer_on n from to bytes ≡ None
+    one Front (Node m) u = by-number m u (nat_eq m n) refl
+    one Front Front u = refl
+    one Front (Client d) u = refl
+    one (Node j) to u = refl
+    one (Client d) to u = refl
+
+  ignores-goes : Was x from to bytes × IsNobody x.part.station to × IsUnheard k.nodes x.part.station from to bytes → Goes k x (stands x to (packet_seen from to bytes) nothing_said)
+  ignores-goes was may way help =
+      let v : Move = stands x to (packet_seen from to bytes) nothing_said in
+      let known : IsKnown x = way.front in (
+        quiet-moves x v help known (record {
+          heads = unheard-apart known was.0 was.2;
+          bare = (tt, tt);
+          notes = tt;
+          gave = tt;
+          segments = refl;
+          messages = refl;
+          row = known.row;
+          kept = known.kept;
+          fresh = λ none. Each-append IsNotOfClient x.letters [] (known.fresh none) tt;
+        }),
+        nodes-go k.nodes x v (λ n. record {
+          takes = [];
+          takes_are = seen-took n x v help.own (tt, tt) [] refl;
+          due = λ there. ap (above (highest (picked (of_row (node_took n)) x.seen))) (sym (seen-offers n x v help.own (tt, tt) [] (no-offer n was.2 there)));
+          ends = subst (λ (l : List ℕ). EachIsTold l (picked (of_row (from_node n)) (seen_in x v))) (sym (seen-gave n x v help.own (tt, tt) [] refl)) tt;
+          then = max-none (highest (picked (of_row (node_took n)) x.seen)) ∙ way.nodes.highest_is n;
+          late = way.nodes.late n;
+        }),
+      )
+
+-- ---- every rule
+
+module _ (k : Setting) where
+  clients : ClientRules k (Goes k)
+  clients = record {
+    opens = λ x isn iss wnd mss rule none. begins-goes k x isn iss wnd mss;
+    gets = λ x s path there le. client-goes k x (event_seen (event.Get x.c path)) s (client_writes s.client (request path)) (event-clear k x (event.Get x.c path));
+    writes = λ x s bytes there le. client-goes k x (event_seen (event.Write x.c bytes)) s (client_writes s.client bytes) (event-clear k x (event.Write x.c bytes));
+    shuts = λ x s there. client-goes k x (event_seen (event.Shut x.c)) s (client_shuts s.client) (event-clear k x (event.Shut x.c));
+    aborts = λ x s there. client-goes k x (event_seen (event.Abort x.c)) s (client_aborts s.client) (event-clear k x (event.Abort x.c));
+    holds = λ x s there. client-goes k x (event_seen (event.Hold x.c)) s (client_holds s.client) (event-clear k x (event.Hold x.c));
+    takes = λ x s there. client-goes k x (event_seen (event.Take x.c)) s (client_takes s.client) (event-clear k x (event.Take x.c));
+    fires = λ x s there. client-goes k x (event_seen (event.Timer (Client x.c) x.c)) s (client_timer s.client) (event-clear k x (event.Timer (Client x.c) x.c));
+    hears = λ x s from bytes there was. client-goes k x (packet_seen from (Client x.c) bytes) s (client_gets s.client (decoded bytes x.c ToClient)) (client-clear x from x.c bytes);
+  }
+
+  pub all-go : Rules k (Goes k)
+  all-go = record {
+    untouched = record {
+      client = clients;
+      front = record {
+        hears = λ x s env bytes there is iss was. hears-goes k x env is bytes;
+        fires = λ x s env there is. fires-goes k x env is;
+        taken = λ x env n epoch bytes is spells was. taken-goes k x env is n epoch bytes spells;
+        asked = λ x env n epoch number queue size paths bytes is spells was. asked-goes k x env is n epoch number queue size paths bytes spells;
+        ended = λ x env n epoch reason snd rcv count bytes is spells was. ended-goes k x env is n epoch reason snd rcv count bytes spells was;
+        admitted = λ x env choice given is e. admitted-goes k x env is choice given e;
+      };
+      node = record {
+        offered = λ x n epoch env parts bytes is spells was. offered-goes k x n epoch env parts bytes is spells was;
+        forwarded = λ x n epoch env segment bytes is spells was. forwarded-goes k x n epoch env segment bytes is spells;
+        tagged = λ x n epoch number tags env bytes is spells was. tagged-goes k x n epoch number tags env bytes is spells;
+        content = λ x n from epoch r env file bytes is spells was. content-goes k x n from epoch r env bytes is;
+        acknowledged = λ x n epoch env bytes is spells was. acknowledged-goes k x n epoch env bytes is spells;
+        read = λ x n epoch r env path is. read-goes k x n epoch r env path is;
+        fires = λ x s n env there is. fires-at-node k x n env is;
+        answers = λ x n from epoch r path file bytes there spells was. stands-goes k x n (packet_seen (Node from) (Node n) bytes) [] (contents k n from x.c epoch r path).messages (between-clear k x n from bytes) (λ m. refl);
+        queues = λ x n from epoch r path file bytes there spells was. stands-goes k x n (packet_seen (Node from) (Node n) bytes) (rec.Queued n from x.c r path ∷ []) [] (between-clear k x n from bytes) (λ m. refl);
+        brings = λ x n from epoch r path. stands-goes k x n [] (rec.Read n from x.c r path ∷ []) (contents k n from x.c epoch r path).messages (nothing-clear k x n) (λ m. refl);
+      };
+      ignores = λ x from to bytes was. ignores-goes k x from to bytes was;
+    };
+    injects = λ x s bytes there rule. injects-goes k x s bytes;
+  }

@@ -1,0 +1,81 @@
+-- The motion law in every run.
+use Rattle.std.proofs.Common.{ℕ, List, [], refl, sym, ◌∙◌}
+use Rattle.lard_base.specs.declared.config.Config.{Config}
+use Rattle.lard_law_connections.specs.Motion.{IsMotion, MustMove}
+use Rattle.lard_law_connections.specs.MotionRuns.{ConnectionsMoveInSteps}
+use Rattle.lard_law_connections.specs.MotionStory.{Story, story}
+use Rattle.lard_law_connections.proofs.MotionElsewhere.{FrontMoves, Helps, no-end, no-forwards, no-syn, no-takes}
+use Rattle.lard_law_connections.proofs.MotionNodes.{NodesMove}
+use Rattle.lard_law_connections.proofs.MotionRules.{Goes, Way, all-go}
+use Rattle.lard_law_connections.proofs.PlacesLaw.{owing}
+use Rattle.lard_law_connections.proofs.PlacesRuns.{each-placed}
+use Rattle.lard_law_connections.proofs.PlacesTurns.{IsPlaced, Owes}
+use Rattle.lard_law_view.specs.Carry.{IsLaw, IsStepLaw, MayMove, OfEach, setting}
+use Rattle.lard_law_view.specs.View.{Conn, Move, Rules, Setting, grown, seen_in}
+use Rattle.lard_law_view.proofs.Carried.{carried}
+use Rattle.lard_law_view.proofs.Fine.{IsFine, fine}
+use Rattle.lard_law_view.proofs.Guarded.{both, weaker}
+use Rattle.lard_law_view.proofs.InSteps.{carried-steps}
+use Rattle.lard_history.specs.Own.{Seen}
+
+-- where nothing of it is seen, nothing of it is done
+nothing-moves : (nodes c : ℕ) (past : List Seen) → IsMotion nodes c past []
+nothing-moves nodes c past =
+    let t : Story = story c past in
+    record {
+      takes_first = (no-takes t).0 ∙ sym (no-syn t);
+      hands_off = tt;
+      node_takes = λ n there. refl;
+      node_ends = λ n. tt;
+      takes_back = (no-takes t).1 ∙ sym (no-end t);
+      forwards = sym (no-forwards c t);
+    }
+
+module _ (k : Setting) where
+  abbrev Owed : Conn → Move → Type 0
+  Owed x v = MayMove IsPlaced x → IsPlaced x → Owes x v
+
+  abbrev All : Conn → Move → Type 0
+  All x v = (IsFine x v × Owed x v) × Goes k x v
+
+  all : Rules k All
+  all = both k (λ x v. IsFine x v × Owed x v) (Goes k) (both k IsFine Owed (fine k) (owing k IsPlaced)) (all-go k)
+
+  helped : (x : Conn) (v : Move) → All x v → MayMove IsPlaced x → Helps x v
+  helped x v h may = record { number = may.number; sound = may.sound; placed = may.given; owes = h.0.1 may may.given; own = (h.0.0 may.number may.sound).0 }
+
+  way-law : IsLaw k IsPlaced Way
+  way-law = record {
+    begins = λ c. record {
+      front = record { row = (refl, refl, record { away = refl; epoch = refl }); ended = λ e among. absurd cc; kept = tt; fresh = λ none. tt };
+      nodes = record { highest_is = λ n. refl; late = λ n. tt };
+    };
+    moves = weaker k All (λ x v. MayMove IsPlaced x → Way x → Way (grown x v))
+        (λ x v h may way. let gone = h.1 may way (helped x v h may) in record { front = gone.0.1; nodes = gone.1.1 }) all;
+  }
+
+  -- what is known where a connection moves
+  abbrev Given : Conn → Type 0
+  Given x = IsPlaced x × Way x
+
+  motion-law : IsStepLaw k Given (IsMotion k.nodes)
+  motion-law = record {
+    still = nothing-moves k.nodes;
+    moves = weaker k All (λ x v. MayMove Given x → IsMotion k.nodes x.c x.seen (seen_in x v))
+        (λ x v h may.
+        let placed : MayMove IsPlaced x = record { number = may.number; sound = may.sound; given = may.given.0 } in
+        let gone = h.1 placed may.given.1 (helped x v h placed) in
+        let front : FrontMoves x.c x.seen (seen_in x v) = gone.0.0 in
+        let nodes : NodesMove k.nodes x.seen (seen_in x v) = gone.1.0 in
+        record { takes_first = front.takes_first; hands_off = front.hands_off; node_takes = nodes.takes; node_ends = nodes.ends; takes_back = front.takes_back; forwards = front.forwards }) all;
+  }
+
+-- what is known of the way of each connection, in every state
+pub each-way : (config : Config) (files : List (List ℕ × List ℕ)) → OfEach config files Way
+each-way config files = carried config files IsPlaced Way (way-law (setting config files)) (each-placed config files)
+
+pub connections-move : ConnectionsMoveInSteps
+connections-move config files m r =
+    let known : OfEach config files Way = each-way config files in
+    carried-steps config files (Given (setting config files)) (MustMove config.nodes) (IsMotion config.nodes) (λ past s h. h) (motion-law (setting config files))
+    (λ n s q. (each-placed config files n s q, known n s q)) m r

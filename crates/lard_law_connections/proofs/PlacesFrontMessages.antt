@@ -1,0 +1,289 @@
+-- The front end's rules for what nodes say, and the head of the line.
+use Rattle.std.proofs.Common.{◌≡◌, ◌⊎◌, ℕ, ◌+◌, ◌<◌, ◌≤◌, ◌==◌, ◌&&◌, nat_lt, Bool, true, false, cond, List, [], ◌∷◌, Option, Some, None, inr, refl, sym, ◌∙◌, subst, arith, eqb-true, eq-eqb}
+use Rattle.std.proofs.lemmas.Bool.{cond_both}
+use Rattle.lard_base.specs.declared.ids.Epoch.{Epoch}
+use Rattle.lard_base.specs.declared.place.Place.{Place}
+use Rattle.lard_base.specs.declared.place.Place.TheVariants.{Front, Node}
+use Rattle.lard_law_connections.specs.Places.{EndedBefore, HasEnded, IsComing, IsDecided, IsLeft, IsOver, IsPast, IsThere, LetterMay, MaySay, Offers, OthersArePast, Owning, Owns, StageSits, owning}
+use Rattle.lard_law_connections.proofs.PlacesFront.{IsQuiet, Tells, drops-owes, front-owes, messages-owe, placed-owes}
+use Rattle.lard_law_connections.proofs.PlacesFrontRules.{decided-there, has-each, sits-row, small, there-decided}
+use Rattle.lard_law_connections.proofs.PlacesGrowing.{FrontGrows, front-still, past-later}
+use Rattle.lard_law_connections.proofs.PlacesHeads.{decoded-head, head, spelled-head, spelled-some}
+use Rattle.lard_law_connections.proofs.PlacesRows.{IsPlain, plain-after, plain-owns}
+use Rattle.lard_law_connections.proofs.PlacesTurns.{IsPlaced, Owes}
+use Rattle.lard_law_view.specs.Carry.{tale_at}
+use Rattle.lard_law_view.specs.View.{Conn, IsFrontEnv, Part, Setting, Spells, Was, by_front, front_admits, front_does, with_front}
+use Rattle.lard_costs.specs.declared.later.LaterChoice.{LaterChoice}
+use Rattle.lard_dispatch.specs.declared.dispatch.Ask.{Ask}
+use Rattle.lard_dispatch.specs.declared.dispatch.First.TheVariants as first
+use Rattle.lard_dispatch.specs.declared.dispatch.Later.{Later}
+use Rattle.lard_endpoint.specs.declared.control.moving.Final.{Final}
+use Rattle.lard_endpoint.specs.Control.{ControlBlock}
+use Rattle.lard_rules.specs.declared.front.FrontRest.{FrontRest}
+use Rattle.lard_rules.specs.declared.front.FrontTurn.{FrontTurn}
+use Rattle.lard_rules.specs.Front.{Deed, Drops, Says, Does, FrontEnv, FrontPart, ack_sent, admitted_at, admitted_by, admitted_with, asked_by, assigned_notes, assigns, ended_by, ends, front_admitted, front_asked, front_ended, front_taken, handed_off, is_at, over_note, rest_of, saying, tag_sent, taken_by}
+use Rattle.lard_handoff_back.specs.declared.row.BackConn.{BackConn}
+use Rattle.lard_handoff_back.specs.declared.row.BackConn.TheVariants as back
+use Rattle.lard_handoff_back.specs.declared.row.BackRow.{BackRow}
+use Rattle.lard_handoff_front.specs.declared.row.FrontConn.{FrontConn}
+use Rattle.lard_handoff_front.specs.declared.row.FrontConn.TheVariants as stage
+use Rattle.lard_handoff_front.specs.declared.row.FrontRow.{FrontRow}
+use Rattle.lard_handoff_front.specs.declared.table.OnEnded.TheVariants.{New, Again, Stale}
+use Rattle.lard_handoff_front.specs.Front.{end_answer, ended_with, next_epoch}
+use Rattle.lard_handoff_front.specs.Row.{is_away, offered_to}
+use Rattle.lard_history.specs.Own.{Seen}
+use Rattle.lard_history.proofs.Each.{Each, Each-append}
+use Rattle.lard_message.specs.declared.kind.Kind.{Kind}
+use Rattle.lard_message.specs.declared.kind.Kind.TheVariants as kind
+use Rattle.lard_message.specs.declared.message.Body.{Body}
+use Rattle.lard_message.specs.declared.message.Body.TheVariants as body
+use Rattle.lard_message.specs.Message.{kind_of}
+use Rattle.lard_rules.specs.Node.{NodePart}
+use Rattle.lard_policy.specs.declared.first.FirstChoice.{FirstChoice}
+use Rattle.lard_rules.specs.Serving.{serving}
+
+-- what a packet that came says, where it is a message of this connection
+pub came-says : (x : Conn) (from to : Place) (epoch : ℕ) (b : Body) (bytes : List ℕ) → Each (LetterMay x.part) x.letters → Was x from to bytes → Spells x.c epoch b bytes
+    → MaySay x.part from to (Some (head (kind_of b) epoch))
+came-says x from to epoch b bytes letters was spells =
+    subst (MaySay x.part from to) (decoded-head bytes _ spells) (has-each (LetterMay x.part) (record { from = from; to = to; bytes = bytes }) x.letters was letters)
+
+-- ---- where it is while it is away
+
+-- It was offered to node n in epoch e and is there.
+pub record IsWith (x : Conn) (row : FrontRow) (n : ℕ) : Type 0 where
+  pub two : row.epoch.0 ≡ 2
+  pub others : OthersArePast n row.epoch.0 x.part.nodes
+  pub at : IsComing row.epoch.0 (owning (tale_at x)) (x.part.nodes n).row ⊎ IsThere n row.epoch.0 (owning (tale_at x)) (x.part.nodes n).row
+
+-- ---- the end of a stay
+
+-- a stay of this epoch that is over is nobody's
+over-nobody : (n e : ℕ) (w : Owning) (o : Option BackRow) → IsThere n e w o → IsOver e o → w.owner ≡ None
+over-nobody n e w None there over = absurd there
+over-nobody n e w (Some row) there over = go row.stage there.2 (over.1 there.0) where
+  go : (st : BackConn) → Owns n st w.owner → IsLeft st → w.owner ≡ None
+  go (back.Here b) owns left = absurd left
+  go back.Out owns left = absurd owns
+  go back.Ended owns left = owns
+  go back.Gone owns left = absurd owns
+
+over-past : (e : ℕ) (n : ℕ) (w : Owning) (o : Option BackRow) → IsThere n e w o → IsOver e o → IsPast (e + 1) o
+over-past e n w None there over = tt
+over-past e n w (Some row) there over = (omega (arith, there.0), over.1 there.0)
+
+over-decided : (e : ℕ) (o : Option BackRow) → IsOver e o → IsDecided e o
+over-decided e None h = h
+over-decided e (Some row) h = h.0
+
+there-epoch : (n e : ℕ) (w : Owning) (o : Option BackRow) → IsThere n e w o → w.epoch ≡ e
+there-epoch n e w None h = absurd h
+there-epoch n e w (Some row) h = h.1
+
+module _ (k : Setting) (x : Conn) (heads : List Seen) (quiet : IsQuiet x heads) (held : IsPlaced x) (env : FrontEnv) (is : IsFrontEnv k x.c env) where
+  abbrev p : FrontPart
+  p = x.part.front
+
+  abbrev w : Owning
+  w = owning (tale_at x)
+
+  abbrev nodes : ℕ → NodePart
+  nodes = x.part.nodes
+
+  abbrev Owed : Deed → Type 0
+  Owed d = Owes x (front_does x heads d)
+
+  dropped : Owed Drops
+  dropped = drops-owes x heads quiet held
+
+  find-row : (row : FrontRow) → p.row ≡ Some row → StageSits row.epoch.0 w nodes row.stage × EndedBefore row.epoch.0 row.ended_by
+  find-row row found = sits-row k x heads quiet held env is row found
+
+  -- ---- a Taken
+
+  -- where it was offered, and the node has decided
+  taken-owes : (row : FrontRow) (n : ℕ) (d : Epoch) (epoch m : ℕ) → p.row ≡ Some row → row.stage ≡ stage.Offering n d → d.0 ≡ epoch → IsDecided epoch (nodes m).row
+      → Owed (taken_by p epoch (Some row) (Some n))
+  taken-owes row n d epoch m found at same decided =
+      let h = find-row row found in
+      let sits : StageSits row.epoch.0 w nodes (stage.Offering n d) = subst (StageSits row.epoch.0 w nodes) at h.0 in
+      let now : epoch ≡ row.epoch.0 = sym same ∙ sits.1 in
+      let there : IsThere n row.epoch.0 w (nodes n).row = decided-there n row.epoch.0 w nodes sits.2 m sits.3 (subst (λ (e : ℕ). IsDecided e (nodes m).row) now decided) in
+      let next : FrontRow = record row { stage = stage.Moved n (record { 0 = epoch }) } in
+      front-owes x heads quiet (by_front (saying [])) _ w
+      (record { notes = tt; segments = inr refl; gave = tt; messages = tt; then = refl })
+      ((sits.0, now, sits.2, there), h.1)
+      (subst (λ (o : Option FrontRow). FrontGrows nodes o (Some next)) (sym found) (
+        omega arith,
+        λ i e offers.
+            let o : Offers i e (stage.Offering n d) = subst (Offers i e) at offers in
+            inr (subst (λ (j : ℕ). IsDecided e (nodes j).row) o.0 (subst (λ (f : ℕ). IsDecided f (nodes n).row) (sym sits.1 ∙ o.1) (there-decided n row.epoch.0 w nodes sits.2 (nodes n).row there))),
+      ))
+      tt
+
+  taken-at : (epoch m : ℕ) (row : FrontRow) → p.row ≡ Some row → IsDecided epoch (nodes m).row → (st : FrontConn) → row.stage ≡ st → Owed (taken_by p epoch (Some row) (offered_to epoch st))
+  taken-at epoch m row found decided (stage.Offering n d) at = go (d.0 == epoch) refl where
+    go : (b : Bool) → (d.0 == epoch) ≡ b → Owed (taken_by p epoch (Some row) (cond b (Some n) None))
+    go true e = taken-owes row n d epoch m found at (eqb-true d.0 epoch e) decided
+    go false e = dropped
+  taken-at epoch m row found decided _ at = dropped
+
+  taken-by : (epoch m : ℕ) → IsDecided epoch (nodes m).row → (o : Option FrontRow) → p.row ≡ o → Owed (taken_by p epoch o (elim o [ None ↦ None | Some row ↦ offered_to epoch row.stage ]))
+  taken-by epoch m decided None e = dropped
+  taken-by epoch m decided (Some row) e = taken-at epoch m row e decided row.stage refl
+
+  pub taken-rule : (m epoch : ℕ) (bytes : List ℕ) → Spells x.c epoch body.Taken bytes → Was x (Node m) Front bytes → Owed (front_taken p epoch)
+  taken-rule m epoch bytes spells was = taken-by epoch m (came-says x (Node m) Front epoch body.Taken bytes held.letters was spells) p.row refl
+
+  -- ---- an Ask
+
+  notes-plain : (c : ℕ) (ask : Ask) (r : ℕ) (paths : List (List ℕ)) (choices : List LaterChoice) → Each IsPlain (assigned_notes c ask r paths choices)
+  notes-plain c ask r [] choices = tt
+  notes-plain c ask r (path ∷ paths) [] = tt
+  notes-plain c ask r (path ∷ paths) (choice ∷ choices) = (tt, notes-plain c ask (r + 1) paths choices)
+
+  over-plain : (c : ℕ) (b : Bool) → Each IsPlain (over_note c b)
+  over-plain c true = (tt, tt)
+  over-plain c false = tt
+
+  tag-tells : (q : Part) (n epoch number : ℕ) (tags : List ℕ) → Each (Tells q Front) (tag_sent env n epoch number tags)
+  tag-tells q n epoch number tags = (subst (λ h. MaySay q Front (Node n) h) (sym (spelled-some _)) tt, tt)
+
+  assigns-owe : (rest : FrontRest) (n epoch : ℕ) (ask : Ask) (l : Later) → Owed (Does (assigns env p rest n epoch ask l))
+  assigns-owe rest n epoch ask l =
+      let did = assigns env p rest n epoch ask l in
+      let plain : Each IsPlain did.turn.notes = Each-append IsPlain (over_note env.serve.c l.over) (assigned_notes env.serve.c ask rest.assigned ask.paths l.choices) (over-plain env.serve.c l.over)
+      (notes-plain env.serve.c ask rest.assigned ask.paths l.choices) in
+      front-owes x heads quiet (by_front did.turn) did.part w
+      (record { notes = plain-owns x.c w did.turn.notes plain; segments = inr refl; gave = tt; messages = (tt, tt); then = plain-after w did.turn.notes plain })
+      held.sits (front-still nodes p.row) (tag-tells (with_front x.part did.part) n epoch ask.number _)
+
+  asked-by : (n epoch : ℕ) (ask : Ask) (o : Option FrontRest) → Owed (asked_by env p n epoch ask o)
+  asked-by n epoch ask None = dropped
+  asked-by n epoch ask (Some rest) =
+      cond_both (ask.number == rest.asks + 1) (Does (assigns env p rest n epoch ask (env.later ask))) _ Owed (λ t. assigns-owe rest n epoch ask (env.later ask))
+      (λ t. cond_both (ask.number == rest.asks && nat_lt 0 rest.asks) (Says (saying (tag_sent env n epoch rest.asks rest.tag))) Drops Owed
+      (λ u. messages-owe x heads quiet held (tag_sent env n epoch rest.asks rest.tag) (tt, tt) (tag-tells x.part n epoch rest.asks rest.tag)) (λ u. dropped))
+
+  pub asked-rule : (n epoch : ℕ) (ask : Ask) → Owed (front_asked env p n epoch ask)
+  asked-rule n epoch ask = cond_both (is_at n epoch p.row) (asked_by env p n epoch ask p.rest) Drops Owed (λ t. asked-by n epoch ask p.rest) (λ t. dropped)
+
+  -- ---- an Ended
+
+  -- The connection is with node n in this epoch, and the node m that says so has given it up.
+  ends-owe-one : (row : FrontRow) (m n epoch : ℕ) (last : Final) → p.row ≡ Some row → IsWith x row n → row.epoch.0 ≡ epoch → IsOver epoch (nodes m).row
+      → ((i e : ℕ) → Offers i e row.stage → (i ≡ n) × (e ≡ row.epoch.0)) → EndedBefore row.epoch.0 row.ended_by → Owed (Does (ends env p m epoch last row (next_epoch row)))
+  ends-owe-one row m n epoch last found away now over offered before =
+      let did = ends env p m epoch last row (next_epoch row) in
+      let q : Part = with_front x.part did.part in
+      let e : ℕ = row.epoch.0 in
+      let over_e : IsOver e (nodes m).row = subst (λ (f : ℕ). IsOver f (nodes m).row) (sym now) over in
+      let there : IsThere n e w (nodes n).row = decided-there n e w nodes away.others m away.at (over-decided e (nodes m).row over_e) in
+      let it : m ≡ n = only row m n away (over-decided e (nodes m).row over_e) in
+      let over_n : IsOver e (nodes n).row = subst (λ (j : ℕ). IsOver e (nodes j).row) it over_e in
+      let free : w.owner ≡ None = over-nobody n e w (nodes n).row there over_n in
+      let taken : w.epoch ≡ e = there-epoch n e w (nodes n).row there in
+      let v : Owning = record { owner = Some Front; epoch = e + 1 } in
+      front-owes x heads quiet (by_front did.turn) did.part v
+      (record {
+        notes = ((is.number, omega (arith, taken), free), (tt, tt));
+        segments = inr refl;
+        gave = tt;
+        messages = (tt, tt);
+        then = refl;
+      })
+      ((omega (arith, away.two), (refl, all-past row n away there over_n)), omega (arith, now))
+      (subst (λ (o : Option FrontRow). FrontGrows nodes o did.part.row) (sym found) (
+        omega arith,
+        λ i f offers. inr (subst (λ (j : ℕ). IsDecided f (nodes j).row) (sym (offered i f offers).0)
+            (subst (λ (g : ℕ). IsDecided g (nodes n).row) (sym (offered i f offers).1) (there-decided n e w nodes away.others (nodes n).row there))),
+      ))
+      (subst (λ h. MaySay q Front (Node m) h) (sym (spelled-head _ (omega (arith, now, away.two)))) (omega (arith, now)), tt) where
+        only : (row : FrontRow) (m n : ℕ) → IsWith x row n → IsDecided row.epoch.0 (nodes m).row → m ≡ n
+        only row m n away decided = go (m == n) refl where
+          go : (b : Bool) → (m == n) ≡ b → m ≡ n
+          go true same = eqb-true m n same
+          go false other = absurd (undecided (nodes m).row (away.others m (λ is. let yes : true ≡ false = sym (eq-eqb m n is) ∙ other in cc)) decided) where
+            undecided : (o : Option BackRow) → IsPast row.epoch.0 o → IsDecided row.epoch.0 o → ⊥
+            undecided None past h = h
+            undecided (Some r) past h = omega (arith, past.0, h)
+
+        all-past : (row : FrontRow) (n : ℕ) → IsWith x row n → IsThere n row.epoch.0 w (nodes n).row → IsOver row.epoch.0 (nodes n).row → (j : ℕ) → IsPast (row.epoch.0 + 1) (nodes j).row
+        all-past row n away there over j = go (j == n) refl where
+          go : (b : Bool) → (j == n) ≡ b → IsPast (row.epoch.0 + 1) (nodes j).row
+          go true same = subst (λ (i : ℕ). IsPast (row.epoch.0 + 1) (nodes i).row) (sym (eqb-true j n same)) (over-past row.epoch.0 n w (nodes n).row there over)
+          go false other = past-later row.epoch.0 (row.epoch.0 + 1) (nodes j).row (omega arith) (away.others j (λ is. let yes : true ≡ false = sym (eq-eqb j n is) ∙ other in cc))
+
+  -- where its stage is one of being away
+  with-node : (row : FrontRow) → p.row ≡ Some row → (epoch : ℕ) → (st : FrontConn) → row.stage ≡ st → is_away epoch st ≡ true → (P : Type 0)
+      → ((n : ℕ) → IsWith x row n → row.epoch.0 ≡ epoch → ((i e : ℕ) → Offers i e row.stage → (i ≡ n) × (e ≡ row.epoch.0)) → P) → P
+  with-node row found epoch (stage.Offering n d) at away P then =
+      let sits : StageSits row.epoch.0 w nodes (stage.Offering n d) = subst (StageSits row.epoch.0 w nodes) at (find-row row found).0 in
+      then n (record { two = sits.0; others = sits.2; at = sits.3 }) (sym sits.1 ∙ eqb-true d.0 epoch away)
+      (λ i e offers. let o : Offers i e (stage.Offering n d) = subst (Offers i e) at offers in (sym o.0, sym o.1 ∙ sits.1))
+  with-node row found epoch (stage.Moved n d) at away P then =
+      let sits : StageSits row.epoch.0 w nodes (stage.Moved n d) = subst (StageSits row.epoch.0 w nodes) at (find-row row found).0 in
+      then n (record { two = sits.0; others = sits.2; at = inr sits.3 }) (sym sits.1 ∙ eqb-true d.0 epoch away)
+      (λ i e offers. absurd (subst (Offers i e) at offers))
+  with-node row found epoch _ at away P then = let no : false ≡ true = away in absurd cc
+
+  -- it ended before, and is acknowledged again
+  again-owes : (row : FrontRow) (m epoch : ℕ) → p.row ≡ Some row → ended_with epoch row.ended_by ≡ true → Owed (Says (saying (ack_sent env m epoch)))
+  again-owes row m epoch found again =
+      let h = find-row row found in
+      let before : epoch < row.epoch.0 = earlier row.ended_by again h.1 in
+      let le : row.epoch.0 ≤ 3 = small row.epoch.0 w nodes row.stage h.0 in
+      let ended : HasEnded epoch p.row = subst (HasEnded epoch) (sym found) before in
+      messages-owe x heads quiet held (ack_sent env m epoch) (tt, tt)
+      (subst (λ h. MaySay x.part Front (Node m) h) (sym (spelled-head _ (omega (arith, before, le)))) ended, tt) where
+        earlier : (o : Option Epoch) → ended_with epoch o ≡ true → EndedBefore row.epoch.0 o → epoch < row.epoch.0
+        earlier None e h = let no : false ≡ true = e in absurd cc
+        earlier (Some by) e h = let same : by.0 ≡ epoch = eqb-true by.0 epoch e in omega (arith, same, h)
+
+  ended-row : (m epoch : ℕ) (last : Final) (row : FrontRow) → p.row ≡ Some row → IsOver epoch (nodes m).row → Owed (ended_by env p m epoch last (Some row) (end_answer epoch (Some row)))
+  ended-row m epoch last row found over = go (is_away epoch row.stage) refl where
+    go : (b : Bool) → is_away epoch row.stage ≡ b → Owed (ended_by env p m epoch last (Some row) (cond b (New (next_epoch row)) (cond (ended_with epoch row.ended_by) Again Stale)))
+    go true away = with-node row found epoch row.stage refl away _
+        (λ n there now offered. ends-owe-one row m n epoch last found there now over offered (find-row row found).1)
+    go false away = again (ended_with epoch row.ended_by) refl where
+      again : (b : Bool) → ended_with epoch row.ended_by ≡ b → Owed (ended_by env p m epoch last (Some row) (cond b Again Stale))
+      again true e = again-owes row m epoch found e
+      again false e = dropped
+
+  ended-by : (m epoch : ℕ) (last : Final) → IsOver epoch (nodes m).row → (o : Option FrontRow) → p.row ≡ o → Owed (ended_by env p m epoch last o (end_answer epoch o))
+  ended-by m epoch last over None e = dropped
+  ended-by m epoch last over (Some row) e = ended-row m epoch last row e over
+
+  pub ended-rule : (m epoch : ℕ) (b : Body) (bytes : List ℕ) (last : Final) → kind_of b ≡ kind.Ended → Spells x.c epoch b bytes → Was x (Node m) Front bytes → Owed (front_ended env p m epoch last)
+  ended-rule m epoch b bytes last kind spells was =
+      ended-by m epoch last (subst (λ (k : Kind). MaySay x.part (Node m) Front (Some (head k epoch))) kind (came-says x (Node m) Front epoch b bytes held.letters was spells)) p.row refl
+
+-- ---- the head of the line
+
+module _ (k : Setting) (x : Conn) (held : IsPlaced x) (env : FrontEnv) (is : IsFrontEnv k x.c env) (choice : FirstChoice) where
+  abbrev nothing_seen : IsQuiet x []
+  nothing_seen = record { may = tt; same = refl }
+
+  admitted-with : (row : FrontRow) (b : ControlBlock) (given : FrontPart × FrontTurn) (o : Option (List ℕ)) → x.part.front.row ≡ Some row → row.stage ≡ stage.Waiting b
+      → admitted_with env row (rest_of x.part.front.rest) b choice o ≡ Some given → Owes x (front_admits x given)
+  admitted-with row b given None found at e = let no : None ≡ Some given = e in absurd cc
+  admitted-with row b given (Some path) found at e =
+      let rest : FrontRest = rest_of x.part.front.rest in
+      let handed : FrontPart × FrontTurn = handed_off env row (serving b rest.count []) path choice in
+      let same : handed ≡ given = cc in
+      let h = sits-row k x [] nothing_seen held env is row found in
+      let sits : StageSits row.epoch.0 (owning (tale_at x)) x.part.nodes (stage.Waiting b) = subst (StageSits row.epoch.0 (owning (tale_at x)) x.part.nodes) at h.0 in
+      subst (λ (g : FrontPart × FrontTurn). Owes x (front_admits x g)) same
+      (placed-owes x [] nothing_seen env is.number row found sits.0 sits.1 h.1 (λ n e. subst (λ (q : FrontConn). Offers n e q → ⊥) (sym at) (λ o. o)) rest (serving b rest.count []) path (first.Go choice) tt)
+
+  admitted-at : (row : FrontRow) (given : FrontPart × FrontTurn) (st : FrontConn) → x.part.front.row ≡ Some row → row.stage ≡ st → admitted_at env x.part.front choice row st ≡ Some given
+      → Owes x (front_admits x given)
+  admitted-at row given (stage.Waiting b) found at e = admitted-with row b given (rest_of x.part.front.rest).target found at e
+  admitted-at row given _ found at e = let no : None ≡ Some given = e in absurd cc
+
+  admitted-by : (given : FrontPart × FrontTurn) (o : Option FrontRow) → x.part.front.row ≡ o → admitted_by env x.part.front choice o ≡ Some given → Owes x (front_admits x given)
+  admitted-by given None found e = let no : None ≡ Some given = e in absurd cc
+  admitted-by given (Some row) found e = admitted-at row given row.stage found refl e
+
+  pub admitted-rule : (given : FrontPart × FrontTurn) → front_admitted env x.part.front choice ≡ Some given → Owes x (front_admits x given)
+  admitted-rule given e = admitted-by given x.part.front.row refl e

@@ -1,0 +1,49 @@
+-- The law of places in every run.
+use Rattle.std.proofs.Common.{ℕ, List, [], refl}
+use Rattle.lard_base.specs.declared.config.Config.{Config}
+use Rattle.lard_rules.specs.declared.machine.Machine.{Machine}
+use Rattle.lard_rules.specs.Machine.{IsReached}
+use Rattle.lard_law_connections.specs.PlacesLaws.{EachConnectionSits, OwnersAreLawful, SendersAreLawful}
+use Rattle.lard_law_connections.proofs.PlacesLaw.{owing}
+use Rattle.lard_law_connections.proofs.PlacesRows.{MayStand}
+use Rattle.lard_law_connections.proofs.PlacesTelling.{IsLawful, lawful-local}
+use Rattle.lard_law_connections.proofs.PlacesTurns.{IsPlaced, Owes, owes-placed}
+use Rattle.lard_law_view.specs.Carry.{IsLaw, MayMove, OfEach, setting}
+use Rattle.lard_law_view.specs.View.{Conn, Setting, blank, conn, grown}
+use Rattle.lard_law_view.proofs.Carried.{carried}
+use Rattle.lard_law_view.proofs.Guarded.{weaker}
+use Rattle.lard_law_view.proofs.InSteps.{carried-records}
+use Rattle.lard_history.specs.Laws.{EachMay, MayOwn, MaySend}
+use Rattle.lard_history.proofs.Each.{each_weaker}
+use Rattle.lard_law_view.proofs.RowLists.{MayBeSeen}
+
+-- nothing more is given
+abbrev Anything : Conn → Type 0
+Anything x = Unit {0}
+
+blank-placed : (c : ℕ) → IsPlaced (blank c)
+blank-placed c = record { sits = (refl, λ n. tt); letters = tt; lawful = tt }
+
+places-law : (k : Setting) → IsLaw k Anything IsPlaced
+places-law k = record {
+  begins = blank-placed;
+  moves = weaker k (λ x v. MayMove Anything x → IsPlaced x → Owes x v) (λ x v. MayMove Anything x → IsPlaced x → IsPlaced (grown x v))
+      (λ x v owes may placed. owes-placed x v (owes may placed) placed) (owing k Anything);
+}
+
+pub each-placed : (config : Config) (files : List (List ℕ × List ℕ)) → OfEach config files IsPlaced
+each-placed config files = carried config files Anything IsPlaced (places-law (setting config files)) (λ m r q. tt)
+
+pub each-sits : EachConnectionSits
+each-sits config files m r q = (each-placed config files m r q).sits
+
+-- Each record of a connection may stand among its own, so each may stand in the journal.
+lawful : (config : Config) (files : List (List ℕ × List ℕ)) (m : Machine) → IsReached config files m → EachMay IsLawful [] m.journal
+unfolding conn
+lawful config files = carried-records config files IsLawful (λ c. MayBeSeen (MayStand c) c) lawful-local.nobody lawful-local.somebody (λ m r q. (each-placed config files m r q).lawful)
+
+pub owners-are : OwnersAreLawful
+owners-are config files m r = each_weaker IsLawful MayOwn (λ past x l. l.0) [] m.journal (lawful config files m r)
+
+pub senders-are : SendersAreLawful
+senders-are config files m r = each_weaker IsLawful MaySend (λ past x l. l.1) [] m.journal (lawful config files m r)

@@ -1,0 +1,56 @@
+-- With whom the front end has a connection that is at a node.
+use Rattle.std.proofs.Common.{◌≡◌, ◌⊎◌, ◌==◌, ℕ, Bool, true, false, Option, Some, None, refl, sym, ◌∙◌, subst, eqb-true, eq-eqb, inl, inr, ⊎_elim}
+use Rattle.lard_law_connections.specs.Places.{IsComing, IsPast, IsThere, Owning, Sits, StageSits, owning}
+use Rattle.lard_law_connections.proofs.PlacesTurns.{IsPlaced}
+use Rattle.lard_law_view.specs.Carry.{tale_at}
+use Rattle.lard_law_view.specs.View.{Conn}
+use Rattle.lard_endpoint.specs.Control.{ControlBlock}
+use Rattle.lard_handoff_back.specs.declared.row.BackConn.TheVariants as back
+use Rattle.lard_handoff_front.specs.declared.row.FrontConn.{FrontConn}
+use Rattle.lard_handoff_front.specs.declared.row.FrontConn.TheVariants as stage
+use Rattle.lard_handoff_front.specs.declared.row.FrontRow.{FrontRow}
+
+-- the front end has it with this node, in this epoch
+pub record IsWithNode (x : Conn) (n e : ℕ) : Type 0 where
+  pub row : FrontRow
+  pub found : x.part.front.row ≡ Some row
+  pub stage : (row.stage ≡ stage.Offering n (record { 0 = e })) ⊎ (row.stage ≡ stage.Moved n (record { 0 = e }))
+
+-- where a node has it, the front end has it with that node, in the epoch of the stay
+pub with-node : (x : Conn) → IsPlaced x → (n e : ℕ) (b : ControlBlock) → (x.part.nodes n).row ≡ Some (record { stage = back.Here b; epoch = record { 0 = e } }) → IsWithNode x n e
+with-node x placed n e b row = go x.part.front.row refl placed.sits where
+  w : Owning
+  w = owning (tale_at x)
+
+  past : (d : ℕ) → IsPast d (x.part.nodes n).row → ⊥
+  past d h = (subst (IsPast d) row h).1
+
+  of-there : (d : ℕ) → IsThere n d w (x.part.nodes n).row → e ≡ d
+  of-there d h = (subst (IsThere n d w) row h).0
+
+  at-stage : (fr : FrontRow) → x.part.front.row ≡ Some fr → (st : FrontConn) → fr.stage ≡ st → StageSits fr.epoch.0 w x.part.nodes st → IsWithNode x n e
+  at-stage fr found (stage.Held c) eq h = absurd (past fr.epoch.0 (h.1.1 n))
+  at-stage fr found (stage.Waiting c) eq h = absurd (past fr.epoch.0 (h.1.1 n))
+  at-stage fr found stage.Lent eq h = absurd h
+  at-stage fr found (stage.Closed last) eq h = absurd (past fr.epoch.0 (h.1.1 n))
+  at-stage fr found (stage.Offering m d) eq h = by-node (m == n) refl where
+    by-node : (t : Bool) → (m == n) ≡ t → IsWithNode x n e
+    by-node false t = absurd (past fr.epoch.0 (h.2 n (λ same. let yes : false ≡ true = sym t ∙ eq-eqb m n (sym same) in cc)))
+    by-node true t =
+        let node : m ≡ n = eqb-true m n t in
+        let its : IsComing fr.epoch.0 w (x.part.nodes n).row ⊎ IsThere n fr.epoch.0 w (x.part.nodes n).row = subst (λ (i : ℕ). IsComing fr.epoch.0 w (x.part.nodes i).row ⊎ IsThere i fr.epoch.0 w (x.part.nodes i).row) node h.3 in
+        let epoch : e ≡ fr.epoch.0 = ⊎_elim (λ (c : IsComing fr.epoch.0 w (x.part.nodes n).row). absurd (past fr.epoch.0 c.2)) (λ (c : IsThere n fr.epoch.0 w (x.part.nodes n).row). of-there fr.epoch.0 c) its in
+        let same : d.0 ≡ e = h.1 ∙ sym epoch in
+        record { row = fr; found = found; stage = inl (eq ∙ (λ i. stage.Offering (node i) (record { 0 = same i }))) }
+  at-stage fr found (stage.Moved m d) eq h = by-node (m == n) refl where
+    by-node : (t : Bool) → (m == n) ≡ t → IsWithNode x n e
+    by-node false t = absurd (past fr.epoch.0 (h.2 n (λ same. let yes : false ≡ true = sym t ∙ eq-eqb m n (sym same) in cc)))
+    by-node true t =
+        let node : m ≡ n = eqb-true m n t in
+        let its : IsThere n fr.epoch.0 w (x.part.nodes n).row = subst (λ (i : ℕ). IsThere i fr.epoch.0 w (x.part.nodes i).row) node h.3 in
+        let same : d.0 ≡ e = h.1 ∙ sym (of-there fr.epoch.0 its) in
+        record { row = fr; found = found; stage = inr (eq ∙ (λ i. stage.Moved (node i) (record { 0 = same i }))) }
+
+  go : (o : Option FrontRow) → x.part.front.row ≡ o → Sits w x.part.nodes o → IsWithNode x n e
+  go None found h = absurd (past 0 (h.1 n))
+  go (Some fr) found h = at-stage fr found fr.stage refl h.0

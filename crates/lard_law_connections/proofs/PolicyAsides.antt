@@ -1,0 +1,166 @@
+-- Records that say nothing of admission, loads and server sets, and what may stand behind what a ledger says.
+use Rattle.std.proofs.Common.{◌≡◌, ℕ, ◌+◌, List, [], ◌∷◌, ◌++◌, Option, Some, None, refl, sym, ap, ◌∙◌, subst}
+use Rattle.std.proofs.lemmas.List.Sums.{fold-append}
+use Rattle.std.specs.List.{fold}
+use Rattle.lard_base.specs.declared.config.Config.{Config}
+use Rattle.lard_base.specs.declared.event.Event.{Event}
+use Rattle.lard_base.specs.declared.event.Event.TheVariants as event
+use Rattle.lard_base.specs.declared.place.Place.{Place}
+use Rattle.lard_base.specs.declared.place.Place.TheVariants.{Front, Node, Client}
+use Rattle.lard_law_connections.specs.PolicyLaws.{ArePaired, Due, MayAdmit, MayAssign, MayRelease, MayShare, last_of}
+use Rattle.lard_law_connections.specs.PolicyLaws.Due.{First, Later, Nothing}
+use Rattle.lard_counts.specs.Ledger.{Ledger, blank, ledger, ledger_step}
+use Rattle.lard_law_view.proofs.Saying.{GaveAt, NotedAt}
+use Rattle.lard_law_view.proofs.Timers.{IsTimerAt}
+use Rattle.lard_history.specs.Laws.{EachMay}
+use Rattle.lard_history.proofs.Each.{Each}
+use Rattle.lard_journal.specs.declared.rec.Rec.{Rec}
+use Rattle.lard_journal.specs.declared.rec.Rec.TheVariants as rec
+use Rattle.lard_rules.specs.Sent.{sent_records}
+use Rattle.lard_law_view.proofs.OwnRecords.{behind}
+
+-- ---- both laws at once, over a ledger that goes on record by record
+
+abbrev pub May : Config → Ledger → Rec → Type 0
+May cfg l r = MayAdmit cfg l r × MayAssign cfg l r
+
+abbrev pub EachFrom : (Ledger → Rec → Type 0) → Ledger → List Rec → Type 0
+EachFrom may l [] = Unit {0}
+EachFrom may l (r ∷ rs) = may l r × EachFrom may (ledger_step l r) rs
+
+pub from-append : (may : Ledger → Rec → Type 0) (l : Ledger) (xs ys : List Rec) → EachFrom may l xs → EachFrom may (fold ledger_step l xs) ys → EachFrom may l (xs ++ ys)
+from-append may l [] ys e f = f
+from-append may l (x ∷ xs) ys e f = (e.0, from-append may (ledger_step l x) xs ys e.1 f)
+
+-- so it is of a journal, behind its past
+pub from-may : (cfg : Config) (may : Ledger → Rec → Type 0) (past rs : List Rec) → EachFrom may (ledger cfg past) rs → EachMay (λ past r. may (ledger cfg past) r) past rs
+from-may cfg may past [] e = tt
+from-may cfg may past (r ∷ rs) e = (e.0, from-may cfg may (past ++ r ∷ []) rs (subst (λ (l : Ledger). EachFrom may l rs) (sym (fold-append ledger_step (blank cfg) past (r ∷ []))) e.1))
+
+-- and back
+pub may-from : (cfg : Config) (may : Ledger → Rec → Type 0) (past rs : List Rec) → EachMay (λ past r. may (ledger cfg past) r) past rs → EachFrom may (ledger cfg past) rs
+may-from cfg may past [] e = tt
+may-from cfg may past (r ∷ rs) e = (e.0, subst (λ (l : Ledger). EachFrom may l rs) (fold-append ledger_step (blank cfg) past (r ∷ [])) (may-from cfg may (past ++ r ∷ []) rs e.1))
+
+-- ---- what stands directly before
+
+abbrev pub MayFollow : Option Rec → Ledger → Rec → Type 0
+MayFollow before l r = MayShare before l r × MayRelease before r
+
+abbrev pub EachAfter : Option Rec → Ledger → List Rec → Type 0
+EachAfter before l [] = Unit {0}
+EachAfter before l (r ∷ rs) = MayFollow before l r × EachAfter (Some r) (ledger_step l r) rs
+
+pub after-append : (before : Option Rec) (l : Ledger) (xs ys : List Rec) → EachAfter before l xs → ((o : Option Rec) → EachAfter o (fold ledger_step l xs) ys) → EachAfter before l (xs ++ ys)
+after-append before l [] ys e f = f before
+after-append before l (x ∷ xs) ys e f = (e.0, after-append (Some x) (ledger_step l x) xs ys e.1 f)
+
+pub after-may : (cfg : Config) (past rs : List Rec) → EachAfter (last_of past) (ledger cfg past) rs → EachMay (λ past r. MayFollow (last_of past) (ledger cfg past) r) past rs
+after-may cfg past [] e = tt
+after-may cfg past (r ∷ rs) e = (
+  e.0,
+  after-may cfg (past ++ r ∷ []) rs (subst (λ (o : Option Rec). EachAfter o (ledger cfg (past ++ r ∷ [])) rs) (sym (fold-append (λ (before : Option Rec) (r : Rec). Some r) None past (r ∷ [])))
+      (subst (λ (l : Ledger). EachAfter (Some r) l rs) (sym (fold-append ledger_step (blank cfg) past (r ∷ []))) e.1)),
+)
+
+pub paired-append : (due : Due) (xs ys : List Rec) → ArePaired due xs → ArePaired Nothing ys → ArePaired due (xs ++ ys)
+paired-append Nothing [] ys h f = f
+paired-append (First c) [] ys h f = absurd h
+paired-append (Later c) [] ys h f = absurd h
+paired-append Nothing (rec.Admitted c ∷ xs) ys h f = paired-append (First c) xs ys h f
+paired-append Nothing (rec.BatchOver c ∷ xs) ys h f = paired-append (Later c) xs ys h f
+paired-append Nothing (rec.AssignedFirst c r path n add remove ∷ xs) ys h f = absurd h
+paired-append (First c) (rec.AssignedFirst d r path n add remove ∷ xs) ys h f = (h.0, paired-append Nothing xs ys h.1 f)
+paired-append (Later c) (rec.AssignedLater d r path n add size queue ∷ xs) ys h f = (h.0, paired-append Nothing xs ys h.1 f)
+paired-append Nothing (x ∷ xs) ys h f = paired-append Nothing xs ys h f
+paired-append (First c) (x ∷ xs) ys h f = absurd h
+paired-append (Later c) (x ∷ xs) ys h f = absurd h
+
+-- ---- records aside
+
+-- it is none of admission and assignments, and none of the clock
+abbrev pub IsAside : Rec → Type 0
+IsAside (rec.Clock time) = ⊥
+IsAside (rec.Waits c) = ⊥
+IsAside (rec.Admitted c) = ⊥
+IsAside (rec.Released c) = ⊥
+IsAside (rec.AssignedFirst c r path n add remove) = ⊥
+IsAside (rec.AssignedLater c r path n add size queue) = ⊥
+IsAside (rec.BatchOver c) = ⊥
+IsAside _ = Unit {0}
+
+-- The ledger stays by it, and it may stand anywhere.
+pub record ChangesNothing (r : Rec) : Type 0 where
+  pub same : (l : Ledger) → ledger_step l r ≡ l
+  pub may : (cfg : Config) (l : Ledger) → May cfg l r
+  pub follow : (before : Option Rec) (l : Ledger) → MayFollow before l r
+  pub pair : (rs : List Rec) → ArePaired Nothing rs → ArePaired Nothing (r ∷ rs)
+
+pub aside : (r : Rec) → IsAside r → ChangesNothing r
+aside (rec.Clock time) h = absurd h
+aside (rec.Waits c) h = absurd h
+aside (rec.Admitted c) h = absurd h
+aside (rec.Released c) h = absurd h
+aside (rec.AssignedFirst c r path n add remove) h = absurd h
+aside (rec.AssignedLater c r path n add size queue) h = absurd h
+aside (rec.BatchOver c) h = absurd h
+aside _ h = record { same = λ l. refl; may = λ cfg l. (tt, tt); follow = λ before l. (tt, tt); pair = λ rs h. h }
+
+pub asides-same : (l : Ledger) (rs : List Rec) → Each IsAside rs → fold ledger_step l rs ≡ l
+asides-same l [] e = refl
+asides-same l (r ∷ rs) e = ap (λ (x : Ledger). fold ledger_step x rs) ((aside r e.0).same l) ∙ asides-same l rs e.1
+
+pub asides-may : (cfg : Config) (l : Ledger) (rs : List Rec) → Each IsAside rs → EachFrom (May cfg) l rs
+asides-may cfg l [] e = tt
+asides-may cfg l (r ∷ rs) e = ((aside r e.0).may cfg l, asides-may cfg (ledger_step l r) rs e.1)
+
+pub asides-after : (before : Option Rec) (l : Ledger) (rs : List Rec) → Each IsAside rs → EachAfter before l rs
+asides-after before l [] e = tt
+asides-after before l (r ∷ rs) e = ((aside r e.0).follow before l, asides-after (Some r) (ledger_step l r) rs e.1)
+
+pub asides-paired : (rs : List Rec) → Each IsAside rs → ArePaired Nothing rs
+asides-paired [] e = tt
+asides-paired (r ∷ rs) e = (aside r e.0).pair rs (asides-paired rs e.1)
+
+-- ---- which records are
+
+-- what a client or a node notes
+abbrev pub IsNoFront : Place → Type 0
+IsNoFront Front = ⊥
+IsNoFront _ = Unit {0}
+
+pub note-aside : (place : Place) (c : ℕ) (r : Rec) → IsNoFront place → NotedAt place c r → IsAside r
+note-aside Front c r k h = absurd k
+note-aside (Client e) c (rec.Wrote d bytes) k h = tt
+note-aside (Client e) c (rec.Accepted d bytes) k h = tt
+note-aside (Client e) c (rec.Eof d) k h = tt
+note-aside (Client e) c (rec.Aborted d) k h = tt
+note-aside (Node n) c (rec.Took (Node k) d epoch) _ h = tt
+note-aside (Node n) c (rec.Served (Node k) d r code size via) _ h = tt
+note-aside (Node n) c (rec.Reset (Node k) d total) _ h = tt
+note-aside (Node n) c (rec.Queued k o d r path) _ h = tt
+note-aside (Node n) c (rec.Read k o d r path) _ h = tt
+note-aside (Node n) c (rec.Hit k path) _ h = tt
+note-aside _ c _ k h = absurd h
+
+pub gave-aside : (place : Place) (c : ℕ) (r : Rec) → GaveAt place c r → IsAside r
+gave-aside Front c (rec.Gave Front d epoch) h = tt
+gave-aside (Node n) c (rec.Gave (Node k) d epoch) h = tt
+gave-aside _ c _ h = absurd h
+
+pub timer-aside : (place : Place) (c : ℕ) (r : Rec) → IsTimerAt place c r → IsAside r
+timer-aside place c (rec.Armed p d kind) h = tt
+timer-aside place c (rec.Cleared p d kind) h = tt
+timer-aside place c _ h = absurd h
+
+pub sents-aside : (k : ℕ) (place : Place) (ss : List (Place × List ℕ)) → Each IsAside (sent_records k place ss)
+sents-aside k place [] = tt
+sents-aside k place (s ∷ ss) = (tt, sents-aside (k + 1) place ss)
+
+-- what stands directly behind an event
+pub behind-aside : (e : Event) → Each IsAside (behind e)
+behind-aside (event.Open c isn iss wnd mss) = (tt, tt)
+behind-aside (event.Deliver k) = (tt, tt)
+behind-aside (event.Lose k) = (tt, tt)
+behind-aside (event.Inject c bytes) = (tt, tt)
+behind-aside _ = tt

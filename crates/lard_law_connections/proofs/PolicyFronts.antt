@@ -1,0 +1,334 @@
+-- What the front end notes of a connection is what its dispatcher does.
+use Rattle.std.proofs.Common.{◌≡◌, ℕ, ◌+◌, ◌≤◌, ◌<◌, ◌==◌, ◌&&◌, nat_lt, Bool, true, false, cond, List, [], ◌∷◌, ◌++◌, Option, Some, None, Result, Ok, Err, refl, sym, ap, subst, ◌∙◌, arith, length}
+use Rattle.std.proofs.lemmas.Bool.{cond_both, eq-eqb, eqb-false, eqb-true, ne_eqb}
+use Rattle.lard_base.specs.Config.{room_of}
+use Rattle.lard_base.specs.declared.ids.Millis.{Millis}
+use Rattle.lard_base.specs.declared.place.Place.TheVariants as place
+use Rattle.lard_law_connections.proofs.PolicyAsides.{IsAside}
+use Rattle.lard_law_connections.proofs.PolicyIns.{AreIn}
+use Rattle.lard_law_connections.proofs.PolicyLeading.{Leads, admit-leads, aside-leads, behind-asides, later-leads, line-shared, wait-leads}
+use Rattle.lard_law_connections.proofs.PolicyLines.{AreLined, lined-absent, lined-more, lined-same, lined-without, target_of}
+use Rattle.lard_law_connections.proofs.PolicyOrder.{IsNeither, IsOrdered, alone-ordered, aside-neither, assigned-neither, none-ordered, over-neither}
+use Rattle.lard_law_connections.proofs.PolicyReading.{reads-notes, settled-notes}
+use Rattle.lard_law_connections.proofs.PolicyWaiting.{IsIdle, Leaves, asides-idle, assigned-idle, idle-leaves, left-leaves, over-idle, waits-leaves}
+use Rattle.lard_dispatch.specs.declared.dispatch.Ask.{Ask}
+use Rattle.lard_dispatch.specs.declared.dispatch.First.{First}
+use Rattle.lard_dispatch.specs.declared.dispatch.First.TheVariants as first
+use Rattle.lard_dispatch.specs.declared.dispatch.Later.{Later}
+use Rattle.lard_dispatch.specs.declared.line.Waiting.{Waiting}
+use Rattle.lard_dispatch.specs.Books.{Dispatcher}
+use Rattle.lard_dispatch.specs.Calls.{admitted_with, after_first, batch_over, choice_at, first_answer, is_full, later_answer}
+use Rattle.lard_dispatch.specs.Laws.{after_calls}
+use Rattle.lard_dispatch.specs.Laws as call
+use Rattle.lard_dispatch.specs.Line.{waits, without}
+use Rattle.lard_dispatch.specs.Sound.{IsSound}
+use Rattle.lard_dispatch.proofs.Soundness.{not-in}
+use Rattle.lard_endpoint.specs.Arriving.{on_segment}
+use Rattle.lard_endpoint.specs.Control.{listening}
+use Rattle.lard_rules.specs.declared.front.FrontRest.{FrontRest}
+use Rattle.lard_rules.specs.declared.front.FrontTurn.{FrontTurn}
+use Rattle.lard_rules.specs.Front.{Deed, Drops, Says, Does, Did, FrontEnv, FrontPart, ask_of, asked_by, assigned_notes, assigns, begun, fired, fired_by, fires_at, front_asked, front_gets, front_hears, front_taken, front_timer, hears_at, holds, is_at, leaves_by, over_note, placed, rest_of, rests, saying, settled_by, tag_sent, taken_by, turn_here, waits_on}
+use Rattle.lard_rules.specs.FrontReading.{Reading, reads}
+use Rattle.lard_rules.specs.FrontSound.{IsPartSound, IsRowSound, IsStageSound, Standing, nowhere, standing}
+use Rattle.lard_rules.proofs.FrontDeeds.{IsOf, away-stands}
+use Rattle.lard_handoff_front.specs.declared.row.FrontConn.{FrontConn}
+use Rattle.lard_handoff_front.specs.declared.row.FrontConn.TheVariants as stage
+use Rattle.lard_handoff_front.specs.declared.row.FrontRow.{FrontRow}
+use Rattle.lard_handoff_front.specs.Front.{asked_node}
+use Rattle.lard_history.proofs.Each.{Each, Each-append, Each-weaker}
+use Rattle.lard_history.proofs.Seeing.{by_number}
+use Rattle.lard_journal.specs.declared.rec.Rec.{Rec}
+use Rattle.lard_journal.specs.declared.rec.Rec.TheVariants as rec
+use Rattle.lard_loads.specs.Tally.{admitted, home}
+use Rattle.lard_policy.specs.declared.first.FirstChoice.{FirstChoice}
+use Rattle.lard_rules.specs.declared.places.Ending.{Ending}
+use Rattle.lard_rules.specs.declared.places.Ending.TheVariants.{Here, Over}
+use Rattle.lard_rules.specs.declared.places.Turn.{Turn}
+use Rattle.lard_rules.specs.Tombstone.{is_plain_syn, last_words, tombstone}
+use Rattle.lard_rules.specs.Serving.{Service, serving, settled, spoken}
+use Rattle.lard_segment.specs.declared.fault.SegFault.{SegFault}
+use Rattle.lard_segment.specs.Segment.{Said}
+
+-- What is noted of connection c is what the dispatcher does, and who is in the line waits as it is told.
+pub record Tells (d : Dispatcher) (c : ℕ) (now : Millis) (ins : List ℕ) (p : FrontPart) (x : Did) : Type 0 where
+  pub leads : Leads d.config now ins d.books x.turn.notes (after_calls d x.calls).books
+  pub gave : Each IsAside x.turn.gave
+  pub ordered : IsOrdered d.books.line x.turn.notes
+  pub waits : Leaves d.books.line x.turn.notes (after_calls d x.calls).books.line
+  pub lines : (t u : ℕ → Option (List ℕ)) → ((q : ℕ) → (q ≡ c → ⊥) → u q ≡ t q) → t c ≡ target_of p.rest → u c ≡ target_of x.part.rest
+      → AreLined t d.books.line → AreLined u (after_calls d x.calls).books.line
+
+asides-ordered : (line : List Waiting) (notes : List Rec) → Each IsAside notes → IsOrdered line notes
+asides-ordered line notes asides = none-ordered line notes (Each-weaker IsAside IsNeither aside-neither notes asides)
+
+asides-leave : (line : List Waiting) (notes : List Rec) → Each IsAside notes → Leaves line notes line
+asides-leave line notes asides = idle-leaves line notes (asides-idle notes asides)
+
+-- where nothing but the turn is done, it notes and gives up nothing
+pub record IsMute (t : FrontTurn) : Type 0 where
+  pub notes : t.notes ≡ []
+  pub gave : t.gave ≡ []
+
+abbrev pub DeedTells : Dispatcher → ℕ → Millis → List ℕ → FrontPart → Deed → Type 0
+DeedTells d c now ins p Drops = Unit {0}
+DeedTells d c now ins p (Says turn) = IsMute turn
+DeedTells d c now ins p (Does x) = Tells d c now ins p x
+
+-- all others have what they had, and so has this one
+same-all : (c : ℕ) (t u : ℕ → Option (List ℕ)) (o : Option (List ℕ)) → ((q : ℕ) → (q ≡ c → ⊥) → u q ≡ t q) → t c ≡ o → u c ≡ o → (q : ℕ) → u q ≡ t q
+same-all c t u o others was is q = by_number (u q ≡ t q) q c (λ e. ap u e ∙ is ∙ sym was ∙ ap t (sym e)) (others q)
+
+module _ (d : Dispatcher) (ins : List ℕ) (in_ : AreIn ins d.books.loads.standings) where
+  -- ---- an endpoint that is here
+
+  -- one that does not wait is held on, or ended
+  pub holds-tells : (c : ℕ) (now : Millis) (p : FrontPart) (row : FrontRow) (rest : FrontRest) (given : Ending × Turn) → waits d.books.line c ≡ false → Each IsAside given.1.notes
+      → DeedTells d c now ins p (holds p row rest given)
+  holds-tells c now p row rest given free asides = record {
+    leads = aside-leads d.config now ins d.books in_ given.1.notes asides;
+    gave = tt;
+    ordered = asides-ordered d.books.line given.1.notes asides;
+    waits = asides-leave d.books.line given.1.notes asides;
+    lines = λ t u others was is lined. lined-absent t u c others d.books.line free lined;
+  }
+
+  -- one that waits waits on, or leaves the line
+  pub waits-tells : (env : FrontEnv) (p : FrontPart) (row : FrontRow) (given : Ending × Turn) → Each IsAside given.1.notes → DeedTells d env.serve.c env.now ins p (waits_on env p row (rest_of p.rest) given)
+  waits-tells env p row (Here b count, turn) asides = record {
+    leads = aside-leads d.config env.now ins d.books in_ turn.notes asides;
+    gave = tt;
+    ordered = asides-ordered d.books.line turn.notes asides;
+    waits = asides-leave d.books.line turn.notes asides;
+    lines = λ t u others was is lined. lined-same t u (same-all env.serve.c t u (target_of p.rest) others was is) d.books.line lined;
+  }
+  waits-tells env p row (Over last, turn) asides =
+      let leads : Leads d.config env.now ins d.books turn.notes d.books = aside-leads d.config env.now ins d.books in_ turn.notes asides in record {
+        leads = record { more = leads.more; then = leads.then; in_ = leads.in_; may = leads.may; paired = leads.paired; after = leads.after };
+        gave = tt;
+        ordered = asides-ordered d.books.line turn.notes asides;
+        waits = left-leaves env.serve.c d.books.line turn.notes d.books.line (asides-leave d.books.line turn.notes asides);
+        lines = λ t u others was is lined. lined-without t u env.serve.c others d.books.line lined;
+      }
+
+  -- ---- it is placed
+
+  module _ (sound : IsSound d) (env : FrontEnv) (free : standing d env.serve.c ≡ nowhere) (p : FrontPart) (row : FrontRow) (rest : FrontRest) (w : Service) (path : List ℕ) (asides : Each IsAside w.notes) where
+    abbrev c : ℕ
+    c = env.serve.c
+
+    abbrev newcomer : Waiting
+    newcomer = record { c = env.serve.c; target = path }
+
+    abbrev waiting : Dispatcher
+    waiting = record d { books = record d.books { line = d.books.line ++ newcomer ∷ [] } }
+
+    abbrev going : Dispatcher
+    going = record d { books = admitted_with d.config d.books env.serve.c path env.now }
+
+    absent : waits d.books.line env.serve.c ≡ false
+    absent = ap (λ (x : Standing). x.waits) free
+
+    -- what the dispatcher answers, and has then
+    abbrev Answers : First → Dispatcher → Type 0
+    Answers (first.Go choice) e = (choice ≡ choice_at d.config d.books path env.now) × (e ≡ going) × (admitted d.books.loads < room_of d.config)
+    Answers first.Waits e = (e ≡ waiting) × (admitted d.books.loads ≡ room_of d.config)
+
+    answers : Answers (first_answer d path env.now) (after_first d env.serve.c path env.now)
+    answers = go (is_full d) refl where
+      go : (full : Bool) → is_full d ≡ full → Answers (cond full first.Waits (first.Go (choice_at d.config d.books path env.now))) (cond full waiting going)
+      go true is = (refl, eqb-true (admitted d.books.loads) (room_of d.config) is)
+      go false is =
+          let most : admitted d.books.loads ≤ room_of d.config = sound.room in
+          let other : admitted d.books.loads ≡ room_of d.config → ⊥ = eqb-false (admitted d.books.loads) (room_of d.config) is in
+          (refl, refl, omega (arith, most, other))
+
+    abbrev Goes : FirstChoice → Dispatcher → Type 0
+    Goes choice e = Leads d.config env.now ins d.books (w.notes ++ rec.Admitted env.serve.c ∷ rec.AssignedFirst env.serve.c (w.count + 1) path choice.node choice.add choice.remove ∷ []) e.books
+
+    goes : admitted d.books.loads < room_of d.config → Goes (choice_at d.config d.books path env.now) going
+    goes less = behind-asides d.config env.now ins d.books going.books w.notes _ in_ asides
+        (admit-leads d.config env.now ins d.books in_ env.serve.c (w.count + 1) path (not-in d.books.loads env.serve.c (ap (λ (x : Standing). x.home) free)) less)
+
+    -- it waits
+    abbrev heard : Ending × Turn
+    heard = spoken env.serve (record w { notes = w.notes ++ rec.Waits env.serve.c ∷ [] }) []
+
+    abbrev did : Ending → Did
+    did e = record { part = rests p row (record rest { target = Some path }) stage.Waiting e; turn = turn_here heard.1; calls = call.First env.serve.c path env.now ∷ leaves_by env.serve.c e }
+
+    abbrev Stands : Dispatcher → Type 0
+    Stands e = Leads d.config env.now ins d.books (w.notes ++ rec.Waits env.serve.c ∷ []) e.books
+
+    stands : admitted d.books.loads ≡ room_of d.config → Stands waiting
+    stands full = behind-asides d.config env.now ins d.books waiting.books w.notes (rec.Waits env.serve.c ∷ []) in_ asides (wait-leads d.config env.now ins d.books in_ env.serve.c (d.books.line ++ newcomer ∷ []) full)
+
+    last-lined : (t u : ℕ → Option (List ℕ)) → ((q : ℕ) → (q ≡ env.serve.c → ⊥) → u q ≡ t q) → u env.serve.c ≡ Some path → AreLined t d.books.line → AreLined u (d.books.line ++ newcomer ∷ [])
+    last-lined t u others is h = lined-more u d.books.line newcomer (lined-absent t u env.serve.c others d.books.line absent h) is
+
+    -- what was there, with the path of this one
+    abbrev between : (ℕ → Option (List ℕ)) → ℕ → Option (List ℕ)
+    between t q = cond (q == env.serve.c) (Some path) (t q)
+
+    between-other : (t : ℕ → Option (List ℕ)) (q : ℕ) → (q ≡ env.serve.c → ⊥) → between t q ≡ t q
+    between-other t q n = ap (λ (b : Bool). cond b (Some path) (t q)) (ne_eqb q env.serve.c n)
+
+    left-lined : (t u : ℕ → Option (List ℕ)) → ((q : ℕ) → (q ≡ env.serve.c → ⊥) → u q ≡ t q) → AreLined t d.books.line → AreLined u (without (d.books.line ++ newcomer ∷ []) env.serve.c)
+    left-lined t u others h = lined-without (between t) u env.serve.c (λ q n. others q n ∙ sym (between-other t q n)) (d.books.line ++ newcomer ∷ [])
+        (last-lined t (between t) (between-other t) (ap (λ (b : Bool). cond b (Some path) (t env.serve.c)) (eq-eqb env.serve.c env.serve.c refl)) h)
+
+    waits-ordered : IsOrdered d.books.line (w.notes ++ rec.Waits env.serve.c ∷ [])
+    waits-ordered = none-ordered d.books.line (w.notes ++ rec.Waits env.serve.c ∷ [])
+        (Each-append IsNeither w.notes (rec.Waits env.serve.c ∷ []) (Each-weaker IsAside IsNeither aside-neither w.notes asides) (tt, tt))
+
+    waits-last : Leaves d.books.line (w.notes ++ rec.Waits env.serve.c ∷ []) (d.books.line ++ newcomer ∷ [])
+    waits-last = waits-leaves d.books.line w.notes newcomer (asides-idle w.notes asides)
+
+    goes-leave : admitted d.books.loads < room_of d.config → (notes : List Rec) → Leaves d.books.line notes d.books.line
+    goes-leave less notes = go d.books.line sound.full where
+      go : (line : List Waiting) → (0 < length line → admitted d.books.loads ≡ room_of d.config) → Leaves line notes line
+      go [] full = λ ys h. tt
+      go (v ∷ vs) full = let no : admitted d.books.loads ≡ room_of d.config = full (omega arith) in absurd (omega (arith, no, less))
+
+    -- nobody waits where there is room
+    goes-ordered : admitted d.books.loads < room_of d.config → (notes : List Rec) → IsOrdered d.books.line notes
+    goes-ordered less notes = go d.books.line sound.full where
+      go : (line : List Waiting) → (0 < length line → admitted d.books.loads ≡ room_of d.config) → IsOrdered line notes
+      go [] full = alone-ordered notes
+      go (v ∷ vs) full = let no : admitted d.books.loads ≡ room_of d.config = full (omega arith) in absurd (omega (arith, no, less))
+
+    wait : (e : Ending) → Answers first.Waits (after_first d env.serve.c path env.now) → Tells d env.serve.c env.now ins p (did e)
+    wait (Here b count) h = record {
+      leads = subst Stands (sym h.0) (stands h.1);
+      gave = tt;
+      ordered = waits-ordered;
+      waits = subst (λ (e : Dispatcher). Leaves d.books.line (w.notes ++ rec.Waits env.serve.c ∷ []) e.books.line) (sym h.0) waits-last;
+      lines = λ t u others was is l. subst (λ (e : Dispatcher). AreLined u e.books.line) (sym h.0) (last-lined t u others is l);
+    }
+    wait (Over final) h =
+        let leads : Stands (after_first d env.serve.c path env.now) = subst Stands (sym h.0) (stands h.1) in record {
+          leads = record { more = leads.more; then = leads.then; in_ = leads.in_; may = leads.may; paired = leads.paired; after = leads.after };
+          gave = tt;
+          ordered = waits-ordered;
+          waits = subst (λ (e : Dispatcher). Leaves d.books.line (w.notes ++ rec.Waits env.serve.c ∷ []) (without e.books.line env.serve.c)) (sym h.0)
+              (left-leaves env.serve.c d.books.line (w.notes ++ rec.Waits env.serve.c ∷ []) (d.books.line ++ newcomer ∷ []) waits-last);
+          lines = λ t u others was is l. subst (λ (e : Dispatcher). AreLined u (without e.books.line env.serve.c)) (sym h.0) (left-lined t u others l);
+        }
+
+    placed-tells : (f : First) → Answers f (after_first d env.serve.c path env.now) → Tells d env.serve.c env.now ins p (placed env p row rest w path f)
+    placed-tells (first.Go choice) h = record {
+      leads = subst (Goes choice) (sym h.1) (subst (λ (x : FirstChoice). Goes x going) (sym h.0) (goes h.2));
+      gave = (tt, tt);
+      ordered = goes-ordered h.2 (w.notes ++ rec.Admitted env.serve.c ∷ rec.AssignedFirst env.serve.c (w.count + 1) path choice.node choice.add choice.remove ∷ []);
+      waits = subst (λ (e : Dispatcher). Leaves d.books.line (w.notes ++ rec.Admitted env.serve.c ∷ rec.AssignedFirst env.serve.c (w.count + 1) path choice.node choice.add choice.remove ∷ []) e.books.line) (sym h.1)
+          (goes-leave h.2 (w.notes ++ rec.Admitted env.serve.c ∷ rec.AssignedFirst env.serve.c (w.count + 1) path choice.node choice.add choice.remove ∷ []));
+      lines = λ t u others was is lined. subst (λ (e : Dispatcher). AreLined u e.books.line) (sym h.1) (lined-absent t u env.serve.c others d.books.line absent lined);
+    }
+    placed-tells first.Waits h = wait heard.0 h
+
+  -- what was read is said, or it is placed
+  read-tells : (sound : IsSound d) (env : FrontEnv) → IsOf env d → standing d env.serve.c ≡ nowhere → (p : FrontPart) (row : FrontRow) (rest : FrontRest) (w : Service) (target : Option (List ℕ)) → Each IsAside w.notes
+      → DeedTells d env.serve.c env.now ins p (settled_by env p row rest w target)
+  read-tells sound env of free p row rest w None asides =
+      holds-tells env.serve.c env.now p row rest (settled env.serve w) (ap (λ (x : Standing). x.waits) free) (subst (Each IsAside) (sym (settled-notes env.serve w)) asides)
+  read-tells sound env of free p row rest w (Some path) asides = placed-tells sound env free p row rest w path asides (env.first path)
+      (subst (λ f. Answers sound env free p row rest w path asides f (after_first d env.serve.c path env.now)) (sym (of.first path)) (answers sound env free p row rest w path asides))
+
+  -- ---- what comes of a client
+
+  module _ (sound : IsSound d) (env : FrontEnv) (of : IsOf env d) (p : FrontPart) where
+    abbrev TellsOf : Deed → Type 0
+    TellsOf deed = DeedTells d env.serve.c env.now ins p deed
+
+    hears-tells : (row : FrontRow) (bytes : List ℕ) (s : Said) (at : FrontConn) → IsStageSound row.epoch.0 p.rest p.kept (standing d env.serve.c) at → TellsOf (hears_at env p row bytes s at)
+    hears-tells row bytes s (stage.Held b) h =
+        let x : Reading = record { service = serving (on_segment b s).1 (rest_of p.rest).count []; target = None } in
+        read-tells sound env of h.2 p row (rest_of p.rest) (reads env.serve x).service (reads env.serve x).target (reads-notes env.serve x tt)
+    hears-tells row bytes s (stage.Waiting b) h = waits-tells env p row (spoken env.serve (serving (on_segment b s).1 (rest_of p.rest).count []) []) tt
+    hears-tells row bytes s stage.Lent h = tt
+    hears-tells row bytes s (stage.Offering node epoch) h = record { notes = refl; gave = refl }
+    hears-tells row bytes s (stage.Moved node epoch) h = record { notes = refl; gave = refl }
+    hears-tells row bytes s (stage.Closed last) h = words (last_words last.reason last s) where
+      words : (o : Option Said) → IsMute (turn_here (tombstone env.serve o))
+      words None = record { notes = refl; gave = refl }
+      words (Some said) = record { notes = refl; gave = refl }
+
+    row-tells : (bytes : List ℕ) (s : Said) (o : Option FrontRow) → IsRowSound p.rest p.kept (standing d env.serve.c) o → TellsOf (front_hears env p bytes s o)
+    row-tells bytes s None h = cond_both (is_plain_syn s) (begun env p s) Drops TellsOf
+        (λ t. holds-tells env.serve.c env.now p (record { stage = stage.Lent; epoch = record { 0 = 1 }; ended_by = None }) (rest_of None)
+        (spoken env.serve (serving (listening s env.iss) 0 (rec.Took place.Front env.serve.c (record { 0 = 1 }) ∷ [])) []) (ap (λ (x : Standing). x.waits) h.1) (tt, tt))
+        (λ t. tt)
+    row-tells bytes s (Some row) h = hears-tells row bytes s row.stage h
+
+    pub gets-tells : (bytes : List ℕ) (r : Result Said SegFault) → IsPartSound p (standing d env.serve.c) → TellsOf (front_gets env p bytes r)
+    gets-tells bytes (Err fault) h = tt
+    gets-tells bytes (Ok s) h = row-tells bytes s p.row h
+
+    -- ---- timers
+
+    fires-tells : (row : FrontRow) (at : FrontConn) → IsStageSound row.epoch.0 p.rest p.kept (standing d env.serve.c) at → TellsOf (fires_at env p row at)
+    fires-tells row (stage.Held b) h = holds-tells env.serve.c env.now p row (rest_of p.rest) (fired env (rest_of p.rest) b) (ap (λ (x : Standing). x.waits) h.2) tt
+    fires-tells row (stage.Waiting b) h = waits-tells env p row (fired env (rest_of p.rest) b) tt
+    fires-tells row (stage.Offering node epoch) h = record { notes = refl; gave = refl }
+    fires-tells row _ h = tt
+
+    pub timer-tells : IsPartSound p (standing d env.serve.c) → TellsOf (front_timer env p)
+    timer-tells h = go p.row h where
+      go : (o : Option FrontRow) → IsRowSound p.rest p.kept (standing d env.serve.c) o → TellsOf (fired_by env p o)
+      go None h = tt
+      go (Some row) h = fires-tells row row.stage h
+
+    -- ---- an Ask
+
+    module _ (from epoch number queue size : ℕ) (paths : List (List ℕ)) (some : 1 ≤ length paths) where
+      abbrev ask : Ask
+      ask = ask_of env.serve.c from number queue size paths
+
+      abbrev After : Dispatcher
+      After = after_calls d (call.Later ask env.now ∷ [])
+
+      at-home : (o : Option FrontRow) → is_at from epoch o ≡ true → IsRowSound p.rest p.kept (standing d env.serve.c) o → standing d env.serve.c ≡ record { home = Some from; waits = false }
+      at-home None there h = let no : false ≡ true = there in absurd cc
+      at-home (Some row) there h = away-stands from epoch row.stage p.rest p.kept (standing d env.serve.c) row.epoch.0 there h
+
+      asked-lines : (t u : ℕ → Option (List ℕ)) → ((q : ℕ) → u q ≡ t q) → AreLined t d.books.line → AreLined u After.books.line
+      asked-lines t u same lined = subst (AreLined u) (sym (line-shared d.config env.now ask paths (batch_over d.books ask))) (lined-same t u same d.books.line lined)
+
+      new-tells : (rest : FrontRest) → p.rest ≡ Some rest → standing d env.serve.c ≡ record { home = Some from; waits = false } → (l : Later) → l ≡ later_answer d ask env.now
+          → Tells d env.serve.c env.now ins p (assigns env p rest from epoch ask l)
+      new-tells rest found home l is = record {
+        leads = subst (λ (y : Later). Leads d.config env.now ins d.books (assigns env p rest from epoch ask y).turn.notes After.books) (sym is)
+            (later-leads d.config env.now ask ins rest.assigned d.books some in_ (ap (λ (x : Standing). x.home) home));
+        gave = tt;
+        ordered = none-ordered d.books.line (assigns env p rest from epoch ask l).turn.notes
+            (Each-append IsNeither (over_note env.serve.c l.over) (assigned_notes env.serve.c ask rest.assigned paths l.choices) (over-neither env.serve.c l.over) (assigned-neither env.serve.c ask rest.assigned paths l.choices));
+        waits = subst (λ (line : List Waiting). Leaves d.books.line (assigns env p rest from epoch ask l).turn.notes line) (sym (line-shared d.config env.now ask paths (batch_over d.books ask)))
+            (idle-leaves d.books.line (assigns env p rest from epoch ask l).turn.notes
+            (Each-append IsIdle (over_note env.serve.c l.over) (assigned_notes env.serve.c ask rest.assigned paths l.choices) (over-idle env.serve.c l.over) (assigned-idle env.serve.c ask rest.assigned paths l.choices)));
+        lines = λ t u others was now_is lined. asked-lines t u (same-all env.serve.c t u rest.target others (was ∙ ap target_of found) now_is) lined;
+      }
+
+      asked-by : (o : Option FrontRest) → p.rest ≡ o → standing d env.serve.c ≡ record { home = Some from; waits = false } → TellsOf (asked_by env p from epoch ask o)
+      asked-by None found home = tt
+      asked-by (Some rest) found home =
+          let again : Deed = Says (saying (tag_sent env from epoch rest.asks rest.tag)) in
+          cond_both (ask.number == rest.asks + 1) (Does (assigns env p rest from epoch ask (env.later ask))) (cond (ask.number == rest.asks && nat_lt 0 rest.asks) again Drops) TellsOf
+          (λ t. new-tells rest found home (env.later ask) (of.later ask))
+          (λ t. cond_both (ask.number == rest.asks && nat_lt 0 rest.asks) again Drops TellsOf (λ u. record { notes = refl; gave = refl }) (λ u. tt))
+
+      pub asked-tells : IsPartSound p (standing d env.serve.c) → TellsOf (front_asked env p from epoch ask)
+      asked-tells h = cond_both (is_at from epoch p.row) (asked_by env p from epoch ask p.rest) Drops TellsOf (λ there. asked-by p.rest refl (at-home p.row there h)) (λ t. tt)
+
+  -- ---- a Taken
+
+  pub taken-tells : (c : ℕ) (now : Millis) (p : FrontPart) (epoch : ℕ) → DeedTells d c now ins p (front_taken p epoch)
+  taken-tells c now p epoch = go p.row (asked_node epoch p.row) where
+    go : (o : Option FrontRow) (a : Option ℕ) → DeedTells d c now ins p (taken_by p epoch o a)
+    go None a = tt
+    go (Some row) None = tt
+    go (Some row) (Some node) = record {
+      leads = aside-leads d.config now ins d.books in_ [] tt;
+      gave = tt;
+      ordered = asides-ordered d.books.line [] tt;
+      waits = asides-leave d.books.line [] tt;
+      lines = λ t u others was is lined. lined-same t u (same-all c t u (target_of p.rest) others was is) d.books.line lined;
+    }

@@ -1,0 +1,112 @@
+-- Each record of admission and of assignments is of a connection's number.
+use Rattle.std.proofs.Common.{◌≡◌, ℕ, ◌+◌, List, [], ◌∷◌, ◌++◌, Ok, refl, sym, ap, ◌∙◌, subst, ⊎_elim}
+use Rattle.lard_base.specs.declared.config.Config.{Config}
+use Rattle.lard_base.specs.declared.event.Event.{Event}
+use Rattle.lard_base.specs.declared.event.Event.TheVariants as event
+use Rattle.lard_base.specs.declared.place.Place.{Place}
+use Rattle.lard_base.specs.declared.place.Place.TheVariants.{Front, Node, Client}
+use Rattle.lard_rules.specs.declared.machine.Machine.{Machine}
+use Rattle.lard_rules.specs.Bounds.{HasRule, IsNumber}
+use Rattle.lard_rules.specs.Machine.{IsReached, clocked, machine_step, passed, told}
+use Rattle.lard_law_connections.proofs.PolicyAsides.{IsAside, note-aside}
+use Rattle.lard_law_connections.proofs.PolicyCalm.{first-aside, first_rows, gifts-aside, last-aside, last_rows, timers-aside, told-journal}
+use Rattle.lard_law_view.specs.View.{IsViewed, Part, part_of, setting_of}
+use Rattle.lard_law_view.proofs.Carried.{carried-keep}
+use Rattle.lard_law_view.proofs.Fine.{IsFine, fine}
+use Rattle.lard_law_view.proofs.Saying.{NotedAt}
+use Rattle.lard_law_view.proofs.Shapes.{ActsOn, ActsOnTwo, IsPut, Shapes, both_out}
+use Rattle.lard_law_view.proofs.Stepping.{step-has}
+use Rattle.lard_history.specs.Own.{Seen}
+use Rattle.lard_history.proofs.Each.{Each, Each-append, Each-weaker}
+use Rattle.lard_journal.specs.declared.rec.Rec.{Rec}
+use Rattle.lard_journal.specs.declared.rec.Rec.TheVariants as rec
+use Rattle.lard_rules.specs.declared.places.Out.{Out}
+use Rattle.lard_law_view.proofs.OwnRecords.{behind}
+
+abbrev pub IsNumbered : Rec → Type 0
+IsNumbered (rec.Waits c) = IsNumber c
+IsNumbered (rec.Admitted c) = IsNumber c
+IsNumbered (rec.Released c) = IsNumber c
+IsNumbered (rec.AssignedFirst c r path n add remove) = IsNumber c
+IsNumbered (rec.AssignedLater c r path n add size queue) = IsNumber c
+IsNumbered (rec.BatchOver c) = IsNumber c
+IsNumbered _ = Unit {0}
+
+aside-numbered : (r : Rec) → IsAside r → IsNumbered r
+aside-numbered (rec.Waits c) h = absurd h
+aside-numbered (rec.Admitted c) h = absurd h
+aside-numbered (rec.Released c) h = absurd h
+aside-numbered (rec.AssignedFirst c r path n add remove) h = absurd h
+aside-numbered (rec.AssignedLater c r path n add size queue) h = absurd h
+aside-numbered (rec.BatchOver c) h = absurd h
+aside-numbered _ h = tt
+
+note-numbered : (place : Place) (c : ℕ) (r : Rec) → IsNumber c → NotedAt place c r → IsNumbered r
+note-numbered Front c (rec.Took Front d epoch) n h = tt
+note-numbered Front c (rec.Served Front d r code size via) n h = tt
+note-numbered Front c (rec.Reset Front d total) n h = tt
+note-numbered Front c (rec.Waits d) n h = subst IsNumber (sym h) n
+note-numbered Front c (rec.Admitted d) n h = subst IsNumber (sym h) n
+note-numbered Front c (rec.AssignedFirst d r path k add remove) n h = subst IsNumber (sym h) n
+note-numbered Front c (rec.AssignedLater d r path k add size queue) n h = subst IsNumber (sym h) n
+note-numbered Front c (rec.BatchOver d) n h = subst IsNumber (sym h) n
+note-numbered Front c (rec.Released d) n h = subst IsNumber (sym h) n
+note-numbered (Node k) c r n h = aside-numbered r (note-aside (Node k) c r tt h)
+note-numbered (Client d) c r n h = aside-numbered r (note-aside (Client d) c r tt h)
+note-numbered _ c _ n h = absurd h
+
+notes-numbered : (place : Place) (c : ℕ) (rs : List Rec) → IsNumber c → Each (NotedAt place c) rs → Each IsNumbered rs
+notes-numbered place c rs n e = Each-weaker (NotedAt place c) IsNumbered (λ r h. note-numbered place c r n h) rs e
+
+asides-numbered : (rs : List Rec) → Each IsAside rs → Each IsNumbered rs
+asides-numbered rs e = Each-weaker IsAside IsNumbered aside-numbered rs e
+
+module _ (m : Machine) where
+  -- what a step adds
+  abbrev Adds : Machine → Type 0
+  Adds n = (rs : List Rec) × (n.journal ≡ m.journal ++ rs) × Each IsNumbered rs
+
+  passed-adds : (e : Event) (own : List Rec) → Each IsNumbered own → Adds (passed m e own)
+  passed-adds e own numbered = (rec.Event (m.events + 1) e ∷ own, refl, (tt, numbered))
+
+  told-adds : (w : Machine) (e : Event) (place : Place) (o : Out) → IsPut m w → Each IsNumbered o.notes → Each IsAside o.gave → Each IsAside o.timers → Adds (told w e (behind e) place o)
+  told-adds w e place o put notes gave timers = (
+    first_rows w e ++ o.notes ++ last_rows w place o,
+    told-journal w e place o ∙ ap (λ (J : List Rec). J ++ (first_rows w e ++ o.notes ++ last_rows w place o)) put.journal,
+    Each-append IsNumbered (first_rows w e ++ o.notes) (last_rows w place o) (Each-append IsNumbered (first_rows w e) o.notes (asides-numbered (first_rows w e) (first-aside w e)) notes)
+        (asides-numbered (last_rows w place o) (last-aside w place o gave timers)),
+  )
+
+  one-adds : (w : Machine) (e : Event) (place : Place) (o : Out) (c : ℕ) (heads : List Seen) (ns : List Rec) (p : Part) → ActsOn m w e place o c heads ns p → Adds (told w e (behind e) place o)
+  one-adds w e place o c heads ns p act =
+      told-adds w e place o act.put (notes-numbered place c o.notes act.number act.said.notes) (gifts-aside place c o.gave act.said.gave) (timers-aside place c (part_of m c) p o.timers act.timers)
+
+  two-adds : (w : Machine) (e : Event) (place : Place) (a b : Out) (rows : List Rec) (c d : ℕ) (heads : List Seen) (p r : Part) → ActsOnTwo m w e place a b rows c d heads p r → Adds (told w e (behind e) place (both_out a b rows))
+  two-adds w e place a b rows c d heads p r act =
+      let s : Each IsAside a.timers = timers-aside place c (part_of m c) p a.timers act.timers in
+      let t : Each IsAside b.timers = timers-aside place d (part_of m d) r b.timers act.timers_too in
+      told-adds w e place (both_out a b rows) act.put
+      (Each-append IsNumbered a.notes b.notes (notes-numbered place c a.notes act.number act.said.notes) (notes-numbered place d b.notes act.number_too act.said_too.notes))
+      (Each-append IsAside a.gave b.gave (gifts-aside place c a.gave act.said.gave) (gifts-aside place d b.gave act.said_too.gave))
+      (⊎_elim
+      (λ (is : rows ≡ a.timers ++ b.timers). subst (Each IsAside) (sym is) (Each-append IsAside a.timers b.timers s t))
+      (λ (is : rows ≡ b.timers ++ a.timers). subst (Each IsAside) (sym is) (Each-append IsAside b.timers a.timers t s))
+      act.order)
+
+  shapes-add : Shapes m IsFine (λ e n. Adds n)
+  unfolding clocked
+  shapes-add = record {
+    one = λ w e place o c heads ns p act does. one-adds w e place o c heads ns p act;
+    two = λ w e place a b rows c d heads p r act does too. two-adds w e place a b rows c d heads p r act;
+    nobody = λ k l at there. passed-adds (event.Deliver k) (rec.Got k ∷ []) (tt, tt);
+    loses = λ k l at there. passed-adds (event.Lose k) (rec.Lost k ∷ []) (tt, tt);
+    clocks = λ ms. passed-adds (event.Clock ms) (rec.Clock (record { 0 = m.now + ms }) ∷ []) (tt, tt);
+  }
+
+step-adds : (m : Machine) → IsViewed m → (e : Event) (n : Machine) → HasRule e → machine_step m e ≡ Ok n → Adds m n
+step-adds m view e n rule is = step-has m view IsFine (fine (setting_of m)) (λ d k. Adds m k) (shapes-add m) e n rule is
+
+pub reached-numbered : (config : Config) (files : List (List ℕ × List ℕ)) (m : Machine) → IsReached config files m → Each IsNumbered m.journal
+reached-numbered config files m r = carried-keep config files (λ m. Each IsNumbered m.journal) tt
+    (λ k n e on before rule is. let adds : Adds k n = step-adds k on.view e n rule is in subst (Each IsNumbered) (sym adds.1) (Each-append IsNumbered k.journal adds.0 before adds.2))
+    m r

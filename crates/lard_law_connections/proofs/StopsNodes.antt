@@ -1,0 +1,367 @@
+-- A node reads and serves until the first request is not ready, or no request is left.
+use Rattle.std.proofs.Common.{◌≡◌, ◌⊎◌, ◌-◌, ◌+◌, ◌<◌, ◌==◌, nat_lt, ℕ, zero, suc, Bool, true, false, cond, List, [], ◌∷◌, ◌++◌, length, take, drop, slice_get, Option, Some, None, Result, Ok, Err, inl, inr, ⊎_elim, refl, sym, ap, ◌∙◌, subst, arith}
+use Rattle.std.proofs.lemmas.Bool.{both_ways, cond_both}
+use Rattle.std.specs.List.{find}
+use Rattle.lard_answers.specs.Answers.{FilesAt, good_path}
+use Rattle.lard_base.specs.declared.parts.EndpointParts.{EndpointParts}
+use Rattle.lard_base.specs.declared.place.Place.{Place}
+use Rattle.lard_base.specs.declared.place.TimerKind.TheVariants as timer
+use Rattle.lard_base.specs.declared.place.Via.TheVariants as via
+use Rattle.lard_block.specs.declared.block.Found.{Found}
+use Rattle.lard_block.specs.declared.block.Found.TheVariants as found
+use Rattle.lard_block.specs.Blocks.{blocks, cut_of}
+use Rattle.lard_law_connections.specs.Stops.{BackStageStops, HereStops, IsAwaited, NodeStops, ReadingStops, RowStops, StayStops}
+use Rattle.lard_rules.proofs.StayFalling.{falls}
+use Rattle.lard_law_connections.proofs.StopsSame.{Same, Stays, answered-closes, closed-there, ended-stopped, none-behind, rested-stays, same-stopped, segment-closes, speaks-same, timer-same}
+use Rattle.lard_law_view.specs.View.{Conn, node_does, grown}
+use Rattle.lard_law_view.proofs.Parts.{put-each}
+use Rattle.lard_endpoint.specs.Arriving.{on_segment}
+use Rattle.lard_endpoint.specs.Control.{ControlBlock}
+use Rattle.lard_endpoint.specs.Leaving.{after_timer, timed}
+use Rattle.lard_handoff_back.specs.declared.row.BackConn.{BackConn}
+use Rattle.lard_handoff_back.specs.declared.row.BackConn.TheVariants as back
+use Rattle.lard_handoff_back.specs.declared.row.BackRow.{BackRow}
+use Rattle.lard_handoff_back.specs.declared.table.Adopt.{Adopt}
+use Rattle.lard_handoff_back.specs.declared.table.Adopt.TheVariants.{New, Again, Stale}
+use Rattle.lard_handoff_back.specs.Back.{awaits_ack, endpoint_of, offer_answer, staying}
+use Rattle.lard_handoff_back.specs.Row.{held_in}
+use Rattle.lard_history.specs.Own.{Seen}
+use Rattle.lard_journal.specs.declared.rec.Rec.TheVariants as rec
+use Rattle.lard_lateral.specs.Lateral.{is_from}
+use Rattle.lard_law_view.specs.Agreement.{HasStopped}
+use Rattle.lard_law_view.proofs.EndpointStreams.{segment-takes}
+use Rattle.lard_law_view.proofs.Stopping.{stopped-arrived, stopped-discarding, unfinished-there}
+use Rattle.lard_rules.specs.declared.stay.Entry.{Entry}
+use Rattle.lard_rules.specs.declared.stay.Next.{Next}
+use Rattle.lard_rules.specs.declared.stay.Next.TheVariants as next
+use Rattle.lard_rules.specs.declared.stay.Progress.{Progress}
+use Rattle.lard_rules.specs.declared.stay.Progress.TheVariants as progress
+use Rattle.lard_rules.specs.declared.stay.Stay.{Stay}
+use Rattle.lard_rules.specs.Node.{Deed, Drops, Says, Does, NodePart, begins, both_of, come_by, fired_by, gone, heard_by, here, is_awaited, kept_after, node_acknowledged, node_content, node_forwarded, node_offered, node_read, node_tagged, node_timer, offered_by, read_by, saying, tagged_by, taken_sent, with_work, work_of}
+use Rattle.lard_rules.specs.Stay.{NodeEnv, Work, asking, asks_for, came_for, come_on, come_progress, entered, enters, enters_first, enters_one, goes_on, left, named_path, named_paths, next_by, next_in, read_progress, reads_batch, reads_these, serves_by, serves_first, started, started_here, started_there, starts_at, starts_named, starts_one, tagged, turn, turned}
+use Rattle.lard_reader.specs.Batches.{batch_of, bytes_used}
+use Rattle.lard_reader.proofs.Going.{batch-closed, batch-long, batch-open, used-suc}
+use Rattle.lard_recv.specs.Recv.{Received, awaited, begins_after, ends, fresh, taken}
+use Rattle.lard_request.specs.declared.verdict.Code.TheVariants.{FieldsTooLarge}
+use Rattle.lard_request.specs.declared.verdict.Verdict.{Verdict}
+use Rattle.lard_request.specs.declared.verdict.Verdict.TheVariants.{Fault}
+use Rattle.lard_request.specs.Verdict.{closes, verdict}
+use Rattle.lard_resend.specs.Kept.{is_under, without}
+use Rattle.lard_rules.specs.declared.places.Ending.{Ending}
+use Rattle.lard_rules.specs.declared.places.Ending.TheVariants as ending
+use Rattle.lard_rules.specs.declared.places.Turn.{Turn}
+use Rattle.lard_rules.specs.Loop.{Step, More, Done, runs_on, state_of}
+use Rattle.lard_rules.specs.Serving.{Service, answered, consumed, cut_off, ended_at_fin, may_read, ready_of, serving, settled, spoken}
+use Rattle.lard_rules.specs.Speaking.{speaks}
+use Rattle.lard_segment.specs.declared.fault.SegFault.{SegFault}
+use Rattle.lard_segment.specs.Segment.{Said}
+
+-- ---- an empty batch
+
+-- where nothing is read no whole block is left
+none-read : (q : List ℕ) → batch_of 8 q ≡ [] → blocks (drop (bytes_used 8 q) q) ≡ []
+none-read q none = go (cut_of q) refl where
+  some : (v : Verdict) (vs us : List Verdict) → us ≡ v ∷ vs → us ≡ [] → ⊥
+  some v vs us e f = let no : v ∷ vs ≡ [] = sym e ∙ f in cc
+
+  by_close : (s l : ℕ) → cut_of q ≡ found.Block s l → (t : Bool) → closes (verdict (take l (drop s q))) ≡ t → ⊥
+  by_close s l e true c = some (verdict (take l (drop s q))) [] (batch_of 8 q) (batch-closed 7 q s l e c) none
+  by_close s l e false c = some (verdict (take l (drop s q))) (batch_of 7 (drop (s + l) q)) (batch_of 8 q) (batch-open 7 q s l e c) none
+
+  go : (f : Found) → cut_of q ≡ f → blocks (drop (bytes_used 8 q) q) ≡ []
+  go (found.More s) e = ap (λ k. blocks (drop k q)) (used-suc 7 q (found.More s) e) ∙ none-behind q s e
+  go (found.Block s l) e = absurd (by_close s l e (closes (verdict (take l (drop s q)))) refl)
+  go (found.TooLong s) e = absurd (some (Fault FieldsTooLarge) [] (batch_of 8 q) (batch-long 7 q s e) none)
+
+empty-batch : (es : List Entry) → next_in es ≡ next.Read → es ≡ []
+empty-batch [] h = refl
+empty-batch (e ∷ es) h = absurd (go e.progress h) where
+  go : (p : Progress) → next_by p ≡ next.Read → ⊥
+  go (progress.Ready way) f = cc
+  go progress.Named f = cc
+  go progress.Reading f = cc
+  go (progress.Awaited node) f = cc
+
+awaited-batch : (es : List Entry) → next_in es ≡ next.Stop → IsAwaited es
+awaited-batch [] h = let no : next.Read ≡ next.Stop = h in absurd cc
+awaited-batch (e ∷ es) h = h
+
+-- a segment leaves it discarding what comes, or not
+pub segment-keeps : (b : ControlBlock) (s : Said) → (on_segment b s).1.recv.discarding ≡ false → b.recv.discarding ≡ false
+segment-keeps b s e = sym same ∙ e where
+  r : Received
+  r = b.recv
+
+  grown_by : Received
+  grown_by = taken r (fresh r s.seq s.payload) (ends r s.seq s.payload s.flags.fin)
+
+  same : (on_segment b s).1.recv.discarding ≡ b.recv.discarding
+  same = segment-takes (λ z. z.discarding ≡ r.discarding) s b refl
+      (cond_both (begins_after s.seq (awaited r)) r (cond r.fin r grown_by) (λ z. z.discarding ≡ r.discarding) (λ _. refl) (λ _. cond_both r.fin r grown_by (λ z. z.discarding ≡ r.discarding) (λ _. refl) (λ _. refl)))
+
+-- ---- an endpoint and a batch
+
+-- behind its FIN it has stopped, and there is no batch unless what comes is discarded
+abbrev pub Closes : ControlBlock → List Entry → Type 0
+Closes b batch = b.send.finished ≡ true → HasStopped b × (b.recv.discarding ≡ false → batch ≡ [])
+
+-- and while it goes on, the first is awaited, or nothing is left
+abbrev pub IsAt : ControlBlock → List Entry → Type 0
+IsAt b batch = (b.send.finished ≡ false → IsAwaited batch ⊎ (HasStopped b × (batch ≡ []))) × Closes b batch
+
+open-closes : (b : ControlBlock) (batch : List Entry) → b.send.finished ≡ false → Closes b batch
+open-closes b batch open_ closed = absurd (both_ways b.send.finished open_ closed)
+
+pub same-at : (b d : ControlBlock) (batch : List Entry) → Same b d → IsAt b batch → IsAt d batch
+same-at b d batch same h = (
+  (λ open_. ⊎_elim (λ (a : IsAwaited batch). inl a) (λ (t : HasStopped b × (batch ≡ [])). inr (same-stopped b d same t.0, t.1)) (h.0 (sym same.3 ∙ open_))),
+  (λ closed. let t = h.1 (sym same.3 ∙ closed) in (same-stopped b d same t.0, λ e. t.1 (sym (ap (λ r. r.discarding) same.0) ∙ e))),
+)
+
+module _ (env : NodeEnv) where
+  -- ---- what is entered leaves the endpoint as it was
+
+  here-block : (r : ℕ) (path : List ℕ) (v : Verdict) (k : Work) → (started_here env r path v k).service.block ≡ k.service.block
+  here-block r path v k = go (env.cached path) where
+    hit_here : Work
+    hit_here = entered (record { verdict = v; progress = progress.Ready via.Cache }) (record k { service = record k.service { notes = k.service.notes ++ rec.Hit env.n path ∷ [] } })
+
+    queued_here : Work
+    queued_here = entered (record { verdict = v; progress = progress.Reading })
+        (record k { service = record k.service { notes = k.service.notes ++ rec.Queued env.n env.n env.serve.c r path ∷ [] }; jobs = k.jobs ++ record { origin = env.n; c = env.serve.c; epoch = record { 0 = env.epoch }; r = r; path = path } ∷ [] })
+
+    go : (t : Bool) → (cond t hit_here queued_here).service.block ≡ k.service.block
+    go true = refl
+    go false = refl
+
+  started-block : (node r : ℕ) (path : List ℕ) (v : Verdict) (k : Work) → (started env node r path v k).service.block ≡ k.service.block
+  started-block node r path v k = cond_both (node == env.n) (started_here env r path v k) (started_there node r path v k) (λ (w : Work). w.service.block ≡ k.service.block) (λ t. here-block r path v k) (λ t. refl)
+
+  first-block : (r : ℕ) (v : Verdict) (k : Work) (o : Option (List ℕ)) → (enters_first env r v k o).1.service.block ≡ k.service.block
+  first-block r v k None = refl
+  first-block r v k (Some path) = here-block r path v k
+
+  one-block : (here : Bool) (r : ℕ) (v : Verdict) (k : Work) → (enters_one env here r v k).1.service.block ≡ k.service.block
+  one-block false r v k = refl
+  one-block true r v k = first-block r v k (good_path env.serve.files v)
+
+  enters-block : (here : Bool) (r : ℕ) (vs : List Verdict) (k : Work) → (enters env here r vs k).service.block ≡ k.service.block
+  unfolding enters
+  enters-block here r [] k = refl
+  enters-block here r (v ∷ vs) k = enters-block (enters_one env here r v k).0 (r + 1) vs (enters_one env here r v k).1 ∙ one-block here r v k
+
+  asks-block : (size : ℕ) (paths : List (List ℕ)) (k : Work) → (asks_for env size paths k).service.block ≡ k.service.block
+  asks-block size [] k = refl
+  asks-block size (path ∷ paths) k = refl
+
+  named-block : (node r : ℕ) (e : Entry) (k : Work) (o : Option (List ℕ)) → (starts_named env node r e k o).1.service.block ≡ k.service.block
+  named-block node r e k None = refl
+  named-block node r e k (Some path) = started-block node r path e.verdict k
+
+  starts-one : (o : Option ℕ) (r : ℕ) (e : Entry) (k : Work) → (starts_one env o r e k).1.service.block ≡ k.service.block
+  starts-one None r e k = refl
+  starts-one (Some node) r e k = named-block node r e k (named_path env.serve.files e)
+
+  starts-block : (nodes : List ℕ) (at r : ℕ) (es : List Entry) (k : Work) → (starts_at env nodes at r es k).service.block ≡ k.service.block
+  unfolding starts_at
+  starts-block nodes at r [] k = refl
+  starts-block nodes at r (e ∷ es) k =
+      let one : Bool × Work = starts_one env (slice_get nodes at) r e k in
+      let same = starts-one (slice_get nodes at) r e k in
+      go one.0 (starts-block nodes (at + 1) (r + 1) es one.1 ∙ same) (starts-block nodes at (r + 1) es one.1 ∙ same) where
+        go : (b : Bool) → (starts_at env nodes (at + 1) (r + 1) es (starts_one env (slice_get nodes at) r e k).1).service.block ≡ k.service.block → (starts_at env nodes at (r + 1) es (starts_one env (slice_get nodes at) r e k).1).service.block ≡ k.service.block
+            → (elim b as (λ t. Work) [
+              | true ↦ starts_at env nodes (at + 1) (r + 1) es (starts_one env (slice_get nodes at) r e k).1
+              | false ↦ starts_at env nodes at (r + 1) es (starts_one env (slice_get nodes at) r e k).1
+            ]).service.block ≡ k.service.block
+        go true x y = x
+        go false x y = y
+
+  starts-none : (nodes : List ℕ) (at r : ℕ) (k : Work) → (starts_at env nodes at r [] k).batch ≡ k.batch
+  unfolding starts_at
+  starts-none nodes at r k = refl
+
+  -- ---- turn by turn
+
+  abbrev pub MayRest : Work → Type 0
+  MayRest k = Closes k.service.block k.batch
+
+  abbrev pub Rests : Work → Type 0
+  Rests k = k.service.over ≡ None → k.service.block.reset ≡ false → IsAt k.service.block k.batch
+
+  abbrev pub StepRests : Step Work → Type 0
+  StepRests (More k) = MayRest k
+  StepRests (Done k) = Rests k
+
+  -- a batch is read
+  these-at : (here : Bool) (k : Work) → k.service.block.send.finished ≡ false → k.batch ≡ [] → (vs : List Verdict) → batch_of 8 k.service.block.recv.unread ≡ vs
+      → StepRests (reads_these env here (bytes_used 8 k.service.block.recv.unread) k vs) × MayRest (state_of (reads_these env here (bytes_used 8 k.service.block.recv.unread) k vs))
+  these-at here k open_ none [] e =
+      let used = bytes_used 8 k.service.block.recv.unread in
+      let st : HasStopped (ended_at_fin (consumed used k.service)).block = ended-stopped (consumed used k.service) open_ (none-read k.service.block.recv.unread e) in
+      ((λ over calm. ((λ o. inr (st, none)), (λ closed. (st, λ d. none)))), (λ closed. (st, λ d. none)))
+  these-at here k open_ none (v ∷ vs) e =
+      let used = bytes_used 8 k.service.block.recv.unread in
+      let rest : Work = record k { service = consumed used k.service } in
+      let all : Work = enters env here (k.service.count + 1) (v ∷ vs) rest in
+      let size = length (v ∷ vs) in
+      let same : (asking env size all).service.block ≡ rest.service.block = asks-block size (named_paths env.serve.files all.batch) all ∙ enters-block here (k.service.count + 1) (v ∷ vs) rest in
+      let may : MayRest (asking env size all) = open-closes (asking env size all).service.block (asking env size all).batch (ap (λ (b : ControlBlock). b.send.finished) same ∙ open_) in
+      (may, may)
+
+  pub batch-at : (here : Bool) (k : Work) → k.service.block.send.finished ≡ false → k.batch ≡ [] → StepRests (reads_batch env here k) × MayRest (state_of (reads_batch env here k))
+  batch-at here k open_ none = these-at here k open_ none (batch_of 8 k.service.block.recv.unread) refl
+
+  -- the first is served
+  serves-by : (e : Entry) (rest : List Entry) (k : Work) (p : Progress) → may_read k.service ≡ true → MayRest k → MayRest (serves_by env e rest k p)
+  serves-by e rest k (progress.Ready way) may h = λ closed.
+      let d = answered-closes env.serve way e.verdict k.service (unfinished-there k.service may) closed in
+      (stopped-discarding (answered env.serve way e.verdict k.service).block d, λ keeps. absurd (both_ways (answered env.serve way e.verdict k.service).block.recv.discarding keeps d))
+  serves-by e rest k _ may h = h
+
+  serves-at : (k : Work) (es : List Entry) → may_read k.service ≡ true → MayRest k → MayRest (serves_first env k es)
+  serves-at k [] may h = h
+  serves-at k (e ∷ rest) may h = serves-by e rest k e.progress may h
+
+  turned-at : (k : Work) (n : Next) → next_in k.batch ≡ n → may_read k.service ≡ true → MayRest k → StepRests (turned env k n)
+  turned-at k next.Serve e may h = serves-at k k.batch may h
+  turned-at k next.Read e may h = (batch-at false k (unfinished-there k.service may) (empty-batch k.batch e)).0
+  turned-at k next.Stop e may h = λ over calm. ((λ open_. inl (awaited-batch k.batch e)), h)
+
+  turn-at : (k : Work) → MayRest k → StepRests (turn env k)
+  turn-at k h = go (may_read k.service) refl where
+    go : (b : Bool) → may_read k.service ≡ b → StepRests (turned env k (cond b (next_in k.batch) next.Stop))
+    go true may = turned-at k (next_in k.batch) refl may h
+    go false may = λ over calm. ((λ open_. absurd (both_ways k.service.block.send.finished open_ (closed-there k.service over calm may))), h)
+
+  goes-on : (n : ℕ) (k : Work) → left k < n → MayRest k → Rests (runs_on n (turn env) k)
+  unfolding runs_on
+  goes-on zero k less h = absurd (omega (arith, less))
+  goes-on (suc n) k less h = go (turn env k) refl (turn-at k h) (goes-on n) where
+    go : (s : Step Work) → turn env k ≡ s → StepRests s → ((y : Work) → left y < n → MayRest y → Rests (runs_on n (turn env) y)) → Rests (elim s as (λ s. Work) [ More y ↦ runs_on n (turn env) y | Done y ↦ y ])
+    go (More y) e g later = let fall = falls env k y e in later y (omega (arith, fall, less)) g
+    go (Done y) e g later = g
+
+  pub goes-rest : (k : Work) → MayRest k → Rests (goes_on env k)
+  goes-rest k h = goes-on (left k + 1) k (omega arith) h
+
+  -- ---- the end of a turn
+
+  after-stops : (p : NodePart) (k : Work) (e : Ending) → Stays (λ b. StayStops b k.batch) e → NodeStops (kept_after env p k e)
+  after-stops p k (ending.Here b count) h = h
+  after-stops p k (ending.Over last) h = tt
+
+  spoken-at : (s : Service) (before : List (Place × List ℕ)) (batch : List Entry) → (s.block.reset ≡ false → IsAt s.block batch) → Stays (λ b. StayStops b batch) (spoken env.serve s before).0
+  spoken-at s before batch h =
+      let b : ControlBlock = (speaks env.serve.c s.block).1 in
+      let same : Same s.block b = speaks-same env.serve.c s.block in
+      rested-stays (λ d. StayStops d batch) b s.count (λ calm. let at : IsAt b batch = same-at s.block b batch same (h (sym same.4 ∙ calm)) in record { not_reset = calm; open_ = at.0; closed = at.1 })
+
+  settled-at : (k : Work) → Rests k → Stays (λ b. StayStops b k.batch) (settled env.serve k.service).0
+  settled-at k h = go k.service.over refl where
+    go : (o : Option ℕ) → k.service.over ≡ o → Stays (λ b. StayStops b k.batch) (elim o as (λ p. Ending × Turn) [ None ↦ spoken env.serve k.service [] | Some total ↦ cut_off env.serve k.service ]).0
+    go None e = spoken-at k.service [] k.batch (h e)
+    go (Some total) e = tt
+
+  -- ---- the rules
+
+  abbrev pub DeedStops : Deed → Type 0
+  DeedStops Drops = Unit {0}
+  DeedStops (Says ms) = Unit {0}
+  DeedStops (Does given) = NodeStops given.0
+
+  works-stop : (p : NodePart) (before : List (Place × List ℕ)) (k : Work) → Rests k → DeedStops (with_work env p before k)
+  works-stop p before k h = after-stops p k (settled env.serve k.service).0 (settled-at k h)
+
+  goes-stop : (p : NodePart) (before : List (Place × List ℕ)) (k : Work) → MayRest k → DeedStops (with_work env p before (goes_on env k))
+  goes-stop p before k h = works-stop p before (goes_on env k) (goes-rest k h)
+
+  module _ (p : NodePart) (h : NodeStops p) where
+    -- it is so of none, and of each stay that has stopped
+    module _ (P : Option (ControlBlock × Stay) → Type 0) (none : P None) (some : (y : ControlBlock × Stay) → StayStops y.0 y.1.batch → P (Some y)) where
+      of-stay : (b : ControlBlock) (o : Option Stay) → HereStops b o → P (both_of (Some b) o)
+      of-stay b None k = none
+      of-stay b (Some s) k = some (b, s) k
+
+      of-stage : (d : BackConn) (o : Option Stay) → BackStageStops d o → P (both_of (held_in d) o)
+      of-stage (back.Here b) o k = of-stay b o k
+      of-stage _ o k = none
+
+      at-endpoint : (q : Option BackRow) → RowStops q p.stay → P (both_of (endpoint_of q) p.stay)
+      at-endpoint None k = none
+      at-endpoint (Some row) k = of-stage row.stage p.stay k
+
+      at-epoch : (q : Option BackRow) → RowStops q p.stay → P (both_of (staying env.epoch q) p.stay)
+      at-epoch None k = none
+      at-epoch (Some row) k = cond_both (row.epoch.0 == env.epoch) (held_in row.stage) None (λ o. P (both_of o p.stay)) (λ t. of-stage row.stage p.stay k) (λ t. none)
+
+    pub forwarded-stops : (r : Result Said SegFault) → DeedStops (node_forwarded env p r)
+    forwarded-stops (Err fault) = tt
+    forwarded-stops (Ok s) = at-epoch (λ y. DeedStops (heard_by env p (Ok s) y)) tt
+        (λ y stops.
+        let same = segment-closes y.0 s in
+        goes-stop p [] (work_of (on_segment y.0 s).1 y.1) (λ closed.
+        let t = stops.closed (sym same ∙ closed) in
+        (stopped-arrived y.0 s same t.0 closed, λ keeps. t.1 (segment-keeps y.0 s keeps))))
+        p.row h
+
+    pub came-closes : (f : Progress → Progress) (r : ℕ) (y : ControlBlock × Stay) → StayStops y.0 y.1.batch → MayRest (came_for f r (work_of y.0 y.1))
+    came-closes f r y stops =
+        let k : Work = work_of y.0 y.1 in
+        cond_both (nat_lt k.service.count r) (record k { batch = come_on f (r - (k.service.count + 1)) k.batch }) k MayRest
+        (λ t closed. let c = stops.closed closed in (c.0, λ keeps. ap (come_on f (r - (k.service.count + 1))) (c.1 keeps))) (λ t. stops.closed)
+
+    pub tagged-closes : (nodes : List ℕ) (y : ControlBlock × Stay) → StayStops y.0 y.1.batch → MayRest (tagged env nodes (work_of y.0 y.1))
+    tagged-closes nodes y stops =
+        let k : Work = work_of y.0 y.1 in
+        let same : (tagged env nodes k).service.block ≡ y.0 = starts-block nodes 0 (k.service.count + 1) k.batch (record k { batch = [] }) in
+        subst (λ (b : ControlBlock). Closes b (tagged env nodes k).batch) (sym same) (λ closed. let c = stops.closed closed in
+        (c.0, λ keeps. ap (λ es. (starts_at env nodes 0 (k.service.count + 1) es (record k { batch = [] })).batch) (c.1 keeps) ∙ starts-none nodes 0 (k.service.count + 1) (record k { batch = [] })))
+
+    pub tagged-stops : (number : ℕ) (nodes : List ℕ) → DeedStops (node_tagged env p number nodes)
+    tagged-stops number nodes = at-epoch (λ y. DeedStops (tagged_by env number nodes p y)) tt
+        (λ y stops. cond_both (is_awaited env number nodes p y.1) (with_work env (record p { kept = without timer.Ask 0 p.kept }) [] (goes_on env (tagged env nodes (work_of y.0 y.1)))) Drops DeedStops
+        (λ t. goes-stop (record p { kept = without timer.Ask 0 p.kept }) [] (tagged env nodes (work_of y.0 y.1)) (tagged-closes nodes y stops)) (λ t. tt))
+        p.row h
+
+    pub content-stops : (from r : ℕ) → DeedStops (node_content env p from r)
+    content-stops from r = at-epoch (λ y. DeedStops (come_by env from r p y)) tt
+        (λ y stops. cond_both (is_from from env.epoch (find (is_under timer.Fetch r) p.fetches)) (with_work env (record p { fetches = without timer.Fetch r p.fetches }) [] (goes_on env (came_for (come_progress from) r (work_of y.0 y.1)))) Drops DeedStops
+        (λ t. goes-stop (record p { fetches = without timer.Fetch r p.fetches }) [] (came_for (come_progress from) r (work_of y.0 y.1)) (came-closes (come_progress from) r y stops)) (λ t. tt))
+        p.row h
+
+    pub read-stops : (r : ℕ) → DeedStops (node_read env p r)
+    read-stops r = at-epoch (λ y. DeedStops (read_by env r p y)) tt
+        (λ y stops. goes-stop p [] (came_for read_progress r (work_of y.0 y.1)) (came-closes read_progress r y stops)) p.row h
+
+    pub timer-stops : DeedStops (node_timer env p)
+    timer-stops = at-endpoint (λ y. DeedStops (fired_by env p y)) tt
+        (λ y stops.
+        let same : Same y.0 (after_timer y.0) = timer-same y.0 in
+        let s : Service = serving (after_timer y.0) y.1.served [] in
+        let before : List (Place × List ℕ) = ready_of env.serve (after_timer y.0) (timed y.0) in
+        after-stops p (work_of (after_timer y.0) y.1) (spoken env.serve s before).0
+        (spoken-at s before y.1.batch (λ calm. same-at y.0 (after_timer y.0) y.1.batch same (stops.open_, stops.closed))))
+        p.row h
+
+    gone-stops : (q : Option BackRow) → RowStops (gone q) p.stay
+    gone-stops None = tt
+    gone-stops (Some row) = tt
+
+    pub acknowledged-stops : DeedStops (node_acknowledged env p)
+    acknowledged-stops = cond_both (awaits_ack env.epoch p.row) (Does (record p { row = gone p.row; kept = without timer.Ended 0 p.kept }, saying [])) Drops DeedStops (λ t. gone-stops p.row) (λ t. tt)
+
+  offered-by : (p : NodePart) (parts : EndpointParts) (a : Adopt) → DeedStops (offered_by env parts p a)
+  offered-by p parts New = goes-stop p (taken_sent env) (state_of (reads_batch env true (begins env parts))) (batch-at true (begins env parts) refl refl).1
+  offered-by p parts Again = tt
+  offered-by p parts Stale = tt
+
+  pub offered-stops : (p : NodePart) (parts : EndpointParts) → DeedStops (node_offered env p parts)
+  offered-stops p parts = offered-by p parts (offer_answer env.epoch p.row)
+
+-- ---- its move
+
+pub node-move : (env : NodeEnv) (x : Conn) (n : ℕ) (heads : List Seen) (d : Deed) → DeedStops env d → (files : FilesAt) → ReadingStops files x → ReadingStops files (grown x (node_does x n heads d))
+node-move env x n heads Drops k files h = h
+node-move env x n heads (Says ms) k files h = h
+node-move env x n heads (Does given) k files h = (h.0, put-each x.part.nodes n given.0 (λ m p. NodeStops p) k (λ m other. h.1 m))

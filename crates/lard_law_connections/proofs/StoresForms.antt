@@ -1,0 +1,196 @@
+-- The forms of a step, by what each does to the nodes: a node moves, or all nodes stay as they are.
+use Rattle.std.proofs.Common.{◌≡◌, ℕ, Bool, true, false, cond, nat_lt, List, [], ◌∷◌, Option, Some, None, Result, Ok, Err, refl, sym, ap, ◌∙◌, subst, inl, inr}
+use Rattle.std.specs.Prelude.{◌⊎◌}
+use Rattle.std.proofs.lemmas.Bool.{cond_both}
+use Rattle.std.specs.FinMap as table
+use Rattle.lard_base.specs.declared.event.Event.{Event}
+use Rattle.lard_base.specs.declared.event.Event.TheVariants as event
+use Rattle.lard_base.specs.declared.place.Place.{Place}
+use Rattle.lard_base.specs.declared.place.Place.TheVariants.{Front, Node, Client}
+use Rattle.lard_client.specs.Control.{ClientBlock, is_armed, written_len}
+use Rattle.lard_rules.specs.declared.fault.StepFault.{StepFault}
+use Rattle.lard_rules.specs.declared.machine.Machine.{Machine}
+use Rattle.lard_rules.specs.Machine.{client_acted, client_does, client_goes_on, clocked, completes, delivered, disk_at, from_place, front_acts, happens, is_no_job, is_no_node, limit_reached, lost, machine_step, node_acts, node_at, node_gave, node_setting, opened, passed, timer, to_client, to_front, to_place, told, unless_limit, wrote}
+use Rattle.lard_law_connections.proofs.StoresAsides.{behind-aside}
+use Rattle.lard_law_connections.proofs.StoresCalm.{IsCalm, NodeActs, passed-calm}
+use Rattle.lard_law_view.proofs.Nothing.{numbered}
+use Rattle.lard_disk.specs.declared.disk.Job.{Job}
+use Rattle.lard_disk.specs.Jobs.{job_at}
+use Rattle.lard_history.specs.Journal.{request}
+use Rattle.lard_journal.specs.declared.rec.Rec.{Rec}
+use Rattle.lard_journal.specs.declared.rec.Rec.TheVariants as rec
+use Rattle.lard_rules.specs.declared.fault.What.{What}
+use Rattle.lard_net.specs.Net.{Packet, packet_at}
+use Rattle.lard_rules.specs.declared.node.BackIn.{BackIn}
+use Rattle.lard_rules.specs.declared.node.BackIn.TheVariants as back
+use Rattle.lard_rules.specs.declared.node.NodeState.{NodeState}
+use Rattle.lard_rules.specs.NodePlace.{node_step}
+use Rattle.lard_rules.specs.declared.front.FrontIn.{FrontIn}
+use Rattle.lard_rules.specs.declared.front.FrontIn.TheVariants as input
+use Rattle.lard_rules.specs.declared.places.Station.{Station}
+use Rattle.lard_rules.specs.declared.places.Turn.{Turn}
+use Rattle.lard_rules.specs.Client.{client_aborts, client_gets, client_holds, client_injects, client_opens, client_shuts, client_takes, client_timer, client_writes}
+use Rattle.lard_segment.specs.declared.segment.Dir.TheVariants.{ToClient}
+use Rattle.lard_segment.specs.Segment.{decoded}
+use Rattle.lard_law_view.proofs.OwnRecords.{behind}
+
+-- it is no event of a disk
+abbrev pub IsOther : Event → Type 0
+IsOther (event.Disk i j) = ⊥
+IsOther _ = Unit {0}
+
+-- A job that is there is completed by the event that names it, and all else comes by other events.
+abbrev pub Comes : Event → ℕ → NodeState → BackIn → Type 0
+Comes e i s (back.Disk j) = (e ≡ event.Disk i j) × (job : Job) × (job_at s.disk j ≡ Some job)
+Comes e i s _ = IsOther e
+
+-- Node i gets this, and moves.
+pub record NodeStep (m : Machine) (e : Event) (n : Machine) : Type 0 where
+  pub i : ℕ
+  pub s : NodeState
+  pub comes : BackIn
+  pub there : node_at m.nodes i ≡ Some s
+  pub named : Comes e i s comes
+  pub is : n ≡ node_gave m e (behind e) i (node_step (node_setting m i) s comes)
+
+-- No node moves: none acts, or nothing is said of disks and caches.
+abbrev pub NodesStay : Machine → Event → Machine → Type 0
+NodesStay m e n = (n.nodes ≡ m.nodes) × ((NodeActs m e → ⊥) ⊎ (IsOther e × IsCalm m n))
+
+abbrev pub IsForm : Machine → Event → Machine → Type 0
+IsForm m e n = NodesStay m e n ⊎ NodeStep m e n
+
+abbrev Formed : Machine → Event → Result Machine StepFault → Type 0
+Formed m e (Ok n) = IsForm m e n
+Formed m e (Err fault) = Unit {0}
+
+module _ (m : Machine) where
+  module _ (e : Event) where
+    -- of two answers by a test
+    either : (b : Bool) (x y : Result Machine StepFault) → Formed m e x → Formed m e y → Formed m e (cond b x y)
+    either true x y h k = h
+    either false x y h k = k
+
+    module _ (never : NodeActs m e → ⊥) where
+      client-form : (own : List Rec) (c iss : ℕ) (was : Bool) (given : ClientBlock × Turn) → IsForm m e (client_acted m e own c iss was given)
+      unfolding told
+      client-form own c iss was given = inl (refl, inl never)
+
+      goes-form : (own : List Rec) (c : ℕ) (x : Station) (given : ClientBlock × Turn) → IsForm m e (client_goes_on m e own c x given)
+      goes-form own c x given = client-form own c x.iss (is_armed x.client) given
+
+      front-form : (own : List Rec) (i : FrontIn) → IsForm m e (front_acts m e own i)
+      unfolding told
+      front-form own i = inl (refl, inl never)
+
+      wrote-form : (c : ℕ) (bytes : List ℕ) (o : Option Station) → Formed m e (wrote m e c bytes o)
+      unfolding wrote
+      wrote-form c bytes None = tt
+      wrote-form c bytes (Some x) = either (nat_lt m.config.stream (written_len x.client bytes)) _ _ tt (goes-form [] c x (client_writes x.client bytes))
+
+      does-form : (own : List Rec) (c : ℕ) (rule : ClientBlock → ClientBlock × Turn) (o : Option Station) → Formed m e (client_does m e own c rule o)
+      unfolding client_does
+      does-form own c rule None = tt
+      does-form own c rule (Some x) = goes-form own c x (rule x.client)
+
+    passed-form : IsOther e → IsForm m e (passed m e (behind e))
+    passed-form other = inl (refl, inr (other, passed-calm m e (behind e) (behind-aside e)))
+
+    node-form : (i : ℕ) (comes : BackIn) (o : Option NodeState) → node_at m.nodes i ≡ o → IsOther e → ((s : NodeState) → Comes e i s comes) → IsForm m e (node_acts m e (behind e) i comes o)
+    node-form i comes None at other named = passed-form other
+    node-form i comes (Some s) at other named = inr (record { i = i; s = s; comes = comes; there = at; named = named s; is = refl })
+
+  -- ---- events of clients
+
+  opened-form : (c isn iss wnd mss : ℕ) (o : Option Station) → Formed m (event.Open c isn iss wnd mss) (opened m c isn iss wnd mss o)
+  unfolding opened
+  opened-form c isn iss wnd mss None =
+      client-form (event.Open c isn iss wnd mss) (λ h. let no : Some (Client c) ≡ Some (Node h.0) = h.1 [] in cc) (rec.Opened c isn iss wnd mss ∷ []) c iss false (client_opens c isn wnd mss)
+  opened-form c isn iss wnd mss (Some x) = tt
+
+  timer-form : (p : Place) (c : ℕ) (o : Option Station) → Formed m (event.Timer p c) (timer m p c o)
+  unfolding timer
+  timer-form p c None = tt
+  timer-form Front c (Some x) = front-form (event.Timer Front c) (λ h. let no : Some Front ≡ Some (Node h.0) = h.1 [] in cc) [] (input.Timer c)
+  timer-form (Client d) c (Some x) = goes-form (event.Timer (Client d) c) (λ h. let no : Some (Client d) ≡ Some (Node h.0) = h.1 [] in cc) [] c x (client_timer x.client)
+  timer-form (Node i) c (Some x) = either (event.Timer (Node i) c) (is_no_node m.config.nodes i) _ _ tt (node-form (event.Timer (Node i) c) i (back.Timer c) (node_at m.nodes i) refl tt (λ s. tt))
+
+  -- ---- packets
+
+  module _ (k : ℕ) (p : Packet) (at : packet_at m.net k ≡ Some p) where
+    abbrev e : Event
+    e = event.Deliver k
+
+    -- it comes to no node
+    not-node : (to : Place) → p.to ≡ to → ((i : ℕ) → to ≡ Node i → ⊥) → NodeActs m e → ⊥
+    not-node to is never h =
+        let same : Some p ≡ Some h.1.0 = sym at ∙ h.1.1 in
+        let one : p ≡ h.1.0 = cc in never h.0 (sym is ∙ ap (λ (l : Packet). l.to) one ∙ h.1.3)
+
+    front-gets : (never : NodeActs m e → ⊥) (c : ℕ) (o : Option Station) → IsForm m e (to_front m k p.bytes c o)
+    front-gets never c None = passed-form e tt
+    front-gets never c (Some x) = front-form e never (rec.Got k ∷ []) (input.Segment c (record { 0 = x.iss }) p.bytes)
+
+    client-gets-form : (never : NodeActs m e → ⊥) (c : ℕ) (o : Option Station) → IsForm m e (to_client m k p.bytes c o)
+    client-gets-form never c None = passed-form e tt
+    client-gets-form never c (Some x) = goes-form e never (rec.Got k ∷ []) c x (client_gets x.client (decoded p.bytes c ToClient))
+
+    from-form : (never : NodeActs m e → ⊥) (from : Place) → IsForm m e (from_place m k p.bytes from)
+    from-form never (Client c) = front-gets never c (table.get m.clients c)
+    from-form never Front = passed-form e tt
+    from-form never (Node i) = front-form e never (rec.Got k ∷ []) (input.Message i p.bytes)
+
+    place-form : (to : Place) → p.to ≡ to → IsForm m e (to_place m k p to)
+    place-form Front is = from-form (not-node Front is (λ i h. let no : Front ≡ Node i = h in cc)) p.from
+    place-form (Client c) is = client-gets-form (not-node (Client c) is (λ i h. let no : Client c ≡ Node i = h in cc)) c (table.get m.clients c)
+    place-form (Node i) is = node-form e i (back.Message p.from p.bytes) (node_at m.nodes i) refl tt (λ s. tt)
+
+  delivered-form : (k : ℕ) (o : Option Packet) → packet_at m.net k ≡ o → Formed m (event.Deliver k) (delivered m k o)
+  unfolding delivered
+  delivered-form k None at = tt
+  delivered-form k (Some p) at = either (event.Deliver k) p.lost _ _ tt (place-form k p at p.to refl)
+
+  lost-form : (k : ℕ) (o : Option Packet) → Formed m (event.Lose k) (lost m k o)
+  unfolding lost
+  lost-form k None = tt
+  lost-form k (Some p) = either (event.Lose k) p.lost _ _ tt (inl (refl, inr (tt, passed-calm m (event.Lose k) (rec.Lost k ∷ []) (behind-aside (event.Lose k)))))
+
+  -- ---- disks, and the clock
+
+  disk-form : (i j : ℕ) (o : Option NodeState) → node_at m.nodes i ≡ o → Formed m (event.Disk i j) (disk_at m i j o)
+  disk-form i j None at = tt
+  disk-form i j (Some s) at = cond_both (is_no_job s j) (Err _) (Ok _) (Formed m (event.Disk i j)) (λ none. tt)
+      (λ some. inr (record { i = i; s = s; comes = back.Disk j; there = at; named = (refl, (numbered s.disk j some).0, (numbered s.disk j some).1); is = refl }))
+
+  completes-form : (i j : ℕ) → Formed m (event.Disk i j) (completes m i j)
+  unfolding completes
+  completes-form i j = either (event.Disk i j) (is_no_node m.config.nodes i) _ _ tt (disk-form i j (node_at m.nodes i) refl)
+
+  clocked-form : (ms : ℕ) → IsForm m (event.Clock ms) (clocked m ms)
+  unfolding clocked
+  clocked-form ms = inl (refl, inl (λ h. let no : None ≡ Some (Node h.0) = h.1 [] in cc))
+
+  happens-form : (e : Event) → Formed m e (happens m e)
+  happens-form (event.Open c isn iss wnd mss) = opened-form c isn iss wnd mss (table.get m.clients c)
+  happens-form (event.Get c path) = wrote-form (event.Get c path) (λ h. let no : Some (Client c) ≡ Some (Node h.0) = h.1 [] in cc) c (request path) (table.get m.clients c)
+  happens-form (event.Write c bytes) = wrote-form (event.Write c bytes) (λ h. let no : Some (Client c) ≡ Some (Node h.0) = h.1 [] in cc) c bytes (table.get m.clients c)
+  happens-form (event.Shut c) = does-form (event.Shut c) (λ h. let no : Some (Client c) ≡ Some (Node h.0) = h.1 [] in cc) [] c client_shuts (table.get m.clients c)
+  happens-form (event.Abort c) = does-form (event.Abort c) (λ h. let no : Some (Client c) ≡ Some (Node h.0) = h.1 [] in cc) [] c client_aborts (table.get m.clients c)
+  happens-form (event.Hold c) = does-form (event.Hold c) (λ h. let no : Some (Client c) ≡ Some (Node h.0) = h.1 [] in cc) [] c client_holds (table.get m.clients c)
+  happens-form (event.Take c) = does-form (event.Take c) (λ h. let no : Some (Client c) ≡ Some (Node h.0) = h.1 [] in cc) [] c client_takes (table.get m.clients c)
+  happens-form (event.Inject c bytes) =
+      does-form (event.Inject c bytes) (λ h. let no : Some (Client c) ≡ Some (Node h.0) = h.1 [] in cc) (rec.Injected c ∷ []) c (λ x. client_injects x bytes) (table.get m.clients c)
+  happens-form (event.Deliver k) = delivered-form k (packet_at m.net k) refl
+  happens-form (event.Lose k) = lost-form k (packet_at m.net k)
+  happens-form (event.Timer p c) = timer-form p c (table.get m.clients c)
+  happens-form (event.Disk i j) = completes-form i j
+  happens-form (event.Clock ms) = clocked-form ms
+  happens-form (event.Settle rounds) = inl (refl, inl (λ h. let no : None ≡ Some (Node h.0) = h.1 [] in cc))
+
+  unless-form : (e : Event) (o : Option What) (given : Result Machine StepFault) → Formed m e given → Formed m e (unless_limit o given)
+  unless-form e None given h = h
+  unless-form e (Some what) given h = tt
+
+  pub step-form : (e : Event) (n : Machine) → machine_step m e ≡ Ok n → IsForm m e n
+  unfolding machine_step
+  step-form e n is = subst (Formed m e) is (unless-form e (limit_reached m) (happens m e) (happens-form e))

@@ -1,0 +1,84 @@
+-- What every place that could serve a connection knows of what was served on it, between any two steps.
+use Rattle.std.specs.Prelude.{◌≡◌, ◌⊎◌, ℕ, ◌-◌, ◌≤◌, Bool, true, false, List, Option, Some, None, Ok}
+use Rattle.lard_base.specs.declared.place.Place.{Place}
+use Rattle.lard_base.specs.declared.place.Place.TheVariants.{Front, Node}
+use Rattle.lard_law_connections.specs.Places.{IsDecided}
+use Rattle.lard_law_view.specs.Carry.{tale_at}
+use Rattle.lard_law_view.specs.View.{Conn, Part}
+use Rattle.lard_endpoint.specs.Control.{ControlBlock, IsControlBlock}
+use Rattle.lard_endpoint.specs.Moving.{may_freeze}
+use Rattle.lard_handoff_back.specs.declared.row.BackConn.{BackConn}
+use Rattle.lard_handoff_back.specs.declared.row.BackConn.TheVariants as back
+use Rattle.lard_handoff_back.specs.declared.row.BackRow.{BackRow}
+use Rattle.lard_handoff_front.specs.declared.row.FrontConn.{FrontConn}
+use Rattle.lard_handoff_front.specs.declared.row.FrontConn.TheVariants as stage
+use Rattle.lard_handoff_front.specs.declared.row.FrontRow.{FrontRow}
+use Rattle.lard_history.specs.Journal.{Tale}
+use Rattle.lard_history.specs.Own.{Letter}
+use Rattle.lard_history.proofs.Each.{Each}
+use Rattle.lard_message.specs.declared.message.Body.{Body}
+use Rattle.lard_message.specs.declared.message.Body.TheVariants as body
+use Rattle.lard_message.specs.declared.message.Message.{Message}
+use Rattle.lard_message.specs.Reading.{decoded_message}
+
+-- the bytes of the responses that were queued on a connection, and whether the stream limit reset it
+pub record Served : Type 0 where
+  pub bytes : ℕ
+  pub was_reset : Bool
+
+abbrev pub served_in : Tale → Served
+served_in t = record { bytes = t.served_bytes; was_reset = t.was_reset }
+
+-- All responses had so many bytes, within the limit, and none was too many.
+pub record Counts (stream : ℕ) (w : Served) (total : ℕ) : Type 0 where
+  pub bytes : w.bytes ≡ total
+  pub within : total ≤ stream
+  pub not_reset : w.was_reset ≡ false
+
+-- ---- places
+
+-- the front end's endpoint
+pub record EndpointCounts (stream : ℕ) (w : Served) (b : ControlBlock) : Type 0 where
+  pub sound : IsControlBlock b
+  pub counts : Counts stream w b.send.total
+
+-- one that waits may move
+abbrev pub FrontStageCounts : ℕ → Served → FrontConn → Type 0
+FrontStageCounts stream w (stage.Held b) = EndpointCounts stream w b
+FrontStageCounts stream w (stage.Waiting b) = EndpointCounts stream w b × (may_freeze b ≡ true)
+FrontStageCounts stream w _ = Unit {0}
+
+-- before the front end knows a connection, nothing was served on it
+abbrev pub FrontCounts : ℕ → Served → Option FrontRow → Type 0
+FrontCounts stream w None = Counts stream w 0
+FrontCounts stream w (Some row) = FrontStageCounts stream w row.stage
+
+abbrev pub BackStageCounts : ℕ → Served → BackConn → Type 0
+BackStageCounts stream w (back.Here b) = Counts stream w b.send.total
+BackStageCounts stream w _ = Unit {0}
+
+abbrev pub BackCounts : ℕ → Served → Option BackRow → Type 0
+BackCounts stream w None = Unit {0}
+BackCounts stream w (Some row) = BackStageCounts stream w row.stage
+
+-- ---- packets
+
+-- an Offer that its node has not decided: what is adopted from it begins with all that was served
+abbrev pub BodyCounts : ℕ → Served → ℕ → Option BackRow → Body → Type 0
+BodyCounts stream w e row (body.Offer parts) = IsDecided e row ⊎ Counts stream w (parts.una - 1)
+BodyCounts stream w e row _ = Unit {0}
+
+abbrev pub LetterCountsOn : ℕ → Served → Part → Place → Place → List ℕ → Type 0
+LetterCountsOn stream w p Front (Node n) bytes = (m : Message) → decoded_message bytes ≡ Ok m → BodyCounts stream w m.epoch.0 (p.nodes n).row m.body
+LetterCountsOn stream w p _ _ bytes = Unit {0}
+
+abbrev pub LetterCounts : ℕ → Served → Part → Letter → Type 0
+LetterCounts stream w p l = LetterCountsOn stream w p l.from l.to l.bytes
+
+-- ---- one connection
+
+-- Whatever has an endpoint of it, or its Offer, counts what was served on it.
+pub record IsCounted (stream : ℕ) (x : Conn) : Type 0 where
+  pub front : FrontCounts stream (served_in (tale_at x)) x.part.front.row
+  pub nodes : (n : ℕ) → BackCounts stream (served_in (tale_at x)) (x.part.nodes n).row
+  pub letters : Each (LetterCounts stream (served_in (tale_at x)) x.part) x.letters

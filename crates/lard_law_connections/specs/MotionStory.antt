@@ -1,0 +1,190 @@
+-- What a connection sees of its way: the packets by which it moves, and the records that tell of it.
+use Rattle.std.specs.Prelude.{ℕ, ◌+◌, ◌||◌, ◌==◌, nat_eq, max, Bool, true, false, if◌then◌else◌, List, [], ◌∷◌, ◌++◌, Option, Some, None, Result, Ok, Err}
+use Rattle.std.specs.List.{fold, list_any}
+use Rattle.lard_base.specs.declared.place.Place.{Place}
+use Rattle.lard_base.specs.declared.place.Place.TheVariants.{Front, Node, Client}
+use Rattle.lard_law_connections.specs.Places.{Head, head_of}
+use Rattle.lard_history.specs.Own.{Seen, Row, Came}
+use Rattle.lard_journal.specs.declared.rec.Rec.{Rec}
+use Rattle.lard_journal.specs.declared.rec.Rec.TheVariants as rec
+use Rattle.lard_message.specs.declared.fault.MsgFault.{MsgFault}
+use Rattle.lard_message.specs.declared.kind.Kind.TheVariants as kind
+use Rattle.lard_message.specs.declared.message.Body.TheVariants as body
+use Rattle.lard_message.specs.declared.message.Message.{Message}
+use Rattle.lard_message.specs.Reading.{decoded_message}
+use Rattle.lard_rules.specs.Tombstone.{is_plain_syn}
+use Rattle.lard_rules.specs.Speaking.{listed}
+use Rattle.lard_segment.specs.declared.fault.SegFault.{SegFault}
+use Rattle.lard_segment.specs.declared.segment.Dir.TheVariants.{ToCluster}
+use Rattle.lard_segment.specs.Segment.{Said, decoded}
+
+-- what is picked of each thing that is seen, in order
+abbrev pub picked : {A : Type 0} → (Seen → Option A) → List Seen → List A
+picked f [] = []
+picked f (s ∷ ss) = listed (f s) ++ picked f ss
+
+-- ---- packets that come
+
+abbrev pub decoded_bytes : List ℕ → Result Said SegFault → Option (List ℕ)
+decoded_bytes bytes (Ok s) = Some bytes
+decoded_bytes bytes (Err fault) = None
+
+abbrev pub is_syn : Result Said SegFault → Bool
+is_syn (Ok s) = is_plain_syn s
+is_syn (Err fault) = false
+
+-- the bytes of a packet of the client that comes to the front end and decodes
+abbrev pub segment_on : ℕ → Place → Place → List ℕ → Option (List ℕ)
+segment_on c (Client d) Front bytes = decoded_bytes bytes (decoded bytes c ToCluster)
+segment_on c _ _ bytes = None
+
+-- such a packet that has SYN, and no ACK, RST or FIN
+abbrev pub syn_on : ℕ → Place → Place → List ℕ → Bool
+syn_on c (Client d) Front bytes = is_syn (decoded bytes c ToCluster)
+syn_on c _ _ bytes = false
+
+abbrev pub offer_epoch : Result Message MsgFault → Option ℕ
+offer_epoch (Err fault) = None
+offer_epoch (Ok m) = elim m.body [
+  | body.Offer parts ↦ Some m.epoch.0
+  | body.Taken ↦ None
+  | body.Forward bytes ↦ None
+  | body.Ask number queue size paths ↦ None
+  | body.Tag number nodes ↦ None
+  | body.Fetch r path ↦ None
+  | body.Content r bytes ↦ None
+  | body.Ended reason snd rcv count ↦ None
+  | body.EndedAck ↦ None
+]
+
+abbrev pub ended_epoch : Result Message MsgFault → Option ℕ
+ended_epoch (Err fault) = None
+ended_epoch (Ok m) = elim m.body [
+  | body.Offer parts ↦ None
+  | body.Taken ↦ None
+  | body.Forward bytes ↦ None
+  | body.Ask number queue size paths ↦ None
+  | body.Tag number nodes ↦ None
+  | body.Fetch r path ↦ None
+  | body.Content r bytes ↦ None
+  | body.Ended reason snd rcv count ↦ Some m.epoch.0
+  | body.EndedAck ↦ None
+]
+
+-- the epoch of an Offer that comes to node n, and that of an Ended that comes to the front end
+abbrev pub offer_on : ℕ → Place → Place → List ℕ → Option ℕ
+offer_on n Front (Node m) bytes = if nat_eq m n then offer_epoch (decoded_message bytes) else None
+offer_on n _ _ bytes = None
+
+abbrev pub ended_on : Place → Place → List ℕ → Option ℕ
+ended_on (Node n) Front bytes = ended_epoch (decoded_message bytes)
+ended_on _ _ bytes = None
+
+abbrev pub segment_in : ℕ → Seen → Option (List ℕ)
+segment_in c (Row r) = None
+segment_in c (Came l) = segment_on c l.from l.to l.bytes
+
+abbrev pub is_syn_in : ℕ → Seen → Bool
+is_syn_in c (Row r) = false
+is_syn_in c (Came l) = syn_on c l.from l.to l.bytes
+
+abbrev pub offer_in : ℕ → Seen → Option ℕ
+offer_in n (Row r) = None
+offer_in n (Came l) = offer_on n l.from l.to l.bytes
+
+abbrev pub ended_in : Seen → Option ℕ
+ended_in (Row r) = None
+ended_in (Came l) = ended_on l.from l.to l.bytes
+
+-- ---- records
+
+-- the epoch in which the front end takes the connection, and in which it gives it up
+abbrev pub front_took : Rec → Option ℕ
+front_took (rec.Took Front c epoch) = Some epoch.0
+front_took _ = None
+
+abbrev pub front_gave : Rec → Option ℕ
+front_gave (rec.Gave Front c epoch) = Some epoch.0
+front_gave _ = None
+
+-- and a node
+abbrev pub node_took : ℕ → Rec → Option ℕ
+node_took n (rec.Took (Node m) c epoch) = if nat_eq m n then Some epoch.0 else None
+node_took n _ = None
+
+abbrev pub node_gave : ℕ → Rec → Option ℕ
+node_gave n (rec.Gave (Node m) c epoch) = if nat_eq m n then Some epoch.0 else None
+node_gave n _ = None
+
+-- the node to which the first request is assigned
+abbrev pub first_node : Rec → Option ℕ
+first_node (rec.AssignedFirst c r path n add remove) = Some n
+first_node _ = None
+
+-- what the front end sends to a node, and node n to the front end
+abbrev pub to_node : Rec → Option (ℕ × List ℕ)
+to_node (rec.Sent k Front (Node n) bytes) = Some (n, bytes)
+to_node _ = None
+
+abbrev pub from_node : ℕ → Rec → Option (List ℕ)
+from_node n (rec.Sent k (Node m) Front bytes) = if nat_eq m n then Some bytes else None
+from_node n _ = None
+
+abbrev pub is_forward : Option Head → Bool
+is_forward None = false
+is_forward (Some h) = elim h.kind [
+  | kind.Offer ↦ false
+  | kind.Taken ↦ false
+  | kind.Forward ↦ true
+  | kind.Ask ↦ false
+  | kind.Tag ↦ false
+  | kind.Fetch ↦ false
+  | kind.Content ↦ false
+  | kind.Ended ↦ false
+  | kind.EndedAck ↦ false
+]
+
+-- a Forward that the front end sends
+abbrev pub forward_to : Rec → Option (ℕ × List ℕ)
+forward_to (rec.Sent k Front (Node n) bytes) = if is_forward (head_of bytes) then Some (n, bytes) else None
+forward_to _ = None
+
+abbrev pub of_row : {A : Type 0} → (Rec → Option A) → Seen → Option A
+of_row f (Row r) = f r
+of_row f (Came l) = None
+
+-- ---- the story so far
+
+-- What the front end's part of the way was.
+pub record Story : Type 0 where
+  pub syn : Bool  -- a plain SYN of the client came to it
+  pub took : Bool  -- it took the connection
+  pub away : Bool  -- it gave it up, and did not take it again
+  pub epoch : Option ℕ  -- that of the connection since it gave it up
+  pub node : Option ℕ  -- that of its first assignment
+  pub ended : List ℕ  -- the epochs of each Ended that came to it
+
+abbrev pub untold : Story
+untold = record { syn = false; took = false; away = false; epoch = None; node = None; ended = [] }
+
+abbrev pub row_step : Story → Rec → Story
+row_step t (rec.Took Front c epoch) = record t { took = true; away = false }
+row_step t (rec.Gave Front c epoch) = record t { away = true; epoch = Some (epoch.0 + 1) }
+row_step t (rec.AssignedFirst c r path n add remove) = record t { node = Some n }
+row_step t _ = t
+
+abbrev pub story_step : ℕ → Story → Seen → Story
+story_step c t (Row r) = row_step t r
+story_step c t (Came l) = record t { syn = t.syn || syn_on c l.from l.to l.bytes; ended = t.ended ++ listed (ended_on l.from l.to l.bytes) }
+
+abbrev pub story : ℕ → List Seen → Story
+story c seen = fold (story_step c) untold seen
+
+-- the highest of these epochs, or 0
+abbrev pub highest : List ℕ → ℕ
+highest [] = 0
+highest (e ∷ es) = max e (highest es)
+
+-- the epoch is among these
+abbrev pub is_among : ℕ → List ℕ → Bool
+is_among e es = list_any (λ d. d == e) es

@@ -1,9 +1,0 @@
--- By what holds of the dispatcher's calls.
-use Rattle.lard_law_line.proofs.LineBounds.{connections-stay-few, never-all-busy}
-use Rattle.lard_law_line.proofs.connections_are_told.Goals as goal
-
-pub returns-clause-most : goal.returns-clause-most
-returns-clause-most c = connections-stay-few
-
-pub returns-clause-few : goal.returns-clause-few
-returns-clause-few c = never-all-busy

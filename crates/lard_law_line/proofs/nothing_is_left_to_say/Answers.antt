@@ -1,6 +1,0 @@
--- By what each rule keeps.
-use Rattle.lard_law_line.proofs.SilenceRuns.{connections-have-spoken}
-use Rattle.lard_law_line.proofs.nothing_is_left_to_say.Goals as goal
-
-pub returns : goal.returns
-returns c = connections-have-spoken

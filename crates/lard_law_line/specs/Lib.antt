@@ -1,5 +1,0 @@
-pub mod LineLaws
-pub mod Line
-pub mod SilenceLaws
-pub mod SilencePlaces
-pub mod Silence

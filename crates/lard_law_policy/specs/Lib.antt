@@ -1,4 +1,0 @@
-pub mod Laws
-pub mod Line
-pub mod Loads
-pub mod Servers

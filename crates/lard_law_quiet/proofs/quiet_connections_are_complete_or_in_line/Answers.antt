@@ -1,6 +1,0 @@
--- By what holds of each state.
-use Rattle.lard_law_quiet.proofs.QuietEnds.{journals-complete}
-use Rattle.lard_law_quiet.proofs.quiet_connections_are_complete_or_in_line.Goals as goal
-
-pub returns : goal.returns
-returns c = journals-complete

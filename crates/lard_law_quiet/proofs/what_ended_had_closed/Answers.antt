@@ -1,6 +1,0 @@
--- By what every rule keeps.
-use Rattle.lard_law_quiet.proofs.EndedRuns.{connections-were-closed}
-use Rattle.lard_law_quiet.proofs.what_ended_had_closed.Goals as goal
-
-pub returns : goal.returns
-returns c = connections-were-closed

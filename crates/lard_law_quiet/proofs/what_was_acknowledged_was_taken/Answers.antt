@@ -1,6 +1,0 @@
--- By what every rule keeps.
-use Rattle.lard_law_quiet.proofs.AcksRuns.{connections-ack}
-use Rattle.lard_law_quiet.proofs.what_was_acknowledged_was_taken.Goals as goal
-
-pub returns : goal.returns
-returns c = connections-ack

@@ -1,0 +1,121 @@
+-- What a node's step leaves at its disk: the jobs that were there, and those that its turn queues.
+use Rattle.std.proofs.Common.{◌≡◌, ℕ, List, [], ◌++◌, Option, Some, None, Result, Ok, Err, refl, sym, ap, ◌∙◌, append-nil}
+use Rattle.std.proofs.lemmas.Bool.{cond_both}
+use Rattle.std.specs.List.{list_any}
+use Rattle.lard_base.specs.declared.parts.EndpointParts.{EndpointParts}
+use Rattle.lard_base.specs.declared.place.Place.{Place}
+use Rattle.lard_base.specs.declared.place.Place.TheVariants.{Client, Front, Node}
+use Rattle.lard_law_settles.proofs.CourseQueueing.{QueuesNone, content-none, forwarded-none}
+use Rattle.lard_disk.specs.declared.disk.Job.{Job}
+use Rattle.lard_disk.specs.Jobs.{is_for}
+use Rattle.lard_endpoint.specs.Control.{ControlBlock}
+use Rattle.lard_handoff_back.specs.Back.{awaits_ack, endpoint_of}
+use Rattle.lard_message.specs.declared.fault.MsgFault.{MsgFault}
+use Rattle.lard_message.specs.declared.message.Body.{Body}
+use Rattle.lard_message.specs.declared.message.Body.TheVariants as body
+use Rattle.lard_message.specs.declared.message.Message.{Message}
+use Rattle.lard_rules.specs.declared.node.NodeState.{NodeState}
+use Rattle.lard_rules.specs.declared.node.NodeTurn.{NodeTurn}
+use Rattle.lard_rules.specs.declared.stay.Stay.{Stay}
+use Rattle.lard_rules.specs.Node as node
+use Rattle.lard_rules.specs.Node.{NodePart, both_of, gone, node_acknowledged, node_content, node_forwarded, node_offered, node_tagged, node_timer, saying}
+use Rattle.lard_rules.specs.NodePlace.{NodeSetting, aside, fetched, fetched_file, node_deed, node_env, node_gets, node_hears, node_part}
+use Rattle.lard_rules.specs.Stay.{NodeEnv}
+use Rattle.lard_resend.specs.Kept.{without}
+use Rattle.lard_base.specs.declared.place.TimerKind.TheVariants as kind
+use Rattle.lard_rules.specs.declared.places.Out.{Out}
+use Rattle.lard_rules.specs.Outs.{nothing_done}
+use Rattle.lard_segment.specs.declared.segment.Dir.TheVariants.{ToCluster}
+use Rattle.lard_segment.specs.Segment.{decoded}
+
+-- ---- a turn
+
+-- the jobs that a rule queues
+abbrev pub jobs_of : node.Deed → List Job
+jobs_of node.Drops = []
+jobs_of (node.Says messages) = []
+jobs_of (node.Does given) = given.1.jobs
+
+none-of : (d : node.Deed) → QueuesNone d → jobs_of d ≡ []
+none-of node.Drops h = refl
+none-of (node.Says messages) h = refl
+none-of (node.Does given) h = h
+
+pub timer-queues : (env : NodeEnv) (p : NodePart) → jobs_of (node_timer env p) ≡ []
+timer-queues env p = go (both_of (endpoint_of p.row) p.stay) where
+  go : (o : Option (ControlBlock × Stay)) → jobs_of (node.fired_by env p o) ≡ []
+  go None = refl
+  go (Some x) = refl
+
+module _ (k : NodeSetting) (s : NodeState) where
+  pub deed-adds : (c : ℕ) (d : node.Deed) → (node_deed k s c d).0.disk ≡ s.disk ++ jobs_of d
+  deed-adds c node.Drops = sym (append-nil s.disk)
+  deed-adds c (node.Says messages) = refl
+  deed-adds c (node.Does given) = refl
+
+  -- ---- a message
+
+  -- why it queues jobs: an Offer or a Fetch came, or a Tag that counts
+  pub data Why (from : Place) (r : Result Message MsgFault) (t : NodeState) (js : List Job) : Type 0 where
+    Nothing : js ≡ [] → Why from r t js
+    Offered : (c e : ℕ) (parts : EndpointParts) → from ≡ Front → r ≡ Ok (record { c = c; epoch = record { 0 = e }; body = body.Offer parts }) → Why from r t js
+    Asked : (a c e n : ℕ) (path : List ℕ) → from ≡ Node a → r ≡ Ok (record { c = c; epoch = record { 0 = e }; body = body.Fetch n path }) → Why from r t js
+    Tagged : (c e number : ℕ) (nodes : List ℕ) (given : NodePart × NodeTurn) → from ≡ Front → r ≡ Ok (record { c = c; epoch = record { 0 = e }; body = body.Tag number nodes })
+        → node_tagged (node_env k s c e) (node_part s c) number nodes ≡ node.Does given → t ≡ (node_deed k s c (node.Does given)).0 → js ≡ given.1.jobs → Why from r t js
+
+  pub record Leaves (from : Place) (r : Result Message MsgFault) (t : NodeState) : Type 0 where
+    pub jobs : List Job
+    pub disk : t.disk ≡ s.disk ++ jobs
+    pub why : Why from r t jobs
+
+  rests : (from : Place) (r : Result Message MsgFault) → Leaves from r s
+  rests from r = record { jobs = []; disk = sym (append-nil s.disk); why = Nothing refl }
+
+  tags : (c e number : ℕ) (nodes : List ℕ) (d : node.Deed) → node_tagged (node_env k s c e) (node_part s c) number nodes ≡ d → Leaves Front (Ok (record { c = c; epoch = record { 0 = e }; body = body.Tag number nodes })) (node_deed k s c d).0
+  tags c e number nodes node.Drops is = rests Front _
+  tags c e number nodes (node.Says messages) is = record { jobs = []; disk = refl; why = Nothing refl }
+  tags c e number nodes (node.Does given) is = record { jobs = given.1.jobs; disk = refl; why = Tagged c e number nodes given refl refl is refl refl }
+
+  quiet : (from : Place) (m : Message) (d : node.Deed) → jobs_of d ≡ [] → Leaves from (Ok m) (node_deed k s m.c d).0
+  quiet from m d none = record { jobs = []; disk = deed-adds m.c d ∙ ap (λ (js : List Job). s.disk ++ js) none; why = Nothing refl }
+
+  asks : (a c e n : ℕ) (path : List ℕ) (o : Option (List ℕ)) → Leaves (Node a) (Ok (record { c = c; epoch = record { 0 = e }; body = body.Fetch n path })) (fetched k s a c e n path o).0
+  asks a c e n path None = rests (Node a) _
+  asks a c e n path (Some file) = cond_both (list_any (is_for c e n) s.disk) (s, nothing_done) (aside s (fetched_file k s a c e n path))
+      (λ (x : NodeState × Out). Leaves (Node a) (Ok (record { c = c; epoch = record { 0 = e }; body = body.Fetch n path })) x.0) (λ t. rests (Node a) _)
+      (λ t. record { jobs = (fetched_file k s a c e n path).jobs; disk = refl; why = Asked a c e n path refl refl })
+
+  hears : (from : Place) (c e : ℕ) (b : Body) → Leaves from (Ok (record { c = c; epoch = record { 0 = e }; body = b })) (node_hears k s from c e b).0
+  hears Front c e (body.Offer parts) =
+      let d = node_offered (node_env k s c e) (node_part s c) parts in
+      record { jobs = jobs_of d; disk = deed-adds c d; why = Offered c e parts refl refl }
+  hears Front c e (body.Forward bytes) =
+      quiet Front (record { c = c; epoch = record { 0 = e }; body = body.Forward bytes }) (node_forwarded (node_env k s c e) (node_part s c) (decoded bytes c ToCluster))
+      (none-of (node_forwarded (node_env k s c e) (node_part s c) (decoded bytes c ToCluster)) (forwarded-none (node_env k s c e) (node_part s c) (decoded bytes c ToCluster)))
+  hears Front c e (body.Tag number nodes) =
+      tags c e number nodes (node_tagged (node_env k s c e) (node_part s c) number nodes) refl
+  hears Front c e body.EndedAck =
+      quiet Front (record { c = c; epoch = record { 0 = e }; body = body.EndedAck }) (node_acknowledged (node_env k s c e) (node_part s c))
+      (cond_both (awaits_ack e (node_part s c).row) (node.Does (record (node_part s c) { row = gone (node_part s c).row; kept = without kind.Ended 0 (node_part s c).kept }, saying [])) node.Drops (λ (d : node.Deed). jobs_of d ≡ []) (λ t. refl)
+      (λ t. refl))
+  hears Front c e body.Taken = rests Front _
+  hears Front c e (body.Ask number queue size paths) = rests Front _
+  hears Front c e (body.Ended why snd rcv count) = rests Front _
+  hears Front c e (body.Fetch n path) = rests Front _
+  hears Front c e (body.Content n bytes) = rests Front _
+  hears (Node a) c e (body.Fetch n path) = asks a c e n path (k.files path)
+  hears (Node a) c e (body.Content n bytes) =
+      quiet (Node a) (record { c = c; epoch = record { 0 = e }; body = body.Content n bytes }) (node_content (node_env k s c e) (node_part s c) a n)
+      (none-of (node_content (node_env k s c e) (node_part s c) a n) (content-none (node_env k s c e) (node_part s c) a n))
+  hears (Node a) c e (body.Offer parts) = rests (Node a) _
+  hears (Node a) c e (body.Forward bytes) = rests (Node a) _
+  hears (Node a) c e (body.Tag number nodes) = rests (Node a) _
+  hears (Node a) c e body.EndedAck = rests (Node a) _
+  hears (Node a) c e body.Taken = rests (Node a) _
+  hears (Node a) c e (body.Ask number queue size paths) = rests (Node a) _
+  hears (Node a) c e (body.Ended why snd rcv count) = rests (Node a) _
+  hears (Client d) c e b = rests (Client d) _
+
+  pub gets-leaves : (from : Place) (r : Result Message MsgFault) → Leaves from r (node_gets k s from r).0
+  gets-leaves from (Err fault) = rests from (Err fault)
+  gets-leaves from (Ok m) = hears from m.c m.epoch.0 m.body

@@ -1,0 +1,124 @@
+-- What a step sends is on its way behind it.
+use Rattle.std.proofs.Common.{⊎_elim, ◌≡◌, ◌<◌, ◌≤◌, ℕ, ◌+◌, ◌-◌, Bool, true, false, cond, nat_eq, List, [], ◌∷◌, ◌++◌, length, Ok, refl, ap, ◌∙◌, arith, append_assoc, length-append}
+use Rattle.std.specs.Prelude.{◌⊎◌}
+use Rattle.std.proofs.lemmas.Bool.{cases_lt}
+use Rattle.std.proofs.lemmas.List.{length-map}
+use Rattle.std.proofs.lemmas.List.Sums.{fold-append}
+use Rattle.std.specs.List.{fold}
+use Rattle.lard_agenda.specs.Laws.{is_on_way, way_flag}
+use Rattle.lard_base.specs.declared.event.Event.{Event}
+use Rattle.lard_base.specs.declared.event.Event.TheVariants as event
+use Rattle.lard_base.specs.declared.place.Place.{Place}
+use Rattle.lard_rules.specs.declared.machine.Machine.{Machine}
+use Rattle.lard_rules.specs.Bounds.{HasRule}
+use Rattle.lard_rules.specs.Machine.{clocked, machine_step, passed, segments_sent, told, told_rows}
+use Rattle.lard_law_view.specs.View.{IsViewed, part_of, setting_of}
+use Rattle.lard_law_view.proofs.Fine.{IsFine, fine}
+use Rattle.lard_law_view.proofs.Shapes.{IsPut, Shapes, both_out}
+use Rattle.lard_law_view.proofs.Stepping.{step-has}
+use Rattle.lard_law_settles.proofs.CourseWays.{OnlySend, SaysLittle, both-little, lost-length, none-send, said-little, sents-send}
+use Rattle.lard_history.proofs.Seeing.{by_number, same_number}
+use Rattle.lard_journal.specs.declared.rec.Rec.{Rec}
+use Rattle.lard_journal.specs.declared.rec.Rec.TheVariants as rec
+use Rattle.lard_rules.specs.Sent.{packet_of, packets_of, sent_records}
+use Rattle.lard_net.specs.Net.{lose_at}
+use Rattle.lard_rules.specs.declared.places.Out.{Out}
+use Rattle.lard_law_view.proofs.OwnRecords.{behind}
+
+-- each packet that is new is on its way
+abbrev pub AreNew : Machine → Machine → Type 0
+AreNew m n = (k : ℕ) → length m.net < k → k ≤ length n.net → is_on_way n.journal k ≡ true
+
+module _ (k : ℕ) where
+  -- behind these records it is on its way, whatever was before
+  abbrev Tells : List Rec → Type 0
+  Tells rs = (was : Bool) → fold (way_flag k) was rs ≡ true
+
+  tells-behind : (xs ys : List Rec) → Tells ys → Tells (xs ++ ys)
+  tells-behind xs ys h was = fold-append (way_flag k) was xs ys ∙ h (fold (way_flag k) was xs)
+
+  tells-before : (first : ℕ) (xs ys : List Rec) → Tells xs → OnlySend k first ys → Tells (xs ++ ys)
+  tells-before first xs ys h s was = fold-append (way_flag k) was xs ys ∙ ap (λ b. fold (way_flag k) b ys) (h was) ∙ s.keeps
+
+  -- it is among those of these numbers
+  sents-tell : (first i : ℕ) (place : Place) (ss : List (Place × List ℕ)) → first < i → i ≤ k → k < i + length ss → Tells (sent_records i place ss)
+  sents-tell first i place [] late from to was = absurd (omega (arith, from, to))
+  sents-tell first i place (s ∷ ss) late from to was =
+      let rest : OnlySend k first (sent_records (i + 1) place ss) = sents-send k first (i + 1) place ss (omega (arith, late)) in
+      by_number (fold (way_flag k) (cond (nat_eq i k) true was) (sent_records (i + 1) place ss) ≡ true) i k
+      (λ same. let t : nat_eq i k ≡ true = ap (λ j. nat_eq j k) same ∙ same_number k in
+      ap (λ b. fold (way_flag k) (cond b true was) (sent_records (i + 1) place ss)) t ∙ rest.keeps)
+      (λ other. sents-tell first (i + 1) place ss (omega (arith, late)) (omega (arith, from, other)) (omega (arith, to)) (cond (nat_eq i k) true was))
+
+  -- among the segments or among the messages of a turn
+  module _ (first : ℕ) (place : Place) (o : Out) (little : SaysLittle k first o) (i j : ℕ) (a : first < i) (b : first < j) where
+    abbrev S : List Rec
+    S = sent_records i place o.segments
+
+    abbrev M : List Rec
+    M = sent_records j place o.messages
+
+    segment-tells : i ≤ k → k < i + length o.segments → Tells (o.notes ++ S ++ o.gave ++ M ++ o.timers)
+    segment-tells from to =
+        tells-before first (o.notes ++ S ++ o.gave ++ M) o.timers
+        (tells-before first (o.notes ++ S ++ o.gave) M
+        (tells-before first (o.notes ++ S) o.gave
+        (tells-behind o.notes S (sents-tell first i place o.segments a from to))
+        (none-send k first o.gave little.gave))
+        (sents-send k first j place o.messages b))
+        (none-send k first o.timers little.timers)
+
+    message-tells : j ≤ k → k < j + length o.messages → Tells (o.notes ++ S ++ o.gave ++ M ++ o.timers)
+    message-tells from to =
+        tells-before first (o.notes ++ S ++ o.gave ++ M) o.timers
+        (tells-behind (o.notes ++ S ++ o.gave) M (sents-tell first j place o.messages b from to))
+        (none-send k first o.timers little.timers)
+
+-- ---- shape by shape
+
+module _ (m : Machine) where
+  told-new : (w : Machine) (e : Event) (place : Place) (o : Out) → IsPut m w → ((k : ℕ) → SaysLittle k (length m.net) o) → AreNew m (told w e (behind e) place o)
+  unfolding told
+  told-new w e place o put little k late within =
+      let first : ℕ = length m.net in
+      let same : length w.net ≡ first = ap (λ ps. length ps) put.net in
+      let segments : length (packets_of place o.segments) ≡ length o.segments = length-map o.segments (packet_of place) in
+      let messages : length (packets_of place o.messages) ≡ length o.messages = length-map o.messages (packet_of place) in
+      let sum : length (segments_sent w place o) ≡ length w.net + length (packets_of place o.segments) = length-append w.net (packets_of place o.segments) in
+      let all : length (segments_sent w place o ++ packets_of place o.messages) ≡ length (segments_sent w place o) + length (packets_of place o.messages) =
+      length-append (segments_sent w place o) (packets_of place o.messages) in
+      let i : ℕ = length w.net + 1 in
+      let j : ℕ = length (segments_sent w place o) + 1 in
+      let S : List Rec = sent_records i place o.segments in
+      let M : List Rec = sent_records j place o.messages in
+      let rest : List Rec = o.notes ++ S ++ o.gave ++ M ++ o.timers in
+      let parts : told_rows w e (behind e) place o ≡ (rec.Event (w.events + 1) e ∷ behind e) ++ rest =
+      ap (λ l. rec.Event (w.events + 1) e ∷ (l ++ o.gave ++ M ++ o.timers)) (append_assoc (behind e) o.notes S)
+      ∙ ap (λ l. rec.Event (w.events + 1) e ∷ (l ++ M ++ o.timers)) (append_assoc (behind e) (o.notes ++ S) o.gave)
+      ∙ ap (λ l. rec.Event (w.events + 1) e ∷ (l ++ o.timers)) (append_assoc (behind e) (o.notes ++ S ++ o.gave) M)
+      ∙ ap (λ l. rec.Event (w.events + 1) e ∷ l) (append_assoc (behind e) (o.notes ++ S ++ o.gave ++ M) o.timers) in
+      let tells : (t : (k < j) ⊎ (j ≤ k)) → Tells k rest = λ t. ⊎_elim
+      (λ (f : k < j). segment-tells k first place o (little k) i j (omega (arith, same)) (omega (arith, same, sum)) (omega (arith, late, same)) (omega (arith, f, sum, segments)))
+      (λ (f : j ≤ k). message-tells k first place o (little k) i j (omega (arith, same)) (omega (arith, same, sum)) f (omega (arith, within, all, messages)))
+      t in
+      fold-append (way_flag k) false w.journal (told_rows w e (behind e) place o)
+      ∙ ap (λ rs. fold (way_flag k) (is_on_way w.journal k) rs) parts
+      ∙ tells-behind k (rec.Event (w.events + 1) e ∷ behind e) rest (tells (cases_lt k j)) (is_on_way w.journal k)
+
+  passed-new : (n : Machine) → length n.net ≡ length m.net → AreNew m n
+  passed-new n same k late within = absurd (omega (arith, late, within, same))
+
+  shapes-new : Shapes m IsFine (λ e n. AreNew m n)
+  unfolding clocked
+  shapes-new = record {
+    one = λ w e place o c heads ns p act does. told-new w e place o act.put (λ k. said-little k (length m.net) place c o o.answered (part_of m c) p act.said act.timers);
+    two = λ w e place a b rows c d heads p r act does too. told-new w e place (both_out a b rows) act.put (λ k. both-little k (length m.net) a b rows
+        (said-little k (length m.net) place c a a.answered (part_of m c) p act.said act.timers)
+        (said-little k (length m.net) place d b 0 (part_of m d) r act.said_too act.timers_too) act.order);
+    nobody = λ k l at there. passed-new (passed m (event.Deliver k) (rec.Got k ∷ [])) refl;
+    loses = λ k l at there. passed-new (passed (record m { net = lose_at (k - 1) m.net }) (event.Lose k) (rec.Lost k ∷ [])) (lost-length m.net (k - 1));
+    clocks = λ ms. passed-new (passed (record m { now = m.now + ms }) (event.Clock ms) (rec.Clock (record { 0 = m.now + ms }) ∷ [])) refl;
+  }
+
+pub step-new : (m : Machine) → IsViewed m → (e : Event) (n : Machine) → HasRule e → machine_step m e ≡ Ok n → AreNew m n
+step-new m view e n rule is = step-has m view IsFine (fine (setting_of m)) (λ d k. AreNew m k) (shapes-new m) e n rule is

@@ -1,0 +1,214 @@
+-- The first timer of those that are due, at the front end and at a node: what is sent again is near.
+use Rattle.std.proofs.Common.{◌≡◌, ◌≤◌, ◌==◌, not, ℕ, Bool, true, false, List, [], ◌∷◌, ◌++◌, map, Option, Some, None, inl, inr, refl, sym, ap, ◌∙◌, subst}
+use Rattle.std.specs.Prelude.{◌⊎◌}
+use Rattle.std.proofs.lemmas.Bool.{both_ways}
+use Rattle.std.specs.List.{AllByRecursion, list_any}
+use Rattle.lard_base.specs.declared.event.Event.TheVariants as event
+use Rattle.lard_base.specs.declared.place.Place.{Place}
+use Rattle.lard_base.specs.declared.place.Place.TheVariants.{Front, Node}
+use Rattle.lard_base.specs.declared.place.TimerKind.{TimerKind}
+use Rattle.lard_base.specs.declared.place.TimerKind.TheVariants as kind
+use Rattle.lard_bound.specs.Nears.{Near}
+use Rattle.lard_bound.specs.Progress.{Any, Lasts, NearAt, NearOn, spot_at, spot_with}
+use Rattle.lard_bound.specs.Spots.{spot_of}
+use Rattle.lard_bound.specs.Units.{Whole, units}
+use Rattle.lard_law_view.specs.View.{Conn, Move, Setting, event_seen, front_does, grown, letter, letters_of, node_does}
+use Rattle.lard_law_settles.proofs.CourseOwing.{IsFirst}
+use Rattle.lard_law_settles.proofs.CourseRenewing.{BackKept, IsAsk, IsEnded, IsFetched, OfferKept, Renews, RowKept, StageKept, StayKept, ask-near, ended-near, fetch-near, offer-near}
+use Rattle.lard_endpoint.specs.Control.{ControlBlock}
+use Rattle.lard_endpoint.specs.Leaving.{after_timer, timed}
+use Rattle.lard_rules.specs.Front as front
+use Rattle.lard_rules.specs.Front.{FrontEnv, FrontPart, fired_by, fires_at, front_armed, front_timer, rest_of, row_armed, stage_armed}
+use Rattle.lard_handoff_back.specs.declared.row.BackConn.{BackConn}
+use Rattle.lard_handoff_back.specs.declared.row.BackConn.TheVariants as back
+use Rattle.lard_handoff_back.specs.declared.row.BackRow.{BackRow}
+use Rattle.lard_handoff_back.specs.Back.{endpoint_of}
+use Rattle.lard_handoff_back.specs.Row.{held_in}
+use Rattle.lard_lateral.specs.Lateral.{fetch_kept}
+use Rattle.lard_message.specs.declared.message.Body.TheVariants as body
+use Rattle.lard_handoff_front.specs.declared.row.FrontConn.{FrontConn}
+use Rattle.lard_handoff_front.specs.declared.row.FrontConn.TheVariants as stage
+use Rattle.lard_handoff_front.specs.declared.row.FrontRow.{FrontRow}
+use Rattle.lard_history.specs.Own.{Has, Letter}
+use Rattle.lard_history.proofs.Seeing.{has-before, has-behind}
+use Rattle.lard_rules.specs.declared.stay.Stay.{Stay}
+use Rattle.lard_rules.specs.Node as node
+use Rattle.lard_rules.specs.Node.{NodePart, again_sent, both_of, fired, holds_kind, is_unsaid, message, node_armed, node_timer}
+use Rattle.lard_rules.specs.Stay.{NodeEnv, named_paths}
+use Rattle.lard_resend.specs.declared.kept.Kept.{Kept}
+use Rattle.lard_resend.specs.Kept.{rank}
+use Rattle.lard_resend.specs.Pending.{sent_of}
+use Rattle.lard_rules.specs.declared.places.Station.{Station}
+use Rattle.lard_rules.specs.Serving.{ready_of, serving, spoken}
+use Rattle.lard_send.specs.Send.{is_clear}
+
+-- ---- one of the letters of a move is near
+
+has-any : {A : Type 0} (P : A → Type 0) (a : A) (xs : List A) → Has a xs → P a → Any P xs
+has-any P a [] h p = absurd h
+has-any P a (x ∷ xs) (inl same) p = inl (subst P (sym same) p)
+has-any P a (x ∷ xs) (inr h) p = inr (has-any P a xs h p)
+
+has-map : {A B : Type 0} (f : A → B) (a : A) (xs : List A) → Has a xs → Has (f a) (map f xs)
+has-map f a [] h = h
+has-map f a (y ∷ xs) (inl same) = inl (ap f same)
+has-map f a (y ∷ xs) (inr h) = inr (has-map f a xs h)
+
+pub not-off : (b : Bool) → not b ≡ true → b ≡ false
+not-off true e = sym e
+not-off false e = refl
+
+module _ (k : Setting) (w : Whole) (x : Conn) (st : Station) (is : x.part.station ≡ Some st) where
+  -- what a timer sends is near within three rounds, where no unit goes
+  abbrev pub SendsNear : Move → Type 0
+  SendsNear v = units w k.nodes x ≤ units w k.nodes (grown x v) → Any (λ a. NearAt k.files (grown x v) 3 a) (letters_of v)
+
+  pub near-by : (v : Move) → Lasts k w x v → (a : Letter) → Has a (letters_of v) → Near k.files (spot_of k.files x.part st) x.c 3 a → SendsNear v
+  near-by v lasts a has near up =
+      let spot : spot_at k.files (grown x v) ≡ Some (spot_of k.files x.part st) = lasts.steady up ∙ ap (spot_with k.files x) is in
+      has-any (λ a. NearAt k.files (grown x v) 3 a) a (letters_of v) has (subst (λ o. NearOn k.files o x.c 3 a) (sym spot) near)
+
+  -- ---- the front end
+
+  -- its timer is that of the endpoint, or something is kept
+  front-armed : (p : FrontPart) (kd : TimerKind) → front_armed p kd ≡ true → (row_armed p.row ≡ true) ⊎ (p.kept ≡ [] → ⊥)
+  front-armed p kind.Tcp on = inl on
+  front-armed p kind.Offer on = inr (λ none. both_ways false refl (sym (ap (list_any (λ k. rank k.kind == rank kind.Offer)) none) ∙ on))
+  front-armed p _ on = absurd (both_ways false refl on)
+
+  module _ (env : FrontEnv) (renews : Renews k.files x) where
+    abbrev p : FrontPart
+    p = x.part.front
+
+    abbrev pub FrontNear : front.Deed → Type 0
+    FrontNear d = Lasts k w x (front_does x (event_seen (event.Timer Front x.c)) d) → SendsNear (front_does x (event_seen (event.Timer Front x.c)) d)
+
+    -- where it has the endpoint, that sends what was not acknowledged
+    abbrev pub HeldNear : Type 0
+    HeldNear = (row : FrontRow) (b : ControlBlock) → p.row ≡ Some row → row.stage ≡ stage.Held b → is_clear b.send ≡ false → FrontNear (fires_at env p row (stage.Held b))
+
+    -- one that waits has said all
+    abbrev pub WaitsClear : Type 0
+    WaitsClear = (row : FrontRow) (b : ControlBlock) → p.row ≡ Some row → row.stage ≡ stage.Waiting b → is_clear b.send ≡ true
+
+    unarmed : (row : FrontRow) (ks : List Kept) → (false ≡ true) ⊎ (ks ≡ [] → ⊥) → ks ≡ [] → ⊥
+    unarmed row ks (inl on) none = both_ways false refl on
+    unarmed row ks (inr some) none = some none
+
+    by-stage : HeldNear → WaitsClear → (row : FrontRow) → p.row ≡ Some row → (c : FrontConn) → row.stage ≡ c → OfferKept x.c p.kept c → (stage_armed c ≡ true) ⊎ (p.kept ≡ [] → ⊥) → FrontNear (fires_at env p row c)
+    by-stage held waits row at (stage.Held b) is_ none (inl on) = held row b at is_ (not-off (is_clear b.send) on)
+    by-stage held waits row at (stage.Held b) is_ none (inr some) = absurd (some none)
+    by-stage held waits row at (stage.Waiting b) is_ none (inl on) = absurd (both_ways (is_clear b.send) (not-off (is_clear b.send) on) (waits row b at is_))
+    by-stage held waits row at (stage.Waiting b) is_ none (inr some) = absurd (some none)
+    by-stage held waits row at stage.Lent is_ none armed = absurd none
+    by-stage held waits row at (stage.Moved n e) is_ none armed = absurd (unarmed row p.kept armed none)
+    by-stage held waits row at (stage.Closed last) is_ none armed = absurd (unarmed row p.kept armed none)
+    by-stage held waits row at (stage.Offering n e) is_ (parts, kept, may) armed = λ lasts.
+        let a : Letter = record { from = Front; to = Node n; bytes = message x.c e.0 (body.Offer parts) } in
+        let near = offer-near k.files x.part st x.c n e.0 row at is_ parts may in
+        let v : Move = front_does x (event_seen (event.Timer Front x.c)) (front.Says (front.saying (map sent_of p.kept))) in
+        let has : letters_of v ≡ a ∷ [] = ap (λ (ks : List Kept). map (letter Front) (map sent_of ks)) kept in
+        near-by v lasts a (subst (Has a) (sym has) (inl refl)) near
+
+    by-row : HeldNear → WaitsClear → (o : Option FrontRow) → p.row ≡ o → RowKept x.c p.kept o → (row_armed o ≡ true) ⊎ (p.kept ≡ [] → ⊥) → FrontNear (fired_by env p o)
+    by-row held waits None at none (inl on) = absurd (both_ways false refl on)
+    by-row held waits None at none (inr some) = absurd (some none)
+    by-row held waits (Some row) at kept armed = by-stage held waits row at row.stage refl kept armed
+
+    pub front-begins : HeldNear → WaitsClear → IsFirst x.part Front → FrontNear (front_timer env p)
+    front-begins held waits (kd, on) = by-row held waits p.row refl renews.front (front-armed p kd on)
+
+  -- ---- a node
+
+  -- the endpoint's timer, or something is kept, or a Fetch is
+  node-on : (q : NodePart) (kd : TimerKind) → node_armed q kd ≡ true → (is_unsaid (endpoint_of q.row) ≡ true) ⊎ ((q.kept ≡ [] → ⊥) ⊎ (q.fetches ≡ [] → ⊥))
+  node-on q kind.Tcp on = inl on
+  node-on q kind.Offer on = absurd (both_ways false refl on)
+  node-on q kind.Ask on = inr (inl (λ none. both_ways false refl (sym (ap (holds_kind kind.Ask) none) ∙ on)))
+  node-on q kind.Fetch on = inr (inr (λ none. both_ways false refl (sym (ap (holds_kind kind.Fetch) none) ∙ on)))
+  node-on q kind.Ended on = inr (inl (λ none. both_ways false refl (sym (ap (holds_kind kind.Ended) none) ∙ on)))
+
+  module _ (n : ℕ) (env : NodeEnv) (renews : Renews k.files x) where
+    abbrev q : NodePart
+    q = x.part.nodes n
+
+    abbrev pub NodeNear : node.Deed → Type 0
+    NodeNear d = Lasts k w x (node_does x n (event_seen (event.Timer (Node n) x.c)) d) → SendsNear (node_does x n (event_seen (event.Timer (Node n) x.c)) d)
+
+    -- where it has the endpoint
+    abbrev pub HereDeed : ControlBlock → Stay → node.Deed
+    HereDeed b s = node.Does (fired env q (b, s) (spoken env.serve (serving (after_timer b) s.served []) (ready_of env.serve (after_timer b) (timed b))))
+
+    abbrev pub HereNear : Type 0
+    HereNear = (e : ℕ) (b : ControlBlock) (s : Stay) → q.row ≡ Some (record { stage = back.Here b; epoch = record { 0 = e } }) → q.stay ≡ Some s → is_clear b.send ≡ false → NodeNear (HereDeed b s)
+
+    -- what is kept is among what is sent
+    said-none : (j : Kept) → Has j (q.kept ++ q.fetches) → Has (letter (Node n) (sent_of j)) (letters_of (node_does x n (event_seen (event.Timer (Node n) x.c)) (node.Says (again_sent q))))
+    said-none j has = has-map (letter (Node n)) (sent_of j) (again_sent q) (has-map sent_of j (q.kept ++ q.fetches) has)
+
+    said-here : (b : ControlBlock) (s : Stay) (j : Kept) → Has j (q.kept ++ q.fetches) → Has (letter (Node n) (sent_of j)) (letters_of (node_does x n (event_seen (event.Timer (Node n) x.c)) (HereDeed b s)))
+    said-here b s j has =
+        let given = spoken env.serve (serving (after_timer b) s.served []) (ready_of env.serve (after_timer b) (timed b)) in
+        let l : Letter = letter (Node n) (sent_of j) in
+        let messages : List (Place × List ℕ) = again_sent q ++ [] ++ [] ++ node.ended_sent env None given.0 in
+        let first : Has (sent_of j) messages =
+        has-before (sent_of j) (again_sent q ++ [] ++ []) (node.ended_sent env None given.0) (has-before (sent_of j) (again_sent q ++ []) [] (has-before (sent_of j) (again_sent q) [] (has-map sent_of j (q.kept ++ q.fetches) has))) in
+        has-behind l (map (letter (Node n)) given.1.segments) (map (letter (Node n)) messages) (has-map (letter (Node n)) (sent_of j) messages first)
+
+    abbrev Armed : Option ControlBlock → Type 0
+    Armed o = (is_unsaid o ≡ true) ⊎ ((q.kept ≡ [] → ⊥) ⊎ (q.fetches ≡ [] → ⊥))
+
+    nothing-on : Armed None → (q.kept ≡ []) × (q.fetches ≡ []) → ⊥
+    nothing-on (inl on) none = both_ways false refl on
+    nothing-on (inr (inl some)) none = some none.0
+    nothing-on (inr (inr some)) none = some none.1
+
+    -- here
+    module _ (e : ℕ) (b : ControlBlock) (s : Stay) (row : q.row ≡ Some (record { stage = back.Here b; epoch = record { 0 = e } })) (stay : q.stay ≡ Some s) where
+      asks-near : IsAsk k.files x.c e s q.kept → NodeNear (HereDeed b s)
+      asks-near a lasts =
+          let near = ask-near k.files x.part st x.c n e b s row stay (renews.homes n e b row) a in
+          let j : Kept = node.ask_kept x.c e (record { number = s.asks; queue = a.queue; size = a.size; paths = named_paths k.files s.batch }) in
+          let has : Has j (q.kept ++ q.fetches) = has-before j q.kept q.fetches (subst (Has j) (sym a.is) (inl refl)) in
+          near-by (node_does x n (event_seen (event.Timer (Node n) x.c)) (HereDeed b s)) lasts (letter (Node n) (sent_of j)) (said-here b s j has) near
+
+      fetches-near : (fs : List Kept) → q.fetches ≡ fs → AllByRecursion (IsFetched k.files x.c e) fs → (q.fetches ≡ [] → ⊥) → NodeNear (HereDeed b s)
+      fetches-near [] are each some lasts = absurd (some are)
+      fetches-near (f ∷ rest) are each some lasts =
+          let g = each.0 in
+          let j : Kept = fetch_kept x.c e g.r g.node g.path in
+          let near = fetch-near k.files x.part st x.c n e b s row stay (renews.homes n e b row) f rest are g in
+          let has : Has j (q.kept ++ q.fetches) = has-behind j q.kept q.fetches (subst (Has j) (sym are) (inl g.is)) in
+          near-by (node_does x n (event_seen (event.Timer (Node n) x.c)) (HereDeed b s)) lasts (letter (Node n) (sent_of j)) (said-here b s j has) near
+
+      here-armed : HereNear → ((q.kept ≡ []) ⊎ IsAsk k.files x.c e s q.kept) → AllByRecursion (IsFetched k.files x.c e) q.fetches → Armed (Some b) → NodeNear (HereDeed b s)
+      here-armed here ask each (inl on) = here e b s row stay (not-off (is_clear b.send) on)
+      here-armed here (inl none) each (inr (inl some)) = absurd (some none)
+      here-armed here (inr a) each (inr (inl some)) = asks-near a
+      here-armed here ask each (inr (inr some)) = fetches-near q.fetches refl each some
+
+    -- the end of a stay is told again
+    end-near : (e : ℕ) → q.row ≡ Some (record { stage = back.Ended; epoch = record { 0 = e } }) → IsEnded x.c e q.kept → NodeNear (node.Says (again_sent q))
+    end-near e row g lasts =
+        let near = ended-near k.files x.part st x.c n e row (renews.ends n e row) g in
+        let j : Kept = node.ended_kept x.c e g.last g.count in
+        let has : Has j (q.kept ++ q.fetches) = has-before j q.kept q.fetches (subst (Has j) (sym g.is) (inl refl)) in
+        near-by (node_does x n (event_seen (event.Timer (Node n) x.c)) (node.Says (again_sent q))) lasts (letter (Node n) (sent_of j)) (said-none j has) near
+
+    by-stay : HereNear → (e : ℕ) (b : ControlBlock) → q.row ≡ Some (record { stage = back.Here b; epoch = record { 0 = e } }) → (o : Option Stay) → q.stay ≡ o → StayKept k.files x.c e q o → Armed (Some b)
+        → NodeNear (node.fired_by env q (both_of (Some b) o))
+    by-stay here e b row None stay kept armed = absurd kept
+    by-stay here e b row (Some s) stay kept armed = here-armed e b s row stay here kept.0 kept.1 armed
+
+    by-back : HereNear → (row : BackRow) → q.row ≡ Some row → (c : BackConn) → row.stage ≡ c → StageKept k.files x.c row.epoch.0 q c → Armed (held_in c) → NodeNear (node.fired_by env q (both_of (held_in c) q.stay))
+    by-back here row at (back.Here b) is_ kept armed = by-stay here row.epoch.0 b (at ∙ λ i. Some (record { stage = is_ i; epoch = record { 0 = row.epoch.0 } })) q.stay refl kept armed
+    by-back here row at back.Out is_ kept armed = absurd kept
+    by-back here row at back.Ended is_ kept armed = end-near row.epoch.0 (at ∙ λ i. Some (record { stage = is_ i; epoch = record { 0 = row.epoch.0 } })) kept.0
+    by-back here row at back.Gone is_ kept armed = absurd (nothing-on armed kept)
+
+    by-node : HereNear → (o : Option BackRow) → q.row ≡ o → BackKept k.files x.c q o → Armed (endpoint_of o) → NodeNear (node.fired_by env q (both_of (endpoint_of o) q.stay))
+    by-node here None at kept armed = absurd (nothing-on armed kept)
+    by-node here (Some row) at kept armed = by-back here row at row.stage refl kept armed
+
+    pub node-begins : HereNear → IsFirst x.part (Node n) → NodeNear (node_timer env q)
+    node-begins here (kd, on, off) = by-node here q.row refl (renews.nodes n) (node-on q kd on)

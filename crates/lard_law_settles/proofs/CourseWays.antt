@@ -1,0 +1,296 @@
+-- What a step does to the packets that are on their way, as the journal tells them: it takes away what it delivers or loses, and no other,
+-- and what it sends has numbers behind all before it.
+use Rattle.std.proofs.Common.{◌≡◌, ◌<◌, ◌≤◌, ℕ, zero, suc, ◌+◌, ◌-◌, ◌==◌, Bool, true, false, cond, nat_eq, List, [], ◌∷◌, ◌++◌, length, Some, None, Ok, inl, inr, ⊎_elim, refl, sym, ap, ◌∙◌, subst, arith, append_assoc, length-append}
+use Rattle.std.specs.Prelude.{◌⊎◌, slice_get}
+use Rattle.std.proofs.lemmas.Bool.{true≢false}
+use Rattle.std.proofs.lemmas.List.Sums.{fold-append}
+use Rattle.std.specs.List.{fold}
+use Rattle.lard_agenda.specs.Laws.{is_on_way, way_flag}
+use Rattle.lard_base.specs.declared.event.Event.{Event}
+use Rattle.lard_base.specs.declared.event.Event.TheVariants as event
+use Rattle.lard_base.specs.declared.place.Place.{Place}
+use Rattle.lard_base.specs.declared.place.Place.TheVariants.{Front, Node, Client}
+use Rattle.lard_rules.specs.declared.machine.Machine.{Machine}
+use Rattle.lard_rules.specs.Bounds.{HasRule}
+use Rattle.lard_rules.specs.Machine.{clocked, machine_step, passed, segments_sent, told, told_rows}
+use Rattle.lard_law_view.specs.View.{IsViewed, Part, part_of, setting_of, timer_rows}
+use Rattle.lard_law_view.proofs.Fine.{IsFine, fine}
+use Rattle.lard_law_view.proofs.Saying.{GaveAt, NotedAt}
+use Rattle.lard_law_view.proofs.Shapes.{IsPut, Shapes, both_out}
+use Rattle.lard_law_view.proofs.Stepping.{step-has}
+use Rattle.lard_law_view.proofs.Timers.{IsTimerAt, timer_rows-are}
+use Rattle.lard_law_view.proofs.Turned.{IsSaid}
+use Rattle.lard_history.proofs.Each.{Each, Each-append, Each-weaker}
+use Rattle.lard_history.proofs.Seeing.{by_number, other_number, same_number}
+use Rattle.lard_journal.specs.declared.rec.Rec.{Rec}
+use Rattle.lard_journal.specs.declared.rec.Rec.TheVariants as rec
+use Rattle.lard_rules.specs.Sent.{packets_of, sent_records}
+use Rattle.lard_net.specs.Net.{Packet, lose_at, packet_at}
+use Rattle.lard_rules.specs.declared.places.Out.{Out}
+use Rattle.lard_law_view.proofs.OwnRecords.{behind}
+
+-- ---- what is claimed
+
+-- the event takes packet k away
+abbrev pub Takes : Event → ℕ → Type 0
+Takes (event.Deliver j) k = k ≡ j
+Takes (event.Lose j) k = k ≡ j
+Takes _ k = ⊥
+
+-- packets are as they were
+abbrev pub KeepsPackets : Event → Machine → Machine → Type 0
+KeepsPackets (event.Lose j) m n = Unit {0}
+KeepsPackets _ m n = (k : ℕ) (p : Packet) → packet_at m.net k ≡ Some p → packet_at n.net k ≡ Some p
+
+pub record Ways (m : Machine) (e : Event) (n : Machine) : Type 0 where
+  pub more : length m.net ≤ length n.net
+  pub packets : KeepsPackets e m n
+  pub others : (k : ℕ) → is_on_way m.journal k ≡ true → Takes e k ⊎ (is_on_way n.journal k ≡ true)
+  pub way : (k : ℕ) → is_on_way n.journal k ≡ true → ((is_on_way m.journal k ≡ true) × (Takes e k → ⊥)) ⊎ (length m.net < k)
+
+-- ---- records behind the event and its own
+
+module _ (k first : ℕ) where
+  -- of packets they say that some were sent, with numbers behind the first
+  pub record OnlySend (rs : List Rec) : Type 0 where
+    pub keeps : fold (way_flag k) true rs ≡ true
+    pub new : fold (way_flag k) false rs ≡ true → first < k
+
+  pub send-none : OnlySend []
+  send-none = record { keeps = refl; new = λ e. absurd (true≢false (sym e)) }
+
+  pub send-append : (xs ys : List Rec) → OnlySend xs → OnlySend ys → OnlySend (xs ++ ys)
+  send-append xs ys h g = record {
+    keeps = fold-append (way_flag k) true xs ys ∙ ap (λ b. fold (way_flag k) b ys) h.keeps ∙ g.keeps;
+    new = λ e. go (fold (way_flag k) false xs) refl (sym (fold-append (way_flag k) false xs ys) ∙ e);
+  } where
+    go : (b : Bool) → fold (way_flag k) false xs ≡ b → fold (way_flag k) b ys ≡ true → first < k
+    go true is e = h.new is
+    go false is e = g.new e
+
+  -- behind what was said before
+  sent-behind : (was : Bool) (rs : List Rec) → OnlySend rs → fold (way_flag k) was rs ≡ true → (was ≡ true) ⊎ (first < k)
+  sent-behind true rs h e = inl refl
+  sent-behind false rs h e = inr (h.new e)
+
+  pub sents-send : (i : ℕ) (place : Place) (ss : List (Place × List ℕ)) → first < i → OnlySend (sent_records i place ss)
+  sents-send i place [] late = send-none
+  sents-send i place (s ∷ ss) late =
+      let rest : OnlySend (sent_records (i + 1) place ss) = sents-send (i + 1) place ss (omega (arith, late)) in
+      by_number (OnlySend (rec.Sent i place s.0 s.1 ∷ sent_records (i + 1) place ss)) i k
+      (λ same. let t : nat_eq i k ≡ true = ap (λ j. nat_eq j k) same ∙ same_number k in record {
+        keeps = ap (λ b. fold (way_flag k) (cond b true true) (sent_records (i + 1) place ss)) t ∙ rest.keeps;
+        new = λ e. omega (arith, late, same);
+      })
+      (λ other. let t : nat_eq i k ≡ false = other_number i k other in record {
+        keeps = ap (λ b. fold (way_flag k) (cond b true true) (sent_records (i + 1) place ss)) t ∙ rest.keeps;
+        new = λ e. rest.new (sym (ap (λ b. fold (way_flag k) (cond b true false) (sent_records (i + 1) place ss)) t) ∙ e);
+      })
+
+  -- a record that says nothing of packets
+  abbrev pub SaysNone : Rec → Type 0
+  SaysNone r = (was : Bool) → way_flag k was r ≡ was
+
+  none-said : (was : Bool) (rs : List Rec) → Each SaysNone rs → fold (way_flag k) was rs ≡ was
+  none-said was [] h = refl
+  none-said was (r ∷ rs) h = ap (λ b. fold (way_flag k) b rs) (h.0 was) ∙ none-said was rs h.1
+
+  pub none-send : (rs : List Rec) → Each SaysNone rs → OnlySend rs
+  none-send rs h = record { keeps = none-said true rs h; new = λ e. absurd (true≢false (sym (sym (none-said false rs h) ∙ e))) }
+
+  note-none : (place : Place) (c : ℕ) (r : Rec) → NotedAt place c r → SaysNone r
+  note-none (Client e) c (rec.Sent j from to bytes) h was = absurd h
+  note-none (Client e) c (rec.Got j) h was = absurd h
+  note-none (Client e) c (rec.Lost j) h was = absurd h
+  note-none Front c (rec.Sent j from to bytes) h was = absurd h
+  note-none Front c (rec.Got j) h was = absurd h
+  note-none Front c (rec.Lost j) h was = absurd h
+  note-none (Node n) c (rec.Sent j from to bytes) h was = absurd h
+  note-none (Node n) c (rec.Got j) h was = absurd h
+  note-none (Node n) c (rec.Lost j) h was = absurd h
+  note-none _ c _ h was = refl
+
+  gave-none : (place : Place) (c : ℕ) (r : Rec) → GaveAt place c r → SaysNone r
+  gave-none Front c (rec.Gave Front d epoch) h was = refl
+  gave-none (Node n) c (rec.Gave (Node j) d epoch) h was = refl
+  gave-none _ c _ h was = absurd h
+
+  timer-none : (place : Place) (c : ℕ) (r : Rec) → IsTimerAt place c r → SaysNone r
+  timer-none place c (rec.Armed p d kind) h was = refl
+  timer-none place c (rec.Cleared p d kind) h was = refl
+  timer-none place c _ h was = absurd h
+
+  -- ---- what a place does
+
+  pub record SaysLittle (o : Out) : Type 0 where
+    pub notes : Each SaysNone o.notes
+    pub gave : Each SaysNone o.gave
+    pub timers : Each SaysNone o.timers
+
+  pub said-little : (place : Place) (c : ℕ) (o : Out) (answered : ℕ) (p q : Part) → IsSaid place c o.notes o.segments o.gave o.messages answered → o.timers ≡ timer_rows place c p q → SaysLittle o
+  said-little place c o answered p q said timers = record {
+    notes = Each-weaker (NotedAt place c) SaysNone (note-none place c) o.notes said.notes;
+    gave = Each-weaker (GaveAt place c) SaysNone (gave-none place c) o.gave said.gave;
+    timers = subst (Each SaysNone) (sym timers) (Each-weaker (IsTimerAt place c) SaysNone (timer-none place c) (timer_rows place c p q) (timer_rows-are place c p q));
+  }
+
+  pub both-little : (a b : Out) (rows : List Rec) → SaysLittle a → SaysLittle b → (rows ≡ a.timers ++ b.timers) ⊎ (rows ≡ b.timers ++ a.timers) → SaysLittle (both_out a b rows)
+  both-little a b rows h g order = record {
+    notes = Each-append SaysNone a.notes b.notes h.notes g.notes;
+    gave = Each-append SaysNone a.gave b.gave h.gave g.gave;
+    timers = ⊎_elim
+        (λ (e : rows ≡ a.timers ++ b.timers). subst (Each SaysNone) (sym e) (Each-append SaysNone a.timers b.timers h.timers g.timers))
+        (λ (e : rows ≡ b.timers ++ a.timers). subst (Each SaysNone) (sym e) (Each-append SaysNone b.timers a.timers g.timers h.timers))
+        order;
+  }
+
+  -- behind the event's own records
+  rest-send : (place : Place) (o : Out) (i j : ℕ) → first < i → first < j → SaysLittle o
+      → OnlySend (o.notes ++ sent_records i place o.segments ++ o.gave ++ sent_records j place o.messages ++ o.timers)
+  rest-send place o i j a b h =
+      let S : List Rec = sent_records i place o.segments in
+      let M : List Rec = sent_records j place o.messages in
+      send-append (o.notes ++ S ++ o.gave ++ M) o.timers
+      (send-append (o.notes ++ S ++ o.gave) M
+      (send-append (o.notes ++ S) o.gave
+      (send-append o.notes S (none-send o.notes h.notes) (sents-send i place o.segments a))
+      (none-send o.gave h.gave))
+      (sents-send j place o.messages b))
+      (none-send o.timers h.timers)
+
+  -- ---- the event and its own records
+
+  -- all but what the event takes away
+  record Passes (e : Event) (was is : Bool) : Type 0 where
+    others : was ≡ true → Takes e k ⊎ (is ≡ true)
+    way : is ≡ true → (was ≡ true) × (Takes e k → ⊥)
+
+  took : (j : ℕ) (was : Bool) → (was ≡ true → (k ≡ j) ⊎ (cond (nat_eq j k) false was ≡ true)) × (cond (nat_eq j k) false was ≡ true → (was ≡ true) × (k ≡ j → ⊥))
+  took j was = by_number ((was ≡ true → (k ≡ j) ⊎ (cond (nat_eq j k) false was ≡ true)) × (cond (nat_eq j k) false was ≡ true → (was ≡ true) × (k ≡ j → ⊥))) j k
+      (λ same. let t : nat_eq j k ≡ true = ap (λ i. nat_eq i k) same ∙ same_number k in
+      (λ on. inl (sym same), λ on. absurd (true≢false (sym (sym (ap (λ b. cond b false was) t) ∙ on)))))
+      (λ other. let t : nat_eq j k ≡ false = other_number j k other in
+      (λ on. inr (ap (λ b. cond b false was) t ∙ on), λ on. (sym (ap (λ b. cond b false was) t) ∙ on, λ same. other (sym same))))
+
+  untaken : (e : Event) (was : Bool) → (Takes e k → ⊥) → Passes e was was
+  untaken e was none = record { others = λ on. inr on; way = λ on. (on, none) }
+
+  own-passes : (e : Event) (was : Bool) → Passes e was (fold (way_flag k) was (behind e))
+  own-passes (event.Deliver j) was = let t = took j was in record { others = t.0; way = t.1 }
+  own-passes (event.Lose j) was = let t = took j was in record { others = t.0; way = t.1 }
+  own-passes (event.Open c isn iss wnd mss) was = untaken (event.Open c isn iss wnd mss) was (λ t. t)
+  own-passes (event.Get c path) was = untaken (event.Get c path) was (λ t. t)
+  own-passes (event.Write c bytes) was = untaken (event.Write c bytes) was (λ t. t)
+  own-passes (event.Shut c) was = untaken (event.Shut c) was (λ t. t)
+  own-passes (event.Abort c) was = untaken (event.Abort c) was (λ t. t)
+  own-passes (event.Hold c) was = untaken (event.Hold c) was (λ t. t)
+  own-passes (event.Take c) was = untaken (event.Take c) was (λ t. t)
+  own-passes (event.Timer p c) was = untaken (event.Timer p c) was (λ t. t)
+  own-passes (event.Disk n j) was = untaken (event.Disk n j) was (λ t. t)
+  own-passes (event.Clock ms) was = untaken (event.Clock ms) was (λ t. t)
+  own-passes (event.Settle rounds) was = untaken (event.Settle rounds) was (λ t. t)
+  own-passes (event.Inject c bytes) was = untaken (event.Inject c bytes) was (λ t. t)
+
+  -- and what is sent behind them
+  record Goes (e : Event) (was is : Bool) : Type 0 where
+    others : was ≡ true → Takes e k ⊎ (is ≡ true)
+    way : is ≡ true → ((was ≡ true) × (Takes e k → ⊥)) ⊎ (first < k)
+
+  go-behind : (e : Event) (was is : Bool) (rs : List Rec) → Passes e was is → OnlySend rs → Goes e was (fold (way_flag k) is rs)
+  go-behind e was is rs h s = record {
+    others = λ on. ⊎_elim (λ t. inl t) (λ (there : is ≡ true). inr (ap (λ b. fold (way_flag k) b rs) there ∙ s.keeps)) (h.others on);
+    way = λ on. ⊎_elim (λ (there : is ≡ true). inl (h.way there)) (λ late. inr late) (sent-behind is rs s on);
+  }
+
+-- ---- packets stay
+
+module _ {A : Type 0} where
+  get-front : (xs ys : List A) (i : ℕ) (x : A) → slice_get xs i ≡ Some x → slice_get (xs ++ ys) i ≡ Some x
+  get-front [] ys i x e = let no : None ≡ Some x = e in absurd cc
+  get-front (y ∷ xs) ys zero x e = e
+  get-front (y ∷ xs) ys (suc i) x e = get-front xs ys i x e
+
+packet-stays : (net more : List Packet) (k : ℕ) (p : Packet) → packet_at net k ≡ Some p → packet_at (net ++ more) k ≡ Some p
+packet-stays net more k p = go (k == 0) where
+  go : (b : Bool) → cond b None (slice_get net (k - 1)) ≡ Some p → cond b None (slice_get (net ++ more) (k - 1)) ≡ Some p
+  go true e = e
+  go false e = get-front net more (k - 1) p e
+
+keeps-all : (e : Event) (m n : Machine) → ((k : ℕ) (p : Packet) → packet_at m.net k ≡ Some p → packet_at n.net k ≡ Some p) → KeepsPackets e m n
+keeps-all (event.Lose j) m n h = tt
+keeps-all _ m n h = h
+
+pub lost-length : (net : List Packet) (i : ℕ) → length (lose_at i net) ≡ length net
+lost-length [] i = refl
+lost-length (p ∷ net) zero = refl
+lost-length (p ∷ net) (suc i) = ap suc (lost-length net i)
+
+-- ---- shape by shape
+
+module _ (m : Machine) where
+  goes-all : (e : Event) (n : Machine) → length m.net ≤ length n.net → KeepsPackets e m n
+      → ((k : ℕ) → Goes k (length m.net) e (is_on_way m.journal k) (is_on_way n.journal k)) → Ways m e n
+  goes-all e n more packets h = record { more = more; packets = packets; others = λ k on. (h k).others on; way = λ k on. (h k).way on }
+
+  told-goes : (w : Machine) (e : Event) (place : Place) (o : Out) → IsPut m w → ((k : ℕ) → SaysLittle k (length m.net) o) → (k : ℕ)
+      → Goes k (length m.net) e (is_on_way m.journal k) (is_on_way (told w e (behind e) place o).journal k)
+  unfolding told
+  told-goes w e place o put little k =
+      let first : ℕ = length m.net in
+      let was : Bool = is_on_way m.journal k in
+      let same : length w.net ≡ first = ap (λ ps. length ps) put.net in
+      let sum : length (segments_sent w place o) ≡ length w.net + length (packets_of place o.segments) = length-append w.net (packets_of place o.segments) in
+      let S : List Rec = sent_records (length w.net + 1) place o.segments in
+      let M : List Rec = sent_records (length (segments_sent w place o) + 1) place o.messages in
+      let rest : List Rec = o.notes ++ S ++ o.gave ++ M ++ o.timers in
+      let parts : told_rows w e (behind e) place o ≡ rec.Event (w.events + 1) e ∷ (behind e ++ rest) =
+      ap (λ l. rec.Event (w.events + 1) e ∷ (l ++ o.gave ++ M ++ o.timers)) (append_assoc (behind e) o.notes S)
+      ∙ ap (λ l. rec.Event (w.events + 1) e ∷ (l ++ M ++ o.timers)) (append_assoc (behind e) (o.notes ++ S) o.gave)
+      ∙ ap (λ l. rec.Event (w.events + 1) e ∷ (l ++ o.timers)) (append_assoc (behind e) (o.notes ++ S ++ o.gave) M)
+      ∙ ap (λ l. rec.Event (w.events + 1) e ∷ l) (append_assoc (behind e) (o.notes ++ S ++ o.gave ++ M) o.timers) in
+      let told_is : is_on_way (w.journal ++ told_rows w e (behind e) place o) k ≡ fold (way_flag k) (fold (way_flag k) was (behind e)) rest =
+      ap (λ (J : List Rec). is_on_way (J ++ told_rows w e (behind e) place o) k) put.journal
+      ∙ fold-append (way_flag k) false m.journal (told_rows w e (behind e) place o)
+      ∙ ap (λ rs. fold (way_flag k) was rs) parts
+      ∙ fold-append (way_flag k) was (behind e) rest in
+      subst (Goes k first e was) (sym told_is)
+      (go-behind k first e was (fold (way_flag k) was (behind e)) rest (own-passes k first e was)
+      (rest-send k first place o (length w.net + 1) (length (segments_sent w place o) + 1) (omega (arith, same)) (omega (arith, same, sum)) (little k)))
+
+  told-ways : (w : Machine) (e : Event) (place : Place) (o : Out) → IsPut m w → ((k : ℕ) → SaysLittle k (length m.net) o) → Ways m e (told w e (behind e) place o)
+  unfolding told
+  told-ways w e place o put little =
+      let sent : List Packet = packets_of place o.segments ++ packets_of place o.messages in
+      let net : (w.net ++ packets_of place o.segments) ++ packets_of place o.messages ≡ m.net ++ sent =
+      ap (λ (ps : List Packet). (ps ++ packets_of place o.segments) ++ packets_of place o.messages) put.net ∙ append_assoc m.net (packets_of place o.segments) (packets_of place o.messages) in
+      let sum : length (m.net ++ sent) ≡ length m.net + length sent = length-append m.net sent in
+      let len : length ((w.net ++ packets_of place o.segments) ++ packets_of place o.messages) ≡ length (m.net ++ sent) = ap (λ ps. length ps) net in
+      goes-all e (told w e (behind e) place o) (omega (arith, len, sum))
+      (keeps-all e m (told w e (behind e) place o) (λ k p at. ap (λ (ps : List Packet). packet_at ps k) net ∙ packet-stays m.net sent k p at))
+      (told-goes w e place o put little)
+
+  -- one record stands behind the event
+  passed-ways : (w : Machine) (e : Event) (r : Rec) → w.journal ≡ m.journal → length w.net ≡ length m.net → KeepsPackets e m (passed w e (r ∷ []))
+      → ((k : ℕ) → Passes k (length m.net) e (is_on_way m.journal k) (way_flag k (is_on_way m.journal k) r)) → Ways m e (passed w e (r ∷ []))
+  passed-ways w e r journal len packets h = goes-all e (passed w e (r ∷ [])) (omega (arith, len)) packets (λ k.
+      let was : Bool = is_on_way m.journal k in
+      let told_is : is_on_way (w.journal ++ rec.Event (w.events + 1) e ∷ r ∷ []) k ≡ way_flag k was r =
+      ap (λ (J : List Rec). is_on_way (J ++ rec.Event (w.events + 1) e ∷ r ∷ []) k) journal ∙ fold-append (way_flag k) false m.journal (rec.Event (w.events + 1) e ∷ r ∷ []) in
+      subst (Goes k (length m.net) e was) (sym told_is) (go-behind k (length m.net) e was (way_flag k was r) [] (h k) (send-none k (length m.net))))
+
+  shapes-ways : Shapes m IsFine (λ e n. Ways m e n)
+  unfolding clocked
+  shapes-ways = record {
+    one = λ w e place o c heads ns p act does. told-ways w e place o act.put (λ k. said-little k (length m.net) place c o o.answered (part_of m c) p act.said act.timers);
+    two = λ w e place a b rows c d heads p r act does too. told-ways w e place (both_out a b rows) act.put (λ k. both-little k (length m.net) a b rows
+        (said-little k (length m.net) place c a a.answered (part_of m c) p act.said act.timers)
+        (said-little k (length m.net) place d b 0 (part_of m d) r act.said_too act.timers_too) act.order);
+    nobody = λ k l at there. passed-ways m (event.Deliver k) (rec.Got k) refl refl (λ j p is. is) (λ j. own-passes j (length m.net) (event.Deliver k) (is_on_way m.journal j));
+    loses = λ k l at there. passed-ways (record m { net = lose_at (k - 1) m.net }) (event.Lose k) (rec.Lost k) refl (lost-length m.net (k - 1)) tt
+        (λ j. own-passes j (length m.net) (event.Lose k) (is_on_way m.journal j));
+    clocks = λ ms. passed-ways (record m { now = m.now + ms }) (event.Clock ms) (rec.Clock (record { 0 = m.now + ms })) refl refl (λ j p is. is)
+        (λ j. untaken j (length m.net) (event.Clock ms) (is_on_way m.journal j) (λ t. t));
+  }
+
+pub step-ways : (m : Machine) → IsViewed m → (e : Event) (n : Machine) → HasRule e → machine_step m e ≡ Ok n → Ways m e n
+step-ways m view e n rule is = step-has m view IsFine (fine (setting_of m)) (λ d k. Ways m d k) (shapes-ways m) e n rule is

@@ -1,0 +1,84 @@
+-- Each packet is of a connection with a number, and each that is on its way is there.
+use Rattle.std.proofs.Common.{◌≡◌, ℕ, zero, suc, ◌-◌, ◌==◌, Bool, true, false, cond, List, [], ◌∷◌, ◌++◌, Some, None, Ok, sym, subst}
+use Rattle.std.specs.Prelude.{slice_get}
+use Rattle.lard_base.specs.declared.config.Config.{Config}
+use Rattle.lard_base.specs.declared.event.Event.{Event}
+use Rattle.lard_base.specs.declared.place.Place.{Place}
+use Rattle.lard_rules.specs.Bounds.{HasRule, IsNumber}
+use Rattle.lard_rules.specs.declared.machine.Machine.{Machine}
+use Rattle.lard_rules.specs.Machine.{IsReached, clocked, machine_step, told}
+use Rattle.lard_law_view.specs.View.{IsViewed, setting_of}
+use Rattle.lard_law_view.proofs.Carried.{carried-keep}
+use Rattle.lard_law_view.proofs.Fine.{IsFine, fine}
+use Rattle.lard_law_view.proofs.Saying.{AllBetween, between-conn, messages-between}
+use Rattle.lard_law_view.proofs.Shapes.{IsPut, Shapes, both_out}
+use Rattle.lard_law_view.proofs.Stepping.{step-has}
+use Rattle.lard_law_settles.proofs.CourseGoing.{IsListed}
+use Rattle.lard_history.proofs.Each.{Each, Each-append}
+use Rattle.lard_history.specs.Own.{conn_of}
+use Rattle.lard_rules.specs.Sent.{packets_of}
+use Rattle.lard_net.specs.Net.{Packet, lose_at}
+use Rattle.lard_rules.specs.declared.places.Out.{Out}
+use Rattle.lard_law_settles.proofs.EnoughOwned.{way-there}
+use Rattle.lard_law_view.proofs.OwnRecords.{behind}
+
+-- it is of a connection with a number
+abbrev IsOfOne : Packet → Type 0
+IsOfOne p = (q : ℕ) × (conn_of p.from p.to p.bytes ≡ Some q) × IsNumber q
+
+abbrev AreOfOne : List Packet → Type 0
+AreOfOne ps = Each IsOfOne ps
+
+sent-of-one : (c : ℕ) (place : Place) (ss : List (Place × List ℕ)) → IsNumber c → AllBetween c place ss → AreOfOne (packets_of place ss)
+sent-of-one c place [] number h = tt
+sent-of-one c place (s ∷ ss) number h = ((c, between-conn c place s.0 s.1 h.0, number), sent-of-one c place ss number h.1)
+
+lost-of-one : (net : List Packet) (i : ℕ) → AreOfOne net → AreOfOne (lose_at i net)
+lost-of-one [] i h = tt
+lost-of-one (p ∷ net) zero h = (h.0, h.1)
+lost-of-one (p ∷ net) (suc i) h = (h.0, lost-of-one net i h.1)
+
+packets-split : (place : Place) (xs ys : List (Place × List ℕ)) → AreOfOne (packets_of place xs) → AreOfOne (packets_of place ys) → AreOfOne (packets_of place (xs ++ ys))
+packets-split place [] ys h k = k
+packets-split place (x ∷ xs) ys h k = (h.0, packets-split place xs ys h.1 k)
+
+module _ (m : Machine) (h : AreOfOne m.net) where
+  told-of-one : (w : Machine) (e : Event) (place : Place) (o : Out) → IsPut m w → AreOfOne (packets_of place o.segments) → AreOfOne (packets_of place o.messages) → AreOfOne (told w e (behind e) place o).net
+  unfolding told
+  told-of-one w e place o put segments messages =
+      Each-append IsOfOne (w.net ++ packets_of place o.segments) (packets_of place o.messages)
+      (Each-append IsOfOne w.net (packets_of place o.segments) (subst AreOfOne (sym put.net) h) segments) messages
+
+  shapes-of-one : Shapes m IsFine (λ e n. AreOfOne n.net)
+  unfolding clocked
+  shapes-of-one = record {
+    one = λ w e place o c heads ns p act does. told-of-one w e place o act.put (sent-of-one c place o.segments act.number act.said.segments)
+        (sent-of-one c place o.messages act.number (messages-between c place o.messages act.said.messages));
+    two = λ w e place a b rows c d heads p r act does too. told-of-one w e place (both_out a b rows) act.put
+        (packets-split place a.segments b.segments (sent-of-one c place a.segments act.number act.said.segments) (sent-of-one d place b.segments act.number_too act.said_too.segments))
+        (packets-split place a.messages b.messages (sent-of-one c place a.messages act.number (messages-between c place a.messages act.said.messages))
+        (sent-of-one d place b.messages act.number_too (messages-between d place b.messages act.said_too.messages)));
+    nobody = λ k l at there. h;
+    loses = λ k l at there. lost-of-one m.net (k - 1) h;
+    clocks = λ ms. h;
+  }
+
+  step-of-one : (n : Machine) (e : Event) → IsViewed m → HasRule e → machine_step m e ≡ Ok n → AreOfOne n.net
+  step-of-one n e view rule is = step-has m view IsFine (fine (setting_of m)) (λ d k. AreOfOne k.net) shapes-of-one e n rule is
+
+net-of-one : (config : Config) (files : List (List ℕ × List ℕ)) (m : Machine) → IsReached config files m → AreOfOne m.net
+net-of-one config files m r = carried-keep config files (λ k. AreOfOne k.net) tt (λ k n e on h rule is. step-of-one k h n e on.view rule is) m r
+
+got-of-one : (net : List Packet) (i : ℕ) (p : Packet) → AreOfOne net → slice_get net i ≡ Some p → IsOfOne p
+got-of-one [] i p h e = let none : None ≡ Some p = e in absurd cc
+got-of-one (x ∷ net) zero p h e = let same : x ≡ p = cc in subst IsOfOne same h.0
+got-of-one (x ∷ net) (suc i) p h e = got-of-one net i p h.1 e
+
+pub listed-always : (config : Config) (files : List (List ℕ × List ℕ)) (m : Machine) → IsReached config files m → IsListed m
+listed-always config files m r = record {
+  there = λ k on. let p = way-there config files m r k on in (p.0, p.1);
+  numbers = λ k p at. go k p (k == 0) at;
+} where
+  go : (k : ℕ) (p : Packet) (b : Bool) → cond b None (slice_get m.net (k - 1)) ≡ Some p → IsOfOne p
+  go k p true e = let none : None ≡ Some p = e in absurd cc
+  go k p false e = got-of-one m.net (k - 1) p (net-of-one config files m r) e

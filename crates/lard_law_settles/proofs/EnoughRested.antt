@@ -1,0 +1,226 @@
+-- Of the machines within a settle, put together: what its rounds owe, and so its end, where what is given of each connection is so.
+use Rattle.std.proofs.Common.{◌≡◌, ◌≤◌, ℕ, false, List, [], ◌∷◌, Option, Some, None, Ok, sym, ap, ◌∙◌, subst}
+use Rattle.std.specs.Prelude.{All}
+use Rattle.lard_base.specs.Config.{config_check}
+use Rattle.lard_base.proofs.Usable.{usable}
+use Rattle.lard_base.specs.declared.config.Config.{Config}
+use Rattle.lard_base.specs.declared.event.Event.{Event}
+use Rattle.lard_base.specs.declared.event.Event.TheVariants as event
+use Rattle.lard_bound.specs.Bound.{IsOrdinary, settling_bound}
+use Rattle.lard_bound.specs.Progress.{IfCame, IsWarm, came_in}
+use Rattle.lard_bound.specs.Units.{tellers, whole_of}
+use Rattle.lard_bound.specs.Seats.{seat_of}
+use Rattle.lard_rules.specs.declared.machine.Machine.{Machine}
+use Rattle.lard_rules.specs.Machine.{machine_step}
+use Rattle.lard_laws.specs.Records.{IsFile, IsGiven}
+use Rattle.lard_laws.proofs.RecordsHolding.{Holds}
+use Rattle.lard_laws.proofs.RecordsNamed.{AreNamed, files-named}
+use Rattle.lard_laws.proofs.RecordsReached.{run-holds}
+use Rattle.lard_law_view.specs.Carry.{setting, tale_at}
+use Rattle.lard_client.specs.Control.{is_holding}
+use Rattle.lard_law_view.specs.View.{Conn, Move, Rules, Setting, Spells, conn, grown, part_of, setting_of}
+use Rattle.lard_law_view.proofs.Carried.{reached-viewed}
+use Rattle.lard_law_settles.proofs.KnownEverything.{is-set, setting-is}
+use Rattle.lard_law_settles.proofs.CourseMoves.{IsShown}
+use Rattle.lard_law_settles.proofs.CourseOwing.{Owed}
+use Rattle.lard_law_settles.proofs.CourseTagging.{tags-fall}
+use Rattle.lard_law_settles.proofs.CourseUniting.{Known, rules-owe}
+use Rattle.lard_law_settles.proofs.CourseUnwanted.{unwanted}
+use Rattle.lard_law_settles.proofs.CourseFetching.{Fetches}
+use Rattle.lard_law_settles.proofs.CourseResting.{IsMade, Within, owes}
+use Rattle.lard_law_settles.proofs.CourseStocking.{Opened}
+use Rattle.lard_files.specs.Files.{file_at}
+use Rattle.lard_history.specs.Own.{Came, Letter, Row, Seen}
+use Rattle.lard_history.proofs.Each.{Each}
+use Rattle.lard_law_settles.proofs.KnownCalm as known
+use Rattle.lard_law_settles.proofs.KnownEventsGiven.{IsOfSettle, config-of, settle-given}
+use Rattle.lard_law_settles.proofs.KnownNodesGiven.{fetch-opened, front-opened}
+use Rattle.lard_law_view.proofs.ByteLists.{each-all}
+use Rattle.lard_law_settles.proofs.ProgressAnswersForm.{IsLateOn}
+use Rattle.lard_law_settles.proofs.ProgressAnswersNodeGiven.{NodeGiven}
+use Rattle.lard_law_settles.proofs.ProgressGiven as progress
+use Rattle.lard_law_settles.proofs.ProgressGiven.{AreInner, IsInnerSeen}
+use Rattle.lard_law_settles.proofs.ProgressMost.{IsModest}
+use Rattle.lard_law_settles.proofs.ProgressLeading.{Comes}
+use Rattle.lard_rules.specs.declared.places.Station.{Station}
+use Rattle.lard_law_settles.proofs.EnoughBeside.{Is}
+use Rattle.lard_law_settles.proofs.EnoughFetches.{fetches}
+use Rattle.lard_law_settles.proofs.EnoughListed.{listed-always}
+use Rattle.lard_law_settles.proofs.EnoughOpened.{opened-there}
+use Rattle.lard_law_settles.proofs.EnoughSettled.{EndsQuiet}
+use Rattle.lard_law_settles.proofs.EnoughSums.{wholes}
+use Rattle.lard_law_settles.proofs.EnoughTiming.{timers-are}
+use Rattle.lard_law_settles.proofs.EnoughWarm.{second-late, second-warm}
+use Rattle.lard_law_settles.proofs.EnoughWarming.{IsReady, IsRounds, OfAll, Warming, comes-so, second-stays-so}
+use Rattle.lard_law_settles.proofs.EnoughWithin.{AreGiven, IsWithin, SettlesWithin, within-kept, within-quiet}
+use Rattle.lard_law_settles.proofs.EnoughWording.{First, IsCalmConn, Second, second-first}
+use Rattle.lard_law_settles.proofs.EnoughRuling.{step-warms}
+use Rattle.lard_law_settles.proofs.SettlesFiring.{IsInner}
+use Rattle.lard_settling.specs.declared.settled.Settled.{Settled}
+use Rattle.lard_settling.specs.Left.{holds_there}
+use Rattle.lard_settling.specs.Settling.{settled}
+use Rattle.lard_law_view.proofs.Deliveries.{IsHead}
+use Rattle.lard_message.specs.declared.message.Body.TheVariants as body
+use Rattle.lard_journal.specs.declared.rec.Rec.TheVariants as rec
+
+-- ---- inner steps
+
+inner-settles : (e : Event) → IsInner e → IsOfSettle e
+inner-settles (event.Take c) h = tt
+inner-settles (event.Deliver k) h = tt
+inner-settles (event.Disk n j) h = h
+inner-settles (event.Timer p c) h = h
+inner-settles _ h = absurd h
+
+made-rounds : (m : Machine) (e : Event) → IsMade m e → IsRounds e
+made-rounds m (event.Deliver k) h = tt
+made-rounds m (event.Disk n j) h = h
+made-rounds m (event.Timer p c) h = h
+made-rounds m _ h = absurd h
+
+made-ready : (m : Machine) (e : Event) → IsMade m e → IsReady m e
+made-ready m (event.Deliver k) h = h
+made-ready m (event.Disk n j) h = tt
+made-ready m (event.Timer p c) h = tt
+made-ready m _ h = absurd h
+
+came-also : (P Q : Letter → Type 0) (ss : List Seen) → IfCame P (came_in ss) → ((l : Letter) → P l → Q l) → IfCame Q (came_in ss)
+came-also P Q ss h f = go (came_in ss) h where
+  go : (o : Option Letter) → IfCame P o → IfCame Q o
+  go None h = tt
+  go (Some l) h = f l h
+
+module _ (config : Config) (files : List (List ℕ × List ℕ)) (checked : config_check config ≡ Ok tt) (are : All IsFile files) (m : Machine) where
+  abbrev pub Good : Machine → Type 0
+  Good p = IsWithin config files m.journal p × OfAll Second p
+
+  pub events : AreGiven config files
+  events p n e reached inner is = settle-given config files checked p n e reached (inner-settles e inner) is
+
+  -- ---- of a machine within
+
+  module _ (p : Machine) (w : IsWithin config files m.journal p) where
+    pub free-tale : (q : ℕ) → (tale_at (conn p q)).touched ≡ false
+    free-tale q = known.free-tale config files (usable config checked).stream p w.reached q (w.untouched q)
+
+    pub all-events : All IsGiven w.reached.0
+    all-events = each-all IsGiven w.reached.0 w.given
+
+    pub holds : Holds p
+    holds = run-holds config files w.reached.0 p checked are all-events w.reached.1
+
+    pub free-of : (q : ℕ) (st : Station) → (conn p q).part.station ≡ Some st → is_holding st.client ≡ false
+    unfolding conn part_of
+    free-of q st at = sym (ap holds_there at) ∙ w.free q
+
+    calm : (q : ℕ) → IsCalmConn (conn p q)
+    calm q = record {
+      calm = λ st at.
+          let f = known.client-fits config files (usable config checked).stream p w.reached q (w.untouched q) st at in
+          record { sound = f.sound; fits = f.fits; bytes = f.bytes; speaks = f.speaks; free = known.open-free st.client (free-of q st at); held = f.held };
+      acks = known.acks-fit config files (usable config checked).stream p w.reached q (w.untouched q);
+      offers = known.offers-kept config files (usable config checked).stream p w.reached q;
+    }
+
+    modest : (c : ℕ) (s : Station) → (conn p c).part.station ≡ Some s → IsModest (wholes (file_at files) m.journal c) (tellers (conn p c).part.nodes p.config.nodes) (seat_of (conn p c).part)
+    modest c s at = subst (λ (bytes : List ℕ). IsModest (whole_of (file_at files) bytes) (tellers (conn p c).part.nodes p.config.nodes) (seat_of (conn p c).part)) (w.wrote_same c)
+        (known.modest-of config files (usable config checked).stream p w.reached c (w.untouched c) s at)
+
+    all-fetches : Fetches p
+    all-fetches = fetches config files checked p w.reached holds (subst (λ (fs : List (List ℕ × List ℕ)). AreNamed (file_at fs)) (sym (is-set config files p w.reached).files_are) (files-named files are))
+        (config-of config files p w.reached) free-tale
+
+    spells-of : (q e r : ℕ) (path bytes : List ℕ) → Spells q e (body.Fetch r path) bytes → Spells (conn p q).c e (body.Fetch r path) bytes
+    unfolding conn
+    spells-of q e r path bytes s = s
+
+    all-opened : Opened p
+    all-opened = record {
+      offers = λ q i bytes was. front-opened config files (usable config checked).stream checked are w.reached.0 all-events p w.reached.1 (config-of config files p w.reached) q (free-tale q) i bytes was;
+      fetches = λ q a i e r path bytes was spells.
+          fetch-opened config files (usable config checked).stream checked are w.reached.0 all-events p w.reached.1 (config-of config files p w.reached) q (free-tale q) a i e r path bytes (spells-of q e r path bytes spells) was;
+    }
+
+  -- ---- what comes
+
+  made-inner : (p : Machine) (e : Event) → IsMade p e → progress.IsInner e
+  made-inner p (event.Deliver k) h = tt
+  made-inner p (event.Disk n j) h = tt
+  made-inner p (event.Timer q c) h = tt
+  made-inner p _ h = absurd h
+
+  -- what a move of a round sees first is an event of a round
+  heads-inner : (p : Machine) (e : Event) → IsMade p e → (q : ℕ) (v : Move) → IsShown p e (conn p q) v → AreInner v.heads
+  heads-inner p e made q v s = heads v.heads s.event where
+    one : (h : Seen) → IsHead e h → IsInnerSeen h
+    one (Row (rec.Event i d)) of = subst progress.IsInner (sym of) (made-inner p e made)
+    one (Row _) of = tt
+    one (Came l) of = tt
+
+    heads : (hs : List Seen) → Each (IsHead e) hs → AreInner hs
+    heads [] of = tt
+    heads (h ∷ hs) of = (one h of.0, heads hs of.1)
+
+  -- ---- of all of them, where what is given of each connection is so
+
+  abbrev pub k : Setting
+  k = setting config files
+
+  abbrev Given : Conn → Type 0
+  Given x = Known k (wholes (file_at files) m.journal) x
+
+  module _ (given : (p : Machine) → IsWithin config files m.journal p → (q : ℕ) → Known (setting config files) (wholes (file_at files) m.journal) (conn p q)) where
+    warming : Warming config files (wholes (file_at files) m.journal) Good (IsWithin config files m.journal) First Second
+    warming = record {
+      reached = λ p v. v.reached;
+      kept = λ p q e v of is. within-kept config files events m.journal p q e v of is;
+      moves = λ p q e v of is. step-warms p q e (reached-viewed config files p v.reached) (calm p v) of is;
+      follows = second-first;
+    }
+
+    node-given : (p : Machine) → IsWithin config files m.journal p → (q : ℕ) → NodeGiven (setting_of p) (wholes (file_at files) m.journal q) (conn p q)
+    unfolding conn
+    node-given p w q = subst (λ (z : Setting). NodeGiven z (wholes (file_at files) m.journal q) (conn p q)) (setting-is config files p w.reached) (given p w q).0.node
+
+    rules : (p : Machine) → IsWithin config files m.journal p → Rules (setting_of p) (Owed Given Comes (wholes (file_at files) m.journal) (setting_of p))
+    rules p w = subst (λ (z : Setting). Rules z (Owed Given Comes (wholes (file_at files) m.journal) z)) (setting-is config files p w.reached) (rules-owe k (wholes (file_at files) m.journal))
+
+    comes : (p n : Machine) (e : Event) → Good p → IsMade p e → machine_step p e ≡ Ok n → (q : ℕ) (v : Move) → IsShown p e (conn p q) v → conn n q ≡ grown (conn p q) v → Comes (conn p q) v
+    comes p n e w made is q v s grows =
+        let second = comes-so Second p e (made-rounds p e made) (made-ready p e made) w.1 q v s in
+        let sound = (reached-viewed config files p w.0.reached).sound q in
+        record {
+          inner = heads-inner p e made q v s;
+          warm = came-also (Second (conn p q)) (IsWarm (conn p q)) v.heads second (second-warm (conn p q) sound);
+          late = came-also (Second (conn p q)) (IsLateOn (conn p q)) v.heads second (second-late (conn p q));
+          unwanted = unwanted p n e is (listed-always config files p w.0.reached) q (wholes (file_at files) m.journal q) (node-given p w.0 q) v s grows;
+        }
+
+    goes : (p n : Machine) (e : Event) → Good p → IsMade p e → machine_step p e ≡ Ok n → Good n
+    goes p n e w made is = second-stays-so config files (wholes (file_at files) m.journal) Good (IsWithin config files m.journal) First Second warming p n e w (made-rounds p e made) (made-ready p e made) is
+
+    within : Within Given Comes (wholes (file_at files) m.journal) Good
+    within = record {
+      view = λ p w. reached-viewed config files p w.0.reached;
+      rules = λ p w. rules p w.0;
+      given = λ p w. given p w.0;
+      goes = goes;
+      came = comes;
+      listed = λ p w. listed-always config files p w.0.reached;
+      fetches = λ p w. all-fetches p w.0;
+      opened = λ p w. all-opened p w.0;
+      tags = λ p n e w step. tags-fall Given Comes (wholes (file_at files) m.journal) p n e step (node-given p w.0);
+      timers = λ p w. timers-are config files checked p w.0.reached;
+    }
+
+    settles-within : (w : Is config files m) (rounds : ℕ) → SettlesWithin config files m w rounds
+    settles-within w rounds = record {
+      calm = calm;
+      opened = λ p v c s at. opened-there config files checked p v.reached c (v.untouched c) s at;
+      modest = modest;
+      owes = owes Given Comes (wholes (file_at files) m.journal) Good within;
+    }
+
+    -- so an ordinary settle with enough rounds ends with nothing left
+    pub rested : (w : Is config files m) → Each IsGiven w.reached.0 → IsOrdinary m.journal → (rounds : ℕ) → settling_bound (file_at files) m.journal ≤ rounds → (n : Machine) (s : Settled) → settled m rounds ≡ Ok (n, s) → EndsQuiet n s
+    rested w given ordinary rounds paid n s is = within-quiet config files m w rounds events (settles-within w rounds) given ordinary paid n s is

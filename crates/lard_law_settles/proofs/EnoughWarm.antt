@@ -1,0 +1,72 @@
+-- What is so of each packet that is on its way behind the two rounds, in the words of chains: it is warm.
+use Rattle.std.proofs.Common.{◌≡◌, ℕ, List, Option, Some, None, Result, Ok, Err, refl, subst}
+use Rattle.lard_base.specs.declared.place.Place.{Place}
+use Rattle.lard_base.specs.declared.place.Place.TheVariants.{Client, Front, Node}
+use Rattle.lard_bound.specs.Progress.{IsWarm, IsWarmBetween, IsWarmBody, IsWarmBy, IsWarmMessage, IsWarmSegment}
+use Rattle.lard_law_view.specs.View.{Conn, IsSound}
+use Rattle.lard_history.specs.Own.{Letter}
+use Rattle.lard_message.specs.declared.fault.MsgFault.{MsgFault}
+use Rattle.lard_message.specs.declared.message.Body.{Body}
+use Rattle.lard_message.specs.declared.message.Body.TheVariants as body
+use Rattle.lard_message.specs.declared.message.Message.{Message}
+use Rattle.lard_message.specs.Reading.{decoded_message}
+use Rattle.lard_law_settles.proofs.ProgressAnswersForm.{IsLateBetween, IsLateBody, IsLateOn, IsLateWord}
+use Rattle.lard_rules.specs.declared.places.Station.{Station}
+use Rattle.lard_segment.specs.declared.fault.SegFault.{SegFault}
+use Rattle.lard_segment.specs.declared.segment.Dir.TheVariants.{ToCluster}
+use Rattle.lard_segment.specs.Segment.{Said, decoded}
+use Rattle.lard_law_settles.proofs.EnoughWording.{AreWordsOf, Forwards, Second, SecondOn}
+
+module _ (x : Conn) (st : Station) (there : x.part.station ≡ Some st) (named : st.client.c ≡ x.c) where
+  segment-warm : (bytes : List ℕ) → AreWordsOf x bytes → IsWarmSegment st.client (decoded bytes st.client.c ToCluster)
+  segment-warm bytes h = go (decoded bytes st.client.c ToCluster) refl where
+    go : (r : Result Said SegFault) → decoded bytes st.client.c ToCluster ≡ r → IsWarmSegment st.client r
+    go (Err fault) e = tt
+    go (Ok s) e = (h st there s (subst (λ (c : ℕ). decoded bytes c ToCluster ≡ Ok s) named e)).0
+
+  body-warm : (b : Body) → ((segment : List ℕ) → b ≡ body.Forward segment → AreWordsOf x segment) → IsWarmBody st.client b
+  body-warm (body.Forward segment) h = segment-warm segment (h segment refl)
+  body-warm _ h = tt
+
+  message-warm : (bytes : List ℕ) → Forwards x bytes → IsWarmMessage st.client (decoded_message bytes)
+  message-warm bytes h = go (decoded_message bytes) refl where
+    go : (r : Result Message MsgFault) → decoded_message bytes ≡ r → IsWarmMessage st.client r
+    go (Err fault) e = tt
+    go (Ok m) e = body-warm m.body (λ segment is. h m segment e is)
+
+  between-warm : (from to : Place) (l : Letter) → SecondOn x from to l.bytes → IsWarmBetween st.client from to l
+  between-warm (Client d) Front l h = segment-warm l.bytes h
+  between-warm (Client d) (Client e) l h = tt
+  between-warm (Client d) (Node n) l h = tt
+  between-warm Front Front l h = tt
+  between-warm Front (Client d) l h = tt
+  between-warm Front (Node n) l h = message-warm l.bytes h
+  between-warm (Node n) _ l h = tt
+
+pub second-warm : (x : Conn) → IsSound x → (l : Letter) → Second x l → IsWarm x l
+second-warm x sound l h = go x.part.station refl where
+  go : (o : Option Station) → x.part.station ≡ o → IsWarmBy o l
+  go None at = tt
+  go (Some st) at = between-warm x st at (sound.client st at) l.from l.to l h
+
+-- ---- a reset among them has no ACK, where the client opened
+
+module _ (x : Conn) (st : Station) (there : x.part.station ≡ Some st) where
+  word-late : (bytes : List ℕ) → AreWordsOf x bytes → IsLateWord x.c bytes
+  word-late bytes h s d = (h st there s d).1
+
+  body-late : (b : Body) → ((segment : List ℕ) → b ≡ body.Forward segment → AreWordsOf x segment) → IsLateBody x.c b
+  body-late (body.Forward segment) h = word-late segment (h segment refl)
+  body-late _ h = tt
+
+  between-late : (from to : Place) (bytes : List ℕ) → SecondOn x from to bytes → IsLateBetween x.c from to bytes
+  between-late (Client d) Front bytes h = word-late bytes h
+  between-late (Client d) (Client e) bytes h = tt
+  between-late (Client d) (Node n) bytes h = tt
+  between-late Front Front bytes h = tt
+  between-late Front (Client d) bytes h = tt
+  between-late Front (Node n) bytes h = λ m is. body-late m.body (λ segment same. h m segment is same)
+  between-late (Node n) _ bytes h = tt
+
+pub second-late : (x : Conn) (l : Letter) → Second x l → IsLateOn x l
+second-late x l h st there = between-late x st there l.from l.to l.bytes h

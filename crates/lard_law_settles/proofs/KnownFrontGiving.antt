@@ -1,0 +1,95 @@
+-- What the front end's answers rest on: of its stages, epochs, last numbers and Tags, from the laws of every run.
+use Rattle.std.proofs.Common.{◌≡◌, ◌≤◌, ◌<◌, ◌^◌, ℕ, Bool, true, false, List, Option, Some, None, Ok, refl, sym, subst, arith}
+use Rattle.lard_answers.specs.Answers.{FilesAt}
+use Rattle.lard_base.specs.declared.ids.Epoch.{Epoch}
+use Rattle.lard_base.specs.declared.place.Place.TheVariants.{Client, Front}
+use Rattle.lard_bound.specs.Seats.{Held, Waiting, seat_away, seat_in, seat_of}
+use Rattle.lard_bound.specs.Units.{Whole}
+use Rattle.lard_laws.specs.Acks.{AcksWhatWasTaken}
+use Rattle.lard_law_connections.specs.BytesAgreement.{ConnAgrees, IsTruthful}
+use Rattle.lard_laws.specs.EndedEnds.{EndsAreTrue}
+use Rattle.lard_laws.specs.Homes.{HasOneHome}
+use Rattle.lard_law_connections.specs.Places.{EndedBefore, Owning, Sits, SitsAt, StageSits, owning}
+use Rattle.lard_laws.proofs.RecordsFronts.{RestKeeps}
+use Rattle.lard_laws.proofs.TagsAgree.{Agreed}
+use Rattle.lard_law_view.specs.Carry.{tale_at}
+use Rattle.lard_law_view.specs.View.{Conn, Was}
+use Rattle.lard_endpoint.specs.Control.{ControlBlock}
+use Rattle.lard_law_settles.proofs.KnownClosing.{has-closed}
+use Rattle.lard_law_settles.proofs.KnownStaying.{asks-given, ended-given}
+use Rattle.lard_rules.specs.declared.front.FrontRest.{FrontRest}
+use Rattle.lard_rules.specs.Front.{rest_of}
+use Rattle.lard_handoff_front.specs.declared.row.FrontConn.{FrontConn}
+use Rattle.lard_handoff_front.specs.declared.row.FrontConn.TheVariants as stage
+use Rattle.lard_handoff_front.specs.declared.row.FrontRow.{FrontRow}
+use Rattle.lard_rules.specs.Node.{NodePart}
+use Rattle.lard_law_settles.proofs.ProgressAnswersFrontGiven.{AtSeat, FrontGiven, HasTag, IsStage, IsWord}
+use Rattle.lard_law_settles.proofs.ProgressAnswersFrontSpots.{away-cases, seat-row}
+use Rattle.lard_rules.specs.declared.places.Station.{Station}
+use Rattle.lard_segment.specs.declared.segment.Dir.TheVariants.{ToCluster}
+use Rattle.lard_segment.specs.Segment.{Said, decoded}
+
+-- What other laws give of it: of an endpoint that the front end has, and of what its client says.
+pub record IsKnownElsewhere (w : Whole) (x : Conn) : Type 0 where
+  pub held : (st : Station) (b : ControlBlock) (count : ℕ) → x.part.station ≡ Some st → seat_of x.part ≡ Held b count → AtSeat w st (Held b count)
+  pub waiting : (st : Station) (b : ControlBlock) (count : ℕ) → x.part.station ≡ Some st → seat_of x.part ≡ Waiting b count → AtSeat w st (Waiting b count)
+  pub words : (st : Station) (bytes : List ℕ) (s : Said) → x.part.station ≡ Some st → Was x (Client x.c) Front bytes → decoded bytes x.c ToCluster ≡ Ok s → IsWord st (seat_of x.part) bytes s
+
+-- ---- where it sits
+
+stage-sits : (e : ℕ) (o : Owning) (nodes : ℕ → NodePart) (c : FrontConn) → StageSits e o nodes c → IsStage c × (e ≤ 3)
+stage-sits e o nodes (stage.Held b) h = let one : e ≡ 1 = h.0 in (tt, omega (arith, one))
+stage-sits e o nodes (stage.Waiting b) h = let one : e ≡ 1 = h.0 in (tt, omega (arith, one))
+stage-sits e o nodes stage.Lent h = absurd h
+stage-sits e o nodes (stage.Offering n d) h = let two : e ≡ 2 = h.0 in let same : d.0 ≡ e = h.1 in (omega (arith, two, same), omega (arith, two))
+stage-sits e o nodes (stage.Moved n d) h = let two : e ≡ 2 = h.0 in let same : d.0 ≡ e = h.1 in (omega (arith, two, same), omega (arith, two))
+stage-sits e o nodes (stage.Closed last) h = (tt, h.0)
+
+module _ (N : ℕ → Type 0) (files : FilesAt) (w : Whole) (x : Conn) (sits : SitsAt x) (truth : IsTruthful files x) (acts : AcksWhatWasTaken x) (told : EndsAreTrue files x) (keeps : RestKeeps (rest_of x.part.front.rest))
+    (homes : HasOneHome x) (agreed : Agreed N files x) (known : IsKnownElsewhere w x) where
+  row-sits : (row : FrontRow) → x.part.front.row ≡ Some row → StageSits row.epoch.0 (owning (tale_at x)) x.part.nodes row.stage × EndedBefore row.epoch.0 row.ended_by
+  row-sits row is = subst (Sits (owning (tale_at x)) x.part.nodes) is sits
+
+  unopened : x.part.station ≡ None → x.part.front.row ≡ None
+  unopened none = (subst (ConnAgrees files x truth.talk truth.pend) none truth.agrees).front
+
+  ended-small : (row : FrontRow) (e : Epoch) → x.part.front.row ≡ Some row → row.ended_by ≡ Some e → e.0 < 2 ^ 16
+  ended-small row e is by =
+      let h = row-sits row is in
+      let before : e.0 < row.epoch.0 = subst (EndedBefore row.epoch.0) by h.1 in
+      let most = (stage-sits row.epoch.0 (owning (tale_at x)) x.part.nodes row.stage h.0).1 in
+      omega (arith, before, most)
+
+  tag-fits : (rest : FrontRest) → x.part.front.rest ≡ Some rest → 0 < rest.asks → HasTag rest
+  tag-fits rest is some =
+      let k : RestKeeps rest = subst (λ (o : Option FrontRest). RestKeeps (rest_of o)) is keeps in
+      record { number = k.asks; some = k.some some; few = k.short; nodes = k.tag }
+
+  seat-known : (st : Station) → x.part.station ≡ Some st → AtSeat w st (seat_of x.part)
+  seat-known st there = by-row x.part.front.row refl where
+    away : (t : Bool) (n e count : ℕ) (q : NodePart) → AtSeat w st (seat_away t n e count q)
+    away t n e count q = away-cases t n e count q (AtSeat w st) tt (λ b. tt) tt
+
+    by-stage : (row : FrontRow) → x.part.front.row ≡ Some row → (c : FrontConn) → row.stage ≡ c → seat_of x.part ≡ seat_in x.part.front x.part.nodes c → AtSeat w st (seat_in x.part.front x.part.nodes c)
+    by-stage row is (stage.Held b) at seat = known.held st b (rest_of x.part.front.rest).count there seat
+    by-stage row is (stage.Waiting b) at seat = known.waiting st b (rest_of x.part.front.rest).count there seat
+    by-stage row is stage.Lent at seat = tt
+    by-stage row is (stage.Offering n d) at seat = away false n d.0 (rest_of x.part.front.rest).count (x.part.nodes n)
+    by-stage row is (stage.Moved n d) at seat = away true n d.0 (rest_of x.part.front.rest).count (x.part.nodes n)
+    by-stage row is (stage.Closed last) at seat = has-closed files x truth acts told st there row last is at
+
+    by-row : (o : Option FrontRow) → x.part.front.row ≡ o → AtSeat w st (seat_of x.part)
+    by-row None is = subst (AtSeat w st) (sym (seat-row x.part None is)) tt
+    by-row (Some row) is = subst (AtSeat w st) (sym (seat-row x.part (Some row) is)) (by-stage row is row.stage refl (seat-row x.part (Some row) is))
+
+  pub front-given : FrontGiven files w x
+  front-given = record {
+    unopened = unopened;
+    stages = λ row is. (stage-sits row.epoch.0 (owning (tale_at x)) x.part.nodes row.stage (row-sits row is).0).0;
+    epochs = ended-small;
+    ended = ended-given x homes;
+    tags = tag-fits;
+    asks = asks-given N files x agreed;
+    seats = seat-known;
+    words = known.words;
+  }

@@ -1,0 +1,77 @@
+-- In every state that events lead to: what the front end's answers rest on, of a connection that the schedule did not touch.
+use Rattle.std.proofs.Common.{◌≡◌, false, List, ℕ, Some, Ok, subst}
+use Rattle.lard_base.proofs.Usable.{usable}
+use Rattle.lard_base.specs.Config.{config_check}
+use Rattle.lard_base.specs.declared.config.Config.{Config}
+use Rattle.lard_base.specs.declared.place.Place.TheVariants.{Client, Front, Node}
+use Rattle.lard_bound.specs.Seats.{Held, Waiting, seat_of}
+use Rattle.lard_bound.specs.Units.{Whole}
+use Rattle.lard_rules.specs.declared.machine.Machine.{Machine}
+use Rattle.lard_rules.specs.Machine.{IsReached}
+use Rattle.lard_laws.specs.Acks.{OpenActs, StationActs}
+use Rattle.lard_laws.proofs.AcksRuns.{connections-ack}
+use Rattle.lard_law_connections.specs.BytesAgreement.{IsOpen, IsTruthful}
+use Rattle.lard_law_connections.proofs.BytesClientMoves.{open-at}
+use Rattle.lard_law_connections.proofs.BytesRuns.{states-truthful}
+use Rattle.lard_laws.proofs.EndedRuns.{connections-were-closed}
+use Rattle.lard_laws.proofs.HomesRuns.{connections-have-one-home}
+use Rattle.lard_law_connections.proofs.PlacesRuns.{each-sits}
+use Rattle.lard_laws.proofs.RecordsFronts.{RestKeeps}
+use Rattle.lard_laws.proofs.RecordsHolding.{Holds}
+use Rattle.lard_laws.proofs.TagsGoing.{each-agrees}
+use Rattle.lard_law_view.specs.Carry.{tale_at}
+use Rattle.lard_law_view.specs.View.{Conn, Spells, Was, conn, part_of}
+use Rattle.lard_law_view.proofs.Carried.{reached-viewed}
+use Rattle.lard_laws.proofs.WindowsForwards.{forwards-were}
+use Rattle.lard_laws.proofs.WindowsWordRuns.{words-fit}
+use Rattle.lard_dispatch.specs.Sound.{IsNode}
+use Rattle.lard_endpoint.specs.Control.{ControlBlock}
+use Rattle.lard_files.specs.Files.{file_at}
+use Rattle.lard_law_settles.proofs.KnownFrontGiving.{front-given}
+use Rattle.lard_law_settles.proofs.KnownFrontWords.{word, word-there}
+use Rattle.lard_rules.specs.Front.{rest_of}
+use Rattle.lard_message.specs.declared.message.Body.TheVariants as body
+use Rattle.lard_law_settles.proofs.ProgressAnswersFrontGiven.{AtSeat, FrontGiven, IsWord}
+use Rattle.lard_law_settles.proofs.ProgressAnswersNodeGiven.{HasIt, IsForwarded}
+use Rattle.lard_rules.specs.declared.places.Station.{Station}
+use Rattle.lard_segment.specs.declared.segment.Dir.TheVariants.{ToCluster}
+use Rattle.lard_segment.specs.Segment.{Said, decoded}
+
+-- its Tag and its numbers are in their ranges
+rest-keeps : (m : Machine) (q : ℕ) → Holds m → RestKeeps (rest_of (conn m q).part.front.rest)
+unfolding conn part_of
+rest-keeps m q holds = (holds.parts.front q).rest
+
+module _ (config : Config) (files : List (List ℕ × List ℕ)) (checked : config_check config ≡ Ok tt) (m : Machine) (reached : IsReached config files m) (q : ℕ) (free : (tale_at (conn m q)).touched ≡ false) where
+  abbrev x : Conn
+  x = conn m q
+
+  truth : IsTruthful (file_at files) x
+  truth = states-truthful config files (usable config checked).stream m reached q free
+
+  module _ (st : Station) (there : x.part.station ≡ Some st) where
+    agrees : IsOpen (file_at files) x truth.talk truth.pend st
+    agrees = open-at (file_at files) x st there truth
+
+    acts : OpenActs x st
+    acts = subst (StationActs x) there (connections-ack config files (usable config checked).stream m reached q free)
+
+    -- a segment of its client
+    pub each-word : (bytes : List ℕ) (s : Said) → Was x (Client x.c) Front bytes → decoded bytes x.c ToCluster ≡ Ok s → IsWord st (seat_of x.part) bytes s
+    each-word bytes s was read =
+        word (file_at files) x st there truth.talk truth.pend agrees acts ((reached-viewed config files m reached).sound q) (words-fit config files (usable config checked).stream m reached q free) bytes s was read
+
+    -- and one that the front end forwarded
+    pub each-forwarded : (n e : ℕ) (b : ControlBlock) (segment bytes : List ℕ) (s : Said) → HasIt x n e b → Spells x.c e (body.Forward segment) bytes → Was x Front (Node n) bytes → decoded segment x.c ToCluster ≡ Ok s
+        → IsForwarded st b s
+    each-forwarded n e b segment bytes s here spells was read =
+        word-there (file_at files) x st there truth.talk truth.pend agrees acts ((reached-viewed config files m reached).sound q) (words-fit config files (usable config checked).stream m reached q free)
+        (forwards-were config files m reached q) n e b segment bytes s here spells was read
+
+  -- all of it, given of what an endpoint at the front end is
+  pub each-front : Holds m → (w : Whole) → ((st : Station) (b : ControlBlock) (count : ℕ) → x.part.station ≡ Some st → seat_of x.part ≡ Held b count → AtSeat w st (Held b count))
+      → ((st : Station) (b : ControlBlock) (count : ℕ) → x.part.station ≡ Some st → seat_of x.part ≡ Waiting b count → AtSeat w st (Waiting b count)) → FrontGiven (file_at files) w x
+  each-front holds w held waiting =
+      front-given (IsNode config.nodes) (file_at files) w x (each-sits config files m reached q) truth (connections-ack config files (usable config checked).stream m reached q free)
+      (connections-were-closed config files (usable config checked).stream m reached q free) (rest-keeps m q holds) (connections-have-one-home config files m reached q) (each-agrees config files checked m reached q free)
+      (record { held = held; waiting = waiting; words = λ st bytes s there was read. each-word st there bytes s was read })

@@ -1,0 +1,95 @@
+-- In every state that events lead to, all that is known of a connection that the schedule did not touch is so.
+use Rattle.std.proofs.Common.{◌≡◌, ◌≤◌, ℕ, zero, suc, false, List, [], ◌∷◌, length, Option, Some, None, ⊎_elim, refl, sym, ap, ◌∙◌, subst, arith}
+use Rattle.std.specs.Prelude.{slice_get}
+use Rattle.lard_base.specs.declared.config.Config.{Config}
+use Rattle.lard_base.specs.declared.limits.TheConstants.{MAX_STREAM_BYTES}
+use Rattle.lard_bound.specs.Seats.{seat_of}
+use Rattle.lard_bound.specs.Units.{Whole, tellers, whole_of}
+use Rattle.lard_rules.specs.declared.machine.Machine.{Machine}
+use Rattle.lard_rules.specs.Bounds.{IsNumber}
+use Rattle.lard_rules.specs.Machine.{IsReached, node_at}
+pub use Rattle.lard_laws.specs.Acks.{OpenActs, StationActs, story_at}
+pub use Rattle.lard_laws.proofs.AcksRuns.{connections-ack}
+use Rattle.lard_law_connections.specs.BytesAgreement.{ConnAgrees, IsOpen}
+use Rattle.lard_law_connections.proofs.BytesRuns.{states-truthful}
+use Rattle.lard_laws.proofs.HomesRuns.{connections-have-one-home}
+use Rattle.lard_law_connections.specs.KeptLaws.{AnyNode}
+use Rattle.lard_law_connections.proofs.KeptRuns.{connections-are-kept}
+use Rattle.lard_law_connections.proofs.LimitsRuns.{connections-counted}
+use Rattle.lard_law_connections.proofs.PlacesRuns.{each-placed}
+use Rattle.lard_law_view.specs.Carry.{tale_at}
+use Rattle.lard_law_view.specs.View.{Conn, IsSound, IsViewed, blank, conn, kept_at, part_of}
+use Rattle.lard_laws.proofs.WaysRuns.{each-guarded}
+use Rattle.lard_law_view.proofs.Carried.{reached-viewed}
+use Rattle.lard_files.specs.Files.{file_at}
+use Rattle.lard_handoff_back.specs.declared.row.BackRow.{BackRow}
+use Rattle.lard_law_settles.proofs.KnownAsking.{new-idle, placing-asks}
+use Rattle.lard_law_settles.proofs.KnownGiving.{known}
+use Rattle.lard_law_settles.proofs.KnownModest.{modest}
+use Rattle.lard_law_settles.proofs.KnownSmall.{each-small}
+use Rattle.lard_rules.specs.declared.node.NodeState.{NodeState}
+use Rattle.lard_law_settles.proofs.ProgressGiven.{Known}
+use Rattle.lard_law_settles.proofs.ProgressMost.{IsModest}
+use Rattle.lard_rules.specs.declared.places.Station.{Station}
+
+-- ---- only nodes that are there keep something
+
+node-counted : (nodes : List NodeState) (n : ℕ) (s : NodeState) → node_at nodes n ≡ Some s → (1 ≤ n) × (n ≤ length nodes)
+node-counted nodes zero s e = absurd (let bad : ◌≡◌ {A = Option NodeState} None (Some s) = e in cc)
+node-counted nodes (suc i) s e = let l = within nodes i e in (omega arith, omega (arith, l)) where
+  within : (xs : List NodeState) (i : ℕ) → slice_get xs i ≡ Some s → suc i ≤ length xs
+  within [] i e = absurd (let bad : ◌≡◌ {A = Option NodeState} None (Some s) = e in cc)
+  within (x ∷ xs) zero e = omega arith
+  within (x ∷ xs) (suc i) e = let l = within xs i e in omega (arith, l)
+
+pub node-there : (m : Machine) (view : IsViewed m) (q n : ℕ) (row : BackRow) → ((conn m q).part.nodes n).row ≡ Some row → (1 ≤ n) × (n ≤ m.config.nodes)
+unfolding conn part_of
+node-there m view q n row is = go (node_at m.nodes n) refl is where
+  go : (o : Option NodeState) → node_at m.nodes n ≡ o → (kept_at q o).row ≡ Some row → (1 ≤ n) × (n ≤ m.config.nodes)
+  go None at e = absurd (let bad : ◌≡◌ {A = Option BackRow} None (Some row) = e in cc)
+  go (Some s) at e = let l = node-counted m.nodes n s at in let same = view.nodes in (l.0, omega (arith, l.1, same))
+
+-- a client that opened has the number of a connection
+pub number-of : (x : Conn) (st : Station) → IsSound x → x.part.station ≡ Some st → IsNumber x.c
+number-of x st sound at = ⊎_elim
+    (λ (n : IsNumber x.c). n)
+    (λ (none : x ≡ blank x.c). absurd (let bad : ◌≡◌ {A = Option Station} (Some st) None = sym at ∙ ap (λ (y : Conn). y.part.station) none in cc))
+    sound.number
+
+module _ (config : Config) (files : List (List ℕ × List ℕ)) (small : config.stream ≤ MAX_STREAM_BYTES) (m : Machine) (reached : IsReached config files m) (q : ℕ) where
+  abbrev x : Conn
+  x = conn m q
+
+  pub view : IsViewed m
+  view = reached-viewed config files m reached
+
+  abbrev pub written_on : Whole
+  written_on = whole_of (file_at files) (tale_at x).wrote
+
+  pub each-known : (tale_at x).touched ≡ false → (st : Station) → x.part.station ≡ Some st → Known m.config.nodes written_on x st
+  each-known free st at =
+      let truth = states-truthful config files small m reached q free in
+      let o : IsOpen (file_at files) x truth.talk truth.pend st = subst (ConnAgrees (file_at files) x truth.talk truth.pend) at truth.agrees in
+      let acts : OpenActs x st = subst (StationActs x) at (connections-ack config files small m reached q free) in
+      let way = (each-guarded config files small m reached q).0 free in
+      let kept = connections-are-kept config files m reached q in
+      let same : written_on ≡ whole_of (file_at files) truth.talk.w.bytes = ap (whole_of (file_at files)) o.tale.wrote in
+      known (file_at files) x st truth.talk truth.pend o acts config.stream (connections-counted config files small m reached q) (each-placed config files m reached q) (number-of x st (view.sound q) at) written_on same m.config.nodes
+      (record {
+        asks = placing-asks (file_at files) x st truth.talk truth.pend o way kept.front written_on same;
+        idle = λ n e new. new-idle AnyNode (file_at files) x.c n e (x.part.nodes n) (kept.nodes n) new;
+        there = node-there m view q;
+        keeps = kept.front;
+        small = each-small config files small m reached q free;
+      })
+
+  -- so what is left to do on it is bounded
+  pub each-modest : (tale_at x).touched ≡ false → (st : Station) → x.part.station ≡ Some st → IsModest written_on (tellers x.part.nodes m.config.nodes) (seat_of x.part)
+  each-modest free st at =
+      let truth = states-truthful config files small m reached q free in
+      let o : IsOpen (file_at files) x truth.talk truth.pend st = subst (ConnAgrees (file_at files) x truth.talk truth.pend) at truth.agrees in
+      let kept = connections-are-kept config files m reached q in
+      let same : written_on ≡ whole_of (file_at files) truth.talk.w.bytes = ap (whole_of (file_at files)) o.tale.wrote in
+      modest written_on AnyNode (file_at files) x st m.config.nodes (connections-have-one-home config files m reached q) kept
+      (placing-asks (file_at files) x st truth.talk truth.pend o ((each-guarded config files small m reached q).0 free) kept.front written_on same)
+      (each-known free st at).seat

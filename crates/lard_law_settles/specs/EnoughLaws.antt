@@ -1,0 +1,28 @@
+-- Enough rounds settle.
+use Rattle.std.specs.Prelude.{◌≡◌, ℕ, All, List, [], Ok}
+use Rattle.lard_base.specs.Config.{config_check}
+use Rattle.lard_base.specs.declared.config.Config.{Config}
+use Rattle.lard_base.specs.declared.event.Event.{Event}
+use Rattle.lard_rules.specs.declared.machine.Machine.{Machine}
+use Rattle.lard_rules.specs.Machine.{start}
+use Rattle.lard_laws.specs.Records.{IsFile, IsGiven}
+use Rattle.lard_files.specs.Files.{file_at}
+use Rattle.lard_history.specs.Laws.{EachMay}
+use Rattle.lard_law_settles.specs.Enough.{EndsWithEnough, MayLeave, RestsWithEnough}
+use Rattle.lard_settling.specs.declared.settled.Settled.{Settled}
+use Rattle.lard_settling.specs.Events.{LeadsTo}
+use Rattle.lard_settling.specs.Settling.{settled}
+
+-- A settle that is done with as many rounds as the bound of its journal, or more, ends with nothing left to do, in each state that events
+-- lead to, settles among them: where the schedule put no packet on the way in a client's name, and each client wrote fewer than 16,383 bytes.
+abbrev pub SettlesEndQuiet : Type 0
+SettlesEndQuiet = (m : Machine) (rounds : ℕ) (n : Machine) (s : Settled) → settled m rounds ≡ Ok (n, s) → EndsWithEnough m rounds s
+
+-- And where such a settle has ended nothing is left, whatever it answered: in each state with numbers that pass their check.
+abbrev pub SettlesRest : Type 0
+SettlesRest = (n : Machine) → config_check n.config ≡ Ok tt → RestsWithEnough n
+
+-- So in the journal of each run: an `unsettled` stands only where that is not so, or behind fewer rounds than the bound.
+abbrev pub RunsSettle : Type 0
+RunsSettle = (config : Config) (files : List (List ℕ × List ℕ)) → config_check config ≡ Ok tt → All IsFile files → (es : List Event) (m : Machine) → All IsGiven es → LeadsTo (start config files) es m
+    → EachMay (MayLeave (file_at files)) [] m.journal

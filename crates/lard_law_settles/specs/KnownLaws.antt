@@ -1,0 +1,17 @@
+-- What is known of each connection in every state that events lead to, so that no unit of what is left to do comes back.
+use Rattle.std.specs.Prelude.{◌≡◌, ℕ, ◌≤◌, false, List, Some}
+use Rattle.lard_base.specs.declared.config.Config.{Config}
+use Rattle.lard_base.specs.declared.limits.TheConstants.{MAX_STREAM_BYTES}
+use Rattle.lard_bound.specs.Units.{whole_of}
+use Rattle.lard_rules.specs.declared.machine.Machine.{Machine}
+use Rattle.lard_rules.specs.Machine.{IsReached}
+use Rattle.lard_law_view.specs.Carry.{tale_at}
+use Rattle.lard_law_view.specs.View.{conn}
+use Rattle.lard_files.specs.Files.{file_at}
+use Rattle.lard_law_settles.proofs.ProgressGiven.{Known}
+use Rattle.lard_rules.specs.declared.places.Station.{Station}
+
+-- It is by what the client wrote so far, which it does not go on with within a settle.
+abbrev pub EachConnectionIsKnown : Type 0
+EachConnectionIsKnown = (config : Config) (files : List (List ℕ × List ℕ)) → config.stream ≤ MAX_STREAM_BYTES → (m : Machine) → IsReached config files m → (q : ℕ) → (tale_at (conn m q)).touched ≡ false
+    → (st : Station) → (conn m q).part.station ≡ Some st → Known m.config.nodes (whole_of (file_at files) (tale_at (conn m q)).wrote) (conn m q) st

@@ -1,6 +1,0 @@
--- By what each rule keeps.
-use Rattle.lard_law_stays.proofs.KeptRuns.{connections-are-kept}
-use Rattle.lard_law_stays.proofs.places_keep_what_they_await.Goals as goal
-
-pub returns : goal.returns
-returns c = connections-are-kept

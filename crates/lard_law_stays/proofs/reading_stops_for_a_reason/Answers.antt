@@ -1,6 +1,0 @@
--- By what each rule keeps.
-use Rattle.lard_law_stays.proofs.StopsRuns.{connections-stop}
-use Rattle.lard_law_stays.proofs.reading_stops_for_a_reason.Goals as goal
-
-pub returns : goal.returns
-returns c = connections-stop

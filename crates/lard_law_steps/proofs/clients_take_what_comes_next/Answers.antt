@@ -1,6 +1,0 @@
--- By what holds of every state.
-use Rattle.lard_law_steps.proofs.ClientsTaking.{clients-take}
-use Rattle.lard_law_steps.proofs.clients_take_what_comes_next.Goals as goal
-
-pub returns : goal.returns
-returns c = clients-take c.every_run_is_true.ensures.states

@@ -1,6 +1,0 @@
--- By the step that queues them.
-use Rattle.lard_law_steps.proofs.RecordsShort.{disks-stay}
-use Rattle.lard_law_steps.proofs.disks_stay_short.Goals as goal
-
-pub returns : goal.returns
-returns c = record { short = disks-stay }

@@ -1,6 +1,0 @@
--- By what each move tells of its connection's timers, and by what a step adds.
-use Rattle.lard_law_steps.proofs.StepsTimers.{timers-change, timers-kept}
-use Rattle.lard_law_steps.proofs.timers_are_told.Goals as goal
-
-pub returns : goal.returns
-returns c = record { flags = timers-kept; steps = timers-change }

@@ -1,6 +1,0 @@
-pub mod StepsLaws
-pub mod StepsTimers
-pub mod ClientsLaws
-pub mod Records
-pub mod RecordsMessages
-pub mod RecordsDisks

@@ -1,3 +1,0 @@
-pub mod StoresLaws
-pub mod Jobs
-pub mod JobsLaws

@@ -1,0 +1,172 @@
+-- What each rule notes and sends is of its connection, and its client stays its own.
+use Rattle.std.proofs.Common.{◌≡◌, ℕ, ◌+◌, nat_lt, Bool, true, false, cond, List, [], ◌∷◌, ◌++◌, length, take, drop, Option, Some, None, Result, Ok, Err, refl, sym, ap, ◌∙◌, subst, arith}
+use Rattle.std.proofs.lemmas.Bool.{cond_both}
+use Rattle.std.proofs.lemmas.List.Sums.{fold-append}
+use Rattle.std.specs.List.{fold}
+use Rattle.lard_answers.specs.Answers.{answer, answer_code}
+use Rattle.lard_base.specs.declared.place.Place.{Place}
+use Rattle.lard_base.specs.declared.place.Place.TheVariants.{Front, Client}
+use Rattle.lard_base.specs.declared.place.Reason.TheVariants as reason
+use Rattle.lard_base.specs.declared.place.Via.{Via}
+use Rattle.lard_client.specs.Arriving.{arrived}
+use Rattle.lard_client.specs.Control.{ClientBlock, aborted, held_on, is_writing, opened, shut_down, taken, written}
+use Rattle.lard_client.specs.Leaving.{abort_ready, after_timer, timed}
+use Rattle.lard_endpoint.specs.Control.{finishing}
+use Rattle.lard_endpoint.specs.Moving.{final_of}
+use Rattle.lard_history.specs.Journal.{answered_step}
+use Rattle.lard_history.proofs.Each.{Each, Each-append}
+use Rattle.lard_journal.specs.declared.rec.Rec.{Rec}
+use Rattle.lard_journal.specs.declared.rec.Rec.TheVariants as rec
+use Rattle.lard_rules.specs.declared.places.Ending.{Ending}
+use Rattle.lard_rules.specs.declared.places.Turn.{Turn}
+use Rattle.lard_rules.specs.Client.{client_aborts, client_gets, client_holds, client_injects, client_opens, client_shuts, client_takes, client_timer, client_writes, ready_of, silent, speaking}
+use Rattle.lard_rules.specs.Serving.{ServeEnv, Service, answered, cut_off, ended_at_fin, limit_said, passed_over, queued, settled, spoken, told}
+use Rattle.lard_rules.specs.Serving as serve
+use Rattle.lard_rules.specs.Speaking.{client_speaks, speaks, speaks_symbols}
+use Rattle.lard_request.specs.declared.verdict.Code.TheVariants as code
+use Rattle.lard_request.specs.declared.verdict.Verdict.{Verdict}
+use Rattle.lard_segment.specs.declared.fault.SegFault.{SegFault}
+use Rattle.lard_segment.specs.Segment.{Said}
+use Rattle.lard_law_view.proofs.ClientTurns.{aborted-on, arrived-hears, held-on, ready-to, shut-on, speaks-on, taken-on, timer-on, written-on}
+use Rattle.lard_law_view.proofs.EndpointSends.{AllTo, speaks-to, speaks_symbols-to}
+
+-- what a place may note of connection c
+abbrev pub NotedAt : Place → ℕ → Rec → Type 0
+NotedAt (Client e) c (rec.Wrote d bytes) = d ≡ c
+NotedAt (Client e) c (rec.Accepted d bytes) = d ≡ c
+NotedAt (Client e) c (rec.Eof d) = d ≡ c
+NotedAt (Client e) c (rec.Aborted d) = d ≡ c
+NotedAt Front c (rec.Took Front d epoch) = d ≡ c
+NotedAt Front c (rec.Served Front d r code size via) = d ≡ c
+NotedAt Front c (rec.Reset Front d total) = d ≡ c
+NotedAt _ _ _ = ⊥
+
+-- a turn counts the bytes of the responses that it notes
+abbrev pub IsCounted : Turn → Type 0
+IsCounted t = (n : ℕ) → fold answered_step n t.notes ≡ n + t.answered
+
+-- ---- clients
+
+pub record IsClientTurn (c : ℕ) (given : ClientBlock × Turn) : Type 0 where
+  pub number : given.0.c ≡ c
+  pub notes : Each (NotedAt (Client c) c) given.1.notes
+  pub to : AllTo Front given.1.segments
+  pub answered : IsCounted given.1
+
+-- a client notes no response
+client-counts : (c : ℕ) (r : Rec) → NotedAt (Client c) c r → (n : ℕ) → answered_step n r ≡ n
+client-counts c (rec.Wrote d bytes) h n = refl
+client-counts c (rec.Accepted d bytes) h n = refl
+client-counts c (rec.Eof d) h n = refl
+client-counts c (rec.Aborted d) h n = refl
+client-counts c _ h n = absurd h
+
+clients-count : (c : ℕ) (rs : List Rec) → Each (NotedAt (Client c) c) rs → (n : ℕ) → fold answered_step n rs ≡ n + 0
+clients-count c [] e n = omega arith
+clients-count c (r ∷ rs) e n = ap (λ k. fold answered_step k rs) (client-counts c r e.0 n) ∙ clients-count c rs e.1 n
+
+speaking-turn : (c : ℕ) (x : ClientBlock) (notes : List Rec) (segments : List (Place × List ℕ)) → x.c ≡ c → Each (NotedAt (Client c) c) notes → AllTo Front segments
+    → IsClientTurn c (speaking notes segments x)
+speaking-turn c x notes segments n of to = let spoken = speaks-on x in record {
+  number = spoken.on.number ∙ n;
+  notes = of;
+  to = Each-append (λ s. s.0 ≡ Front) segments (client_speaks x).0 to spoken.to;
+  answered = clients-count c notes of;
+}
+
+silent-turn : (c : ℕ) (x : ClientBlock) → x.c ≡ c → IsClientTurn c (x, silent)
+silent-turn c x n = record { number = n; notes = tt; to = tt; answered = λ n. omega arith }
+
+pub opens-turn : (c isn wnd mss : ℕ) → IsClientTurn c (client_opens c isn wnd mss)
+opens-turn c isn wnd mss = speaking-turn c (opened c isn wnd mss) [] [] refl tt tt
+
+module _ (c : ℕ) (x : ClientBlock) (n : x.c ≡ c) where
+  pub writes-turn : (bytes : List ℕ) → IsClientTurn c (client_writes x bytes)
+  writes-turn bytes = cond_both {A = ClientBlock × Turn} (is_writing x) (speaking (rec.Wrote x.c bytes ∷ []) [] (written x bytes)) (x, silent) (IsClientTurn c)
+      (λ t. speaking-turn c (written x bytes) (rec.Wrote x.c bytes ∷ []) [] ((written-on x bytes).number ∙ n) (n, tt) tt)
+      (λ t. silent-turn c x n)
+
+  pub shuts-turn : IsClientTurn c (client_shuts x)
+  shuts-turn = speaking-turn c (shut_down x) [] [] ((shut-on x).0.number ∙ n) tt tt
+
+  pub holds-turn : IsClientTurn c (client_holds x)
+  holds-turn = speaking-turn c (held_on x) [] [] ((held-on x).number ∙ n) tt tt
+
+  pub takes-turn : IsClientTurn c (client_takes x)
+  takes-turn = speaking-turn c (taken x) [] [] ((taken-on x).number ∙ n) tt tt
+
+  pub fires-turn : IsClientTurn c (client_timer x)
+  fires-turn = speaking-turn c (after_timer x) [] (ready_of (after_timer x) (timed x)) ((timer-on x).number ∙ n) tt (ready-to (after_timer x) (timed x))
+
+  pub aborts-turn : IsClientTurn c (client_aborts x)
+  aborts-turn = record { number = (aborted-on x).0.number ∙ n; notes = (n, tt); to = ready-to (aborted x) (abort_ready x); answered = clients-count c (rec.Aborted x.c ∷ []) (n, tt) }
+
+  pub injects-turn : (bytes : List ℕ) → IsClientTurn c (client_injects x bytes)
+  injects-turn bytes = record { number = n; notes = tt; to = (refl, tt); answered = λ n. omega arith }
+
+  noted-turn : (b : Bool) (bytes : List ℕ) (d : Bool) (y : ClientBlock) (segments : List (Place × List ℕ)) → y.c ≡ c → AllTo Front segments
+      → IsClientTurn c (speaking (cond b (rec.Accepted y.c bytes ∷ []) [] ++ cond d (rec.Eof y.c ∷ []) []) segments y)
+  noted-turn false bytes false y segments k to = speaking-turn c y [] segments k tt to
+  noted-turn true bytes false y segments k to = speaking-turn c y (rec.Accepted y.c bytes ∷ []) segments k (k, tt) to
+  noted-turn false bytes true y segments k to = speaking-turn c y (rec.Eof y.c ∷ []) segments k (k, tt) to
+  noted-turn true bytes true y segments k to = speaking-turn c y (rec.Accepted y.c bytes ∷ rec.Eof y.c ∷ []) segments k (k, (k, tt)) to
+
+  pub hears-turn : (r : Result Said SegFault) → IsClientTurn c (client_gets x r)
+  hears-turn (Err fault) = silent-turn c x n
+  hears-turn (Ok s) =
+      let r = arrived x s in
+      noted-turn (nat_lt 0 r.0.len) (take r.0.len (drop r.0.from s.payload)) r.0.eof r.1 (ready_of r.1 r.0.reply) ((arrived-hears x s).on.number ∙ n) (ready-to r.1 r.0.reply)
+
+-- ---- a place that serves
+
+-- N is so of each note, and the segments go to client c
+pub record IsServingTurn (N : Rec → Type 0) (c : ℕ) (turn : Turn) : Type 0 where
+  pub notes : Each N turn.notes
+  pub to : AllTo (Client c) turn.segments
+  pub answered : IsCounted turn
+
+-- N is so of what a place notes while it serves
+pub record NotesServing (env : ServeEnv) (N : Rec → Type 0) : Type 0 where
+  pub served : (r code size : ℕ) (via : Via) → N (rec.Served env.place env.c r code size via)
+  pub reset : (total : ℕ) → N (rec.Reset env.place env.c total)
+
+module _ (env : ServeEnv) (N : Rec → Type 0) (noting : NotesServing env N) where
+  abbrev pub AreNoted : Service → Type 0
+  AreNoted w = Each N w.notes × ((n : ℕ) → fold answered_step n w.notes ≡ n + w.answered)
+
+  -- one more note
+  one-noted : (w : Service) (r : Rec) (answered : ℕ) → AreNoted w → N r → ((n : ℕ) → answered_step (n + w.answered) r ≡ n + answered)
+      → Each N (w.notes ++ r ∷ []) × ((n : ℕ) → fold answered_step n (w.notes ++ r ∷ []) ≡ n + answered)
+  one-noted w r answered h note sum = (
+    Each-append N w.notes (r ∷ []) h.0 (note, tt),
+    λ n. fold-append answered_step n w.notes (r ∷ []) ∙ ap (λ k. answered_step k r) (h.1 n) ∙ sum n,
+  )
+
+  pub answered-noted : (via : Via) (v : Verdict) (w : Service) → AreNoted w → AreNoted (answered env via v w)
+  answered-noted via v w h =
+      let bytes : List ℕ = answer env.files v in
+      let total : ℕ = w.block.send.total + length bytes in
+      cond_both (nat_lt env.stream total) (passed_over env total w) (queued env via v bytes w) AreNoted
+      (λ t. one-noted w (rec.Reset env.place env.c total) w.answered h (noting.reset total) (λ n. refl))
+      (λ t. one-noted w (rec.Served env.place env.c (w.count + 1) (answer_code env.files v) (length bytes) via) (w.answered + length bytes) h
+      (noting.served (w.count + 1) (answer_code env.files v) (length bytes) via) (λ n. omega arith))
+
+  pub ended-noted : (w : Service) → AreNoted w → AreNoted (ended_at_fin w)
+  ended-noted w h = cond_both w.block.recv.fin (record w { block = finishing w.block }) w AreNoted (λ t. h) (λ t. h)
+
+  pub spoken-turn : (w : Service) (before : List (Place × List ℕ)) → AllTo (Client env.c) before → AreNoted w → IsServingTurn N env.c (spoken env w before).1
+  spoken-turn w before to h = record { notes = h.0; answered = h.1; to = Each-append (λ s. s.0 ≡ Client env.c) before (speaks env.c w.block).0 to (speaks-to env.c w.block).to }
+
+  cut_off-turn : (w : Service) → AreNoted w → IsServingTurn N env.c (cut_off env w).1
+  cut_off-turn w h = record {
+    notes = h.0;
+    answered = h.1;
+    to = Each-append (λ s. s.0 ≡ Client env.c) (speaks_symbols env.c w.block).0 (told env (limit_said (final_of (speaks_symbols env.c w.block).1 reason.Limit)) ∷ [])
+        (speaks_symbols-to env.c w.block).to (refl, tt);
+  }
+
+  pub settled-turn : (w : Service) → AreNoted w → IsServingTurn N env.c (settled env w).1
+  settled-turn w h = go w.over where
+    go : (o : Option ℕ) → IsServingTurn N env.c (elim o as (λ p. Ending × Turn) [ None ↦ spoken env w [] | Some total ↦ cut_off env w ]).1
+    go None = spoken-turn w [] tt h
+    go (Some total) = cut_off-turn w h

@@ -1,6 +1,0 @@
--- By what each step tells of the contents that it sends.
-use Rattle.lard_law_ways.proofs.WaysSteps.{contents-are-files}
-use Rattle.lard_law_ways.proofs.contents_are_files.Goals as goal
-
-pub returns : goal.returns
-returns c = record { contents = contents-are-files }

@@ -1,6 +1,0 @@
--- By what each rule leaves of each connection.
-use Rattle.lard_law_ways.proofs.WaysRuns.{contents-come}
-use Rattle.lard_law_ways.proofs.contents_come_as_assigned.Goals as goal
-
-pub returns : goal.returns
-returns c = record { ways = contents-come }

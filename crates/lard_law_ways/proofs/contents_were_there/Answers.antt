@@ -1,6 +1,0 @@
--- By what each rule leaves of a node's batch.
-use Rattle.lard_law_ways.proofs.WaysEarlier.{contents-were-there}
-use Rattle.lard_law_ways.proofs.contents_were_there.Goals as goal
-
-pub returns : goal.returns
-returns c = record { came = contents-were-there }

@@ -1,6 +1,0 @@
--- By what backs each response.
-use Rattle.lard_law_ways.proofs.BackingRuns.{jobs-start}
-use Rattle.lard_law_ways.proofs.jobs_start_when_told.Goals as goal
-
-pub returns : goal.returns
-returns c = record { starts = jobs-start }

@@ -1,6 +1,0 @@
--- By the jobs that were queued and the Fetches that were sent.
-use Rattle.lard_law_ways.proofs.BackingRuns.{responses-backed}
-use Rattle.lard_law_ways.proofs.responses_are_backed.Goals as goal
-
-pub returns : goal.returns
-returns c = record { backed = responses-backed }

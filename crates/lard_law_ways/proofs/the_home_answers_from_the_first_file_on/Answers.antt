@@ -1,6 +1,0 @@
--- By what each rule lets a connection's records say.
-use Rattle.lard_law_ways.proofs.BackingRuns.{home-answers}
-use Rattle.lard_law_ways.proofs.the_home_answers_from_the_first_file_on.Goals as goal
-
-pub returns : goal.returns
-returns c = record { answers = home-answers }

@@ -1,0 +1,479 @@
+-- What the front end does acknowledges what was taken.
+use Rattle.std.proofs.Common.{◌≡◌, ◌⊎◌, ◌≤◌, ◌<◌, ◌+◌, ◌==◌, ◌&&◌, not, nat_lt, ◌^◌, ℕ, Bool, true, false, cond, List, [], ◌∷◌, ◌++◌, map, Option, Some, None, Ok, IfSome, inr, ⊎_elim, refl, sym, ap, ◌∙◌, subst, arith, eqb-true}
+use Rattle.std.specs.List.{concat}
+use Rattle.std.proofs.lemmas.Bool.{and_parts, cond_both}
+use Rattle.lard_answers.specs.Answers.{answer}
+use Rattle.lard_base.specs.declared.ids.Epoch.{Epoch}
+use Rattle.lard_base.specs.declared.place.Place.{Place}
+use Rattle.lard_base.specs.declared.place.Place.TheVariants.{Front, Node}
+use Rattle.lard_base.specs.declared.place.Reason.{Reason}
+use Rattle.lard_base.specs.declared.place.Reason.TheVariants as reason
+use Rattle.lard_laws.specs.Acks.{ActsWithin, BackActs, Bounds, EndActs, FrontActs, FrontStageActs, LetterActs, WordActs}
+use Rattle.lard_laws.proofs.AcksGrowing.{replies-act}
+use Rattle.lard_laws.proofs.AcksMessages.{forward-acts, offer-acts, other-front}
+use Rattle.lard_laws.proofs.AcksReading.{reads-serves, stays-heard, stays-holds}
+use Rattle.lard_laws.proofs.AcksTurns.{PlaceActs, idle-acts}
+use Rattle.lard_law_connections.specs.BytesAgreement.{EndedIt, FrontHolds, HoldsIt, IsOpen, SeatAgrees, StageAgrees}
+use Rattle.lard_law_connections.specs.Places.{ArePast, HasEnded, IsLeft, IsOffered, IsOver, IsPast, Offers, Owning, Sits, StageSits, owning}
+use Rattle.lard_law_connections.proofs.PlacesFrontRules.{has-each}
+use Rattle.lard_law_connections.proofs.PlacesTurns.{IsPlaced}
+use Rattle.lard_law_view.specs.Carry.{tale_at}
+use Rattle.lard_law_view.specs.View.{AreSent, Conn, IsFrontEnv, IsSound, Move, Part, Setting, front_does, letter}
+use Rattle.lard_dispatch.specs.declared.dispatch.Ask.{Ask}
+use Rattle.lard_dispatch.specs.declared.dispatch.First.{First}
+use Rattle.lard_dispatch.specs.declared.dispatch.First.TheVariants as first
+use Rattle.lard_dispatch.specs.declared.dispatch.Later.{Later}
+use Rattle.lard_dispatch.specs.Laws.{Call}
+use Rattle.lard_dispatch.specs.Laws as call
+use Rattle.lard_endpoint.specs.declared.control.moving.Final.{Final}
+use Rattle.lard_endpoint.specs.Arriving.{on_segment}
+use Rattle.lard_endpoint.specs.Control.{ControlBlock, listening}
+use Rattle.lard_endpoint.specs.Leaving.{after_timer, filled, timed}
+use Rattle.lard_rules.specs.declared.front.FrontRest.{FrontRest}
+use Rattle.lard_rules.specs.declared.front.FrontTurn.{FrontTurn}
+use Rattle.lard_rules.specs.Front.{Deed, Drops, Says, Does, FrontEnv, FrontPart, ack_sent, admitted_at, admitted_by, admitted_with, asked_by, assigns, begun, ended_by, fired_by, fires_at, front_admitted, front_asked, front_ended, front_gets, front_hears, front_taken, front_timer, handed_off, heard, hears_at, holds, is_at, leaves_by, message, met, placed, rest_of, rests, saying, settled_by, stage_after, tag_sent, taken_by, turn_here}
+use Rattle.lard_rules.specs.FrontReading.{Reading, reads}
+use Rattle.lard_handoff_back.specs.declared.row.BackConn.{BackConn}
+use Rattle.lard_handoff_back.specs.declared.row.BackConn.TheVariants as back
+use Rattle.lard_handoff_back.specs.declared.row.BackRow.{BackRow}
+use Rattle.lard_handoff_front.specs.declared.row.FrontConn.{FrontConn}
+use Rattle.lard_handoff_front.specs.declared.row.FrontConn.TheVariants as stage
+use Rattle.lard_handoff_front.specs.declared.row.FrontRow.{FrontRow}
+use Rattle.lard_handoff_front.specs.declared.table.OnEnded.TheVariants.{New, Again, Stale}
+use Rattle.lard_handoff_front.specs.Front.{asked_node, end_answer, ended_with, next_epoch}
+use Rattle.lard_handoff_front.specs.Row.{is_away}
+use Rattle.lard_history.specs.Own.{Seen}
+use Rattle.lard_history.proofs.Each.{Each, Each-append}
+use Rattle.lard_journal.specs.declared.rec.Rec.TheVariants as rec
+use Rattle.lard_law_view.specs.Agreement.{IsWord}
+use Rattle.lard_law_view.specs.Truthful.{Talk}
+use Rattle.lard_law_view.proofs.EndpointStreams.{IsBetween, between-arrived, between-begun, between-sound, between-timed}
+use Rattle.lard_law_view.proofs.Acked.{RepliesMay, ReplyMay, ServingActed, WordMay, heard_at, heard_by}
+use Rattle.lard_law_view.proofs.Acked as Acked
+use Rattle.lard_law_view.proofs.EndpointArriving.{Holds, arrival-grows, arrival-holds}
+use Rattle.lard_law_view.proofs.EndpointReading.{Reads, Spans}
+use Rattle.lard_law_view.proofs.EndpointActs.{settled-acts, spoken-acts}
+use Rattle.lard_law_view.proofs.EndpointSaying.{timed-may, timer-left}
+use Rattle.lard_message.specs.declared.message.Body.TheVariants as body
+use Rattle.lard_rules.specs.Node.{NodePart}
+use Rattle.lard_policy.specs.declared.first.FirstChoice.{FirstChoice}
+use Rattle.lard_request.specs.declared.verdict.Verdict.{Verdict}
+use Rattle.lard_resend.specs.declared.kept.Kept.{Kept}
+use Rattle.lard_resend.specs.Pending.{sent_of}
+use Rattle.lard_rules.specs.declared.places.Ending.{Ending}
+use Rattle.lard_rules.specs.declared.places.Ending.TheVariants as ending
+use Rattle.lard_rules.specs.declared.places.Station.{Station}
+use Rattle.lard_rules.specs.declared.places.Turn.{Turn}
+use Rattle.lard_rules.specs.Tombstone.{is_plain_syn, is_telling, last_ack, last_words, refusal, tombstone}
+use Rattle.lard_rules.specs.Serving.{Service, ready_of, serving, settled, spoken}
+use Rattle.lard_segment.specs.declared.segment.Ready.{Ready}
+use Rattle.lard_segment.specs.Segment.{IsSendable, Said as Segment}
+use Rattle.lard_seq.specs.Seq.{seq_offset}
+use Rattle.lard_seq.proofs.Laws.{offset-add}
+use Rattle.lard_law_view.specs.Truth.{IsStream, Stream}
+use Rattle.lard_law_view.proofs.Speaking.{speaks-stream}
+
+-- ---- nodes that have nothing
+
+left-acts : (b : Bounds) (st : BackConn) → IsLeft st → BackActs b (Some (record { stage = st; epoch = record { 0 = 0 } }))
+left-acts b (back.Here block) h = absurd h
+left-acts b _ h = tt
+
+pub past-acts : (b : Bounds) (e : ℕ) (o : Option BackRow) → IsPast e o → BackActs b o
+past-acts b e None h = tt
+past-acts b e (Some row) h = left-acts b row.stage h.1
+
+-- what is over was of an earlier epoch
+pub past-over : (e d : ℕ) (o : Option BackRow) → IsPast e o → IsOver d o → d < e
+past-over e d None h over = absurd over
+past-over e d (Some row) h over = omega (arith, h.0, over.0)
+
+-- an endpoint that agrees is between the two streams
+pub between-held : (w out : Stream) (vs pend : List Verdict) (b : ControlBlock) (count : ℕ) → HoldsIt w out vs pend b count → IsBetween w out b
+between-held w out vs pend b count h = record { same_irs = h.sound.same_irs; speaks = h.speaks; out_is = h.out_is; hears = h.hears }
+
+-- ---- last words
+
+-- the last words on a connection that ended can be sent, and acknowledge what was taken
+words-may : (w : Stream) (was_reset : Bool) (why : Reason) (last : Final) (s : Segment) → IsStream w → s.ack < 2 ^ 32 → EndedIt w was_reset last
+    → IfSome (last_words why last s) (λ o. IsSendable o × ReplyMay w.first (heard_at w.first (ending.Over last)) o)
+words-may w was_reset reason.Closed last s is fits h =
+    let P : Option Segment → Type 0 = λ o. IfSome o (λ r. IsSendable r × ReplyMay w.first (heard_at w.first (ending.Over last)) r) in
+    let ack = h.acks in
+    let seq = h.snd_fits in
+    let at = ack.1 in
+    let le = ack.2 in
+    let size = is.most in
+    let taken : seq_offset last.rcv.0 w.first ≡ ack.0 = ap (λ n. seq_offset n w.first) at ∙ offset-add w.first ack.0 is.number (omega arith) in
+    cond_both (is_telling s) (Some (last_ack last)) None P
+    (λ _. (
+      record { seq_fits = seq; ack_fits = omega arith; wnd_fits = omega arith; some_mss = tt; small_mss = tt; small_payload = omega arith; no_ack = λ f. absurd (cc) },
+      λ _. (ack.0, at, omega arith),
+    ))
+    (λ _. tt)
+words-may w was_reset reason.Peer last s is fits h = tt
+words-may w was_reset reason.Limit last s is fits h =
+    let P : Option Segment → Type 0 = λ o. IfSome o (λ r. IsSendable r × ReplyMay w.first (heard_at w.first (ending.Over last)) r) in
+    cond_both (s.flags.ack && not s.flags.rst) (Some (refusal s.ack)) None P
+    (λ _. (
+      record { seq_fits = fits; ack_fits = omega arith; wnd_fits = omega arith; some_mss = tt; small_mss = tt; small_payload = omega arith; no_ack = λ _. refl },
+      λ f. absurd (cc),
+    ))
+    (λ _. tt)
+
+-- ---- one connection
+
+module _ (k : Setting) (small : k.stream ≤ 2 ^ 30) (x : Conn) (sound_x : IsSound x) (at_place : IsPlaced x) (s : Station) (l : Talk) (pend : List Verdict) (o : IsOpen k.files x l pend s) (heard_so : ℕ) (aborted : Bool) where
+  -- by the streams, what bounds the connection
+  abbrev pub bounds : Bounds
+  bounds = record { isn = l.w.first; iss = s.iss; heard = heard_so; taken = Acked.taken_by s.client; aborted = aborted }
+
+  pub is_stream : IsStream l.w
+  is_stream = subst IsStream (sym o.client.w_is) (speaks-stream s.client.send l.w.bytes o.client.speaks)
+
+  pub iss_fits : s.iss < 2 ^ 32
+  iss_fits = let n = o.says.number in let same = o.begins in omega arith
+
+  module _ (h : ActsWithin x bounds) (heads : List Seen) (env : FrontEnv) (is : IsFrontEnv k x.c env) where
+    abbrev p : FrontPart
+    p = x.part.front
+
+    abbrev nodes : ℕ → NodePart
+    nodes = x.part.nodes
+
+    abbrev own : Owning
+    own = owning (tale_at x)
+
+    abbrev Stays : Deed → Type 0
+    Stays d = PlaceActs x (front_does x heads d) bounds
+
+    dropped : Stays Drops
+    dropped = idle-acts x (front_does x heads Drops) bounds (record { front = h.front; nodes = h.nodes; letters = tt })
+
+    -- messages go out
+    says : (ms : List (Place × List ℕ)) → Each (LetterActs x.c bounds x.part) (map (letter Front) ms) → Stays (Says (saying ms))
+    says ms sent = idle-acts x (front_does x heads (Says (saying ms))) bounds (record { front = h.front; nodes = h.nodes; letters = sent })
+
+    -- ---- an endpoint that is here
+
+    -- no node has the connection, it is offered to none, and the end of each stay is known
+    record IsOurs : Type 0 where
+      e : ℕ
+      past : ArePast e nodes
+      unoffered : (n d : ℕ) → IsOffered n d p.row → ⊥
+      over : (n d : ℕ) → IsOver d (nodes n).row → HasEnded d p.row
+
+    abbrev Turns : Ending × Turn → Type 0
+    Turns given = ServingActed env.serve.c l.w.first s.iss (Acked.taken_by s.client) aborted heard_so given
+
+    ends-act : IsOurs → (row : FrontRow) (rest : FrontRest) (stays : ControlBlock → FrontConn) (given : Ending × Turn) (calls : List Call) → ((d : Bounds) (b : ControlBlock) → EndActs d (ending.Here b 0) → FrontStageActs d (stays b))
+        → Turns given → Stays (Does (record { part = rests p row rest stays given.0; turn = turn_here given.1; calls = calls }))
+    ends-act ours row rest stays given calls stay act =
+        let d : Deed = Does (record { part = rests p row rest stays given.0; turn = turn_here given.1; calls = calls }) in
+        let v : Move = front_does x heads d in
+        let then : ℕ = heard_at l.w.first given.0 in
+        record {
+          then = then;
+          more = act.grows;
+          offers = inr (λ n f offered. absurd (ours.unoffered n f offered));
+          ends = inr ours.over;
+          front = go (record bounds { heard = then }) given.0 (refl, act.holds);
+          nodes = λ n. past-acts (record bounds { heard = then }) ours.e (nodes n).row (ours.past n);
+          letters = Each-append (LetterActs x.c (record bounds { heard = then }) v.part) (map (letter Front) given.1.segments) []
+              (replies-act x.c (record bounds { heard = then }) v.part Front given.1.segments (subst (λ (c : ℕ). RepliesMay c l.w.first then given.1.segments) is.number act.sent)) tt;
+        } where
+          go : (d : Bounds) (e : Ending) → EndActs d e → FrontStageActs d (stage_after stays e)
+          go d (ending.Here b count) a = stay d b a
+          go d (ending.Over last) a = a
+
+    holds-act : IsOurs → (row : FrontRow) (rest : FrontRest) (given : Ending × Turn) → Turns given → Stays (holds p row rest given)
+    holds-act ours row rest given act = ends-act ours row rest stage.Held given [] (λ d b a. a) act
+
+    waits-act : IsOurs → (row : FrontRow) (rest : FrontRest) (given : Ending × Turn) (calls : List Call) → Turns given
+        → Stays (Does (record { part = rests p row rest stage.Waiting given.0; turn = turn_here given.1; calls = calls }))
+    waits-act ours row rest given calls act = ends-act ours row rest stage.Waiting given calls (λ d b a. a) act
+
+    -- an endpoint that goes on from here took no less, and acknowledges no more than was taken
+    abbrev GoesOver : ControlBlock → Type 0
+    GoesOver b = (heard_so ≤ heard_by b.recv) × Spans l.w s.iss b × Holds (Acked.taken_by s.client) aborted b
+
+    -- it is handed off: its Offer has all that was taken
+    handed-act : IsOurs → (row : FrontRow) (w : Service) (path : List ℕ) (choice : FirstChoice) (calls : List Call) → GoesOver w.block
+        → Stays (Does (record { part = (handed_off env row w path choice).0; turn = (handed_off env row w path choice).1; calls = calls }))
+    handed-act ours row w path choice calls goes =
+        let given : FrontPart × FrontTurn = handed_off env row w path choice in
+        let v : Move = front_does x heads (Does (record { part = given.0; turn = given.1; calls = calls })) in
+        let then : Bounds = record bounds { heard = heard_by w.block.recv } in
+        record {
+          then = heard_by w.block.recv;
+          more = goes.0;
+          offers = inr (λ n f offered. absurd (ours.unoffered n f offered));
+          ends = inr ours.over;
+          front = tt;
+          nodes = λ n. past-acts then ours.e (nodes n).row (ours.past n);
+          letters = (offer-acts then v.part x.c choice.node env.serve.c (next_epoch row).0 w.block w.count (between-sound l.w goes.1.0 w.block goes.1.2) refl goes.2.0, tt);
+        }
+
+    says-act : (w : Service) (before : List (Place × List ℕ)) → GoesOver w.block → RepliesMay env.serve.c l.w.first (heard_by w.block.recv) before → Turns (spoken env.serve w before)
+    says-act w before goes sent = spoken-acts env.serve l.w s.iss (Acked.taken_by s.client) aborted is_stream heard_so w before goes.0 goes.1 goes.2 sent
+
+    placed-act : IsOurs → (row : FrontRow) (rest : FrontRest) (w : Service) (path : List ℕ) (f : First) → GoesOver w.block → Stays (Does (placed env p row rest w path f))
+    placed-act ours row rest w path (first.Go choice) goes = handed-act ours row w path choice (call.First env.serve.c path env.now ∷ []) goes
+    placed-act ours row rest w path first.Waits goes =
+        let t : Service = record w { notes = w.notes ++ rec.Waits env.serve.c ∷ [] } in
+        let given : Ending × Turn = spoken env.serve t [] in
+        waits-act ours row (record rest { target = Some path }) given (call.First env.serve.c path env.now ∷ leaves_by env.serve.c given.0) (says-act t [] goes tt)
+
+    settled-act : IsOurs → (row : FrontRow) (rest : FrontRest) (w : Service) (t : Option (List ℕ)) → GoesOver w.block → Stays (settled_by env p row rest w t)
+    settled-act ours row rest w None goes = holds-act ours row rest (settled env.serve w) (settled-acts env.serve l.w s.iss (Acked.taken_by s.client) aborted is_stream heard_so w goes.0 goes.1 goes.2)
+    settled-act ours row rest w (Some path) goes = placed-act ours row rest w path (env.first path) goes
+
+    abbrev within : env.serve.stream ≤ 2 ^ 30
+    within = subst (λ (n : ℕ). n ≤ 2 ^ 30) (sym is.stream) small
+
+    -- behind reading it goes on so
+    reads-act : (b : ControlBlock) (w : Service) → GoesOver b → Reads l.w s.iss b w.block → GoesOver w.block
+    reads-act b w goes read = (
+      (let same = stays-heard b w.block read.0 in let le = goes.0 in omega arith),
+      read.1,
+      stays-holds b w.block (Acked.taken_by s.client) aborted read.0 goes.2,
+    )
+
+    heard-act : IsOurs → (row : FrontRow) (rest : FrontRest) (b : ControlBlock) → GoesOver b → Stays (heard env p row rest b)
+    heard-act ours row rest b goes =
+        let start : Service = serving b rest.count [] in
+        let r : Reading = reads env.serve (record { service = start; target = None }) in
+        let read : Reads l.w s.iss b r.service.block = reads-serves l.w s.iss b env.serve within start ((refl, refl, refl, refl), goes.1) in
+        settled-act ours row rest r.service r.target (reads-act b r.service goes read)
+
+    -- ---- where the connection is
+
+    abbrev HasIt : FrontConn → Type 0
+    HasIt (stage.Held b) = Unit {0}
+    HasIt (stage.Waiting b) = Unit {0}
+    HasIt _ = ⊥
+
+    sits-row : (row : FrontRow) → p.row ≡ Some row → StageSits row.epoch.0 own nodes row.stage
+    sits-row row found = let at : Sits own nodes (Some row) = subst (Sits own nodes) found at_place.sits in at.0
+
+    acts-row : (row : FrontRow) (st : FrontConn) → p.row ≡ Some row → row.stage ≡ st → FrontStageActs bounds st
+    acts-row row st found at = subst (FrontStageActs bounds) at (subst (FrontActs bounds) found h.front)
+
+    agrees-row : (row : FrontRow) (st : FrontConn) → p.row ≡ Some row → row.stage ≡ st → StageAgrees l.w l.out l.vs pend l.was_reset x.c x.part row.epoch.0 st
+    agrees-row row st found at = subst (StageAgrees l.w l.out l.vs pend l.was_reset x.c x.part row.epoch.0) at (subst (SeatAgrees l.w l.out l.vs pend l.was_reset x.c x.part) found o.seat)
+
+    none-offered : (st : FrontConn) → HasIt st → (n d : ℕ) → Offers n d st → ⊥
+    none-offered (stage.Held b) has n d f = f
+    none-offered (stage.Waiting b) has n d f = f
+    none-offered _ has n d f = absurd has
+
+    all-past : (e : ℕ) (st : FrontConn) → HasIt st → StageSits e own nodes st → ArePast e nodes
+    all-past e (stage.Held b) has sits = sits.1.1
+    all-past e (stage.Waiting b) has sits = sits.1.1
+    all-past e _ has sits = absurd has
+
+    ours-at : (row : FrontRow) (st : FrontConn) → p.row ≡ Some row → row.stage ≡ st → HasIt st → IsOurs
+    ours-at row st found at has =
+        let past : ArePast row.epoch.0 nodes = all-past row.epoch.0 st has (subst (StageSits row.epoch.0 own nodes) at (sits-row row found)) in
+        record {
+          e = row.epoch.0;
+          past = past;
+          unoffered = λ n d. subst (λ (q : Option FrontRow). IsOffered n d q → ⊥) (sym found) (subst (λ (q : FrontConn). Offers n d q → ⊥) (sym at) (none-offered st has n d));
+          over = λ n d over. subst (HasEnded d) (sym found) (past-over row.epoch.0 d (nodes n).row (past n) over);
+        }
+
+    -- the endpoint as it is
+    goes-here : (b : ControlBlock) (count : ℕ) → EndActs bounds (ending.Here b 0) → FrontHolds l.w l.out l.vs pend b count → GoesOver b
+    goes-here b count act agrees = ((let same = act.0 in omega arith), (l.out, o.begins, between-held l.w l.out l.vs [] b count agrees.holds), act.1)
+
+    -- ---- a segment
+
+    module _ (begins : env.iss ≡ s.iss) (bytes : List ℕ) (sd : Segment) (word : IsWord l.w sd) (may : WordMay s.iss (Acked.taken_by s.client) aborted sd) (acts : WordActs x.c bounds bytes) where
+      -- behind a segment that arrives
+      goes-heard : (b : ControlBlock) → GoesOver b → GoesOver (on_segment b sd).1
+      goes-heard b goes =
+          let iss : s.iss ≡ b.send.iss = sym goes.1.1 ∙ ap (λ (z : Stream). z.first) goes.1.2.out_is in (
+            (let up = arrival-grows b sd in let le = goes.0 in omega arith),
+            (goes.1.0, goes.1.1, between-arrived l.w goes.1.0 b goes.1.2 sd is_stream word.true_of),
+            arrival-holds s.iss (Acked.taken_by s.client) aborted b sd iss_fits iss goes.2 may,
+          )
+
+      met-act : p.row ≡ None → Stays (met env p sd)
+      met-act none = cond_both (is_plain_syn sd) (begun env p sd) Drops Stays
+          (λ t.
+          let row : FrontRow = record { stage = stage.Lent; epoch = record { 0 = 1 }; ended_by = None } in
+          let start : Service = serving (listening sd env.iss) 0 (rec.Took Front env.serve.c (record { 0 = 1 }) ∷ []) in
+          let at : Sits own nodes None = subst (Sits own nodes) none at_place.sits in
+          let agrees : SeatAgrees l.w l.out l.vs pend l.was_reset x.c x.part None = subst (SeatAgrees l.w l.out l.vs pend l.was_reset x.c x.part) none o.seat in
+          let zero_so : heard_so ≡ 0 = subst (FrontActs bounds) none h.front in
+          let nothing : l.out.bytes ≡ [] = o.says.spoken ∙ ap (λ us. concat (map (answer k.files) us)) agrees.0 in
+          let greets : sd.seq ≡ l.w.first = word.true_of.greets (and_parts sd.flags.syn _ t).0 in
+          let between : IsBetween l.w l.out (listening sd env.iss) = subst (λ (n : ℕ). IsBetween l.w l.out (listening sd n)) (o.begins ∙ sym begins) (between-begun l.w l.out sd o.says.number nothing agrees.2 greets) in
+          let ours : IsOurs = record {
+            e = 0;
+            past = at.1;
+            unoffered = λ n d. subst (λ (q : Option FrontRow). IsOffered n d q → ⊥) (sym none) (λ f. f);
+            over = λ n d over. absurd (let less : d < 0 = past-over 0 d (nodes n).row (at.1 n) over in omega arith);
+          } in
+          holds-act ours row (rest_of None) (spoken env.serve start []) (says-act start [] ((omega arith), (l.out, o.begins, between), (omega arith, λ f. absurd cc)) tt))
+          (λ t. dropped)
+
+      tombstone-act : (last : Final) → EndActs bounds (ending.Over last) → (w : Option Segment) → IfSome w (λ r. IsSendable r × ReplyMay l.w.first (heard_at l.w.first (ending.Over last)) r) → Stays (Says (turn_here (tombstone env.serve w)))
+      tombstone-act last act None words = idle-acts x (front_does x heads (Says (turn_here (tombstone env.serve None)))) bounds (record { front = h.front; nodes = h.nodes; letters = tt })
+      tombstone-act last act (Some t) words =
+          let v : Move = front_does x heads (Says (turn_here (tombstone env.serve (Some t)))) in
+          let replies : RepliesMay env.serve.c l.w.first heard_so (tombstone env.serve (Some t)).segments = ((refl, (t, refl, words.0, subst (λ (n : ℕ). ReplyMay l.w.first n t) (sym act.0) words.1)), tt) in
+          idle-acts x v bounds (record {
+            front = h.front;
+            nodes = h.nodes;
+            letters = Each-append (LetterActs x.c bounds x.part) (map (letter Front) (tombstone env.serve (Some t)).segments) []
+                (replies-act x.c bounds x.part Front (tombstone env.serve (Some t)).segments (subst (λ (c : ℕ). RepliesMay c l.w.first heard_so (tombstone env.serve (Some t)).segments) is.number replies)) tt;
+          })
+
+      forwards : (n : ℕ) (e : Epoch) → Stays (Says (saying ((Node n, message env.serve.c e.0 (body.Forward bytes)) ∷ [])))
+      forwards n e = says ((Node n, message env.serve.c e.0 (body.Forward bytes)) ∷ []) (forward-acts bounds x.part x.c n env.serve.c e.0 bytes acts, tt)
+
+      hears-at : (row : FrontRow) → p.row ≡ Some row → (st : FrontConn) → row.stage ≡ st → Stays (hears_at env p row bytes sd st)
+      hears-at row found (stage.Held b) at =
+          heard-act (ours-at row (stage.Held b) found at tt) row (rest_of p.rest) (on_segment b sd).1
+          (goes-heard b (goes-here b (rest_of p.rest).count (acts-row row (stage.Held b) found at) (agrees-row row (stage.Held b) found at)))
+      hears-at row found (stage.Waiting b) at =
+          let given : Ending × Turn = spoken env.serve (serving (on_segment b sd).1 (rest_of p.rest).count []) [] in
+          waits-act (ours-at row (stage.Waiting b) found at tt) row (rest_of p.rest) given (leaves_by env.serve.c given.0)
+          (says-act (serving (on_segment b sd).1 (rest_of p.rest).count []) []
+          (goes-heard b (goes-here b (rest_of p.rest).count (acts-row row (stage.Waiting b) found at) (agrees-row row (stage.Waiting b) found at).0)) tt)
+      hears-at row found stage.Lent at = dropped
+      hears-at row found (stage.Offering n e) at = forwards n e
+      hears-at row found (stage.Moved n e) at = forwards n e
+      hears-at row found (stage.Closed last) at =
+          tombstone-act last (acts-row row (stage.Closed last) found at) (last_words last.reason last sd)
+          (words-may l.w l.was_reset last.reason last sd is_stream word.sendable.ack_fits (agrees-row row (stage.Closed last) found at))
+
+      hears : (q : Option FrontRow) → p.row ≡ q → Stays (front_hears env p bytes sd q)
+      hears None found = met-act found
+      hears (Some row) found = hears-at row found row.stage refl
+
+      pub gets-act : Stays (front_gets env p bytes (Ok sd))
+      gets-act = hears p.row refl
+
+    -- ---- timers
+
+    -- behind the segment that its timer sends
+    fired-act : (b : ControlBlock) (count : ℕ) → GoesOver b → Turns (spoken env.serve (serving (after_timer b) count []) (ready_of env.serve (after_timer b) (timed b)))
+    fired-act b count goes =
+        let left = timer-left b in
+        let recv : heard_by (after_timer b).recv ≡ heard_by b.recv = ap heard_by left.0 in
+        says-act (serving (after_timer b) count []) (ready_of env.serve (after_timer b) (timed b)) (
+          (let le = goes.0 in omega arith),
+          (goes.1.0, goes.1.1, between-timed l.w goes.1.0 b goes.1.2),
+          ((let same = left.1 in let le = goes.2.0 in omega arith), λ t. goes.2.1 (sym left.2 ∙ t)),
+        )
+        (subst (λ (n : ℕ). RepliesMay env.serve.c l.w.first n (ready_of env.serve (after_timer b) (timed b))) (sym recv) (replies (timed b) refl))
+      where
+        replies : (r : Option Ready) → timed b ≡ r → RepliesMay env.serve.c l.w.first (heard_by b.recv) (ready_of env.serve (after_timer b) r)
+        replies None e = tt
+        replies (Some r) e = let may = timed-may l.w goes.1.0 b r goes.1.2 e in ((refl, (filled (after_timer b) r, refl, may.0, may.1)), tt)
+
+    resent-letters : (ks : List Kept) → AreSent x Front ks → Each (LetterActs x.c bounds x.part) (map (letter Front) (map sent_of ks))
+    resent-letters [] sent = tt
+    resent-letters (q ∷ ks) sent = (has-each (LetterActs x.c bounds x.part) (record { from = Front; to = q.to; bytes = q.bytes }) x.letters sent.0.1 h.packets, resent-letters ks sent.1)
+
+    fires-at : (row : FrontRow) → p.row ≡ Some row → (st : FrontConn) → row.stage ≡ st → Stays (fires_at env p row st)
+    fires-at row found (stage.Held b) at =
+        holds-act (ours-at row (stage.Held b) found at tt) row (rest_of p.rest) _
+        (fired-act b (rest_of p.rest).count (goes-here b (rest_of p.rest).count (acts-row row (stage.Held b) found at) (agrees-row row (stage.Held b) found at)))
+    fires-at row found (stage.Waiting b) at =
+        let given : Ending × Turn = spoken env.serve (serving (after_timer b) (rest_of p.rest).count []) (ready_of env.serve (after_timer b) (timed b)) in
+        waits-act (ours-at row (stage.Waiting b) found at tt) row (rest_of p.rest) given (leaves_by env.serve.c given.0)
+        (fired-act b (rest_of p.rest).count (goes-here b (rest_of p.rest).count (acts-row row (stage.Waiting b) found at) (agrees-row row (stage.Waiting b) found at).0))
+    fires-at row found (stage.Offering n e) at = says (map sent_of p.kept) (resent-letters p.kept sound_x.front)
+    fires-at row found _ at = dropped
+
+    fires : (q : Option FrontRow) → p.row ≡ q → Stays (fired_by env p q)
+    fires None found = dropped
+    fires (Some row) found = fires-at row found row.stage refl
+
+    pub timer-act : Stays (front_timer env p)
+    timer-act = fires p.row refl
+
+    -- ---- what nodes say
+
+    taken-by : (epoch : ℕ) (q : Option FrontRow) (a : Option ℕ) → Stays (taken_by p epoch q a)
+    taken-by epoch None a = dropped
+    taken-by epoch (Some row) None = dropped
+    taken-by epoch (Some row) (Some n) = idle-acts x (front_does x heads (taken_by p epoch (Some row) (Some n))) bounds (record { front = tt; nodes = h.nodes; letters = tt })
+
+    pub taken-act : (epoch : ℕ) → Stays (front_taken p epoch)
+    taken-act epoch = taken-by epoch p.row (asked_node epoch p.row)
+
+    tag-letters : (n epoch number : ℕ) (tags : List ℕ) (q : Part) → Each (LetterActs x.c bounds q) (map (letter Front) (tag_sent env n epoch number tags))
+    tag-letters n epoch number tags q = (other-front bounds q x.c n env.serve.c epoch (body.Tag number tags) (λ i. cc) (λ i. cc), tt)
+
+    asked-by : (n epoch : ℕ) (ask : Ask) (q : Option FrontRest) → Stays (asked_by env p n epoch ask q)
+    asked-by n epoch ask None = dropped
+    asked-by n epoch ask (Some rest) =
+        let w : Later = env.later ask in
+        let d : Deed = Does (assigns env p rest n epoch ask w) in
+        cond_both (ask.number == rest.asks + 1) d (cond (ask.number == rest.asks && nat_lt 0 rest.asks) (Says (saying (tag_sent env n epoch rest.asks rest.tag))) Drops) Stays
+        (λ t. idle-acts x (front_does x heads d) bounds (record { front = h.front; nodes = h.nodes; letters = tag-letters n epoch ask.number (map (λ y. y.node) w.choices) (front_does x heads d).part }))
+        (λ t. cond_both (ask.number == rest.asks && nat_lt 0 rest.asks) (Says (saying (tag_sent env n epoch rest.asks rest.tag))) Drops Stays
+        (λ u. says (tag_sent env n epoch rest.asks rest.tag) (tag-letters n epoch rest.asks rest.tag x.part)) (λ u. dropped))
+
+    pub asked-act : (n epoch : ℕ) (ask : Ask) → Stays (front_asked env p n epoch ask)
+    asked-act n epoch ask = cond_both (is_at n epoch p.row) (asked_by env p n epoch ask p.rest) Drops Stays (λ t. asked-by n epoch ask p.rest) (λ t. dropped)
+
+    ack-letters : (n epoch : ℕ) (q : Part) → Each (LetterActs x.c bounds q) (map (letter Front) (ack_sent env n epoch))
+    ack-letters n epoch q = (other-front bounds q x.c n env.serve.c epoch body.EndedAck (λ i. cc) (λ i. cc), tt)
+
+    -- a connection that is away is so in the epoch of its row
+    away-epoch : (e : ℕ) (row_epoch : ℕ) (st : FrontConn) → StageSits row_epoch own nodes st → is_away e st ≡ true → row_epoch ≡ e
+    away-epoch e row_epoch (stage.Offering n f) sits away = sym sits.1 ∙ eqb-true f.0 e away
+    away-epoch e row_epoch (stage.Moved n f) sits away = sym sits.1 ∙ eqb-true f.0 e away
+    away-epoch e row_epoch _ sits away = let no : false ≡ true = away in absurd cc
+
+    module _ (n epoch : ℕ) (last : Final) (told : HasEnded epoch p.row ⊎ EndActs bounds (ending.Over last)) where
+      ended-new : (row : FrontRow) → p.row ≡ Some row → is_away epoch row.stage ≡ true → Stays (ended_by env p n epoch last (Some row) (New (next_epoch row)))
+      ended-new row found away =
+          let v : Move = front_does x heads (ended_by env p n epoch last (Some row) (New (next_epoch row))) in
+          let same : row.epoch.0 ≡ epoch = away-epoch epoch row.epoch.0 row.stage (sits-row row found) away in
+          let act : EndActs bounds (ending.Over last) = ⊎_elim
+          (λ (e : HasEnded epoch p.row). absurd (let less : epoch < row.epoch.0 = subst (HasEnded epoch) found e in omega (arith, less, same)))
+          (λ (a : EndActs bounds (ending.Over last)). a) told in
+          idle-acts x v bounds (record { front = act; nodes = h.nodes; letters = ack-letters n epoch v.part })
+
+      ended-row : (q : Option FrontRow) → p.row ≡ q → Stays (ended_by env p n epoch last q (end_answer epoch q))
+      ended-row None found = dropped
+      ended-row (Some row) found = go (is_away epoch row.stage) refl (ended_with epoch row.ended_by) where
+        go : (a : Bool) → is_away epoch row.stage ≡ a → (b : Bool) → Stays (ended_by env p n epoch last (Some row) (cond a (New (next_epoch row)) (cond b Again Stale)))
+        go true away b = ended-new row found away
+        go false away true = says (ack_sent env n epoch) (ack-letters n epoch x.part)
+        go false away false = dropped
+
+      pub ended-act : Stays (front_ended env p n epoch last)
+      ended-act = ended-row p.row refl
+
+    -- ---- the head of the line
+
+    abbrev Admitted : FrontPart × FrontTurn → Type 0
+    Admitted given = PlaceActs x (front_does x heads (Does (record { part = given.0; turn = given.1; calls = [] }))) bounds
+
+    module _ (choice : FirstChoice) (given : FrontPart × FrontTurn) where
+      admitted-with : (row : FrontRow) (b : ControlBlock) (t : Option (List ℕ)) → p.row ≡ Some row → row.stage ≡ stage.Waiting b → admitted_with env row (rest_of p.rest) b choice t ≡ Some given → Admitted given
+      admitted-with row b None found at e = let no : None ≡ Some given = e in absurd cc
+      admitted-with row b (Some path) found at e =
+          let w : Service = serving b (rest_of p.rest).count [] in
+          let handed : FrontPart × FrontTurn = handed_off env row w path choice in
+          let same : handed ≡ given = cc in
+          subst Admitted same (handed-act (ours-at row (stage.Waiting b) found at tt) row w path choice []
+          (goes-here b (rest_of p.rest).count (acts-row row (stage.Waiting b) found at) (agrees-row row (stage.Waiting b) found at).0))
+
+      admitted-at : (row : FrontRow) (st : FrontConn) → p.row ≡ Some row → row.stage ≡ st → admitted_at env p choice row st ≡ Some given → Admitted given
+      admitted-at row (stage.Waiting b) found at e = admitted-with row b (rest_of p.rest).target found at e
+      admitted-at row _ found at e = let no : None ≡ Some given = e in absurd cc
+
+      admitted-by : (q : Option FrontRow) → p.row ≡ q → admitted_by env p choice q ≡ Some given → Admitted given
+      admitted-by None found e = let no : None ≡ Some given = e in absurd cc
+      admitted-by (Some row) found e = admitted-at row row.stage found refl e
+
+      pub admitted-act : front_admitted env p choice ≡ Some given → Admitted given
+      admitted-act e = admitted-by p.row refl e

@@ -1,0 +1,217 @@
+-- Each rule keeps what holds of its connection: what was acknowledged was taken, in every run.
+use Rattle.std.proofs.Common.{◌≡◌, ◌≤◌, ◌^◌, ℕ, false, List, [], ◌∷◌, Some, Result, Ok, refl, sym, ap, ◌∙◌, subst}
+use Rattle.std.proofs.Math.Bool.{or-false}
+use Rattle.lard_base.specs.declared.event.Event.TheVariants as event
+use Rattle.lard_base.specs.declared.place.Place.{Place}
+use Rattle.lard_base.specs.declared.place.Place.TheVariants.{Client, Front, Node}
+use Rattle.lard_laws.specs.Acks.{AcksWhatWasTaken, ActsWithin, Bounds, LetterActs, OpenActs, WordActs, bounds_of, story_at}
+use Rattle.lard_laws.specs.AcksLaws.{ConnectionsAckWhatWasTaken}
+use Rattle.lard_laws.proofs.AcksClients.{Keeps, clients}
+use Rattle.lard_laws.proofs.AcksFronts.{admitted-act, asked-act, ended-act, gets-act, taken-act, timer-act}
+use Rattle.lard_laws.proofs.AcksNodes.{acknowledged-act, content-act, fires-act, forwarded-act, offered-act, read-act, tagged-act}
+use Rattle.lard_laws.proofs.AcksTurns.{PlaceActs, idle-acts, place-keeps}
+use Rattle.lard_law_connections.specs.BytesAgreement.{FrontTells, IsFair, IsFairOn, IsOpen, IsTruthful}
+use Rattle.lard_law_connections.proofs.BytesClientMoves.{has-fair, open-at}
+use Rattle.lard_law_connections.proofs.BytesRuns.{states-truthful}
+use Rattle.lard_law_connections.proofs.LimitsMoves.{Helps}
+use Rattle.lard_law_connections.proofs.PlacesFrontRules.{has-each}
+use Rattle.lard_law_connections.proofs.PlacesLaw.{owing}
+use Rattle.lard_law_connections.proofs.PlacesRuns.{each-placed}
+use Rattle.lard_law_connections.proofs.PlacesTurns.{IsPlaced, Owes}
+use Rattle.lard_law_view.specs.Carry.{IsUntouchedLaw, MayMove, Untouched, setting, tale_at}
+use Rattle.lard_law_view.specs.View.{Conn, FrontRules, IsFrontEnv, IsNodeEnv, Move, NodeRules, Said as SaidIn, Setting, Spells, UntouchedRules, Was, brought_said, contents, event_seen, front_does, grown, letters_of, node_does, nothing_said, packet_seen, reads_first, stands}
+use Rattle.lard_law_view.proofs.Carried.{carried}
+use Rattle.lard_law_view.proofs.Fine.{IsFine, fine}
+use Rattle.lard_law_view.proofs.Guarded.{untouched-both, untouched-law, untouched-weaker}
+use Rattle.lard_rules.specs.Front as front
+use Rattle.lard_rules.specs.Front.{ask_of, front_asked, front_ended, front_gets, front_taken, front_timer}
+use Rattle.lard_history.specs.Own.{Letter, Seen}
+use Rattle.lard_history.proofs.Each.{Each}
+use Rattle.lard_journal.specs.declared.rec.Rec.TheVariants as rec
+use Rattle.lard_law_view.proofs.Acked.{taken_by}
+use Rattle.lard_law_view.proofs.Story.{story_seen}
+use Rattle.lard_message.specs.declared.message.Body.TheVariants as body
+use Rattle.lard_rules.specs.Node as node
+use Rattle.lard_rules.specs.Node.{node_acknowledged, node_content, node_forwarded, node_offered, node_read, node_tagged, node_timer}
+use Rattle.lard_rules.specs.Stay.{NodeEnv}
+use Rattle.lard_rules.specs.declared.places.Station.{Station}
+use Rattle.lard_segment.proofs.Again.{again}
+use Rattle.lard_segment.specs.declared.fault.SegFault.{SegFault}
+use Rattle.lard_segment.specs.declared.segment.Dir.TheVariants.{ToCluster}
+use Rattle.lard_segment.specs.Segment.{Said, decoded}
+use Rattle.lard_law_view.specs.Truth.{Stream}
+
+-- ---- what a place's move leaves alone
+
+pub front-heads : (x : Conn) (heads : List Seen) (d : front.Deed) → (front_does x heads d).heads ≡ heads
+front-heads x heads front.Drops = refl
+front-heads x heads (front.Says turn) = refl
+front-heads x heads (front.Does did) = refl
+
+pub front-station : (x : Conn) (heads : List Seen) (d : front.Deed) → (front_does x heads d).part.station ≡ x.part.station
+front-station x heads front.Drops = refl
+front-station x heads (front.Says turn) = refl
+front-station x heads (front.Does did) = refl
+
+pub node-heads : (x : Conn) (n : ℕ) (heads : List Seen) (d : node.Deed) → (node_does x n heads d).heads ≡ heads
+node-heads x n heads node.Drops = refl
+node-heads x n heads (node.Says messages) = refl
+node-heads x n heads (node.Does given) = refl
+
+pub node-station : (x : Conn) (n : ℕ) (heads : List Seen) (d : node.Deed) → (node_does x n heads d).part.station ≡ x.part.station
+node-station x n heads node.Drops = refl
+node-station x n heads (node.Says messages) = refl
+node-station x n heads (node.Does given) = refl
+
+-- a timer that fires tells nothing of the client
+timer-plain : (x : Conn) (place : Place) → story_seen x.c (story_at x) (event_seen (event.Timer place x.c)) ≡ story_at x
+timer-plain x place = ap (λ b. record (story_at x) { shut = b }) (or-false (story_at x).shut)
+
+-- ---- by the streams
+
+abbrev bounds_by : ℕ → Conn → Station → ℕ → Bounds
+bounds_by isn x s heard = record { isn = isn; iss = s.iss; heard = heard; taken = taken_by s.client; aborted = (story_at x).aborted }
+
+module _ (k : Setting) (small : k.stream ≤ 2 ^ 30) where
+  -- what a place does, of a connection whose client opened and which agrees
+  abbrev Acts : Conn → Move → Type 0
+  Acts x v = (s : Station) → x.part.station ≡ Some s → (h : IsTruthful k.files x) → (o : IsOpen k.files x h.talk h.pend s) → (heard : ℕ) → ActsWithin x (bounds_by h.talk.w.first x s heard) → PlaceActs x v (bounds_by h.talk.w.first x s heard)
+
+  by-streams : (x : Conn) (v : Move) → Acts x v → IsTruthful k.files x → (s : Station) → x.part.station ≡ Some s → (r : OpenActs x s) → PlaceActs x v (bounds_of x s r.heard)
+  by-streams x v acts h s there r =
+      let o : IsOpen k.files x h.talk h.pend s = open-at k.files x s there h in
+      let first_is : h.talk.w.first ≡ s.client.send.iss = ap (λ (u : Stream). u.first) o.client.w_is in
+      subst (λ (n : ℕ). PlaceActs x v (bounds_by n x s r.heard)) first_is (acts s there h o r.heard (subst (λ (n : ℕ). ActsWithin x (bounds_by n x s r.heard)) (sym first_is) r.within))
+
+  place-rule : (x : Conn) (v : Move) → story_seen x.c (story_at x) v.heads ≡ story_at x → v.part.station ≡ x.part.station → (Helps x v → Acts x v) → Keeps k small x v
+  place-rule x v heads same acts help h r = place-keeps x v help heads same (by-streams x v (acts help) h) r
+
+  front-rule : (x : Conn) (heads : List Seen) (d : front.Deed) → story_seen x.c (story_at x) heads ≡ story_at x → (Helps x (front_does x heads d) → Acts x (front_does x heads d)) → Keeps k small x (front_does x heads d)
+  front-rule x heads d plain acts = place-rule x (front_does x heads d) (ap (story_seen x.c (story_at x)) (front-heads x heads d) ∙ plain) (front-station x heads d) acts
+
+  node-rule : (x : Conn) (n : ℕ) (heads : List Seen) (d : node.Deed) → story_seen x.c (story_at x) heads ≡ story_at x → (Helps x (node_does x n heads d) → Acts x (node_does x n heads d)) → Keeps k small x (node_does x n heads d)
+  node-rule x n heads d plain acts = place-rule x (node_does x n heads d) (ap (story_seen x.c (story_at x)) (node-heads x n heads d) ∙ plain) (node-station x n heads d) acts
+
+  -- ---- the front end
+
+  front-hears : (x : Conn) (s : Station) (env : front.FrontEnv) (bytes : List ℕ) → x.part.station ≡ Some s → IsFrontEnv k x.c env → env.iss ≡ s.iss → Was x (Client x.c) Front bytes
+      → Keeps k small x (front_does x (packet_seen (Client x.c) Front bytes) (front_gets env x.part.front bytes (decoded bytes x.c ToCluster)))
+  front-hears x s env bytes there is iss was = front-rule x heads (front_gets env x.part.front bytes (decoded bytes x.c ToCluster)) refl (λ help t at h o heard within.
+      let same : t ≡ s = station-same t s (sym at ∙ there) in
+      let f : IsFairOn h.talk x.c x.part (Client x.c) Front bytes = has-fair (IsFair h.talk x.c x.part) m x.letters was o.fair in
+      let read : decoded bytes x.c ToCluster ≡ Ok f.0 = ap (λ (b : List ℕ). decoded b x.c ToCluster) f.1 ∙ again x.c ToCluster f.0 f.2.sendable in
+      let b : Bounds = bounds_by h.talk.w.first x t heard in
+      let acts : WordActs x.c b bytes = has-each (LetterActs x.c b x.part) m x.letters was within.packets in
+      subst (λ (r : Result Said SegFault). PlaceActs x (front_does x heads (front_gets env x.part.front bytes r)) b) (sym read)
+      (gets-act k small x help.sound help.placed t h.talk h.pend o heard (story_at x).aborted within heads env is (iss ∙ ap (λ (q : Station). q.iss) (sym same)) bytes f.0 f.2 (acts f.0 read) acts)) where
+        heads : List Seen
+        heads = packet_seen (Client x.c) Front bytes
+
+        m : Letter
+        m = record { from = Client x.c; to = Front; bytes = bytes }
+
+        station-same : (t s : Station) → Some t ≡ Some s → t ≡ s
+        station-same t s e = cc
+
+  fronts : FrontRules k (Keeps k small)
+  fronts = record {
+    hears = front-hears;
+    fires = λ x s env there is. front-rule x (event_seen (event.Timer Front x.c)) (front_timer env x.part.front) (timer-plain x Front) (λ help t at h o heard within.
+        timer-act k small x help.sound help.placed t h.talk h.pend o heard (story_at x).aborted within (event_seen (event.Timer Front x.c)) env is);
+    taken = λ x env n epoch bytes is spells was. front-rule x (packet_seen (Node n) Front bytes) (front_taken x.part.front epoch) refl (λ help t at h o heard within.
+        taken-act k small x help.sound help.placed t h.talk h.pend o heard (story_at x).aborted within (packet_seen (Node n) Front bytes) env is epoch);
+    asked = λ x env n epoch number queue size paths bytes is spells was. front-rule x (packet_seen (Node n) Front bytes) (front_asked env x.part.front n epoch (ask_of x.c n number queue size paths)) refl (λ help t at h o heard within.
+        asked-act k small x help.sound help.placed t h.talk h.pend o heard (story_at x).aborted within (packet_seen (Node n) Front bytes) env is n epoch (ask_of x.c n number queue size paths));
+    ended = λ x env n epoch reason snd rcv count bytes is spells was. front-rule x (packet_seen (Node n) Front bytes) (front_ended env x.part.front n epoch (record { reason = reason; snd = record { 0 = snd }; rcv = record { 0 = rcv } })) refl (λ help t at h o heard within.
+        ended-act k small x help.sound help.placed t h.talk h.pend o heard (story_at x).aborted within (packet_seen (Node n) Front bytes) env is n epoch (record { reason = reason; snd = record { 0 = snd }; rcv = record { 0 = rcv } })
+        ((has-each (LetterActs x.c (bounds_by h.talk.w.first x t heard) x.part) (record { from = Node n; to = Front; bytes = bytes }) x.letters was within.packets) _ spells));
+    admitted = λ x env choice given is e. front-rule x [] (front.Does (record { part = given.0; turn = given.1; calls = [] })) refl (λ help t at h o heard within.
+        admitted-act k small x help.sound help.placed t h.talk h.pend o heard (story_at x).aborted within [] env is choice given e);
+  }
+
+  -- ---- the nodes
+
+  -- what says nothing of it
+  stands-rule : (x : Conn) (place : Place) (heads : List Seen) (said : SaidIn) → story_seen x.c (story_at x) heads ≡ story_at x → ((b : Bounds) → Each (LetterActs x.c b x.part) (letters_of (stands x place heads said))) → Keeps k small x (stands x place heads said)
+  stands-rule x place heads said plain letters = place-rule x (stands x place heads said) plain refl (λ help t at h o heard within.
+      idle-acts x (stands x place heads said) (bounds_by h.talk.w.first x t heard) (record { front = within.front; nodes = within.nodes; letters = letters (bounds_by h.talk.w.first x t heard) }))
+
+  node-hears : (x : Conn) (n epoch : ℕ) (env : NodeEnv) (segment bytes : List ℕ) → IsNodeEnv k x.c n epoch env → Spells x.c epoch (body.Forward segment) bytes → Was x Front (Node n) bytes
+      → Keeps k small x (node_does x n (packet_seen Front (Node n) bytes) (node_forwarded env (x.part.nodes n) (decoded segment x.c ToCluster)))
+  node-hears x n epoch env segment bytes is spells was = node-rule x n (packet_seen Front (Node n) bytes) (node_forwarded env (x.part.nodes n) (decoded segment x.c ToCluster)) refl (λ help t at h o heard within.
+      let m : Letter = record { from = Front; to = Node n; bytes = bytes } in
+      let f : FrontTells h.talk x.c x.part n epoch bytes (body.Forward segment) = (has-fair (IsFair h.talk x.c x.part) m x.letters was o.fair) _ spells in
+      let read : decoded segment x.c ToCluster ≡ Ok f.0 = ap (λ (b : List ℕ). decoded b x.c ToCluster) f.1 ∙ again x.c ToCluster f.0 f.2.sendable in
+      let b : Bounds = bounds_by h.talk.w.first x t heard in
+      let acts : WordActs x.c b segment = (has-each (LetterActs x.c b x.part) m x.letters was within.packets) _ spells in
+      subst (λ (r : Result Said SegFault). PlaceActs x (node_does x n (packet_seen Front (Node n) bytes) (node_forwarded env (x.part.nodes n) r)) b) (sym read)
+      (forwarded-act k small x help.number help.sound help.placed t h.talk h.pend o heard (story_at x).aborted within n epoch env is (packet_seen Front (Node n) bytes) f.0 f.2 (acts f.0 read)))
+
+  -- the record of a job that was read says nothing of it
+  read-first : (x : Conn) (n r : ℕ) (path : List ℕ) (v : Move) (b : Bounds) → PlaceActs x v b → PlaceActs x (reads_first (rec.Read n n x.c r path) v) b
+  read-first x n r path v b p = record { then = p.then; more = p.more; offers = p.offers; ends = p.ends; front = p.front; nodes = p.nodes; letters = p.letters }
+
+  nodes : NodeRules k (Keeps k small)
+  nodes = record {
+    offered = λ x n epoch env parts bytes is spells was. node-rule x n (packet_seen Front (Node n) bytes) (node_offered env (x.part.nodes n) parts) refl (λ help t at h o heard within.
+        offered-act k small x help.number help.sound help.placed t h.talk h.pend o heard (story_at x).aborted within n epoch env is (packet_seen Front (Node n) bytes) parts bytes spells was);
+    forwarded = node-hears;
+    tagged = λ x n epoch number tags env bytes is spells was. node-rule x n (packet_seen Front (Node n) bytes) (node_tagged env (x.part.nodes n) number tags) refl (λ help t at h o heard within.
+        tagged-act k small x help.number help.sound help.placed t h.talk h.pend o heard (story_at x).aborted within n epoch env is (packet_seen Front (Node n) bytes) number tags);
+    content = λ x n from epoch r env file bytes is spells was. node-rule x n (packet_seen (Node from) (Node n) bytes) (node_content env (x.part.nodes n) from r) refl (λ help t at h o heard within.
+        content-act k small x help.number help.sound help.placed t h.talk h.pend o heard (story_at x).aborted within n epoch env is (packet_seen (Node from) (Node n) bytes) from r);
+    acknowledged = λ x n epoch env bytes is spells was. node-rule x n (packet_seen Front (Node n) bytes) (node_acknowledged env (x.part.nodes n)) refl (λ help t at h o heard within.
+        acknowledged-act k small x help.number help.sound help.placed t h.talk h.pend o heard (story_at x).aborted within n epoch env is (packet_seen Front (Node n) bytes));
+    read = λ x n epoch r env path is.
+        let d : node.Deed = node_read env (x.part.nodes n) r in
+        let v : Move = node_does x n [] d in
+        place-rule x (reads_first (rec.Read n n x.c r path) v) (ap (story_seen x.c (story_at x)) (node-heads x n [] d)) (node-station x n [] d) (λ help t at h o heard within.
+        read-first x n r path v (bounds_by h.talk.w.first x t heard) (read-act k small x help.number help.sound help.placed t h.talk h.pend o heard (story_at x).aborted within n epoch env is [] r));
+    fires = λ x s n env there is. node-rule x n (event_seen (event.Timer (Node n) x.c)) (node_timer env (x.part.nodes n)) (timer-plain x (Node n)) (λ help t at h o heard within.
+        fires-act k small x help.number help.sound help.placed t h.talk h.pend o heard (story_at x).aborted within n _ env is (event_seen (event.Timer (Node n) x.c)) is.epoch_is help.owes.grows);
+    answers = λ x n from epoch r path file bytes there spells was. stands-rule x (Node n) (packet_seen (Node from) (Node n) bytes) (contents k n from x.c epoch r path) refl (λ b. (tt, tt));
+    queues = λ x n from epoch r path file bytes there spells was. stands-rule x (Node n) (packet_seen (Node from) (Node n) bytes) (record nothing_said { notes = rec.Queued n from x.c r path ∷ [] }) refl (λ b. tt);
+    brings = λ x n from epoch r path. stands-rule x (Node n) [] (brought_said k n from x.c epoch r path) refl (λ b. (tt, tt));
+  }
+
+  -- ---- the law
+
+  keeps : UntouchedRules k (Keeps k small)
+  keeps = record {
+    client = clients k small;
+    front = fronts;
+    node = nodes;
+    ignores = λ x from to bytes was. stands-rule x to (packet_seen from to bytes) nothing_said refl (λ b. tt);
+  }
+
+  -- where it sits, and that it agrees
+  abbrev pub Given : Conn → Type 0
+  Given x = IsPlaced x × Untouched (IsTruthful k.files) x
+
+  abbrev Owed : Conn → Move → Type 0
+  Owed x v = MayMove Given x → IsPlaced x → Owes x v
+
+  abbrev Wanted : Conn → Move → Type 0
+  Wanted x v = MayMove Given x → (tale_at x).touched ≡ false → AcksWhatWasTaken x → AcksWhatWasTaken (grown x v)
+
+  abbrev All : Conn → Move → Type 0
+  All x v = (IsFine x v × Owed x v) × Keeps k small x v
+
+  wanted : (x : Conn) (v : Move) → All x v → Wanted x v
+  wanted x v all may untouched acts = all.1
+      (record { number = may.number; sound = may.sound; placed = may.given.0; owes = all.0.1 may may.given.0; own = (all.0.0 may.number may.sound).0 })
+      (may.given.1 untouched) acts
+
+  acks-law : IsUntouchedLaw k Given AcksWhatWasTaken
+  acks-law = record {
+    begins = λ c. refl;
+    moves = untouched-weaker k All Wanted wanted
+        (untouched-both k (λ x v. IsFine x v × Owed x v) (Keeps k small) (untouched-both k IsFine Owed (fine k).untouched (owing k Given).untouched) keeps);
+  }
+
+-- In every state that events lead to.
+pub connections-ack : ConnectionsAckWhatWasTaken
+connections-ack config files small =
+    let k : Setting = setting config files in
+    carried config files (Given k small) (Untouched AcksWhatWasTaken) (untouched-law k (Given k small) AcksWhatWasTaken (acks-law k small))
+    (λ m r q. (each-placed config files m r q, states-truthful config files small m r q))

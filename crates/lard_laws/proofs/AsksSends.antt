@@ -1,0 +1,362 @@
+-- In each move the Asks of a node go on, and what is known of them stays known.
+use Rattle.std.proofs.Common.{◌≡◌, ◌≢◌, ◌⊎◌, ◌<◌, ◌≤◌, ◌+◌, ◌^◌, ◌==◌, ◌&&◌, nat_lt, ℕ, Bool, true, false, cond, List, [], ◌∷◌, ◌++◌, length, map, Option, Some, None, refl, sym, ap, ◌∙◌, subst, arith, append-nil, eq-eqb, eqb-true, inl, inr, ⊎_elim}
+use Rattle.std.proofs.lemmas.Bool.{and_parts, both_ways, ltb-true}
+use Rattle.std.proofs.lemmas.List.Sums.{fold-append}
+use Rattle.std.specs.List.{fold}
+use Rattle.lard_base.specs.declared.event.Event.TheVariants as event
+use Rattle.lard_base.specs.declared.parts.EndpointParts.{EndpointParts}
+use Rattle.lard_base.specs.declared.place.Place.{Place}
+use Rattle.lard_base.specs.declared.place.Place.TheVariants.{Client, Front, Node}
+use Rattle.lard_client.specs.Control.{ClientBlock}
+use Rattle.lard_laws.specs.AsksSent.{AsksGoOn, IsNext, ask_by, is_ask, last_ask, newest}
+use Rattle.lard_laws.proofs.AsksNodeAsks.{DeedAsks, IsNewer, acknowledged-asks, content-asks, forwarded-asks, offered-asks, read-asks, tagged-asks, timer-asks}
+use Rattle.lard_laws.proofs.AsksSending.{Outcome, PartAsks, asks_in}
+use Rattle.lard_law_connections.specs.MotionStory.{of_row, picked}
+use Rattle.lard_law_connections.proofs.MotionElsewhere.{IsUnsent, gave-unsent, note-unsent, timer-unsent}
+use Rattle.lard_law_connections.proofs.MotionNodes.{IsFirst}
+use Rattle.lard_law_connections.proofs.MotionPicking.{pick, pick-none, pick-parts, pick-seen, picked-append, picked-none, segments-none, timers-none}
+use Rattle.lard_law_connections.specs.Places.{head_of, IsDecided, IsOffered, Offers, Owning, Sits, StageSits, owning}
+use Rattle.lard_law_connections.proofs.PlacesFrontMessages.{came-says}
+use Rattle.lard_law_connections.proofs.PlacesNodeRules.{here-has}
+use Rattle.lard_law_connections.proofs.PlacesTurns.{IsPlaced}
+use Rattle.lard_law_view.specs.Carry.{tale_at}
+use Rattle.lard_law_view.specs.View.{ClientRules, Conn, IsNodeEnv, Move, Rules, Setting, Spells, Was, client_begins, client_does, epoch_in, event_seen, front_admits, front_does, grown, inject_seen, node_does, node_put, nothing_said, packet_seen, reads_first, rows_of, seen_in, sending, stands, timer_rows}
+use Rattle.lard_law_view.proofs.Fine.{IsItsOwn}
+use Rattle.lard_law_view.proofs.Parts.{put-same}
+use Rattle.lard_law_view.proofs.Saying.{GaveAt, NotedAt}
+use Rattle.lard_rules.specs.declared.front.FrontTurn.{FrontTurn}
+use Rattle.lard_rules.specs.Front as front
+use Rattle.lard_rules.specs.Front.{FrontPart, ask_of, front_asked, front_ended, front_gets, front_taken, front_timer}
+use Rattle.lard_handoff_back.specs.declared.row.BackRow.{BackRow}
+use Rattle.lard_handoff_back.specs.declared.table.Adopt.TheVariants.{New, Again, Stale}
+use Rattle.lard_handoff_back.specs.Back.{offer_answer}
+use Rattle.lard_handoff_back.specs.Row.{is_gone}
+use Rattle.lard_handoff_front.specs.declared.row.FrontConn.{FrontConn}
+use Rattle.lard_handoff_front.specs.declared.row.FrontConn.TheVariants as stage
+use Rattle.lard_handoff_front.specs.declared.row.FrontRow.{FrontRow}
+use Rattle.lard_history.specs.Journal.{request}
+use Rattle.lard_history.specs.Own.{Came, Row, Seen}
+use Rattle.lard_history.proofs.Each.{Each, Each-weaker}
+use Rattle.lard_history.proofs.Seeing.{other_number}
+use Rattle.lard_journal.specs.declared.rec.Rec.{Rec}
+use Rattle.lard_journal.specs.declared.rec.Rec.TheVariants as rec
+use Rattle.lard_message.specs.declared.message.Body.TheVariants as body
+use Rattle.lard_rules.specs.Node as node
+use Rattle.lard_rules.specs.Node.{NodePart, here, node_acknowledged, node_content, node_forwarded, node_offered, node_read, node_tagged, node_timer}
+use Rattle.lard_rules.specs.Stay.{NodeEnv}
+use Rattle.lard_rules.specs.declared.places.Station.{Station}
+use Rattle.lard_rules.specs.declared.places.Turn.{Turn}
+use Rattle.lard_rules.specs.Speaking.{listed}
+use Rattle.lard_rules.specs.Client.{client_aborts, client_gets, client_holds, client_injects, client_opens, client_shuts, client_takes, client_timer, client_writes}
+use Rattle.lard_segment.specs.declared.segment.Dir.TheVariants.{ToClient, ToCluster}
+use Rattle.lard_segment.specs.Segment.{decoded}
+use Rattle.lard_law_view.proofs.EndpointSends.{AllTo}
+
+-- the last Asks that node n sent of the connection
+abbrev pub lasts : Conn → ℕ → ℕ → Option (List ℕ)
+lasts x n e = last_ask n e x.seen
+
+-- what is known at each node
+abbrev pub PartsAsk : Conn → Type 0
+PartsAsk x = (n : ℕ) → PartAsks x.c (lasts x n) (x.part.nodes n)
+
+-- with as many jobs as there may be
+abbrev pub IsSomeNext : ℕ → ℕ → Option (List ℕ) → List ℕ → Type 0
+IsSomeNext c e last bytes = (waiting : ℕ) × IsNext c e waiting last bytes
+
+abbrev pub GoesOn : ℕ → List Seen → List Seen → Type 0
+GoesOn c past step = (n e : ℕ) → AsksGoOn (IsSomeNext c e) (last_ask n e past) (picked (of_row (ask_by n e)) step)
+
+abbrev pub Sends : Conn → Move → Type 0
+Sends x v = GoesOn x.c x.seen (seen_in x v) × PartsAsk (grown x v)
+
+-- the move goes on as it must, and what is known stays known
+abbrev pub Goes : Setting → Conn → Move → Type 0
+Goes k x v = IsPlaced x → PartsAsk x → IsItsOwn x v → Sends x v
+
+-- ---- what is seen of a move
+
+pub ask-unsent : (n e : ℕ) (r : Rec) → IsUnsent r → ask_by n e r ≡ None
+ask-unsent n e (rec.Sent k from to bytes) h = absurd h
+ask-unsent n e _ h = refl
+
+ask-first : (n e : ℕ) (s : Seen) → IsFirst s → of_row (ask_by n e) s ≡ None
+ask-first n e (Row (rec.Event i d)) h = refl
+ask-first n e (Row (rec.Opened c isn iss wnd mss)) h = refl
+ask-first n e (Row (rec.Injected c)) h = refl
+ask-first n e (Row _) h = absurd h
+ask-first n e (Came l) h = refl
+
+-- another place than a node sends no Ask
+abbrev pub IsNoNode : Place → Type 0
+IsNoNode Front = Unit {0}
+IsNoNode (Client d) = Unit {0}
+IsNoNode (Node n) = ⊥
+
+pub else-asks : (n e : ℕ) (place : Place) (ss : List (Place × List ℕ)) → IsNoNode place → pick (ask_by n e) (map (sending place) ss) ≡ []
+else-asks n e Front [] m = refl
+else-asks n e Front (s ∷ ss) m = else-asks n e Front ss m
+else-asks n e (Client d) [] m = refl
+else-asks n e (Client d) (s ∷ ss) m = else-asks n e (Client d) ss m
+else-asks n e (Node k) ss m = absurd m
+
+-- nor does one node that of another
+pub other-asks : (n e m : ℕ) (ss : List (Place × List ℕ)) → m ≢ n → pick (ask_by n e) (map (sending (Node m)) ss) ≡ []
+other-asks n e m [] other = refl
+other-asks n e m (s ∷ ss) other = (λ i. listed (one s.0 i) ++ other-asks n e m ss other i) where
+  one : (to : Place) → ask_by n e (sending (Node m) (to, s.1)) ≡ None
+  one Front = ap (λ b. cond (b && is_ask e (head_of s.1)) (Some s.1) None) (other_number m n other)
+  one (Node k) = refl
+  one (Client d) = refl
+
+module _ (x : Conn) (v : Move) (own : IsItsOwn x v) (first : Each IsFirst v.heads) where
+  abbrev segments : List Rec
+  segments = map (sending v.place) v.said.segments
+
+  abbrev messages : List Rec
+  messages = map (sending v.place) v.said.messages
+
+  abbrev timers : List Rec
+  timers = timer_rows v.place x.c x.part v.part
+
+  -- its segments and its messages
+  seen-asks : (n e : ℕ) → picked (of_row (ask_by n e)) (seen_in x v) ≡ pick (ask_by n e) segments ++ pick (ask_by n e) messages
+  seen-asks n e =
+      let f : Rec → Option (List ℕ) = ask_by n e in
+      pick-seen f x v
+      ∙ ap (λ l. l ++ pick f (rows_of x v)) (picked-none (of_row f) v.heads (Each-weaker IsFirst (λ s. of_row f s ≡ None) (ask-first n e) v.heads first))
+      ∙ pick-parts f x v
+      ∙ (λ i. pick-none f v.said.notes (Each-weaker (NotedAt v.place x.c) (λ r. f r ≡ None) (λ r h. ask-unsent n e r (note-unsent v.place x.c r h)) v.said.notes own.notes) i
+      ++ pick f segments
+      ++ pick-none f v.said.gave (Each-weaker (GaveAt v.place x.c) (λ r. f r ≡ None) (λ r h. ask-unsent n e r (gave-unsent v.place x.c r h)) v.said.gave own.gave) i
+      ++ pick f messages
+      ++ pick-none f timers (timers-none f (λ place d r h. ask-unsent n e r (timer-unsent place d r h)) v.place x.c x.part v.part) i)
+      ∙ append-nil (pick f segments ++ [] ++ pick f messages)
+      ∙ ap (λ l. l ++ pick f messages) (append-nil (pick f segments))
+
+  -- the last ones then
+  last-grown : (n e : ℕ) → lasts (grown x v) n e ≡ fold (λ (o : Option (List ℕ)) (bytes : List ℕ). Some bytes) (lasts x n e) (picked (of_row (ask_by n e)) (seen_in x v))
+  last-grown n e =
+      ap newest (picked-append (of_row (ask_by n e)) x.seen (seen_in x v))
+      ∙ fold-append (λ (o : Option (List ℕ)) (bytes : List ℕ). Some bytes) None (picked (of_row (ask_by n e)) x.seen) (picked (of_row (ask_by n e)) (seen_in x v))
+
+  -- of node n, by all that it sends
+  abbrev Of : ℕ → Type 0
+  Of n = ((e : ℕ) → AsksGoOn (IsSomeNext x.c e) (lasts x n e) (picked (of_row (ask_by n e)) (seen_in x v))) × PartAsks x.c (lasts (grown x v) n) (v.part.nodes n)
+
+  all-of : ((n : ℕ) → Of n) → Sends x v
+  all-of h = (λ n e. (h n).0 e, λ n. (h n).1)
+
+  -- it sends none, and keeps what it kept
+  none-of : (n : ℕ) → ((e : ℕ) → pick (ask_by n e) segments ≡ []) → ((e : ℕ) → pick (ask_by n e) messages ≡ []) → v.part.nodes n ≡ x.part.nodes n → PartAsks x.c (lasts x n) (x.part.nodes n) → Of n
+  none-of n no_segments no_messages same h =
+      let none : (e : ℕ) → picked (of_row (ask_by n e)) (seen_in x v) ≡ [] = λ e. seen-asks n e ∙ (λ i. no_segments e i ++ no_messages e i) in
+      let still : (e : ℕ) → lasts (grown x v) n e ≡ lasts x n e = λ e. last-grown n e ∙ ap (fold (λ (o : Option (List ℕ)) (bytes : List ℕ). Some bytes) (lasts x n e)) (none e) in (
+        λ e. subst (AsksGoOn (IsSomeNext x.c e) (lasts x n e)) (sym (none e)) tt,
+        subst (PartAsks x.c (lasts (grown x v) n)) (sym same) (subst (λ (l : ℕ → Option (List ℕ)). PartAsks x.c l (x.part.nodes n)) (λ i e. sym (still e) i) h),
+      )
+
+  -- ---- a client, or the front end
+
+  pub else-sends : IsNoNode v.place → v.part.nodes ≡ x.part.nodes → PartsAsk x → Sends x v
+  else-sends m same h = all-of (λ n. none-of n (λ e. else-asks n e v.place v.said.segments m) (λ e. else-asks n e v.place v.said.messages m) (ap (λ (nodes : ℕ → NodePart). nodes n) same) (h n))
+
+  -- ---- a node
+
+  some-next : (e waiting : ℕ) (o : Option (List ℕ)) (all : List (List ℕ)) → AsksGoOn (IsNext x.c e waiting) o all → AsksGoOn (IsSomeNext x.c e) o all
+  some-next e waiting o [] h = tt
+  some-next e waiting o (bytes ∷ more) h = ⊎_elim
+      (λ (again : (o ≡ Some bytes) × AsksGoOn (IsNext x.c e waiting) o more). inl (again.0, some-next e waiting o more again.1))
+      (λ (new : IsNext x.c e waiting o bytes × (more ≡ [])). inr ((waiting, new.0), new.1))
+      h
+
+  module _ (m : ℕ) (at : v.place ≡ Node m) (d : ℕ) (to : AllTo (Client d) v.said.segments) where
+    no-segments : (n e : ℕ) → pick (ask_by n e) segments ≡ []
+    no-segments n e = segments-none (ask_by n e) v.place d (λ k bytes. one v.place bytes) v.said.segments to where
+      one : (place : Place) (bytes : List ℕ) → ask_by n e (rec.Sent 0 place (Client d) bytes) ≡ None
+      one Front bytes = refl
+      one (Node k) bytes = refl
+      one (Client k) bytes = refl
+
+    others : (n : ℕ) → m ≢ n → v.part.nodes n ≡ x.part.nodes n → PartsAsk x → Of n
+    others n other same h = none-of n (no-segments n) (λ e. ap (λ place. pick (ask_by n e) (map (sending place) v.said.messages)) at ∙ other-asks n e m v.said.messages other) same (h n)
+
+    mine : (waiting : ℕ) (q : NodePart) → v.part.nodes m ≡ q → Outcome x.c m (lasts x m) waiting v.said.messages q → Of m
+    mine waiting q is out =
+        let sent : (e : ℕ) → picked (of_row (ask_by m e)) (seen_in x v) ≡ asks_in m e v.said.messages =
+        λ e. seen-asks m e ∙ ap (λ l. l ++ pick (ask_by m e) messages) (no-segments m e) ∙ ap (λ place. pick (ask_by m e) (map (sending place) v.said.messages)) at in (
+          λ e. subst (AsksGoOn (IsSomeNext x.c e) (lasts x m e)) (sym (sent e)) (some-next e waiting (lasts x m e) (asks_in m e v.said.messages) (out.0 e)),
+          subst (PartAsks x.c (lasts (grown x v) m)) (sym is)
+              (subst (λ (l : ℕ → Option (List ℕ)). PartAsks x.c l q) (λ i e. sym (last-grown m e ∙ ap (fold (λ (o : Option (List ℕ)) (bytes : List ℕ). Some bytes) (lasts x m e)) (sent e)) i) out.1),
+        )
+
+    pub node-sends : (waiting : ℕ) (q : NodePart) → v.part.nodes m ≡ q → ((n : ℕ) → n ≢ m → v.part.nodes n ≡ x.part.nodes n) → Outcome x.c m (lasts x m) waiting v.said.messages q → PartsAsk x → Sends x v
+    node-sends waiting q is same out h = all-of (λ n. go n (n == m) refl) where
+      go : (n : ℕ) (b : Bool) → (n == m) ≡ b → Of n
+      go n true e = subst Of (sym (eqb-true n m e)) (mine waiting q is out)
+      go n false e = let other : n ≢ m = λ f. both_ways (n == m) e (eq-eqb n m f) in others n (λ f. other (sym f)) (same n other) h
+
+-- ---- a client
+
+module _ (k : Setting) (x : Conn) where
+  client-goes : (heads : List Seen) (s : Station) (given : ClientBlock × Turn) → Each IsFirst heads → Goes k x (client_does x s heads given)
+  client-goes heads s given first placed h own = else-sends x (client_does x s heads given) own first tt refl h
+
+  event-goes : (e : _) (s : Station) (given : ClientBlock × Turn) → Goes k x (client_does x s (event_seen e) given)
+  event-goes e s given = client-goes (event_seen e) s given (tt, tt)
+
+  -- ---- the front end
+
+  front-goes : (heads : List Seen) → Each IsFirst heads → (d : front.Deed) → Goes k x (front_does x heads d)
+  front-goes heads first front.Drops placed h own = else-sends x (front_does x heads front.Drops) own first tt refl h
+  front-goes heads first (front.Says turn) placed h own = else-sends x (front_does x heads (front.Says turn)) own first tt refl h
+  front-goes heads first (front.Does did) placed h own = else-sends x (front_does x heads (front.Does did)) own first tt refl h
+
+  admits-goes : (given : FrontPart × FrontTurn) → Goes k x (front_admits x given)
+  admits-goes given placed h own = else-sends x (front_admits x given) own tt tt refl h
+
+-- ---- a node
+
+module _ (k : Setting) (x : Conn) (n epoch : ℕ) (env : NodeEnv) (is : IsNodeEnv k x.c n epoch env) where
+  abbrev ours : NodePart
+  ours = x.part.nodes n
+
+  put-other : (q : NodePart) (m : ℕ) → m ≢ n → node_put x.part.nodes n q m ≡ x.part.nodes m
+  put-other q m other = ap (λ b. cond b q (x.part.nodes m)) (other_number m n other)
+
+  abbrev DeedsAsk : node.Deed → Type 0
+  DeedsAsk d = (h : PartsAsk x) → DeedAsks x.c n (lasts x n) env is.number ours (h n) d
+
+  node-goes : (heads : List Seen) → Each IsFirst heads → (d : node.Deed) → (IsPlaced x → DeedsAsk d) → Goes k x (node_does x n heads d)
+  node-goes heads first node.Drops asks placed h own =
+      let v : Move = node_does x n heads node.Drops in all-of x v own first (λ m. none-of x v own first m (λ e. refl) (λ e. refl) refl (h m))
+  node-goes heads first (node.Says ms) asks placed h own =
+      let v : Move = node_does x n heads (node.Says ms) in node-sends x v own first n refl 0 tt 0 ours refl (λ m other. refl) (asks placed h 0) h
+  node-goes heads first (node.Does given) asks placed h own =
+      let v : Move = node_does x n heads (node.Does given) in
+      let out = asks placed h in
+      node-sends x v own first n refl env.serve.c out.1 (env.queue + length given.1.jobs) given.0 (put-same x.part.nodes n given.0) (put-other given.0) out.0 h
+
+  -- behind the record of a job of its own
+  read-goes : (r : Rec) (d : node.Deed) → (IsPlaced x → DeedsAsk d) → Goes k x (reads_first r (node_does x n [] d))
+  read-goes r node.Drops asks placed h own =
+      let v : Move = reads_first r (node_does x n [] node.Drops) in all-of x v own tt (λ m. none-of x v own tt m (λ e. refl) (λ e. refl) refl (h m))
+  read-goes r (node.Says ms) asks placed h own =
+      let v : Move = reads_first r (node_does x n [] (node.Says ms)) in node-sends x v own tt n refl 0 tt 0 ours refl (λ m other. refl) (asks placed h 0) h
+  read-goes r (node.Does given) asks placed h own =
+      let v : Move = reads_first r (node_does x n [] (node.Does given)) in
+      let out = asks placed h in
+      node-sends x v own tt n refl env.serve.c out.1 (env.queue + length given.1.jobs) given.0 (put-same x.part.nodes n given.0) (put-other given.0) out.0 h
+
+  -- ---- its epoch
+
+  module _ (placed : IsPlaced x) where
+    abbrev owns : Owning
+    owns = owning (tale_at x)
+
+    pub small-here : (y : _) → here env.epoch ours ≡ Some y → env.epoch < 2 ^ 16
+    small-here y e = let two : env.epoch ≡ 2 = (here-has x placed n env.epoch y.0 y.1 e).can.two in omega (arith, two)
+
+    offered-two : (o : Option FrontRow) → x.part.front.row ≡ o → IsOffered n env.epoch o → env.epoch ≡ 2
+    offered-two None found offered = absurd offered
+    offered-two (Some f) found offered = go f.stage refl offered where
+      go : (st : FrontConn) → f.stage ≡ st → Offers n env.epoch st → env.epoch ≡ 2
+      go (stage.Offering m d) at offers =
+          let s : Sits owns x.part.nodes (Some f) = subst (Sits owns x.part.nodes) found placed.sits in
+          let sits : StageSits f.epoch.0 owns x.part.nodes (stage.Offering m d) = subst (StageSits f.epoch.0 owns x.part.nodes) at s.0 in
+          sym offers.1 ∙ sits.1 ∙ sits.0
+      go (stage.Held b) at offers = absurd offers
+      go (stage.Waiting b) at offers = absurd offers
+      go stage.Lent at offers = absurd offers
+      go (stage.Moved m d) at offers = absurd offers
+      go (stage.Closed last) at offers = absurd offers
+
+    undecided-two : IsDecided env.epoch ours.row ⊎ IsOffered n env.epoch x.part.front.row → (IsDecided env.epoch ours.row → ⊥) → env.epoch ≡ 2
+    undecided-two said other = offered-two x.part.front.row refl (⊎_elim (λ (d : IsDecided env.epoch ours.row). absurd (other d)) (λ (o : IsOffered n env.epoch x.part.front.row). o) said)
+
+    -- one that is new
+    pub newer : (h : PartsAsk x) → IsDecided env.epoch ours.row ⊎ IsOffered n env.epoch x.part.front.row → offer_answer env.epoch ours.row ≡ New → IsNewer x.c n (lasts x n) env is.number ours (h n)
+    newer h said = go ours.row refl where
+      go : (o : Option BackRow) → ours.row ≡ o → offer_answer env.epoch o ≡ New → IsNewer x.c n (lasts x n) env is.number ours (h n)
+      go None found e =
+          let two : env.epoch ≡ 2 = undecided-two said (λ d. subst (IsDecided env.epoch) found d) in
+          let none : epoch_in ours ≡ 0 = ap (λ (o : Option BackRow). epoch_in (record ours { row = o })) found in record { small = omega (arith, two); above = omega (arith, two, none) }
+      go (Some row) found e = by (row.epoch.0 == env.epoch) (nat_lt row.epoch.0 env.epoch && is_gone row.stage) refl e where
+        by : (a b : Bool) → (nat_lt row.epoch.0 env.epoch && is_gone row.stage) ≡ b → cond a Again (cond b New Stale) ≡ New → IsNewer x.c n (lasts x n) env is.number ours (h n)
+        by true b f e = absurd cc
+        by false false f e = absurd cc
+        by false true f e =
+            let less : row.epoch.0 < env.epoch = ltb-true row.epoch.0 env.epoch (and_parts (nat_lt row.epoch.0 env.epoch) (is_gone row.stage) f).0 in
+            let two : env.epoch ≡ 2 = undecided-two said (λ d. let le : env.epoch ≤ row.epoch.0 = subst (IsDecided env.epoch) found d in omega (arith, le, less)) in
+            let at : epoch_in ours ≡ row.epoch.0 = ap (λ (o : Option BackRow). epoch_in (record ours { row = o })) found in record { small = omega (arith, two); above = omega (arith, at, less) }
+
+  -- what an Offer that comes says
+  pub offer-said : IsPlaced x → (parts : EndpointParts) (bytes : List ℕ) → Spells x.c epoch (body.Offer parts) bytes → Was x Front (Node n) bytes → IsDecided env.epoch ours.row ⊎ IsOffered n env.epoch x.part.front.row
+  offer-said placed parts bytes spells was =
+      subst (λ (e : ℕ). IsDecided e ours.row ⊎ IsOffered n e x.part.front.row) (sym is.epoch_is) (came-says x Front (Node n) epoch (body.Offer parts) bytes placed.letters was spells)
+
+-- what it does for another one
+stands-goes : (k : Setting) (x : Conn) (n from : ℕ) (heads : List Seen) → Each IsFirst heads → (notes : List Rec) (bytes : List (List ℕ)) → Goes k x (stands x (Node n) heads (record { notes = notes; segments = []; gave = []; messages = map (λ b. (Node from, b)) bytes }))
+stands-goes k x n from heads first notes bytes placed h own =
+    let v : Move = stands x (Node n) heads (record { notes = notes; segments = []; gave = []; messages = map (λ b. (Node from, b)) bytes }) in
+    all-of x v own first (λ m. none-of x v own first m (λ e. refl) (λ e. none m e bytes) refl (h m)) where
+      none : (m e : ℕ) (bs : List (List ℕ)) → pick (ask_by m e) (map (sending (Node n)) (map (λ b. (Node from, b)) bs)) ≡ []
+      none m e [] = refl
+      none m e (b ∷ bs) = none m e bs
+
+ignores-goes : (k : Setting) (x : Conn) (from to : Place) (bytes : List ℕ) → Goes k x (stands x to (packet_seen from to bytes) nothing_said)
+ignores-goes k x from to bytes placed h own =
+    let v : Move = stands x to (packet_seen from to bytes) nothing_said in all-of x v own (tt, tt) (λ m. none-of x v own (tt, tt) m (λ e. refl) (λ e. refl) refl (h m))
+
+-- ---- every rule
+
+module _ (k : Setting) where
+  clients : ClientRules k (Goes k)
+  clients = record {
+    opens = λ x isn iss wnd mss rule none. client-goes k x (client_begins x isn iss wnd mss).heads (record { client = (client_opens x.c isn wnd mss).0; iss = iss }) (client_opens x.c isn wnd mss) (tt, (tt, tt));
+    gets = λ x s path there le. event-goes k x (event.Get x.c path) s (client_writes s.client (request path));
+    writes = λ x s bytes there le. event-goes k x (event.Write x.c bytes) s (client_writes s.client bytes);
+    shuts = λ x s there. event-goes k x (event.Shut x.c) s (client_shuts s.client);
+    aborts = λ x s there. event-goes k x (event.Abort x.c) s (client_aborts s.client);
+    holds = λ x s there. event-goes k x (event.Hold x.c) s (client_holds s.client);
+    takes = λ x s there. event-goes k x (event.Take x.c) s (client_takes s.client);
+    fires = λ x s there. event-goes k x (event.Timer (Client x.c) x.c) s (client_timer s.client);
+    hears = λ x s from bytes there was. client-goes k x (packet_seen from (Client x.c) bytes) s (client_gets s.client (decoded bytes x.c ToClient)) (tt, tt);
+  }
+
+  pub all-send : Rules k (Goes k)
+  all-send = record {
+    untouched = record {
+      client = clients;
+      front = record {
+        hears = λ x s env bytes there is iss was. front-goes k x (packet_seen (Client x.c) Front bytes) (tt, tt) (front_gets env x.part.front bytes (decoded bytes x.c ToCluster));
+        fires = λ x s env there is. front-goes k x (event_seen (event.Timer Front x.c)) (tt, tt) (front_timer env x.part.front);
+        taken = λ x env n epoch bytes is spells was. front-goes k x (packet_seen (Node n) Front bytes) (tt, tt) (front_taken x.part.front epoch);
+        asked = λ x env n epoch number queue size paths bytes is spells was. front-goes k x (packet_seen (Node n) Front bytes) (tt, tt) (front_asked env x.part.front n epoch (ask_of x.c n number queue size paths));
+        ended = λ x env n epoch reason snd rcv count bytes is spells was.
+            front-goes k x (packet_seen (Node n) Front bytes) (tt, tt) (front_ended env x.part.front n epoch (record { reason = reason; snd = record { 0 = snd }; rcv = record { 0 = rcv } }));
+        admitted = λ x env choice given is e. admits-goes k x given;
+      };
+      node = record {
+        offered = λ x n epoch env parts bytes is spells was. node-goes k x n epoch env is (packet_seen Front (Node n) bytes) (tt, tt) (node_offered env (x.part.nodes n) parts)
+            (λ placed h. offered-asks x.c n (lasts x n) env is.number (x.part.nodes n) (h n) parts (newer k x n epoch env is placed h (offer-said k x n epoch env is placed parts bytes spells was)));
+        forwarded = λ x n epoch env segment bytes is spells was. node-goes k x n epoch env is (packet_seen Front (Node n) bytes) (tt, tt) (node_forwarded env (x.part.nodes n) (decoded segment x.c ToCluster))
+            (λ placed h. forwarded-asks x.c n (lasts x n) env is.number (x.part.nodes n) (h n) (small-here k x n epoch env is placed) (decoded segment x.c ToCluster));
+        tagged = λ x n epoch number tags env bytes is spells was. node-goes k x n epoch env is (packet_seen Front (Node n) bytes) (tt, tt) (node_tagged env (x.part.nodes n) number tags)
+            (λ placed h. tagged-asks x.c n (lasts x n) env is.number (x.part.nodes n) (h n) (small-here k x n epoch env is placed) number tags);
+        content = λ x n from epoch r env file bytes is spells was. node-goes k x n epoch env is (packet_seen (Node from) (Node n) bytes) (tt, tt) (node_content env (x.part.nodes n) from r)
+            (λ placed h. content-asks x.c n (lasts x n) env is.number (x.part.nodes n) (h n) (small-here k x n epoch env is placed) from r);
+        acknowledged = λ x n epoch env bytes is spells was. node-goes k x n epoch env is (packet_seen Front (Node n) bytes) (tt, tt) (node_acknowledged env (x.part.nodes n))
+            (λ placed h. acknowledged-asks x.c n (lasts x n) env is.number (x.part.nodes n) (h n));
+        read = λ x n epoch r env path is. read-goes k x n epoch env is (rec.Read n n x.c r path) (node_read env (x.part.nodes n) r)
+            (λ placed h. read-asks x.c n (lasts x n) env is.number (x.part.nodes n) (h n) (small-here k x n epoch env is placed) r);
+        fires = λ x s n env there is. node-goes k x n (epoch_in (x.part.nodes n)) env is (event_seen (event.Timer (Node n) x.c)) (tt, tt) (node_timer env (x.part.nodes n))
+            (λ placed h. timer-asks x.c n (lasts x n) env is.number (x.part.nodes n) (h n) (small-here k x n (epoch_in (x.part.nodes n)) env is placed) is.epoch_is);
+        answers = λ x n from epoch r path file bytes there spells was. stands-goes k x n from (packet_seen (Node from) (Node n) bytes) (tt, tt) [] (_ ∷ []);
+        queues = λ x n from epoch r path file bytes there spells was. stands-goes k x n from (packet_seen (Node from) (Node n) bytes) (tt, tt) (rec.Queued n from x.c r path ∷ []) [];
+        brings = λ x n from epoch r path. stands-goes k x n from [] tt (rec.Read n from x.c r path ∷ []) (_ ∷ []);
+      };
+      ignores = λ x from to bytes was. ignores-goes k x from to bytes;
+    };
+    injects = λ x s bytes there rule. client-goes k x (inject_seen x.c bytes) s (client_injects s.client bytes) (tt, (tt, tt));
+  }

@@ -1,0 +1,401 @@
+-- In every state what backs a response of a node, and what it has in hand, stands behind what told the node where the request is assigned.
+use Rattle.std.proofs.Common.{◌≡◌, ◌≤◌, ◌+◌, ◌-◌, ◌==◌, ◌^◌, ℕ, Bool, true, false, cond, List, [], ◌++◌, Option, Some, None, Result, Ok, Err, refl, sym, ap, ◌∙◌, subst, append_assoc, eqb-true, ⊎_elim, ◌∷◌, length, inl, arith, ◌<◌}
+use Rattle.std.specs.FinMap.{get-empty}
+use Rattle.std.specs.Ordering.{nat_cmp}
+use Rattle.std.specs.Prelude.{slice_set}
+use Rattle.std.proofs.lemmas.List.Sums.{fold-append}
+use Rattle.lard_answers.specs.Answers.{FilesAt}
+use Rattle.lard_base.specs.declared.config.Config.{Config}
+use Rattle.lard_base.specs.declared.event.Event.{Event}
+use Rattle.lard_base.specs.declared.event.Event.TheVariants as event
+use Rattle.lard_base.specs.declared.parts.EndpointParts.{EndpointParts}
+use Rattle.lard_base.specs.declared.place.Place.{Place}
+use Rattle.lard_base.specs.declared.place.Place.TheVariants.{Front, Node}
+use Rattle.lard_rules.specs.declared.machine.Machine.{Machine}
+use Rattle.lard_rules.specs.Bounds.{IsNumber}
+use Rattle.lard_rules.specs.Machine.{IsReached, node_at, node_gave, node_setting, passed, start, told}
+use Rattle.lard_laws.specs.Asks.{asks}
+use Rattle.lard_laws.proofs.AsksRuns.{each-told}
+use Rattle.lard_laws.specs.BackingRequests.{IsFor}
+use Rattle.lard_laws.specs.BackingState.{FetchesFor, LetterFor}
+use Rattle.lard_laws.proofs.BackingRules.{each-backed}
+use Rattle.lard_laws.specs.BackingTold.{TagHasCome, files_before}
+use Rattle.lard_laws.proofs.BackingAssignments.{HasAssignment, assignment-at, first-assigned, last-assigned}
+use Rattle.lard_laws.proofs.BackingComings.{Comes, NodeStep, NodesStay, step-form}
+use Rattle.lard_laws.proofs.BackingElsewhere.{IsMild, first-still, last-still, passed-mild, step-mild}
+use Rattle.lard_laws.proofs.BackingHeld.{StayHits, assigned-past, stay-more}
+use Rattle.lard_laws.proofs.BackingHitting.{MayHit, stills-may}
+use Rattle.lard_laws.proofs.BackingMarked.{marks-lawful}
+use Rattle.lard_laws.proofs.BackingNodes.{hand-for}
+use Rattle.lard_laws.proofs.BackingOffered.{IsAlone, offered-for}
+use Rattle.lard_laws.proofs.BackingTagged.{IsOfLast, tag-counts}
+use Rattle.lard_laws.proofs.BackingTurns.{EachNamed, FirstIn, first-weaker, named-both, named-weaker}
+use Rattle.lard_laws.proofs.BackingWalking.{BodyKnown, GetsKnown, StepHits, StepKnown, node-more, step-hits}
+use Rattle.lard_law_connections.specs.BytesAgreement.{IsTruthful}
+use Rattle.lard_law_connections.proofs.BytesClientMoves.{has-fair, open-at}
+use Rattle.lard_law_connections.proofs.BytesFrontMessages.{opened-at}
+use Rattle.lard_law_connections.proofs.BytesNodeRest.{front-opens}
+use Rattle.lard_law_connections.proofs.BytesRuns.{states-truthful}
+use Rattle.lard_law_connections.proofs.PlacesRuns.{each-placed}
+use Rattle.lard_law_connections.proofs.PlacesTurns.{IsPlaced}
+use Rattle.lard_law_connections.proofs.StoresCalm.{NodeActs, first_rows, last_rows, told-journal}
+use Rattle.lard_law_view.specs.Carry.{tale_at}
+use Rattle.lard_law_view.specs.View.{Conn, IsNodeEnv, Setting, Spells, Was, conn, setting_of}
+use Rattle.lard_law_view.proofs.Carried.{IsOn, carried-keep, reached-viewed}
+use Rattle.lard_law_view.proofs.Heads.{was}
+use Rattle.lard_law_view.proofs.Naming.{Names, decoded-names}
+use Rattle.lard_law_view.proofs.Parts.{node-kept, node-others, node-set}
+use Rattle.lard_law_view.proofs.Runs.{of-nodes}
+use Rattle.lard_laws.specs.WaysState.{GoesItsWay, marks_at}
+use Rattle.lard_laws.specs.WaysUnder.{Assigned}
+use Rattle.lard_laws.proofs.WaysBacked.{RowTook, TookIn}
+use Rattle.lard_laws.proofs.WaysEarlier.{each-served}
+use Rattle.lard_laws.proofs.WaysRuns.{each-guarded}
+use Rattle.lard_endpoint.specs.Control.{ControlBlock}
+use Rattle.lard_files.specs.Files.{file_at}
+use Rattle.lard_handoff_back.specs.declared.row.BackRow.{BackRow}
+use Rattle.lard_handoff_back.specs.declared.table.Adopt.TheVariants.{New}
+use Rattle.lard_handoff_back.specs.Back.{offer_answer, staying}
+use Rattle.lard_handoff_back.specs.Row.{held_in}
+use Rattle.lard_history.specs.Journal.{Tale, assigned, is_touched, touched_step, wrote, wrote_step}
+use Rattle.lard_history.specs.Laws.{EachMay}
+use Rattle.lard_history.specs.Own.{Came, Has, Letter, Seen, came, conn_of, letter_of, named_in, net_of, own, seen_on}
+use Rattle.lard_history.proofs.Each.{each_append}
+use Rattle.lard_history.proofs.Lifting.{tale-own}
+use Rattle.lard_history.proofs.Seeing.{by_number, one-mine, own-append}
+use Rattle.lard_history.proofs.Tales.{assigned-tale, touched-tale, wrote-tale}
+use Rattle.lard_journal.specs.declared.rec.Rec.{Rec}
+use Rattle.lard_message.specs.declared.fault.MsgFault.{MsgFault}
+use Rattle.lard_message.specs.declared.message.Body.{Body}
+use Rattle.lard_message.specs.declared.message.Body.TheVariants as body
+use Rattle.lard_message.specs.declared.message.Message.{Message}
+use Rattle.lard_message.specs.Reading.{decoded_message}
+use Rattle.lard_net.specs.Net.{Packet, packet_at}
+use Rattle.lard_rules.specs.declared.node.BackIn.{BackIn}
+use Rattle.lard_rules.specs.declared.node.BackIn.TheVariants as input
+use Rattle.lard_rules.specs.declared.node.NodeState.{NodeState}
+use Rattle.lard_rules.specs.declared.stay.Stay.{Stay}
+use Rattle.lard_rules.specs.Node.{NodePart, both_of, here, is_awaited}
+use Rattle.lard_rules.specs.NodePlace.{NodeSetting, no_stays, node_env, node_part, node_step}
+use Rattle.lard_rules.specs.Stay.{NodeEnv}
+use Rattle.lard_reader.specs.Batches.{batch_of}
+use Rattle.lard_rules.specs.declared.places.Out.{Out}
+use Rattle.lard_rules.specs.declared.places.Station.{Station}
+use Rattle.lard_law_view.proofs.OwnRecords.{behind}
+
+-- ---- what is in hand was taken
+
+row-took : (n c epoch : ℕ) (past : List Seen) (o : Option BackRow) (t : Option Stay) (y : ControlBlock × Stay) → both_of (staying epoch o) t ≡ Some y → RowTook n c past o → TookIn n c past epoch
+row-took n c epoch past None t y is h = let no : None ≡ Some y = is in absurd (let f : ⊥ = cc in f)
+row-took n c epoch past (Some row) t y is h = go (row.epoch.0 == epoch) refl is where
+  go : (b : Bool) → (row.epoch.0 == epoch) ≡ b → both_of (cond b (held_in row.stage) None) t ≡ Some y → TookIn n c past epoch
+  go true e f = subst (TookIn n c past) (eqb-true row.epoch.0 epoch e) h
+  go false e f = let no : None ≡ Some y = f in absurd (let g : ⊥ = cc in g)
+
+-- ---- what is known of a message that comes in a state
+
+-- it is for its path, and was assigned for this Ask, by what these records say
+abbrev MeantBy : FilesAt → ℕ → List Rec → Option ℕ → ℕ → List ℕ → Type 0
+MeantBy files c J ask r path = IsFor files (wrote J c) r path × HasAssignment files (wrote J c) J c r ask
+
+module _ (m : Machine) (small : m.config.stream ≤ 2 ^ 30) (reached : IsReached m.config m.files m) where
+  abbrev files : FilesAt
+  files = file_at m.files
+
+  abbrev k : Setting
+  k = setting_of m
+
+  -- a connection that the schedule did not touch
+  calm : (c : ℕ) → is_touched m.journal c ≡ false → (tale_at (conn m c)).touched ≡ false
+  unfolding conn
+  calm c u = ap (λ (t : Tale). t.touched) (sym (tale-own m.journal c)) ∙ sym (touched-tale m.journal c) ∙ u
+
+  wrote-own : (c : ℕ) → (marks_at (conn m c)).wrote ≡ wrote m.journal c
+  unfolding conn
+  wrote-own c = ap (λ (t : Tale). t.wrote) (sym (tale-own m.journal c)) ∙ sym (wrote-tale m.journal c)
+
+  assigned-own : (c : ℕ) → (marks_at (conn m c)).assigned ≡ assigned m.journal c
+  unfolding conn
+  assigned-own c = ap (λ (t : Tale). t.assigned) (sym (tale-own m.journal c)) ∙ sym (assigned-tale m.journal c)
+
+  module _ (i : ℕ) (s : NodeState) (at : node_at m.nodes i ≡ Some s) where
+    abbrev its : NodeSetting
+    its = node_setting m i
+
+    part-is : (c : ℕ) → (conn m c).part.nodes i ≡ node_part s c
+    unfolding conn
+    part-is c = node-kept m i s c at
+
+    row-there : (c : ℕ) → RowTook i c (own c m.journal) (node_part s c).row
+    unfolding conn
+    row-there c = subst (λ (p : NodePart). RowTook i c (own c m.journal) p.row) (part-is c) ((each-served m.config m.files m reached c).0 i).row
+
+    module _ (c epoch : ℕ) (number : IsNumber c) (bytes : List ℕ) (sent : Was (conn m c) Front (Node i) bytes) where
+      abbrev x : Conn
+      x = conn m c
+
+      abbrev env : NodeEnv
+      env = node_env its s c epoch
+
+      is-env : IsNodeEnv k c i epoch env
+      is-env = record { place = refl; number = refl; files = refl; stream = refl; node = refl; epoch_is = refl }
+
+      placed : IsPlaced x
+      placed = each-placed m.config m.files m reached c
+
+      truthful : is_touched m.journal c ≡ false → IsTruthful files x
+      truthful u = states-truthful m.config m.files small m reached c (calm c u)
+
+      ways : is_touched m.journal c ≡ false → GoesItsWay files x
+      ways u = (each-guarded m.config m.files small m reached c).0 (calm c u)
+
+      opened : is_touched m.journal c ≡ false → (t : Station) × (x.part.station ≡ Some t)
+      opened u = opened-at files x (truthful u) (front-opens x i bytes sent)
+
+      -- the first request for a file was assigned first
+      alone-assigned : is_touched m.journal c ≡ false → (r : ℕ) → ((a : Assigned) × ((marks_at (conn m c)).assigned ≡ a ∷ [])) → files_before files (wrote m.journal c) r ≡ 0 → HasAssignment files (wrote m.journal c) m.journal c r None
+      alone-assigned u r one none =
+          let some : 0 < length (assigned m.journal c) = let is : length (assigned m.journal c) ≡ 1 = ap length (sym (assigned-own c) ∙ one.1) in omega (arith, is) in
+          first-assigned files (wrote m.journal c) m.journal c r (marks-lawful m.config m.files m small reached) u none (assignment-at c m.journal 0 some)
+
+      -- an Offer
+      offer-known : (parts : EndpointParts) → Spells c epoch (body.Offer parts) bytes → offer_answer epoch (node_part s c).row ≡ New → is_touched m.journal c ≡ false
+          → FirstIn files (MeantBy files c m.journal None) (parts.served + 1) (batch_of 8 parts.unread)
+      unfolding conn
+      offer-known parts spells new u =
+          let h = truthful u in
+          let o = opened u in
+          let alone = offered-for k small x o.0 o.1 h.talk h.pend (open-at files x o.0 o.1 h) i epoch env is-env parts bytes spells sent placed number (ways u) (subst (λ (p : NodePart). offer_answer epoch p.row ≡ New) (sym (part-is c)) new) in
+          first-weaker files (IsAlone files (marks_at x)) (MeantBy files c m.journal None)
+          (λ r path f. (subst (λ (q : List ℕ). IsFor files q r path) (wrote-own c) f.0, alone-assigned u r f.1 (subst (λ (q : List ℕ). files_before files q r ≡ 0) (wrote-own c) f.2)))
+          (parts.served + 1) (batch_of 8 parts.unread) alone
+
+      -- the last that were assigned were assigned for the last Ask
+      last-known : (number_of r : ℕ) → number_of ≡ (asks x.c x.seen).done.last → length (marks_at x).assigned ≤ files_before files (marks_at x).wrote r + length (asks x.c x.seen).done.nodes → files_before files (marks_at x).wrote r < length (marks_at x).assigned
+          → HasAssignment files (wrote m.journal c) m.journal c r (Some number_of)
+      unfolding conn
+      last-known number_of r last low high =
+          let count : length (marks_at x).assigned ≡ length (assigned m.journal c) = ap length (assigned-own c) in
+          let before : files_before files (marks_at x).wrote r ≡ files_before files (wrote m.journal c) r = ap (λ (q : List ℕ). files_before files q r) (wrote-own c) in
+          last-assigned files (wrote m.journal c) m.journal c r number_of last (omega (arith, low, count, before)) (assignment-at c m.journal (files_before files (wrote m.journal c) r) (omega (arith, high, count, before)))
+
+      -- a Tag that counts
+      tag-known : (number_of : ℕ) (nodes : List ℕ) → Spells c epoch (body.Tag number_of nodes) bytes → (y : ControlBlock × Stay) → here epoch (node_part s c) ≡ Some y → is_awaited env number_of nodes (node_part s c) y.1 ≡ true → is_touched m.journal c ≡ false
+          → EachNamed files (MeantBy files c m.journal (Some number_of)) (y.1.served + 1) y.1.batch
+      unfolding conn
+      tag-known number_of nodes spells y held awaited u =
+          let h = truthful u in
+          let o = opened u in
+          let there : here env.epoch (x.part.nodes i) ≡ Some y = subst (λ (p : NodePart). here epoch p ≡ Some y) (sym (part-is c)) held in
+          let counted = tag-counts k small x o.0 o.1 h.talk h.pend (open-at files x o.0 o.1 h) i epoch env is-env placed (ways u) (each-told m.config m.files m reached c) number_of nodes bytes spells sent y there
+          (subst (λ (p : NodePart). is_awaited env number_of nodes p y.1 ≡ true) (sym (part-is c)) awaited) in
+          named-both files (IsFor files (wrote m.journal c)) (λ r path. HasAssignment files (wrote m.journal c) m.journal c r (Some number_of)) (y.1.served + 1) y.1.batch
+          (subst (λ (q : List ℕ). EachNamed files (IsFor files q) (y.1.served + 1) y.1.batch) (wrote-own c)
+          (hand-for k small x o.0 o.1 h.talk h.pend (open-at files x o.0 o.1 h) i epoch env is-env placed (ways u) y there))
+          (named-weaker files (IsOfLast files (marks_at x) (length (asks x.c x.seen).done.nodes)) (λ r path. HasAssignment files (wrote m.journal c) m.journal c r (Some number_of)) (λ r path w. last-known number_of r counted.0 w.0 w.1) (y.1.served + 1) y.1.batch counted.1)
+
+    -- a Fetch is of another node
+    other-asks : (c : ℕ) → IsNumber c → (n : ℕ) (bytes : List ℕ) → Was (conn m c) (Node n) (Node i) bytes → (epoch r : ℕ) (path : List ℕ) → Spells c epoch (body.Fetch r path) bytes → is_touched m.journal c ≡ false → n ≡ i → ⊥
+    other-asks c number n bytes sent epoch r path spells u same =
+        let old : FetchesFor files (conn m c) = (each-backed m.config m.files small m reached c).0 (calm c u) in
+        let says = (has-fair (LetterFor files (marks_at (conn m c)).wrote) (record { from = Node n; to = Node i; bytes = bytes }) (conn m c).letters sent old) _ spells in
+        says.2 same
+
+    -- ---- behind the records of its coming
+
+    module _ (kept : (q : ℕ) → StayHits files i q m.journal (node_part s q).row (node_part s q).stay) (j : ℕ) (p : Packet) (there : packet_at m.net j ≡ Some p) (to : p.to ≡ Node i) where
+      abbrev e : Event
+      e = event.Deliver j
+
+      abbrev rows_first : List Rec
+      rows_first = first_rows m e
+
+      abbrev base : List Rec
+      base = m.journal ++ rows_first
+
+      wrote-still : (c : ℕ) → wrote base c ≡ wrote m.journal c
+      wrote-still c = fold-append (wrote_step c) [] m.journal rows_first
+
+      untouched-still : (c : ℕ) → is_touched base c ≡ is_touched m.journal c
+      untouched-still c = fold-append (touched_step c) false m.journal rows_first
+
+      -- what is meant before is meant so then
+      still-meant : (c r : ℕ) (path : List ℕ) (ask : Option ℕ) → MeantBy files c m.journal ask r path → MeantBy files c base ask r path
+      still-meant c r path ask h = (
+        subst (λ (q : List ℕ). IsFor files q r path) (sym (wrote-still c)) h.0,
+        subst (λ (q : List ℕ). HasAssignment files q base c r ask) (sym (wrote-still c)) (assigned-past files (wrote m.journal c) m.journal rows_first c r ask h.1),
+      )
+
+      module _ (msg : Message) (reads : decoded_message p.bytes ≡ Ok msg) where
+        named : Names p.bytes msg.c
+        named = decoded-names msg p.bytes reads
+
+        letter-sent : p.from ≡ Front → Was (conn m msg.c) Front (Node i) p.bytes
+        letter-sent from = was m j msg.c p there Front (Node i) from to named.named
+
+        spells : (b : Body) → msg.body ≡ b → Spells msg.c msg.epoch.0 b p.bytes
+        spells b is = reads ∙ (λ i. Ok (record { c = msg.c; epoch = msg.epoch; body = is i }))
+
+        -- the connection sees it come
+        comes : (from : Place) → p.from ≡ from → conn_of from (Node i) p.bytes ≡ named_in p.bytes → Has (Came (record { from = from; to = Node i; bytes = p.bytes })) (seen_on msg.c (net_of m.journal) rows_first)
+        comes from is inner =
+            let l : Letter = record { from = from; to = Node i; bytes = p.bytes } in
+            let same : letter_of p ≡ l = λ z. record { from = is z; to = to z; bytes = p.bytes } in
+            let its : conn_of p.from p.to p.bytes ≡ Some msg.c = (λ z. conn_of (is z) (to z) p.bytes) ∙ inner ∙ named.named in
+            let at : packet_at (net_of m.journal) j ≡ Some p = ap (λ (net : List Packet). packet_at net j) (reached-viewed m.config m.files m reached).told ∙ there in
+            subst (Has (Came l)) (sym (ap (λ (q : Option Packet). came msg.c q ++ []) at ∙ ap (λ (ss : List Seen). ss ++ []) (one-mine msg.c (conn_of p.from p.to p.bytes) (Came (letter_of p)) its))) (inl (ap (λ (z : Letter). Came z) same))
+
+        tag-told : (number_of : ℕ) (nodes : List ℕ) → p.from ≡ Front → msg.body ≡ body.Tag number_of nodes → (y : ControlBlock × Stay) → here msg.epoch.0 (node_part s msg.c) ≡ Some y → TagHasCome base i msg.c msg.epoch.0 number_of
+        tag-told number_of nodes is of y held = record {
+          nodes = nodes;
+          bytes = p.bytes;
+          came = record {
+            before = own msg.c m.journal;
+            later = seen_on msg.c (net_of m.journal) rows_first;
+            split = own-append msg.c m.journal rows_first;
+            took = row-took i msg.c msg.epoch.0 (own msg.c m.journal) (node_part s msg.c).row (node_part s msg.c).stay y held (row-there msg.c);
+            saw = comes Front is refl;
+          };
+          reads = spells (body.Tag number_of nodes) of;
+        }
+
+        body-known : (from : Place) → p.from ≡ from → (b : Body) → msg.body ≡ b → BodyKnown its base s from msg.c msg.epoch.0 b
+        body-known Front is (body.Offer parts) of = λ new u.
+            first-weaker files (MeantBy files msg.c m.journal None) (MeantBy files msg.c base None) (λ r path h. still-meant msg.c r path None h) (parts.served + 1) (batch_of 8 parts.unread)
+            (offer-known msg.c msg.epoch.0 named.number p.bytes (letter-sent is) parts (spells (body.Offer parts) of) new (sym (untouched-still msg.c) ∙ u))
+        body-known Front is (body.Tag number_of nodes) of = λ y held awaited. record {
+          told = tag-told number_of nodes is of y held;
+          for = λ u.
+              named-weaker files (MeantBy files msg.c m.journal (Some number_of)) (MeantBy files msg.c base (Some number_of)) (λ r path h. still-meant msg.c r path (Some number_of) h) (y.1.served + 1) y.1.batch
+              (tag-known msg.c msg.epoch.0 named.number p.bytes (letter-sent is) number_of nodes (spells (body.Tag number_of nodes) of) y held awaited (sym (untouched-still msg.c) ∙ u));
+        }
+        body-known (Node n) is (body.Fetch r path) of = λ u same. other-asks msg.c named.number n p.bytes (was m j msg.c p there (Node n) (Node i) is to named.named) msg.epoch.0 r path (spells (body.Fetch r path) of) (sym (untouched-still msg.c) ∙ u) same
+        body-known (Node n) is (body.Content r file) of = record {
+          old = m.journal;
+          first = rows_first;
+          is = refl;
+          kept = kept msg.c;
+          comes = record { file = file; bytes = p.bytes; came = comes (Node n) is refl; reads = spells (body.Content r file) of };
+        }
+        body-known _ is _ of = tt
+
+      gets-known : (r : Result Message MsgFault) → decoded_message p.bytes ≡ r → GetsKnown its base s p.from r
+      gets-known (Err fault) reads = tt
+      gets-known (Ok msg) reads = body-known msg reads p.from refl msg.body refl
+
+    step-known : ((q : ℕ) → StayHits files i q m.journal (node_part s q).row (node_part s q).stay) → (d : Event) (comes : BackIn) → Comes m d i comes → StepKnown its (m.journal ++ first_rows m d) s comes
+    step-known kept d (input.Message from bytes) h =
+        subst (λ (l : List Rec). GetsKnown its l s from (decoded_message bytes)) (ap (λ (v : Event). m.journal ++ first_rows m v) (sym h.2))
+        (subst (λ (f : Place). GetsKnown its (m.journal ++ first_rows m (event.Deliver h.0)) s f (decoded_message bytes)) h.4
+        (subst (λ (bs : List ℕ). GetsKnown its (m.journal ++ first_rows m (event.Deliver h.0)) s h.1.from (decoded_message bs)) h.6
+        (gets-known kept h.0 h.1 h.3 h.5 (decoded_message h.1.bytes) refl)))
+    step-known kept d (input.Timer c) h = tt
+    step-known kept d (input.Disk j) h = tt
+
+-- ---- a state
+
+-- what nodes keep, and what the journal says, of what caches had
+pub record AreHit (files : FilesAt) (m : Machine) : Type 0 where
+  pub kept : (n : ℕ) (s : NodeState) → node_at m.nodes n ≡ Some s → (q : ℕ) → StayHits files n q m.journal (node_part s q).row (node_part s q).stay
+  pub law : EachMay (MayHit files) [] m.journal
+
+module _ (files : FilesAt) (m n : Machine) (hit : AreHit files m) where
+  -- no node moves
+  mild-hit : n.nodes ≡ m.nodes → IsMild m n → AreHit files n
+  mild-hit same mild = record {
+    kept = λ i s at q. subst (λ (J : List Rec). StayHits files i q J (node_part s q).row (node_part s q).stay) (sym mild.1) (stay-more files i q m.journal mild.0 (node_part s q).row (node_part s q).stay (hit.kept i s (ap (λ (nodes : List NodeState). node_at nodes i) (sym same) ∙ at) q));
+    law = subst (EachMay (MayHit files) []) (sym mild.1) (each_append (MayHit files) [] m.journal mild.0 hit.law (stills-may files m.journal mild.0 mild.2));
+  }
+
+module _ (m : Machine) (e : Event) (hit : AreHit (file_at m.files) m) (i : ℕ) (s : NodeState) (at : node_at m.nodes i ≡ Some s) (comes : BackIn) (t : NodeState) (o : Out) (h : StepHits (node_setting m i) comes (m.journal ++ first_rows m e) (t, o)) where
+  abbrev fs : FilesAt
+  fs = file_at m.files
+
+  abbrev first : List Rec
+  first = first_rows m e
+
+  abbrev w : Machine
+  w = record m { nodes = slice_set m.nodes (i - 1) t }
+
+  abbrev last : List Rec
+  last = last_rows w (Node i) o
+
+  abbrev rows : List Rec
+  rows = first ++ o.notes ++ last
+
+  whole : (m.journal ++ first ++ o.notes) ++ last ≡ m.journal ++ rows
+  whole = ap (λ l. l ++ last) (append_assoc m.journal first o.notes) ∙ append_assoc m.journal (first ++ o.notes) last
+
+  each-hit : (j : ℕ) (u : NodeState) → node_at w.nodes j ≡ Some u → (q : ℕ) → StayHits fs j q (m.journal ++ rows) (node_part u q).row (node_part u q).stay
+  each-hit j u is q = by_number (StayHits fs j q (m.journal ++ rows) (node_part u q).row (node_part u q).stay) j i
+      (λ same.
+      let one : Some t ≡ Some u = sym (node-set m.nodes i s t at) ∙ ap (node_at w.nodes) (sym same) ∙ is in
+      let e : t ≡ u = cc in
+      subst (λ (n : ℕ). StayHits fs n q (m.journal ++ rows) (node_part u q).row (node_part u q).stay) (sym same) (subst (λ (v : NodeState). StayHits fs i q (m.journal ++ rows) (node_part v q).row (node_part v q).stay) e
+      (subst (λ (J : List Rec). StayHits fs i q J (node_part t q).row (node_part t q).stay) whole (node-more (node_setting m i) (m.journal ++ first ++ o.notes) last t h.kept q))))
+      (λ other. stay-more fs j q m.journal rows (node_part u q).row (node_part u q).stay (hit.kept j u (sym (node-others m.nodes i j s t at other) ∙ is) q))
+
+  law-on : EachMay (MayHit fs) [] (m.journal ++ rows)
+  law-on = subst (EachMay (MayHit fs) []) whole
+      (each_append (MayHit fs) [] (m.journal ++ first ++ o.notes) last
+      (each_append (MayHit fs) [] (m.journal ++ first) o.notes
+      (each_append (MayHit fs) [] m.journal first hit.law (stills-may fs m.journal first (first-still m e)))
+      h.notes)
+      (stills-may fs (m.journal ++ first ++ o.notes) last (last-still w (Node i) o h.gave h.timers)))
+
+  node-hit : AreHit fs (node_gave m e (behind e) i (t, o))
+  unfolding told
+  node-hit =
+      let J : (node_gave m e (behind e) i (t, o)).journal ≡ m.journal ++ rows = told-journal w e (Node i) o in
+      record {
+        kept = λ j u is q. subst (λ (J : List Rec). StayHits fs j q J (node_part u q).row (node_part u q).stay) (sym J) (each-hit j u is q);
+        law = subst (EachMay (MayHit fs) []) (sym J) law-on;
+      }
+
+-- ---- every state
+
+nothing-hit : (files : FilesAt) (n limit q : ℕ) → StayHits files n q [] (node_part (no_stays limit) q).row (node_part (no_stays limit) q).stay
+nothing-hit files n limit q = subst (StayHits files n q [] (node_part (no_stays limit) q).row) (sym (get-empty nat_cmp q)) tt
+
+module _ (config : Config) (files : List (List ℕ × List ℕ)) (small : config.stream ≤ 2 ^ 30) where
+  abbrev Hit : Machine → Type 0
+  Hit m = AreHit (file_at files) m
+
+  start-hit : Hit (start config files)
+  start-hit = record {
+    kept = λ n s at q. of-nodes (λ (o : Option NodeState). o ≡ Some s → StayHits (file_at files) n q [] (node_part s q).row (node_part s q).stay) config.nodes (no_stays config.cache)
+        (λ e. let no : None ≡ Some s = e in absurd cc)
+        (λ e. let same : no_stays config.cache ≡ s = cc in subst (λ (x : NodeState). StayHits (file_at files) n q [] (node_part x q).row (node_part x q).stay) same (nothing-hit (file_at files) n config.cache q))
+        n at;
+    law = tt;
+  }
+
+  -- a state has the settings that it began with
+  own-small : (k : Machine) → IsOn config files k → k.config.stream ≤ 2 ^ 30
+  own-small k on = subst (λ (g : Config). g.stream ≤ 2 ^ 30) (sym on.config_is) small
+
+  own-reached : (k : Machine) → IsOn config files k → IsReached k.config k.files k
+  own-reached k on = subst (λ (fs : List (List ℕ × List ℕ)). IsReached k.config fs k) (sym on.files_are) (subst (λ (g : Config). IsReached g files k) (sym on.config_is) on.reached)
+
+  now-hit : (k : Machine) → IsOn config files k → Hit k → AreHit (file_at k.files) k
+  now-hit k on hit = subst (λ (fs : List (List ℕ × List ℕ)). AreHit (file_at fs) k) (sym on.files_are) hit
+
+  -- a node's step
+  pub node-hits : (k : Machine) → IsOn config files k → Hit k → (e : Event) (n : Machine) (step : NodeStep k e n)
+      → StepHits (node_setting k step.i) step.comes (k.journal ++ first_rows k e) (node_step (node_setting k step.i) step.s step.comes)
+  node-hits k on hit e n step = step-hits (node_setting k step.i) (k.journal ++ first_rows k e) step.s step.comes
+      (node-more (node_setting k step.i) k.journal (first_rows k e) step.s ((now-hit k on hit).kept step.i step.s step.there)) (step-known k (own-small k on) (own-reached k on) step.i step.s step.there ((now-hit k on hit).kept step.i step.s step.there) e step.comes step.came)
+
+  pub reached-hit : (m : Machine) → IsReached config files m → Hit m
+  reached-hit m r = carried-keep config files Hit start-hit
+      (λ k n e on hit rule is.
+      subst (λ (fs : List (List ℕ × List ℕ)). AreHit (file_at fs) n) on.files_are
+      (⊎_elim
+      (λ (stay : NodesStay k e n). mild-hit (file_at k.files) k n (now-hit k on hit) stay.0
+      (⊎_elim (λ (never : NodeActs k e → ⊥). ⊎_elim (λ (acts : NodeActs k e). absurd (never acts)) (λ (mild : IsMild k n). mild) (step-mild k on.view e n rule is))
+      (λ (same : n ≡ passed k e (behind e)). subst (IsMild k) (sym same) (passed-mild k e)) stay.1))
+      (λ (step : NodeStep k e n).
+      let given : NodeState × Out = node_step (node_setting k step.i) step.s step.comes in
+      subst (AreHit (file_at k.files)) (sym step.is) (node-hit k e (now-hit k on hit) step.i step.s step.there step.comes given.0 given.1 (node-hits k on hit e n step)))
+      (step-form k e n is)))
+      m r

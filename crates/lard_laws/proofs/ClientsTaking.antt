@@ -1,0 +1,251 @@
+-- What clients take in a step: of the packet that came in it, wherever it was sent.
+use Rattle.std.proofs.Common.{◌≡◌, ℕ, ◌+◌, List, [], ◌∷◌, ◌++◌, map, length, false, Some, Ok, inl, inr, ⊎_elim, refl, sym, ap, ◌∙◌, subst}
+use Rattle.std.specs.Prelude.{◌⊎◌}
+use Rattle.lard_answers.specs.Answers.{FilesAt}
+use Rattle.lard_base.specs.declared.event.Event.{Event}
+use Rattle.lard_base.specs.declared.event.Event.TheVariants as event
+use Rattle.lard_base.specs.declared.place.Place.{Place}
+use Rattle.lard_base.specs.declared.place.Place.TheVariants.{Front, Node, Client}
+use Rattle.lard_rules.specs.declared.machine.Machine.{Machine}
+use Rattle.lard_rules.specs.Bounds.{HasRule}
+use Rattle.lard_rules.specs.Machine.{machine_step}
+use Rattle.lard_law_connections.specs.BytesAgreement.{IsFair, IsFairOn, IsOpen, IsTruthful}
+use Rattle.lard_law_connections.specs.BytesRuns.{StatesAreTruthful}
+use Rattle.lard_law_connections.proofs.BytesClientMoves.{has-fair, open-at, was-between}
+use Rattle.lard_laws.specs.ClientsLaws.{ClientsTakeInOrder}
+use Rattle.lard_laws.proofs.ClientsAsides.{IsOfMachine, note-machine}
+use Rattle.lard_law_view.specs.Carry.{Untouched, setting, tale_at}
+use Rattle.lard_law_view.specs.View.{Conn, GoesBetween, IsMachine, IsSound, IsViewed, Move, Part, Rules, Setting, Was, conn, part_of, timer_rows}
+use Rattle.lard_law_view.proofs.Acts.{ActsAlone, ActsBoth, IsPassing, IsStepOf, Moves, said_rows, step_acts}
+use Rattle.lard_law_view.proofs.Carried.{IsOn, carried-keep, on-setting}
+use Rattle.lard_law_view.proofs.Fine.{IsFine, fine}
+use Rattle.lard_law_view.proofs.Guarded.{both}
+use Rattle.lard_law_view.proofs.Frames.{Owed, fronts-leave, nodes-leave}
+use Rattle.lard_law_view.proofs.Saying.{GaveAt, NamesAll, NotedAt, notes-all}
+use Rattle.lard_law_view.proofs.Timers.{IsTimerAt, timer_rows-are}
+use Rattle.lard_files.specs.Files.{file_at}
+use Rattle.lard_history.specs.Journal.{request}
+use Rattle.lard_history.specs.Laws.{EachMay}
+use Rattle.lard_history.specs.Own.{Letter, Row}
+use Rattle.lard_history.proofs.Each.{Each, Each-append, Each-weaker, each_append}
+use Rattle.lard_journal.specs.declared.rec.Rec.{Rec}
+use Rattle.lard_journal.specs.declared.rec.Rec.TheVariants as rec
+use Rattle.lard_law_view.specs.Agreement.{IsReply}
+use Rattle.lard_law_view.specs.Truthful.{Talk}
+use Rattle.lard_law_view.specs.Taking.{MayTake, TakesInOrder}
+use Rattle.lard_law_view.proofs.DeliveredPackets.{all-may, behind-nothing, notes-may, sents-nothing}
+use Rattle.lard_law_view.proofs.Taking.{Knows, TakesNothing, TakesOf, hears, writes-pass}
+use Rattle.lard_rules.specs.Sent.{packets_of, sent_records}
+use Rattle.lard_rules.specs.declared.places.Station.{Station}
+use Rattle.lard_segment.specs.declared.segment.Dir.TheVariants.{ToClient}
+use Rattle.lard_segment.specs.Segment.{Said, decoded, spelled}
+use Rattle.lard_law_view.proofs.OwnRecords.{behind}
+
+-- ---- records that take nothing
+
+machine-nothing : (r : Rec) → IsOfMachine r → TakesNothing r
+machine-nothing (rec.Accepted c bytes) h = let no = h.1 in absurd cc
+machine-nothing (rec.Eof c) h = let no = h.1 in absurd cc
+machine-nothing _ h = tt
+
+notes-nothing : (place : Place) (c : ℕ) (rs : List Rec) → IsMachine place → Each (NotedAt place c) rs → Each TakesNothing rs
+notes-nothing place c rs m e = Each-weaker (NotedAt place c) TakesNothing (λ r h. machine-nothing r (note-machine place c r m h)) rs e
+
+gave-nothing : (place : Place) (c : ℕ) (r : Rec) → GaveAt place c r → TakesNothing r
+gave-nothing Front c (rec.Gave Front d epoch) h = tt
+gave-nothing (Node n) c (rec.Gave (Node j) d epoch) h = tt
+gave-nothing _ c _ h = absurd h
+
+gaves-nothing : (place : Place) (c : ℕ) (rs : List Rec) → Each (GaveAt place c) rs → Each TakesNothing rs
+gaves-nothing place c rs e = Each-weaker (GaveAt place c) TakesNothing (gave-nothing place c) rs e
+
+timer-nothing : (place : Place) (c : ℕ) (r : Rec) → IsTimerAt place c r → TakesNothing r
+timer-nothing place c (rec.Armed p d kind) h = tt
+timer-nothing place c (rec.Cleared p d kind) h = tt
+timer-nothing place c _ h = absurd h
+
+timers-nothing : (place : Place) (c : ℕ) (p q : Part) → Each TakesNothing (timer_rows place c p q)
+timers-nothing place c p q = Each-weaker (IsTimerAt place c) TakesNothing (timer-nothing place c) (timer_rows place c p q) (timer_rows-are place c p q)
+
+-- ---- what a rule owes
+
+-- A machine acts, or the connection's client, whose notes take of the packet that came.
+abbrev Takes : FilesAt → Conn → Move → Type 0
+Takes files x v = Untouched (IsTruthful files) x → IsMachine v.place ⊎ ((v.place ≡ Client x.c) × TakesOf x.c (tale_at x) v.heads v.said.notes)
+
+-- a packet of the cluster to the client is true
+fair-reply : (k : Talk) (c : ℕ) (p : Part) (from : Place) (bytes : List ℕ) → GoesBetween c from (Client c) bytes → IsFairOn k c p from (Client c) bytes
+    → (s : Said) × (bytes ≡ spelled c ToClient s) × IsReply k.w k.out k.was_reset s
+fair-reply k c p Front bytes goes f = f
+fair-reply k c p (Node n) bytes goes f = f
+fair-reply k c p (Client d) bytes goes f = absurd goes
+
+-- while it is untouched, a connection agrees
+open-knows : (files : FilesAt) (x : Conn) (s : Station) (from : Place) (bytes : List ℕ) → x.part.station ≡ Some s → IsSound x → Was x from (Client x.c) bytes → Untouched (IsTruthful files) x
+    → (tale_at x).touched ≡ false → Knows x.c s.client (tale_at x) bytes
+open-knows files x s from bytes there sound was given u =
+    let h : IsTruthful files x = given u in
+    let o : IsOpen files x h.talk h.pend s = open-at files x s there h in
+    let l : Letter = record { from = from; to = Client x.c; bytes = bytes } in
+    record {
+      w = h.talk.w;
+      out = h.talk.out;
+      was_reset = h.talk.was_reset;
+      client = o.client;
+      numbers = o.tale.numbers;
+      accepted = o.tale.accepted_is;
+      true_of = fair-reply h.talk x.c x.part from bytes (was-between x from (Client x.c) bytes sound was) (has-fair (IsFair h.talk x.c x.part) l x.letters was o.fair);
+    }
+
+ignores-takes : (c : ℕ) (from to : Place) (bytes : List ℕ) → GoesBetween c from to bytes → IsMachine to ⊎ (to ≡ Client c)
+ignores-takes c from Front bytes h = inl tt
+ignores-takes c from (Node n) bytes h = inl tt
+ignores-takes c Front (Client d) bytes h = inr (ap Client h)
+ignores-takes c (Node n) (Client d) bytes h = inr (ap Client h)
+ignores-takes c (Client e) (Client d) bytes h = absurd h
+
+owing : (k : Setting) → Rules k (Owed (Takes k.files))
+owing k = record {
+  untouched = record {
+    client = record {
+      opens = λ x isn iss wnd mss rule none number sound given. inr (refl, inl tt);
+      gets = λ x s path there le number sound given. inr (refl, inl (writes-pass s.client (request path)));
+      writes = λ x s bytes there le number sound given. inr (refl, inl (writes-pass s.client bytes));
+      shuts = λ x s there number sound given. inr (refl, inl tt);
+      aborts = λ x s there number sound given. inr (refl, inl (tt, tt));
+      holds = λ x s there number sound given. inr (refl, inl tt);
+      takes = λ x s there number sound given. inr (refl, inl tt);
+      fires = λ x s there number sound given. inr (refl, inl tt);
+      hears = λ x s from bytes there was number sound given. inr (
+        refl,
+        inr (
+          record { from = from; to = Client x.c; bytes = bytes },
+          refl,
+          hears x.c s.client (tale_at x) from bytes (open-knows k.files x s from bytes there sound was given) (sound.client s there) (decoded bytes x.c ToClient) refl,
+        ),
+      );
+    };
+    front = fronts-leave k (Takes k.files) (λ x v at own number sound given. inl at.machine);
+    node = nodes-leave k (Takes k.files) (λ x v at own number sound given. inl at.machine);
+    ignores = λ x from to bytes was number sound given. ⊎_elim (λ (m : IsMachine to). inl m) (λ (e : to ≡ Client x.c). inr (e, inl tt)) (ignores-takes x.c from to bytes (was-between x from to bytes sound was.0));
+  };
+  injects = λ x s bytes there rule number sound given. inr (refl, inl tt);
+}
+
+-- ---- a step
+
+-- what is seen of notes that all name the connection are these notes
+rows-same : (xs ys : List Rec) → map Row xs ≡ map Row ys → xs ≡ ys
+rows-same [] [] e = refl
+rows-same [] (y ∷ ys) e = absurd cc
+rows-same (x ∷ xs) [] e = absurd cc
+rows-same (x ∷ xs) (y ∷ ys) e =
+    let first : x ≡ y = cc in
+    let later : map Row xs ≡ map Row ys = cc in
+    λ i. first i ∷ rows-same xs ys later i
+
+same-number : (c d : ℕ) → Client d ≡ Client c → d ≡ c
+same-number c d e = cc
+
+module _ (files : FilesAt) (m : Machine) (view : IsViewed m) (truthful : (q : ℕ) → Untouched (IsTruthful files) (conn m q)) (e : Event) (adds : List Rec) where
+  abbrev P : Conn → Move → Type 0
+  P x v = Owed (Takes files) x v × IsFine x v
+
+  abbrev begun : List Rec
+  begun = rec.Event (m.events + 1) e ∷ behind e
+
+  begun-may : EachMay MayTake m.journal begun
+  begun-may = all-may m.journal begun (tt, behind-nothing e)
+
+  notes-take : (c : ℕ) (move : Move) (noted : List Rec) → Moves P m e c move noted → EachMay MayTake (m.journal ++ begun) noted
+  unfolding conn
+  notes-take c move noted a = ⊎_elim
+      (λ (machine : IsMachine move.place). all-may (m.journal ++ begun) noted (notes-nothing move.place c noted machine a.notes))
+      (λ (t : (move.place ≡ Client c) × TakesOf c (tale_at (conn m c)) move.heads move.said.notes).
+      let names : NamesAll move.place = subst NamesAll (sym t.0) tt in
+      let same : noted ≡ move.said.notes = rows-same noted move.said.notes (sym (notes-all move.place c [] noted names a.notes) ∙ a.seen []) in
+      subst (EachMay MayTake (m.journal ++ begun)) (sym same) (notes-may m.journal m.net view.told (m.events + 1) e c move.heads move.said.notes a.came t.1))
+      (a.does.0 a.number (view.sound c) (truthful c))
+
+  -- what a move gives up
+  gave-take : (c : ℕ) (move : Move) (noted : List Rec) → Moves P m e c move noted → Each TakesNothing move.said.gave
+  unfolding conn
+  gave-take c move noted a = gaves-nothing move.place c move.said.gave (a.does.1 a.number (view.sound c)).0.gave
+
+  -- behind the notes nothing is taken
+  said-take : (place : Place) (notes : List Rec) (segments : List (Place × List ℕ)) (gave : List Rec) (messages : List (Place × List ℕ)) (timers : List Rec)
+      → EachMay MayTake (m.journal ++ begun) notes → Each TakesNothing gave → Each TakesNothing timers
+      → EachMay MayTake m.journal (rec.Event (m.events + 1) e ∷ said_rows (behind e) m.net place notes segments gave messages timers)
+  said-take place notes segments gave messages timers may g t =
+      let J : List Rec = m.journal in
+      let S : List Rec = sent_records (length m.net + 1) place segments in
+      let M : List Rec = sent_records (length (m.net ++ packets_of place segments) + 1) place messages in
+      each_append MayTake J (begun ++ notes ++ S ++ gave ++ M) timers
+      (each_append MayTake J (begun ++ notes ++ S ++ gave) M
+      (each_append MayTake J (begun ++ notes ++ S) gave
+      (each_append MayTake J (begun ++ notes) S (each_append MayTake J begun notes begun-may may) (all-may (J ++ (begun ++ notes)) S (sents-nothing (length m.net + 1) place segments)))
+      (all-may (J ++ (begun ++ notes ++ S)) gave g))
+      (all-may (J ++ (begun ++ notes ++ S ++ gave)) M (sents-nothing (length (m.net ++ packets_of place segments) + 1) place messages)))
+      (all-may (J ++ (begun ++ notes ++ S ++ gave ++ M)) timers t)
+
+  alone-takes : ActsAlone P m e adds → EachMay MayTake m.journal (rec.Event (m.events + 1) e ∷ adds)
+  alone-takes a =
+      let v : Move = a.move in
+      subst (λ (rs : List Rec). EachMay MayTake m.journal (rec.Event (m.events + 1) e ∷ rs)) (sym a.are)
+      (said-take v.place a.noted v.said.segments v.said.gave v.said.messages (timer_rows v.place a.c (part_of m a.c) v.part) (notes-take a.c v a.noted a.moves) (gave-take a.c v a.noted a.moves)
+      (timers-nothing v.place a.c (part_of m a.c) v.part))
+
+  -- two connections move at a machine alone
+  both-machine : (a : ActsBoth P m e adds) → IsMachine a.first.place
+  unfolding conn
+  both-machine a = ⊎_elim
+      (λ (machine : IsMachine a.first.place). machine)
+      (λ (t : (a.first.place ≡ Client a.c) × TakesOf a.c (tale_at (conn m a.c)) a.first.heads a.first.said.notes).
+      ⊎_elim
+      (λ (machine : IsMachine a.second.place). subst IsMachine a.place machine)
+      (λ (u : (a.second.place ≡ Client a.d) × TakesOf a.d (tale_at (conn m a.d)) a.second.heads a.second.said.notes). absurd (a.apart (same-number a.c a.d (sym u.0 ∙ a.place ∙ t.0))))
+      (a.moves_too.does.0 a.moves_too.number (view.sound a.d) (truthful a.d)))
+      (a.moves.does.0 a.moves.number (view.sound a.c) (truthful a.c))
+
+  both-take : ActsBoth P m e adds → EachMay MayTake m.journal (rec.Event (m.events + 1) e ∷ adds)
+  both-take a =
+      let v : Move = a.first in
+      let w : Move = a.second in
+      let machine : IsMachine v.place = both-machine a in
+      let cs : List Rec = timer_rows v.place a.c (part_of m a.c) v.part in
+      let ds : List Rec = timer_rows w.place a.d (part_of m a.d) w.part in
+      let c_none = timers-nothing v.place a.c (part_of m a.c) v.part in
+      let d_none = timers-nothing w.place a.d (part_of m a.d) w.part in
+      let timers : Each TakesNothing a.timers = ⊎_elim
+      (λ (o : a.timers ≡ cs ++ ds). subst (Each TakesNothing) (sym o) (Each-append TakesNothing cs ds c_none d_none))
+      (λ (o : a.timers ≡ ds ++ cs). subst (Each TakesNothing) (sym o) (Each-append TakesNothing ds cs d_none c_none))
+      a.order in
+      subst (λ (rs : List Rec). EachMay MayTake m.journal (rec.Event (m.events + 1) e ∷ rs)) (sym a.are)
+      (said-take v.place (v.said.notes ++ w.said.notes) (v.said.segments ++ w.said.segments) (v.said.gave ++ w.said.gave) (v.said.messages ++ w.said.messages) a.timers
+      (all-may (m.journal ++ begun) (v.said.notes ++ w.said.notes)
+      (Each-append TakesNothing v.said.notes w.said.notes (notes-nothing v.place a.c v.said.notes machine a.moves.notes)
+      (notes-nothing w.place a.d w.said.notes (subst IsMachine (sym a.place) machine) a.moves_too.notes)))
+      (Each-append TakesNothing v.said.gave w.said.gave (gave-take a.c v v.said.notes a.moves) (gave-take a.d w w.said.notes a.moves_too))
+      timers)
+
+  step-takes : IsPassing m e adds ⊎ (ActsAlone P m e adds ⊎ ActsBoth P m e adds) → EachMay MayTake m.journal (rec.Event (m.events + 1) e ∷ adds)
+  step-takes (inl passing) = all-may m.journal (rec.Event (m.events + 1) e ∷ adds) (tt, passing-nothing e adds passing) where
+    passing-nothing : (d : Event) (rs : List Rec) → IsPassing m d rs → Each TakesNothing rs
+    passing-nothing (event.Clock ms) rs h = subst (Each TakesNothing) (sym h) (tt, tt)
+    passing-nothing d rs h = subst (Each TakesNothing) (sym h) (behind-nothing d)
+  step-takes (inr (inl a)) = alone-takes a
+  step-takes (inr (inr a)) = both-take a
+
+-- ---- every run
+
+taking : (k : Setting) → Rules k (λ x v. Owed (Takes k.files) x v × IsFine x v)
+taking k = both k (Owed (Takes k.files)) IsFine (owing k) (fine k)
+
+pub clients-take : StatesAreTruthful → ClientsTakeInOrder
+clients-take truthful config files m small r = carried-keep config files (λ k. TakesInOrder k.journal) tt step m r where
+  step : (k n : Machine) (e : Event) → IsOn config files k → TakesInOrder k.journal → HasRule e → machine_step k e ≡ Ok n → TakesInOrder n.journal
+  step k n e on h rule is =
+      let Q : Conn → Move → Type 0 = λ x v. Owed (Takes (file_at files)) x v × IsFine x v in
+      let s : IsStepOf Q k n e = step_acts k n e Q on.view (subst (λ (w : Setting). Rules w Q) (on-setting config files k on) (taking (setting config files))) rule is in
+      subst TakesInOrder (sym s.journal)
+      (each_append MayTake [] k.journal (rec.Event (k.events + 1) e ∷ s.adds) h (step-takes (file_at files) k on.view (λ q. truthful config files small k on.reached q) e s.adds s.acts))

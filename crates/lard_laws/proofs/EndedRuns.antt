@@ -1,0 +1,233 @@
+-- Each rule keeps what is told of an end: it was so, in every run.
+use Rattle.std.proofs.Common.{◌≡◌, ◌≤◌, ◌^◌, ℕ, false, List, [], ◌∷◌, Some, Result, Ok, refl, sym, ap, ◌∙◌, subst}
+use Rattle.std.specs.List.{fold}
+use Rattle.lard_answers.specs.Answers.{FilesAt}
+use Rattle.lard_base.specs.declared.event.Event.TheVariants as event
+use Rattle.lard_base.specs.declared.place.Place.{Place}
+use Rattle.lard_base.specs.declared.place.Place.TheVariants.{Client, Front, Node}
+use Rattle.lard_laws.proofs.AcksRuns.{front-heads, front-station, node-heads, node-station}
+use Rattle.lard_law_connections.specs.BytesAgreement.{FrontTells, IsFair, IsFairOn, IsOpen, IsTruthful}
+use Rattle.lard_law_connections.proofs.BytesClientMoves.{has-fair, open-at}
+use Rattle.lard_law_connections.proofs.BytesRuns.{states-truthful}
+use Rattle.lard_laws.specs.EndedEnds.{EndsAreTrue, IsTrueEnd, LetterEnds, TellsEnds, written_by}
+use Rattle.lard_laws.specs.EndedLaws.{ConnectionsWereClosed}
+use Rattle.lard_laws.proofs.EndedClients.{Keeps, clients, written-is}
+use Rattle.lard_laws.proofs.EndedFronts.{DeedEnds, admitted-ends, asked-ends, deed-place, ended-ends, gets-ends, taken-ends}
+use Rattle.lard_laws.proofs.EndedFronts as fronts_of
+use Rattle.lard_laws.proofs.EndedNodes as nodes_of
+use Rattle.lard_laws.proofs.EndedTurns.{IsUnwritten, PlaceEnds, notes-unwritten, place-keeps}
+use Rattle.lard_law_connections.proofs.LimitsMoves.{Helps}
+use Rattle.lard_law_connections.proofs.PlacesFrontRules.{has-each}
+use Rattle.lard_law_connections.proofs.PlacesLaw.{owing}
+use Rattle.lard_law_connections.proofs.PlacesRuns.{each-placed}
+use Rattle.lard_law_connections.proofs.PlacesTurns.{IsPlaced, Owes}
+use Rattle.lard_law_connections.specs.Stops.{ReadingStops}
+use Rattle.lard_law_connections.proofs.StopsRuns.{connections-stop}
+use Rattle.lard_law_view.specs.Carry.{IsUntouchedLaw, MayMove, Untouched, setting, tale_at}
+use Rattle.lard_law_view.specs.View.{Conn, FrontRules, IsFrontEnv, IsMachine, IsNodeEnv, Move, NodeRules, Said as SaidIn, Setting, Spells, UntouchedRules, Was, brought_said, contents, event_seen, front_does, grown, letters_of, node_does, nothing_said, packet_seen, reads_first, stands}
+use Rattle.lard_law_view.proofs.Carried.{carried}
+use Rattle.lard_law_view.proofs.Fine.{IsFine, fine}
+use Rattle.lard_law_view.proofs.Guarded.{untouched-both, untouched-law, untouched-weaker}
+use Rattle.lard_law_view.proofs.Rows.{tale_before}
+use Rattle.lard_endpoint.specs.declared.control.moving.Final.{Final}
+use Rattle.lard_files.specs.Files.{file_at}
+use Rattle.lard_rules.specs.Front as front
+use Rattle.lard_rules.specs.Front.{ask_of, front_asked, front_ended, front_gets, front_taken, front_timer}
+use Rattle.lard_history.specs.Journal.{tale_step}
+use Rattle.lard_history.specs.Own.{Seen, seen_step}
+use Rattle.lard_history.proofs.Each.{Each}
+use Rattle.lard_journal.specs.declared.rec.Rec.{Rec}
+use Rattle.lard_journal.specs.declared.rec.Rec.TheVariants as rec
+use Rattle.lard_message.specs.declared.message.Body.TheVariants as body
+use Rattle.lard_rules.specs.Node as node
+use Rattle.lard_rules.specs.Node.{node_acknowledged, node_content, node_forwarded, node_offered, node_read, node_tagged, node_timer}
+use Rattle.lard_rules.specs.Stay.{NodeEnv}
+use Rattle.lard_rules.specs.declared.places.Station.{Station}
+use Rattle.lard_segment.proofs.Again.{again}
+use Rattle.lard_segment.specs.declared.fault.SegFault.{SegFault}
+use Rattle.lard_segment.specs.declared.segment.Dir.TheVariants.{ToCluster}
+use Rattle.lard_segment.specs.Segment.{Said, decoded}
+use Rattle.lard_law_view.specs.Truth.{Stream}
+
+-- ---- what a place's move leaves alone
+
+front-machine : (x : Conn) (heads : List Seen) (d : front.Deed) → IsMachine (front_does x heads d).place
+front-machine x heads front.Drops = tt
+front-machine x heads (front.Says turn) = tt
+front-machine x heads (front.Does did) = tt
+
+node-machine : (x : Conn) (n : ℕ) (heads : List Seen) (d : node.Deed) → IsMachine (node_does x n heads d).place
+node-machine x n heads node.Drops = tt
+node-machine x n heads (node.Says messages) = tt
+node-machine x n heads (node.Does given) = tt
+
+-- what is seen before the notes
+abbrev told_by : Conn → List Seen → List ℕ
+told_by x heads = (fold (seen_step (tale_step x.c)) (tale_at x) heads).wrote
+
+module _ (k : Setting) (small : k.stream ≤ 2 ^ 30) where
+  -- what a place tells, by the streams of a connection whose client opened
+  abbrev Ends : FilesAt → Conn → Move → Type 0
+  Ends files x v = (s : Station) → x.part.station ≡ Some s → (h : IsTruthful files x) → (o : IsOpen files x h.talk h.pend s) → ReadingStops files x → TellsEnds (IsTrueEnd files h.talk.w s.iss) x → PlaceEnds x v (IsTrueEnd files h.talk.w s.iss)
+
+  by-streams : (x : Conn) (v : Move) → Ends k.files x v → IsTruthful k.files x → ReadingStops k.files x → (s : Station) → x.part.station ≡ Some s → TellsEnds (IsTrueEnd k.files (written_by x s) s.iss) x → PlaceEnds x v (IsTrueEnd k.files (written_by x s) s.iss)
+  by-streams x v ends h stops s there told =
+      let o : IsOpen k.files x h.talk h.pend s = open-at k.files x s there h in
+      let same : h.talk.w ≡ written_by x s = written-is k.files x s h.talk h.pend o in
+      subst (λ (w : Stream). PlaceEnds x v (IsTrueEnd k.files w s.iss)) same (ends s there h o stops (subst (λ (w : Stream). TellsEnds (IsTrueEnd k.files w s.iss) x) (sym same) told))
+
+  place-rule : (x : Conn) (v : Move) → (tale_before x v).wrote ≡ (tale_at x).wrote → v.part.station ≡ x.part.station → (Helps x v → Each IsUnwritten v.said.notes) → (Helps x v → Ends k.files x v) → Keeps k small x v
+  place-rule x v heads same notes ends help h stops told = place-keeps x v help k.files same heads (notes help) (by-streams x v (ends help) h stops) told
+
+  -- the files of the rule are the run's
+  by-files : (x : Conn) (v : Move) (files : FilesAt) → files ≡ k.files → Ends files x v → Ends k.files x v
+  by-files x v files same ends = subst (λ (f : FilesAt). Ends f x v) same ends
+
+  -- ---- the front end
+
+  front-rule : (x : Conn) (heads : List Seen) (d : front.Deed) → told_by x heads ≡ (tale_at x).wrote → (Helps x (front_does x heads d) → Ends k.files x (front_does x heads d)) → Keeps k small x (front_does x heads d)
+  front-rule x heads d plain ends = place-rule x (front_does x heads d) (ap (told_by x) (front-heads x heads d) ∙ plain) (front-station x heads d)
+      (λ help. notes-unwritten (front_does x heads d).place x.c (front_does x heads d).said.notes (front-machine x heads d) help.own.notes) ends
+
+  front-hears : (x : Conn) (s : Station) (env : front.FrontEnv) (bytes : List ℕ) → x.part.station ≡ Some s → IsFrontEnv k x.c env → env.iss ≡ s.iss → Was x (Client x.c) Front bytes
+      → Keeps k small x (front_does x (packet_seen (Client x.c) Front bytes) (front_gets env x.part.front bytes (decoded bytes x.c ToCluster)))
+  front-hears x s env bytes there is iss was =
+      let heads : List Seen = packet_seen (Client x.c) Front bytes in
+      front-rule x heads (front_gets env x.part.front bytes (decoded bytes x.c ToCluster)) refl (λ help.
+      by-files x (front_does x heads (front_gets env x.part.front bytes (decoded bytes x.c ToCluster))) env.serve.files is.files (λ t at h o stops told.
+      let f : IsFairOn h.talk x.c x.part (Client x.c) Front bytes = has-fair (IsFair h.talk x.c x.part) (record { from = Client x.c; to = Front; bytes = bytes }) x.letters was o.fair in
+      let read : decoded bytes x.c ToCluster ≡ Ok f.0 = ap (λ (b : List ℕ). decoded b x.c ToCluster) f.1 ∙ again x.c ToCluster f.0 f.2.sendable in
+      let P : Final → Type 0 = IsTrueEnd env.serve.files h.talk.w t.iss in
+      deed-place P x told heads (front_gets env x.part.front bytes (decoded bytes x.c ToCluster))
+      (subst (λ (r : Result Said SegFault). DeedEnds P (front_gets env x.part.front bytes r)) (sym read) (gets-ends env (within env is) x t h.talk h.pend o stops.0 f.0 f.2 bytes))))
+    where
+      within : (env : front.FrontEnv) → IsFrontEnv k x.c env → env.serve.stream ≤ 2 ^ 30
+      within env is = subst (λ (m : ℕ). m ≤ 2 ^ 30) (sym is.stream) small
+
+  front-deed : (x : Conn) (heads : List Seen) (d : front.Deed) → told_by x heads ≡ (tale_at x).wrote → ((P : Final → Type 0) → TellsEnds P x → DeedEnds P d) → Keeps k small x (front_does x heads d)
+  front-deed x heads d plain ends = front-rule x heads d plain (λ help t at h o stops told. deed-place (IsTrueEnd k.files h.talk.w t.iss) x told heads d (ends (IsTrueEnd k.files h.talk.w t.iss) told))
+
+  fronts : FrontRules k (Keeps k small)
+  fronts = record {
+    hears = front-hears;
+    fires = λ x s env there is. front-rule x (event_seen (event.Timer Front x.c)) (front_timer env x.part.front) refl (λ help.
+        by-files x (front_does x (event_seen (event.Timer Front x.c)) (front_timer env x.part.front)) env.serve.files is.files (λ t at h o stops told.
+        deed-place (IsTrueEnd env.serve.files h.talk.w t.iss) x told (event_seen (event.Timer Front x.c)) (front_timer env x.part.front)
+        (fronts_of.timer-ends env (subst (λ (m : ℕ). m ≤ 2 ^ 30) (sym is.stream) small) x t h.talk h.pend o stops.0)));
+    taken = λ x env n epoch bytes is spells was. front-deed x (packet_seen (Node n) Front bytes) (front_taken x.part.front epoch) refl (λ P told. taken-ends P x told (packet_seen (Node n) Front bytes) epoch);
+    asked = λ x env n epoch number queue size paths bytes is spells was. front-deed x (packet_seen (Node n) Front bytes) (front_asked env x.part.front n epoch (ask_of x.c n number queue size paths)) refl
+        (λ P told. asked-ends P x told (packet_seen (Node n) Front bytes) env n epoch (ask_of x.c n number queue size paths));
+    ended = λ x env n epoch reason snd rcv count bytes is spells was.
+        let heads : List Seen = packet_seen (Node n) Front bytes in
+        let last : Final = record { reason = reason; snd = record { 0 = snd }; rcv = record { 0 = rcv } } in
+        front-rule x heads (front_ended env x.part.front n epoch last) refl (λ help t at h o stops told.
+        let P : Final → Type 0 = IsTrueEnd k.files h.talk.w t.iss in
+        deed-place P x told heads (front_ended env x.part.front n epoch last)
+        (ended-ends P x told heads env help.placed n epoch last ((has-each (LetterEnds P x.part.front.row) (record { from = Node n; to = Front; bytes = bytes }) x.letters was told.packets) _ spells)));
+    admitted = λ x env choice given is e. front-deed x [] (front.Does (record { part = given.0; turn = given.1; calls = [] })) refl (λ P told. admitted-ends P x told [] env choice given e);
+  }
+
+  -- ---- the nodes
+
+  node-rule : (x : Conn) (n : ℕ) (heads : List Seen) (d : node.Deed) → told_by x heads ≡ (tale_at x).wrote → (Helps x (node_does x n heads d) → Ends k.files x (node_does x n heads d)) → Keeps k small x (node_does x n heads d)
+  node-rule x n heads d plain ends = place-rule x (node_does x n heads d) (ap (told_by x) (node-heads x n heads d) ∙ plain) (node-station x n heads d)
+      (λ help. notes-unwritten (node_does x n heads d).place x.c (node_does x n heads d).said.notes (node-machine x n heads d) help.own.notes) ends
+
+  node-within : (c n epoch : ℕ) (env : NodeEnv) → IsNodeEnv k c n epoch env → env.serve.stream ≤ 2 ^ 30
+  node-within c n epoch env is = subst (λ (m : ℕ). m ≤ 2 ^ 30) (sym is.stream) small
+
+  -- what says nothing of an end
+  stands-rule : (x : Conn) (place : Place) (heads : List Seen) (said : SaidIn) → told_by x heads ≡ (tale_at x).wrote → Each IsUnwritten said.notes → ((P : Final → Type 0) → Each (LetterEnds P x.part.front.row) (letters_of (stands x place heads said)))
+      → Keeps k small x (stands x place heads said)
+  stands-rule x place heads said plain notes letters = place-rule x (stands x place heads said) plain refl (λ help. notes) (λ help t at h o stops told. record { front = told.front; letters = letters (IsTrueEnd k.files h.talk.w t.iss) })
+
+  node-hears : (x : Conn) (n epoch : ℕ) (env : NodeEnv) (segment bytes : List ℕ) → IsNodeEnv k x.c n epoch env → Spells x.c epoch (body.Forward segment) bytes → Was x Front (Node n) bytes
+      → Keeps k small x (node_does x n (packet_seen Front (Node n) bytes) (node_forwarded env (x.part.nodes n) (decoded segment x.c ToCluster)))
+  node-hears x n epoch env segment bytes is spells was =
+      let heads : List Seen = packet_seen Front (Node n) bytes in
+      node-rule x n heads (node_forwarded env (x.part.nodes n) (decoded segment x.c ToCluster)) refl (λ help.
+      by-files x (node_does x n heads (node_forwarded env (x.part.nodes n) (decoded segment x.c ToCluster))) env.serve.files is.files (λ t at h o stops told.
+      let f : FrontTells h.talk x.c x.part n epoch bytes (body.Forward segment) = (has-fair (IsFair h.talk x.c x.part) (record { from = Front; to = Node n; bytes = bytes }) x.letters was o.fair) _ spells in
+      let read : decoded segment x.c ToCluster ≡ Ok f.0 = ap (λ (b : List ℕ). decoded b x.c ToCluster) f.1 ∙ again x.c ToCluster f.0 f.2.sendable in
+      subst (λ (r : Result Said SegFault). PlaceEnds x (node_does x n heads (node_forwarded env (x.part.nodes n) r)) (IsTrueEnd env.serve.files h.talk.w t.iss)) (sym read)
+      (nodes_of.forwarded-ends env (node-within x.c n epoch env is) x help.sound help.placed t h.talk h.pend o n (stops.1 n) told heads f.0 f.2)))
+
+  nodes : NodeRules k (Keeps k small)
+  nodes = record {
+    offered = λ x n epoch env parts bytes is spells was.
+        let heads : List Seen = packet_seen Front (Node n) bytes in
+        node-rule x n heads (node_offered env (x.part.nodes n) parts) refl (λ help. by-files x (node_does x n heads (node_offered env (x.part.nodes n) parts)) env.serve.files is.files (λ t at h o stops told.
+        nodes_of.offered-ends env (node-within x.c n epoch env is) x help.sound help.placed t h.talk h.pend o n (stops.1 n) told heads help.number epoch is.epoch_is parts bytes spells was));
+    forwarded = node-hears;
+    tagged = λ x n epoch number tags env bytes is spells was.
+        let heads : List Seen = packet_seen Front (Node n) bytes in
+        node-rule x n heads (node_tagged env (x.part.nodes n) number tags) refl (λ help. by-files x (node_does x n heads (node_tagged env (x.part.nodes n) number tags)) env.serve.files is.files (λ t at h o stops told.
+        nodes_of.tagged-ends env (node-within x.c n epoch env is) x help.sound help.placed t h.talk h.pend o n (stops.1 n) told heads number tags));
+    content = λ x n from epoch r env file bytes is spells was.
+        let heads : List Seen = packet_seen (Node from) (Node n) bytes in
+        node-rule x n heads (node_content env (x.part.nodes n) from r) refl (λ help. by-files x (node_does x n heads (node_content env (x.part.nodes n) from r)) env.serve.files is.files (λ t at h o stops told.
+        nodes_of.content-ends env (node-within x.c n epoch env is) x help.sound help.placed t h.talk h.pend o n (stops.1 n) told heads from r));
+    acknowledged = λ x n epoch env bytes is spells was.
+        let heads : List Seen = packet_seen Front (Node n) bytes in
+        node-rule x n heads (node_acknowledged env (x.part.nodes n)) refl (λ help. by-files x (node_does x n heads (node_acknowledged env (x.part.nodes n))) env.serve.files is.files (λ t at h o stops told.
+        nodes_of.acknowledged-ends env (node-within x.c n epoch env is) x help.sound help.placed t h.talk h.pend o n (stops.1 n) told heads));
+    read = λ x n epoch r env path is.
+        let d : node.Deed = node_read env (x.part.nodes n) r in
+        let v : Move = node_does x n [] d in
+        let first : Rec = rec.Read n n x.c r path in
+        place-rule x (reads_first first v) (ap (told_by x) (node-heads x n [] d)) (node-station x n [] d) (λ help. notes-unwritten (reads_first first v).place x.c (reads_first first v).said.notes (node-machine x n [] d) help.own.notes)
+        (λ help. by-files x (reads_first first v) env.serve.files is.files (λ t at h o stops told. read-first x first v (IsTrueEnd env.serve.files h.talk.w t.iss)
+        (nodes_of.read-ends env (node-within x.c n epoch env is) x help.sound help.placed t h.talk h.pend o n (stops.1 n) told [] r)));
+    fires = λ x s n env there is.
+        let heads : List Seen = event_seen (event.Timer (Node n) x.c) in
+        node-rule x n heads (node_timer env (x.part.nodes n)) refl (λ help. by-files x (node_does x n heads (node_timer env (x.part.nodes n))) env.serve.files is.files (λ t at h o stops told.
+        nodes_of.timer-ends env (node-within x.c n _ env is) x help.sound help.placed t h.talk h.pend o n (stops.1 n) told heads));
+    answers = λ x n from epoch r path file bytes there spells was. stands-rule x (Node n) (packet_seen (Node from) (Node n) bytes) (contents k n from x.c epoch r path) refl tt (λ P. (tt, tt));
+    queues = λ x n from epoch r path file bytes there spells was. stands-rule x (Node n) (packet_seen (Node from) (Node n) bytes) (record nothing_said { notes = rec.Queued n from x.c r path ∷ [] }) refl (tt, tt) (λ P. tt);
+    brings = λ x n from epoch r path. stands-rule x (Node n) [] (brought_said k n from x.c epoch r path) refl (tt, tt) (λ P. (tt, tt));
+  } where
+    -- the record of a job that was read tells no end
+    read-first : (x : Conn) (r : Rec) (v : Move) (P : Final → Type 0) → PlaceEnds x v P → PlaceEnds x (reads_first r v) P
+    read-first x r v P p = record { front = p.front; letters = p.letters }
+
+  -- ---- the law
+
+  keeps : UntouchedRules k (Keeps k small)
+  keeps = record {
+    client = clients k small;
+    front = fronts;
+    node = nodes;
+    ignores = λ x from to bytes was. stands-rule x to (packet_seen from to bytes) nothing_said refl tt (λ P. tt);
+  }
+
+  -- where it sits, that it agrees, and why it is read no further
+  abbrev pub Given : Conn → Type 0
+  Given x = IsPlaced x × Untouched (IsTruthful k.files) x × ReadingStops k.files x
+
+  abbrev Owed : Conn → Move → Type 0
+  Owed x v = MayMove Given x → IsPlaced x → Owes x v
+
+  abbrev Wanted : Conn → Move → Type 0
+  Wanted x v = MayMove Given x → (tale_at x).touched ≡ false → EndsAreTrue k.files x → EndsAreTrue k.files (grown x v)
+
+  abbrev All : Conn → Move → Type 0
+  All x v = (IsFine x v × Owed x v) × Keeps k small x v
+
+  wanted : (x : Conn) (v : Move) → All x v → Wanted x v
+  wanted x v all may untouched told = all.1
+      (record { number = may.number; sound = may.sound; placed = may.given.0; owes = all.0.1 may may.given.0; own = (all.0.0 may.number may.sound).0 })
+      (may.given.1 untouched) may.given.2 told
+
+  ended-law : IsUntouchedLaw k Given (EndsAreTrue k.files)
+  ended-law = record {
+    begins = λ c. tt;
+    moves = untouched-weaker k All Wanted wanted
+        (untouched-both k (λ x v. IsFine x v × Owed x v) (Keeps k small) (untouched-both k IsFine Owed (fine k).untouched (owing k Given).untouched) keeps);
+  }
+
+-- In every state that events lead to.
+pub connections-were-closed : ConnectionsWereClosed
+connections-were-closed config files small =
+    let k : Setting = setting config files in
+    carried config files (Given k small) (Untouched (EndsAreTrue (file_at files))) (untouched-law k (Given k small) (EndsAreTrue (file_at files)) (ended-law k small))
+    (λ m r q. (each-placed config files m r q, states-truthful config files small m r q, connections-stop config files m r q))

@@ -1,0 +1,564 @@
+-- What each rule of the front end keeps of a connection, and that its turn is in range.
+use Rattle.std.proofs.Common.{◌≡◌, ℕ, suc, ◌+◌, ◌-◌, ◌*◌, ◌≤◌, ◌<◌, ◌^◌, ◌==◌, ◌&&◌, not, nat_lt, List, [], ◌∷◌, ◌++◌, length, map, Bool, true, false, cond, Option, Some, None, IfSome, Ok, Err, Result, refl, sym, ap, subst, arith, eqb-true}
+use Rattle.std.proofs.lemmas.Bool.{and_parts, cond_both, ltb-true, not-true}
+use Rattle.std.specs.List.{AllByRecursion}
+use Rattle.lard_answers.specs.Answers.{good_path}
+use Rattle.lard_base.specs.declared.ids.Epoch.{Epoch}
+use Rattle.lard_base.specs.declared.place.Place.{Place}
+use Rattle.lard_base.specs.declared.place.Place.TheVariants as place
+use Rattle.lard_base.specs.declared.place.Reason.{Reason}
+use Rattle.lard_base.specs.declared.place.Reason.TheVariants as reason
+use Rattle.lard_base.specs.declared.place.TimerKind.TheVariants as kind
+use Rattle.lard_base.specs.declared.place.Via.TheVariants.{Own}
+use Rattle.lard_block.specs.declared.block.Found.{Found}
+use Rattle.lard_block.specs.declared.block.Found.TheVariants.{Block, More, TooLong}
+use Rattle.lard_block.specs.Blocks.{cut_of}
+use Rattle.lard_rules.specs.Bounds as cluster
+use Rattle.lard_laws.proofs.RecordsFit.{IsTold, fit-listening, keeping-segment, keeping-timer, offer-fits}
+use Rattle.lard_laws.proofs.RecordsLetters.{IsLetter, bytes-message, conn-number, spells}
+use Rattle.lard_laws.proofs.RecordsNamed.{AreNamed, IsNamed, contents, verdict-named}
+use Rattle.lard_laws.proofs.RecordsServing.{EndFits, EndKeeps, Keeps, Serves, TurnFits, answered-serves, consumed-serves, count-few, ended-serves, ready-few, ready-sent, settled-fits, spoken-fits, told-sent}
+use Rattle.lard_laws.proofs.RecordsTurns.{AreHeld, IsTurn, held-less, held-sent, length-held, length-less, sends}
+use Rattle.lard_costs.specs.declared.later.LaterChoice.{LaterChoice}
+use Rattle.lard_dispatch.specs.declared.dispatch.Ask.{Ask}
+use Rattle.lard_dispatch.specs.declared.dispatch.First.{First}
+use Rattle.lard_dispatch.specs.declared.dispatch.First.TheVariants as first
+use Rattle.lard_dispatch.specs.declared.dispatch.Later.{Later}
+use Rattle.lard_dispatch.specs.Sound as dispatch
+use Rattle.lard_dispatch.proofs.Chosen.{IsChosen}
+use Rattle.lard_endpoint.specs.declared.control.moving.Final.{Final}
+use Rattle.lard_endpoint.specs.Arriving.{on_segment}
+use Rattle.lard_endpoint.specs.Control.{ControlBlock, listening}
+use Rattle.lard_endpoint.specs.Leaving.{after_timer, timed}
+use Rattle.lard_endpoint.specs.Moving.{may_freeze}
+use Rattle.lard_rules.specs.declared.front.FrontRest.{FrontRest}
+use Rattle.lard_rules.specs.declared.front.FrontTurn.{FrontTurn}
+use Rattle.lard_rules.specs.Front.{Deed, Drops, Says, Does, FrontEnv, FrontPart, ack_sent, admitted_at, admitted_by, admitted_with, ask_of, asked_by, assigned_notes, assigns, begun, ended_by, fired, fired_by, fires_at, forwarded, front_admitted, front_asked, front_ended, front_gets, front_hears, front_taken, front_timer, handed_off, heard, hears_at, holds, is_at, is_with, met, offer_kept, over_note, placed, rest_of, rests, saying, settled_by, tag_sent, taken_by, turn_here, waits_on}
+use Rattle.lard_rules.specs.FrontReading.{MayMove, Reading, block_at, left, reads, reads_block, reads_found, targeted, turn}
+use Rattle.lard_rules.proofs.FrontBlocks.{EndsIdle, EndsServing, ServesAs, idle-of, segment-idle, segment-serves, settled-serves, spoken-idle, spoken-serves, timer-idle, timer-serves}
+use Rattle.lard_rules.proofs.FrontTurns.{HasStopped, reads-stop}
+use Rattle.lard_handoff_front.specs.declared.row.FrontConn.{FrontConn}
+use Rattle.lard_handoff_front.specs.declared.row.FrontConn.TheVariants as stage
+use Rattle.lard_handoff_front.specs.declared.row.FrontRow.{FrontRow}
+use Rattle.lard_handoff_front.specs.declared.table.OnEnded.{OnEnded}
+use Rattle.lard_handoff_front.specs.declared.table.OnEnded.TheVariants.{Again, New, Stale}
+use Rattle.lard_handoff_front.specs.Front.{asked_node, end_answer, ended_with, next_epoch}
+use Rattle.lard_handoff_front.specs.Row.{is_away, offered_to}
+use Rattle.lard_history.proofs.Each.{Each, Each-append}
+use Rattle.lard_journal.specs.declared.rec.Rec.TheVariants as rec
+use Rattle.lard_journal.specs.Range.{IsChoiceInRange, IsInRange, IsNumber, IsPlaceInRange, IsUnspaced}
+use Rattle.lard_law_view.proofs.ByteLists.{AreBytes}
+use Rattle.lard_message.specs.declared.message.Body.TheVariants as body
+use Rattle.lard_message.specs.Message as message
+use Rattle.lard_policy.specs.declared.first.FirstChoice.{FirstChoice}
+use Rattle.lard_request.specs.declared.verdict.Code.TheVariants as code
+use Rattle.lard_request.specs.declared.verdict.Verdict.{Verdict}
+use Rattle.lard_request.specs.declared.verdict.Verdict.TheVariants.{Fault}
+use Rattle.lard_resend.specs.Kept.{without}
+use Rattle.lard_resend.specs.Pending.{sent_of}
+use Rattle.lard_rules.proofs.Runs.{runs_keep}
+use Rattle.lard_rules.specs.declared.places.Ending.{Ending}
+use Rattle.lard_rules.specs.declared.places.Ending.TheVariants as ending
+use Rattle.lard_rules.specs.declared.places.Turn.{Turn}
+use Rattle.lard_rules.specs.Tombstone.{is_plain_syn, is_telling, last_ack, last_words, refusal, tombstone}
+use Rattle.lard_rules.specs.Loop.{Step}
+use Rattle.lard_rules.specs.Loop as loop
+use Rattle.lard_rules.specs.Serving.{Service, consumed, may_read, ready_of, serving, settled, spoken, told}
+use Rattle.lard_segment.specs.declared.fault.SegFault.{SegFault}
+use Rattle.lard_segment.specs.Segment.{Said}
+
+-- ---- what is kept
+
+-- a node that there can be
+abbrev pub IsNode : ℕ → Type 0
+IsNode n = dispatch.IsNode 64 n
+
+pub node-number : (n : ℕ) → IsNode n → IsNumber n
+node-number n h = let most = h.1 in omega (arith, most)
+
+-- The front end has it in its first epoch, a node in the second at most, and a message has that epoch; what is here is bytes, serves
+-- what was asked for, and may move where it waits.
+abbrev pub StageKeeps : ℕ → ℕ → FrontConn → Type 0
+StageKeeps e count (stage.Held b) = (e ≤ 1) × Keeps count b × ServesAs count b
+StageKeeps e count (stage.Waiting b) = (e ≤ 1) × Keeps count b × ServesAs count b × (may_freeze b ≡ true)
+StageKeeps e count stage.Lent = e ≤ 1
+StageKeeps e count (stage.Offering node d) = (e ≤ 2) × IsNode node × (d.0 < 2 ^ 16)
+StageKeeps e count (stage.Moved node d) = (e ≤ 2) × IsNode node × (d.0 < 2 ^ 16)
+StageKeeps e count (stage.Closed last) = Unit {0}
+
+abbrev pub RowKeeps : ℕ → ℕ → Option FrontRow → Type 0
+RowKeeps c count None = Unit {0}
+RowKeeps c count (Some row) = cluster.IsNumber c × StageKeeps row.epoch.0 count row.stage
+
+-- The path with which it waits names a file, and the last Tag has one to eight nodes. Each Ask that was answered assigned at most
+-- eight requests.
+pub record RestKeeps (rest : FrontRest) : Type 0 where
+  pub assigned : rest.assigned ≤ 2 ^ 32 + 8 * rest.asks
+  pub asks : rest.asks < 2 ^ 32
+  pub tag : AllByRecursion IsNode rest.tag
+  pub some : 0 < rest.asks → 1 ≤ length rest.tag
+  pub short : length rest.tag ≤ 8
+  pub target : IfSome rest.target IsNamed
+
+pub record FrontKeeps (c : ℕ) (p : FrontPart) : Type 0 where
+  pub row : RowKeeps c (rest_of p.rest).count p.row
+  pub rest : RestKeeps (rest_of p.rest)
+  pub kept : AreHeld place.Front p.kept
+  pub few : length p.kept ≤ 1
+
+-- nothing is known of what was done
+pub no-rest : RestKeeps (rest_of None)
+no-rest = record { assigned = omega arith; asks = omega arith; tag = tt; some = λ h. absurd (omega (arith, h)); short = omega arith; target = tt }
+
+-- ---- what the dispatcher answers
+
+abbrev pub FirstFits : First → Type 0
+FirstFits (first.Go choice) = IsChosen 64 choice
+FirstFits first.Waits = Unit {0}
+
+pub record IsLater (choice : LaterChoice) : Type 0 where
+  pub node : IsNode choice.node
+  pub add : IfSome choice.add IsNode
+
+-- each choice is of a node that there can be
+pub record AnswersFit (env : FrontEnv) : Type 0 where
+  pub first : (path : List ℕ) → FirstFits (env.first path)
+  pub later : (ask : Ask) → IsNode ask.home → Each IsLater (env.later ask).choices
+  pub as_many : (ask : Ask) → length (env.later ask).choices ≡ length ask.paths
+
+choice-range : (o : Option ℕ) → IfSome o IsNode → IsChoiceInRange o
+choice-range None h = tt
+choice-range (Some n) h = node-number n h
+
+-- ---- what a rule comes to
+
+abbrev pub FrontTurnFits : FrontTurn → Type 0
+FrontTurnFits t = IsTurn place.Front t.notes t.segments t.gave t.messages
+
+abbrev pub DeedFits : ℕ → Deed → Type 0
+DeedFits c Drops = Unit {0}
+DeedFits c (Says t) = FrontTurnFits t
+DeedFits c (Does x) = FrontKeeps c x.part × FrontTurnFits x.turn
+
+-- where the head of the line is admitted
+abbrev pub AdmissionFits : ℕ → Option (FrontPart × FrontTurn) → Type 0
+AdmissionFits c None = Unit {0}
+AdmissionFits c (Some given) = FrontKeeps c given.0 × FrontTurnFits given.1
+
+-- an endpoint's turn is one of the front end
+here-fits : (t : Turn) → TurnFits place.Front t → FrontTurnFits (turn_here t)
+here-fits t h = record { notes = h.notes; segments = h.sent; few = h.few; gave = tt; messages = tt; few_messages = omega arith }
+
+-- the records by which the requests of an Ask are assigned
+assigned-range : (c : ℕ) (ask : Ask) (r : ℕ) (paths : List (List ℕ)) (choices : List LaterChoice) → IsNumber c → r + length choices ≤ 2 ^ 40 → IsNumber ask.size → IsNumber ask.queue → Each IsUnspaced paths
+    → Each IsLater choices → Each IsInRange (assigned_notes c ask r paths choices)
+assigned-range c ask r [] choices n few size queue ps cs = tt
+assigned-range c ask r (path ∷ paths) [] n few size queue ps cs = tt
+assigned-range c ask r (path ∷ paths) (choice ∷ choices) n few size queue ps cs =
+    ((n, omega (arith, few), ps.0, node-number choice.node cs.0.node, choice-range choice.add cs.0.add, size, queue), assigned-range c ask (r + 1) paths choices n (omega (arith, few)) size queue ps.1 cs.1)
+
+over-range : (c : ℕ) (b : Bool) → IsNumber c → Each IsInRange (over_note c b)
+over-range c true n = (n, tt)
+over-range c false n = tt
+
+-- the nodes of a Tag
+nodes-of : (choices : List LaterChoice) → Each IsLater choices → AllByRecursion IsNode (map (λ x. x.node) choices)
+nodes-of [] h = tt
+nodes-of (x ∷ xs) h = (h.0.node, nodes-of xs h.1)
+
+nodes-bytes : (nodes : List ℕ) → AllByRecursion IsNode nodes → AreBytes nodes
+nodes-bytes [] h = tt
+nodes-bytes (n ∷ ns) h = let most = h.0.1 in (omega (arith, most), nodes-bytes ns h.1)
+
+nodes-length : (choices : List LaterChoice) → length (map (λ x. x.node) choices) ≡ length choices
+nodes-length [] = refl
+nodes-length (x ∷ xs) = ap suc (nodes-length xs)
+
+-- the bytes of a segment, as a Forward has them
+abbrev pub IsSegment : List ℕ → Type 0
+IsSegment bytes = message.IsOfTable (body.Forward bytes)
+
+-- an Ask as it was read
+pub record IsAsked (z q n : ℕ) (ps : List (List ℕ)) : Type 0 where
+  pub number : z < 2 ^ 32
+  pub queue : q < 2 ^ 32
+  pub size : n ≤ 8
+  pub some : 1 ≤ length ps
+  pub few : length ps ≤ 8
+  pub paths : Each IsUnspaced ps
+
+-- what may be read has not ended
+pub may-open : (w : Service) → may_read w ≡ true → w.block.send.finished ≡ false
+may-open w may = not-true w.block.send.finished (and_parts (not w.block.send.finished) _ (and_parts (not w.block.reset) _ may).1).0
+
+-- ---- the rules, in an environment of the front end
+
+module _ (env : FrontEnv) (own : env.serve.place ≡ place.Front) (conn : cluster.IsNumber env.serve.c) (small : env.serve.stream ≤ 2 ^ 30) (named : AreNamed env.serve.files) where
+  abbrev c : ℕ
+  c = env.serve.c
+
+  abbrev number : IsNumber env.serve.c
+  number = conn-number env.serve.c conn
+
+  at : IsPlaceInRange env.serve.place
+  at = subst IsPlaceInRange (sym own) tt
+
+  abbrev IsServing : Service → Type 0
+  IsServing w = Serves env.serve number small (contents env.serve.files named) at w
+
+  -- a message of the front end
+  abbrev IsSaid : Place × List ℕ → Type 0
+  IsSaid s = IsLetter place.Front s
+
+  spoken-front : (w : Service) (before : List (Place × List ℕ)) → Each (IsLetter env.serve.place) before → length before ≤ 1 → IsServing w → EndFits place.Front (spoken env.serve w before)
+  spoken-front w before sent one h = subst (λ (p : Place). EndFits p (spoken env.serve w before)) own (spoken-fits env.serve number small (contents env.serve.files named) at w before sent one h)
+
+  -- ---- reading
+
+  abbrev IsReading : Reading → Type 0
+  IsReading x = IsServing x.service × IfSome x.target IsNamed
+
+  abbrev IsReadingIn : Step Reading → Type 0
+  IsReadingIn (loop.More y) = IsReading y
+  IsReadingIn (loop.Done y) = IsReading y
+
+  targeted-reads : (path : List ℕ) (x : Reading) → IsNamed path → IsReading x → IsReading (targeted path x)
+  targeted-reads path x n h = cond_both (may_freeze x.service.block) (record x { target = Some path }) x IsReading (λ t. (h.0, n)) (λ t. h)
+
+  -- nothing is read behind the FIN
+  abbrev IsOpen : Reading → Type 0
+  IsOpen x = x.service.block.send.finished ≡ false
+
+  block-reads : (x : Reading) (n : ℕ) (v : Verdict) (o : Option (List ℕ)) → IsOpen x → IfSome o IsNamed → IsReading x → IsReadingIn (reads_block env.serve x n v o)
+  block-reads x n v None open_ k h = (answered-serves env.serve number small (contents env.serve.files named) at Own v (consumed n x.service) tt open_ (consumed-serves env.serve number small (contents env.serve.files named) at n x.service h.0), h.1)
+  block-reads x n v (Some path) open_ k h = targeted-reads path x k h
+
+  found-reads : (x : Reading) (f : Found) → IsOpen x → IsReading x → IsReadingIn (reads_found env.serve x f)
+  found-reads x (More skip) open_ h = (ended-serves env.serve number small (contents env.serve.files named) at (consumed skip x.service) (consumed-serves env.serve number small (contents env.serve.files named) at skip x.service h.0), h.1)
+  found-reads x (Block skip len) open_ h = block-reads x (skip + len) (block_at x skip len) (good_path env.serve.files (block_at x skip len)) open_ (verdict-named env.serve.files named (block_at x skip len)) h
+  found-reads x (TooLong skip) open_ h = (
+    answered-serves env.serve number small (contents env.serve.files named) at Own (Fault code.FieldsTooLarge) (consumed (length x.service.block.recv.unread) x.service) tt open_
+        (consumed-serves env.serve number small (contents env.serve.files named) at (length x.service.block.recv.unread) x.service h.0),
+    h.1,
+  )
+
+  turn-reads : (x : Reading) → IsReading x → IsReadingIn (turn env.serve x)
+  turn-reads x h = cond_both (may_read x.service) (reads_found env.serve x (cut_of x.service.block.recv.unread)) (loop.Done x) IsReadingIn (λ t. found-reads x (cut_of x.service.block.recv.unread) (may-open x.service t) h) (λ t. h)
+
+  reads-read : (x : Reading) → IsReading x → IsReading (reads env.serve x)
+  reads-read x h = runs_keep (turn env.serve) left IsReading (record {
+    more = λ y z e p. subst IsReadingIn e (turn-reads y p);
+    done = λ y z e p. subst IsReadingIn e (turn-reads y p);
+  }) x h
+
+  -- ---- a connection that is here
+
+  module _ (p : FrontPart) (held : FrontKeeps c p) where
+    abbrev Fits : Deed → Type 0
+    Fits d = DeedFits c d
+
+    -- it stays in a stage
+    abbrev StaysIn : ℕ → (ControlBlock → FrontConn) → Ending → Type 0
+    StaysIn e stays (ending.Here b count) = StageKeeps e count (stays b)
+    StaysIn e stays (ending.Over last) = Unit {0}
+
+    stays-held : (e : ℕ) (x : Ending) → e ≤ 1 → EndKeeps x → EndsServing x → StaysIn e stage.Held x
+    stays-held e (ending.Here b count) first k serves = (first, k, serves)
+    stays-held e (ending.Over last) first k serves = tt
+
+    stays-waiting : (e : ℕ) (x : Ending) → e ≤ 1 → EndKeeps x → EndsServing x → EndsIdle x → StaysIn e stage.Waiting x
+    stays-waiting e (ending.Here b count) first k serves idle = (first, k, serves, idle)
+    stays-waiting e (ending.Over last) first k serves idle = tt
+
+    rests-keep : (row : FrontRow) (rest : FrontRest) (stays : ControlBlock → FrontConn) (e : Ending) → StaysIn row.epoch.0 stays e → RestKeeps rest → FrontKeeps c (rests p row rest stays e)
+    rests-keep row rest stays (ending.Here b count) on r = record {
+      row = (conn, on);
+      rest = record { assigned = r.assigned; asks = r.asks; tag = r.tag; some = r.some; short = r.short; target = r.target };
+      kept = held.kept;
+      few = held.few;
+    }
+    rests-keep row rest stays (ending.Over last) on r = record { row = (conn, tt); rest = no-rest; kept = held.kept; few = held.few }
+
+    holds-fits : (row : FrontRow) (rest : FrontRest) (given : Ending × Turn) → row.epoch.0 ≤ 1 → RestKeeps rest → EndFits place.Front given → EndsServing given.0 → Fits (holds p row rest given)
+    holds-fits row rest given first r h serves = (rests-keep row rest stage.Held given.0 (stays-held row.epoch.0 given.0 first h.keeps serves) r, here-fits given.1 h.turn)
+
+    waits-fits : (row : FrontRow) (rest : FrontRest) (given : Ending × Turn) → row.epoch.0 ≤ 1 → RestKeeps rest → EndFits place.Front given → EndsServing given.0 → EndsIdle given.0
+        → Fits (waits_on env p row rest given)
+    waits-fits row rest given first r h serves idle = (rests-keep row rest stage.Waiting given.0 (stays-waiting row.epoch.0 given.0 first h.keeps serves idle) r, here-fits given.1 h.turn)
+
+    -- ---- the hand-off
+
+    handed-fits : (row : FrontRow) (w : Service) (path : List ℕ) (choice : FirstChoice) → row.epoch.0 ≤ 1 → IsServing w → ServesAs w.count w.block → may_freeze w.block ≡ true → IsNamed path → IsChosen 64 choice
+        → FrontKeeps c (handed_off env row w path choice).0 × FrontTurnFits (handed_off env row w path choice).1
+    handed-fits row w path choice early h serves may n chosen =
+        let few = count-few w.count w.block h.keeps in
+        let parts = offer-fits w.block w.count may serves.asked h.keeps.2 in
+        let offer : IsSaid (sent_of (offer_kept c row w.block w.count choice.node)) =
+        (node-number choice.node chosen.node, bytes-message c (next_epoch row).0 (body.Offer _) h.keeps.1, tt, spells c (next_epoch row).0 (body.Offer _) conn (omega (arith, early)) parts.0 parts.1) in (
+          record {
+            row = (conn, (omega (arith, early), chosen.node, omega (arith, early)));
+            rest = record { assigned = omega (arith, few); asks = omega arith; tag = tt; some = λ some. absurd (omega (arith, some)); short = omega arith; target = tt };
+            kept = (offer, tt);
+            few = omega arith;
+          },
+          record {
+            notes = Each-append IsInRange w.notes (rec.Admitted c ∷ rec.AssignedFirst c (w.count + 1) path choice.node choice.add choice.remove ∷ []) h.notes
+                (number, ((number, omega (arith, few), n.0, node-number choice.node chosen.node, choice-range choice.add chosen.add, choice-range choice.remove chosen.remove), tt));
+            segments = tt;
+            few = omega arith;
+            gave = ((tt, number, omega (arith, early)), tt);
+            messages = (offer, tt);
+            few_messages = omega arith;
+          },
+        )
+
+    placed-fits : (row : FrontRow) (rest : FrontRest) (w : Service) (path : List ℕ) (f : First) → row.epoch.0 ≤ 1 → RestKeeps rest → IsServing w → ServesAs w.count w.block → may_freeze w.block ≡ true → IsNamed path → FirstFits f
+        → Fits (Does (placed env p row rest w path f))
+    placed-fits row rest w path (first.Go choice) early r h serves may n chosen = handed-fits row w path choice early h serves may n chosen
+    placed-fits row rest w path first.Waits early r h serves may n chosen =
+        let v : Service = record w { notes = w.notes ++ rec.Waits c ∷ [] } in
+        let says : EndFits place.Front (spoken env.serve v []) = spoken-front v [] tt (omega arith) (record { notes = Each-append IsInRange w.notes (rec.Waits c ∷ []) h.notes (number, tt); keeps = h.keeps; over = h.over }) in (
+          rests-keep row (record rest { target = Some path }) stage.Waiting (spoken env.serve v []).0
+              (stays-waiting row.epoch.0 (spoken env.serve v []).0 early says.keeps (spoken-serves env.serve v [] serves) (spoken-idle env.serve v [] (idle-of w.block may serves.sent)))
+              (record { assigned = r.assigned; asks = r.asks; tag = r.tag; some = r.some; short = r.short; target = n }),
+          here-fits (spoken env.serve v []).1 says.turn,
+        )
+
+    settled_by-fits : AnswersFit env → (row : FrontRow) (rest : FrontRest) (w : Service) (o : Option (List ℕ)) → row.epoch.0 ≤ 1 → RestKeeps rest → IsServing w → ServesAs w.count w.block → MayMove w.block o → IfSome o IsNamed
+        → Fits (settled_by env p row rest w o)
+    settled_by-fits answers row rest w None early r h serves may n =
+        holds-fits row rest (settled env.serve w) early r (subst (λ (q : Place). EndFits q (settled env.serve w)) own (settled-fits env.serve number small (contents env.serve.files named) at w h)) (settled-serves env.serve w serves)
+    settled_by-fits answers row rest w (Some path) early r h serves may n = placed-fits row rest w path (env.first path) early r h serves may n (answers.first path)
+
+    heard-fits : AnswersFit env → (row : FrontRow) (rest : FrontRest) (b : ControlBlock) → row.epoch.0 ≤ 1 → RestKeeps rest → Keeps rest.count b → ServesAs rest.count b → Fits (heard env p row rest b)
+    heard-fits answers row rest b early r k serves =
+        let x : Reading = record { service = serving b rest.count []; target = None } in
+        let done : IsReading (reads env.serve x) = reads-read x (record { notes = tt; keeps = k; over = tt }, tt) in
+        let stopped : HasStopped (reads env.serve x) = reads-stop env.serve (serving b rest.count []) serves in
+        settled_by-fits answers row rest (reads env.serve x).service (reads env.serve x).target early r done.0 stopped.0 stopped.1 done.1
+
+    -- ---- segments
+
+    met-fits : (s : Said) → IsTold s → env.iss < 2 ^ 32 → Fits (met env p s)
+    met-fits s told first =
+        let w : Service = serving (listening s env.iss) 0 (rec.Took place.Front c (record { 0 = 1 }) ∷ []) in
+        cond_both (is_plain_syn s) (begun env p s) Drops Fits
+        (λ t. holds-fits (record { stage = stage.Lent; epoch = record { 0 = 1 }; ended_by = None }) (rest_of None) (spoken env.serve w []) (omega arith) no-rest
+        (spoken-front w [] tt (omega arith) (record { notes = ((tt, number, omega arith), tt); keeps = ((tt, omega arith, omega arith), tt, fit-listening s env.iss told first); over = tt }))
+        (spoken-serves env.serve w [] (record { counted = omega arith; asked = omega arith; most = omega arith; sent = omega arith })))
+        (λ t. tt)
+
+    forwarded-fits : (node : ℕ) (epoch : Epoch) (bytes : List ℕ) → IsNode node → epoch.0 < 2 ^ 16 → AreBytes bytes → IsSegment bytes → Fits (forwarded env node epoch bytes)
+    forwarded-fits node epoch bytes n early h long = sends place.Front _ ((node-number node n, bytes-message c epoch.0 (body.Forward bytes) h, tt, spells c epoch.0 (body.Forward bytes) conn early long tt), tt) (omega arith)
+
+    -- an ended connection answers by one segment without data, or none
+    one-fits : (s : Said) → s.payload ≡ [] → FrontTurnFits (turn_here (tombstone env.serve (Some s)))
+    one-fits s none = record { notes = tt; segments = (subst (λ (q : Place). IsLetter q (told env.serve s)) own (told-sent env.serve number s none), tt); few = omega arith; gave = tt; messages = tt; few_messages = omega arith }
+
+    none-fits : FrontTurnFits (turn_here (tombstone env.serve None))
+    none-fits = sends place.Front [] tt (omega arith)
+
+    abbrev Tells : Option Said → Type 0
+    Tells o = FrontTurnFits (turn_here (tombstone env.serve o))
+
+    ended-fits : (why : Reason) (last : Final) (s : Said) → Tells (last_words why last s)
+    ended-fits reason.Closed last s = cond_both (is_telling s) (Some (last_ack last)) None Tells (λ t. one-fits (last_ack last) refl) (λ t. none-fits)
+    ended-fits reason.Peer last s = none-fits
+    ended-fits reason.Limit last s = cond_both (s.flags.ack && not s.flags.rst) (Some (refusal s.ack)) None Tells (λ t. one-fits (refusal s.ack) refl) (λ t. none-fits)
+
+    fresh : (b : ControlBlock) (count : ℕ) → Keeps count b → IsServing (serving b count [])
+    fresh b count k = record { notes = tt; keeps = k; over = tt }
+
+    hears_at-fits : AnswersFit env → (row : FrontRow) (bytes : List ℕ) (s : Said) (x : FrontConn) → AreBytes bytes → IsSegment bytes → IsTold s → StageKeeps row.epoch.0 (rest_of p.rest).count x
+        → Fits (hears_at env p row bytes s x)
+    hears_at-fits answers row bytes s (stage.Held b) h long d k =
+        heard-fits answers row (rest_of p.rest) (on_segment b s).1 k.0 held.rest (keeping-segment ((rest_of p.rest).count - 2 ^ 30) b s d k.1) (segment-serves (rest_of p.rest).count b s k.2)
+    hears_at-fits answers row bytes s (stage.Waiting b) h long d k =
+        let w : Service = serving (on_segment b s).1 (rest_of p.rest).count [] in
+        waits-fits row (rest_of p.rest) (spoken env.serve w []) k.0 held.rest
+        (spoken-front w [] tt (omega arith) (fresh (on_segment b s).1 (rest_of p.rest).count (keeping-segment ((rest_of p.rest).count - 2 ^ 30) b s d k.1)))
+        (spoken-serves env.serve w [] (segment-serves (rest_of p.rest).count b s k.2)) (spoken-idle env.serve w [] (segment-idle b s (idle-of b k.3 k.2.sent)))
+    hears_at-fits answers row bytes s stage.Lent h long d k = tt
+    hears_at-fits answers row bytes s (stage.Offering node epoch) h long d k = forwarded-fits node epoch bytes k.1 k.2 h long
+    hears_at-fits answers row bytes s (stage.Moved node epoch) h long d k = forwarded-fits node epoch bytes k.1 k.2 h long
+    hears_at-fits answers row bytes s (stage.Closed last) h long d k = ended-fits last.reason last s
+
+    hears-fits : AnswersFit env → env.iss < 2 ^ 32 → (bytes : List ℕ) (s : Said) (o : Option FrontRow) → AreBytes bytes → IsSegment bytes → IsTold s → RowKeeps c (rest_of p.rest).count o → Fits (front_hears env p bytes s o)
+    hears-fits answers first bytes s None h long d k = met-fits s d first
+    hears-fits answers first bytes s (Some row) h long d k = hears_at-fits answers row bytes s row.stage h long d k.1
+
+    -- whatever comes
+    pub gets-fits : AnswersFit env → env.iss < 2 ^ 32 → (bytes : List ℕ) (r : Result Said SegFault) → AreBytes bytes → ((s : Said) → r ≡ Ok s → IsTold s × IsSegment bytes) → Fits (front_gets env p bytes r)
+    gets-fits answers first bytes (Err fault) h d = tt
+    gets-fits answers first bytes (Ok s) h d = let said = d s refl in hears-fits answers first bytes s p.row h said.1 said.0 held.row
+
+    -- ---- timers
+
+    fired-fits : (rest : FrontRest) (b : ControlBlock) → Keeps rest.count b → EndFits place.Front (fired env rest b)
+    fired-fits rest b k =
+        let after : Keeps rest.count (after_timer b) = keeping-timer (rest.count - 2 ^ 30) b k in
+        spoken-front (serving (after_timer b) rest.count []) (ready_of env.serve (after_timer b) (timed b))
+        (ready-sent env.serve number (rest.count - 2 ^ 30) (after_timer b) (timed b) after) (ready-few env.serve number (after_timer b) (timed b)) (fresh (after_timer b) rest.count after)
+
+    fired-serves : (rest : FrontRest) (b : ControlBlock) → ServesAs rest.count b → EndsServing (fired env rest b).0
+    fired-serves rest b h = spoken-serves env.serve (serving (after_timer b) rest.count []) (ready_of env.serve (after_timer b) (timed b)) (timer-serves rest.count b h)
+
+    fires_at-fits : (row : FrontRow) (x : FrontConn) → StageKeeps row.epoch.0 (rest_of p.rest).count x → Fits (fires_at env p row x)
+    fires_at-fits row (stage.Held b) k = holds-fits row (rest_of p.rest) (fired env (rest_of p.rest) b) k.0 held.rest (fired-fits (rest_of p.rest) b k.1) (fired-serves (rest_of p.rest) b k.2)
+    fires_at-fits row (stage.Waiting b) k = waits-fits row (rest_of p.rest) (fired env (rest_of p.rest) b) k.0 held.rest (fired-fits (rest_of p.rest) b k.1) (fired-serves (rest_of p.rest) b k.2)
+        (spoken-idle env.serve (serving (after_timer b) (rest_of p.rest).count []) (ready_of env.serve (after_timer b) (timed b)) (timer-idle b (idle-of b k.3 k.2.sent)))
+    fires_at-fits row (stage.Offering node epoch) k =
+        let few = held.few in
+        let as_many = length-held p.kept in
+        sends place.Front (map sent_of p.kept) (held-sent place.Front p.kept held.kept) (omega (arith, few, as_many))
+    fires_at-fits row _ k = tt
+
+    fired_by-fits : (o : Option FrontRow) → RowKeeps c (rest_of p.rest).count o → Fits (fired_by env p o)
+    fired_by-fits None k = tt
+    fired_by-fits (Some row) k = fires_at-fits row row.stage k.1
+
+    pub fires-fits : Fits (front_timer env p)
+    fires-fits = fired_by-fits p.row held.row
+
+    -- ---- messages of nodes
+
+    -- its Offer is held no longer
+    less : AreHeld place.Front (without kind.Offer 0 p.kept)
+    less = held-less kind.Offer 0 place.Front p.kept held.kept
+
+    less-few : length (without kind.Offer 0 p.kept) ≤ 1
+    less-few = let few = held.few in let fewer = length-less kind.Offer 0 p.kept in omega (arith, few, fewer)
+
+    -- the node to which it is offered
+    offered-node : (e count epoch : ℕ) (x : FrontConn) (node : ℕ) → StageKeeps e count x → offered_to epoch x ≡ Some node → (e ≤ 2) × IsNode node
+    offered-node e count epoch (stage.Offering n d) node k is = go (d.0 == epoch) is where
+      go : (b : Bool) → cond b (Some n) None ≡ Some node → (e ≤ 2) × IsNode node
+      go true same = let one : n ≡ node = cc in (k.0, subst IsNode one k.1)
+      go false none = let no : None ≡ Some node = none in absurd cc
+    offered-node e count epoch _ node k is = let no : None ≡ Some node = is in absurd cc
+
+    taken_by-fits : (epoch : ℕ) → epoch < 2 ^ 16 → (o : Option FrontRow) (asked : Option ℕ) → asked_node epoch o ≡ asked → RowKeeps c (rest_of p.rest).count o → Fits (taken_by p epoch o asked)
+    taken_by-fits epoch early None asked is k = tt
+    taken_by-fits epoch early (Some row) None is k = tt
+    taken_by-fits epoch early (Some row) (Some node) is k = (
+      record { row = (conn, (let offered = offered-node row.epoch.0 (rest_of p.rest).count epoch row.stage node k.1 is in (offered.0, offered.1, early))); rest = held.rest; kept = less; few = less-few },
+      sends place.Front [] tt (omega arith),
+    )
+
+    pub taken-fits : (epoch : ℕ) → epoch < 2 ^ 16 → Fits (front_taken p epoch)
+    taken-fits epoch early = taken_by-fits epoch early p.row (asked_node epoch p.row) refl held.row
+
+    -- ---- an Ask
+
+    with-fits : (e count from epoch : ℕ) (x : FrontConn) → StageKeeps e count x → is_with from epoch x ≡ true → IsNode from
+    with-fits e count from epoch (stage.Offering n d) k is = subst IsNode (eqb-true n from (and_parts (n == from) (d.0 == epoch) is).0) k.1
+    with-fits e count from epoch (stage.Moved n d) k is = subst IsNode (eqb-true n from (and_parts (n == from) (d.0 == epoch) is).0) k.1
+    with-fits e count from epoch _ k is = let no : false ≡ true = is in absurd cc
+
+    -- the node that asks is one
+    at-fits : (from epoch : ℕ) (o : Option FrontRow) → RowKeeps c (rest_of p.rest).count o → is_at from epoch o ≡ true → IsNode from
+    at-fits from epoch None k is = let no : false ≡ true = is in absurd cc
+    at-fits from epoch (Some row) k is = with-fits row.epoch.0 (rest_of p.rest).count from epoch row.stage k.1 is
+
+    tag-fits : (from epoch n : ℕ) (nodes : List ℕ) → IsNode from → epoch < 2 ^ 16 → n < 2 ^ 32 → AllByRecursion IsNode nodes → 1 ≤ length nodes → length nodes ≤ 8 → FrontTurnFits (saying (tag_sent env from epoch n nodes))
+    tag-fits from epoch n nodes node early low are some few =
+        sends place.Front (tag_sent env from epoch n nodes)
+        ((node-number from node, bytes-message c epoch (body.Tag n nodes) (omega (arith, few), nodes-bytes nodes are), tt, spells c epoch (body.Tag n nodes) conn early (some, few) (low, are)), tt) (omega arith)
+
+    module _ (from epoch z queue size : ℕ) (early : epoch < 2 ^ 16) (paths : List (List ℕ)) (asked : IsAsked z queue size paths) (node : IsNode from) where
+      abbrev ask : Ask
+      ask = ask_of c from z queue size paths
+
+      assigns-fits : (rest : FrontRest) → p.rest ≡ Some rest → z ≡ rest.asks + 1 → (l : Later) → Each IsLater l.choices → length l.choices ≡ length paths → Fits (Does (assigns env p rest from epoch ask l))
+      assigns-fits rest there next l chosen few =
+          let same : rest_of p.rest ≡ rest = ap rest_of there in
+          let r : RestKeeps rest = subst RestKeeps same held.rest in
+          let most = r.assigned in
+          let asks = r.asks in
+          let below = asked.number in
+          let eight = asked.few in
+          let size_small = asked.size in
+          let queue_small = asked.queue in
+          let as_many = nodes-length l.choices in
+          let one = asked.some in
+          let tag : FrontTurnFits (saying (tag_sent env from epoch z (map (λ x. x.node) l.choices))) =
+          tag-fits from epoch z (map (λ x. x.node) l.choices) node early below (nodes-of l.choices chosen) (omega (arith, as_many, few, one)) (omega (arith, as_many, few, eight)) in (
+            record {
+              row = subst (λ (k : FrontRest). RowKeeps c k.count p.row) same held.row;
+              rest = record {
+                assigned = omega (arith, most, next, few, eight);
+                asks = omega (arith, below);
+                tag = nodes-of l.choices chosen;
+                some = λ h. omega (arith, as_many, few, one);
+                short = omega (arith, as_many, few, eight);
+                target = r.target;
+              };
+              kept = held.kept;
+              few = held.few;
+            },
+            record {
+              notes = Each-append IsInRange (over_note c l.over) (assigned_notes c ask rest.assigned paths l.choices) (over-range c l.over number)
+                  (assigned-range c ask rest.assigned paths l.choices number (omega (arith, most, asks, few, eight)) (omega (arith, size_small)) (omega (arith, queue_small)) asked.paths chosen);
+              segments = tt;
+              few = omega arith;
+              gave = tt;
+              messages = tag.messages;
+              few_messages = tag.few_messages;
+            },
+          )
+
+      asked_by-fits : AnswersFit env → (o : Option FrontRest) → p.rest ≡ o → Fits (asked_by env p from epoch ask o)
+      asked_by-fits answers None there = tt
+      asked_by-fits answers (Some rest) there =
+          let again : Deed = Says (saying (tag_sent env from epoch rest.asks rest.tag)) in
+          let r : RestKeeps rest = subst RestKeeps (ap rest_of there) held.rest in
+          cond_both (z == rest.asks + 1) (Does (assigns env p rest from epoch ask (env.later ask))) (cond (z == rest.asks && nat_lt 0 rest.asks) again Drops) Fits
+          (λ t. assigns-fits rest there (eqb-true z (rest.asks + 1) t) (env.later ask) (answers.later ask node) (answers.as_many ask))
+          (λ t. cond_both (z == rest.asks && nat_lt 0 rest.asks) again Drops Fits (λ u. tag-fits from epoch rest.asks rest.tag node early r.asks r.tag (r.some (ltb-true 0 rest.asks (and_parts (z == rest.asks) (nat_lt 0 rest.asks) u).1)) r.short) (λ u. tt))
+
+    pub asked-fits : AnswersFit env → (from epoch z queue size : ℕ) (paths : List (List ℕ)) → epoch < 2 ^ 16 → IsAsked z queue size paths → Fits (front_asked env p from epoch (ask_of c from z queue size paths))
+    asked-fits answers from epoch z queue size paths early asked = cond_both (is_at from epoch p.row) (asked_by env p from epoch (ask_of c from z queue size paths) p.rest) Drops Fits
+        (λ t. asked_by-fits from epoch z queue size early paths asked (at-fits from epoch p.row held.row t) answers p.rest refl) (λ t. tt)
+
+    -- ---- an end
+
+    away-early : (e count epoch : ℕ) (x : FrontConn) → StageKeeps e count x → is_away epoch x ≡ true → e ≤ 2
+    away-early e count epoch (stage.Offering n d) k is = k.0
+    away-early e count epoch (stage.Moved n d) k is = k.0
+    away-early e count epoch _ k is = let no : false ≡ true = is in absurd cc
+
+    acks : (from epoch : ℕ) → IsNumber from → epoch < 2 ^ 16 → FrontTurnFits (saying (ack_sent env from epoch))
+    acks from epoch n early = sends place.Front (ack_sent env from epoch) ((n, bytes-message c epoch body.EndedAck tt, tt, spells c epoch body.EndedAck conn early tt tt), tt) (omega arith)
+
+    ended_by-fits : (from epoch : ℕ) (last : Final) → IsNumber from → epoch < 2 ^ 16 → (o : Option FrontRow) → RowKeeps c (rest_of p.rest).count o → Fits (ended_by env p from epoch last o (end_answer epoch o))
+    ended_by-fits from epoch last n two None k = tt
+    ended_by-fits from epoch last n two (Some row) k =
+        let Ends : OnEnded → Type 0 = λ given. Fits (ended_by env p from epoch last (Some row) given) in
+        let ack = acks from epoch n two in
+        cond_both (is_away epoch row.stage) (New (next_epoch row)) (cond (ended_with epoch row.ended_by) Again Stale) Ends
+        (λ t. let early = away-early row.epoch.0 (rest_of p.rest).count epoch row.stage k.1 t in (
+          record { row = (conn, tt); rest = no-rest; kept = less; few = less-few },
+          record { notes = ((tt, number, omega (arith, early)), (number, tt)); segments = tt; few = omega arith; gave = tt; messages = ack.messages; few_messages = ack.few_messages },
+        ))
+        (λ t. cond_both (ended_with epoch row.ended_by) Again Stale Ends (λ u. ack) (λ u. tt))
+
+    pub ended-deed : (from epoch : ℕ) (last : Final) → IsNumber from → epoch < 2 ^ 16 → Fits (front_ended env p from epoch last)
+    ended-deed from epoch last n early = ended_by-fits from epoch last n early p.row held.row
+
+    -- ---- the head of the line
+
+    module _ (choice : FirstChoice) (chosen : IsChosen 64 choice) where
+      admitted_with-fits : (row : FrontRow) (b : ControlBlock) (o : Option (List ℕ)) → row.epoch.0 ≤ 1 → Keeps (rest_of p.rest).count b → ServesAs (rest_of p.rest).count b → may_freeze b ≡ true → IfSome o IsNamed → AdmissionFits c (admitted_with env row (rest_of p.rest) b choice o)
+      admitted_with-fits row b None early k serves may n = tt
+      admitted_with-fits row b (Some path) early k serves may n = handed-fits row (serving b (rest_of p.rest).count []) path choice early (fresh b (rest_of p.rest).count k) serves may n chosen
+
+      admitted_at-fits : (row : FrontRow) (x : FrontConn) → StageKeeps row.epoch.0 (rest_of p.rest).count x → AdmissionFits c (admitted_at env p choice row x)
+      admitted_at-fits row (stage.Waiting b) k = admitted_with-fits row b (rest_of p.rest).target k.0 k.1 k.2 k.3 held.rest.target
+      admitted_at-fits row _ k = tt
+
+      admitted_by-fits : (o : Option FrontRow) → RowKeeps c (rest_of p.rest).count o → AdmissionFits c (admitted_by env p choice o)
+      admitted_by-fits None k = tt
+      admitted_by-fits (Some row) k = admitted_at-fits row row.stage k.1
+
+      pub admitted-fits : AdmissionFits c (front_admitted env p choice)
+      admitted-fits = admitted_by-fits p.row held.row

@@ -1,0 +1,403 @@
+-- What each rule of a node keeps of a connection, and that its turn is in range.
+use Rattle.std.proofs.Common.{◌≡◌, ℕ, suc, ◌+◌, ◌-◌, ◌≤◌, ◌<◌, ◌^◌, ◌==◌, List, [], ◌∷◌, ◌++◌, length, true, Option, Some, None, IfSome, Ok, Err, Result, refl, ap, subst, arith, length-append}
+use Rattle.std.proofs.lemmas.Bool.{cond_both}
+use Rattle.std.specs.List.{find}
+use Rattle.lard_base.specs.declared.parts.EndpointParts.{EndpointParts}
+use Rattle.lard_base.specs.declared.place.Place.{Place}
+use Rattle.lard_base.specs.declared.place.Place.TheVariants.{Node}
+use Rattle.lard_base.specs.declared.place.TimerKind.TheVariants as kind
+use Rattle.lard_base.specs.Parts.{IsValidParts}
+use Rattle.lard_rules.specs.Bounds as cluster
+use Rattle.lard_laws.proofs.RecordsCounted.{IsCounted, batch-counts, came-counts, state-counts, tagged-counts}
+use Rattle.lard_laws.proofs.RecordsFit.{IsTold, fit-adopted, keeping-segment, keeping-timer}
+use Rattle.lard_laws.proofs.RecordsLetters.{IsLetter, ask-says, bytes-message, ended-says, spells, taken-says}
+use Rattle.lard_laws.proofs.RecordsNamed.{AreNamed, IsNamed, contents}
+use Rattle.lard_laws.proofs.RecordsServing.{EndFits, EndKeeps, EndTells, Keeps, ready-few, ready-sent, settled-fits, settled-tells, spoken-fits, spoken-tells}
+use Rattle.lard_laws.proofs.RecordsTurns.{AreHeld, IsTurn, held-less, held-more, held-sent, length-held, length-less, length-more, sends}
+use Rattle.lard_laws.proofs.RecordsWorks.{AskFits, EntryFits, IsAtWork, JobFits, ProgressFits, WantFits, at, batch-works, came-fits, came-works, goes-works, read-fits, tagged-works, work-wider}
+use Rattle.lard_laws.proofs.RecordsWorks as works
+use Rattle.lard_endpoint.specs.declared.control.moving.Final.{Final}
+use Rattle.lard_endpoint.specs.Arriving.{on_segment}
+use Rattle.lard_endpoint.specs.Control.{ControlBlock}
+use Rattle.lard_endpoint.specs.Leaving.{after_timer, timed}
+use Rattle.lard_handoff_back.specs.declared.row.BackRow.{BackRow}
+use Rattle.lard_handoff_back.specs.declared.table.Adopt.{Adopt}
+use Rattle.lard_handoff_back.specs.declared.table.Adopt.TheVariants.{Again, New, Stale}
+use Rattle.lard_handoff_back.specs.Back.{awaits_ack, endpoint_of, offer_answer, staying}
+use Rattle.lard_handoff_back.specs.Row.{held_in}
+use Rattle.lard_history.proofs.Each.{Each, Each-append, Each-weaker}
+use Rattle.lard_journal.specs.Range.{IsInRange, IsNumber}
+use Rattle.lard_lateral.specs.Lateral.{is_from}
+use Rattle.lard_law_view.proofs.ByteLists.{AreBytes, each-all}
+use Rattle.lard_message.specs.declared.message.Body.TheVariants as body
+use Rattle.lard_message.specs.Message as message
+use Rattle.lard_message.specs.Message.{IsPath}
+use Rattle.lard_rules.specs.declared.node.NodeTurn.{NodeTurn}
+use Rattle.lard_rules.specs.declared.stay.Asked.{Asked}
+use Rattle.lard_rules.specs.declared.stay.Progress.{Progress}
+use Rattle.lard_rules.specs.declared.stay.Stay.{Stay}
+use Rattle.lard_rules.specs.declared.stay.Want.{Want}
+use Rattle.lard_rules.specs.Node.{Deed, Drops, Says, Does, NodePart, again_sent, all_sent, anew, ask_kept, asked_kept, asked_sent, begins, both_of, come_by, count_of, ended_kept, ended_sent, fetch_of, fired_by, gave_by, gone, heard_by, here, is_awaited, kept_after, node_acknowledged, node_content, node_forwarded, node_offered, node_read, node_tagged, node_timer, offered_by, read_by, saying, tagged_by, taken_sent, turn_by, wants_kept, wants_sent, with_work, work_of}
+use Rattle.lard_rules.specs.Stay.{NodeEnv, Work, came_for, come_progress, goes_on, read_progress, reads_batch, tagged}
+use Rattle.lard_resend.specs.declared.kept.Kept.{Kept}
+use Rattle.lard_resend.specs.Kept.{is_under, without}
+use Rattle.lard_resend.specs.Pending.{sent_of}
+use Rattle.lard_rules.specs.declared.places.Ending.{Ending}
+use Rattle.lard_rules.specs.declared.places.Ending.TheVariants.{Here, Over}
+use Rattle.lard_rules.specs.declared.places.Turn.{Turn}
+use Rattle.lard_rules.specs.Loop.{state_of}
+use Rattle.lard_rules.specs.Serving.{ready_of, serving, settled, spoken}
+use Rattle.lard_segment.specs.declared.fault.SegFault.{SegFault}
+use Rattle.lard_segment.specs.Segment.{Said}
+
+-- ---- what is kept
+
+-- the endpoint that is here, and the requests that were read of it, of which each Ask is for one at least
+abbrev pub BothKeep : ControlBlock → Stay → Type 0
+BothKeep b s = Keeps s.served b × Each EntryFits s.batch × (length s.batch ≤ 8) × (s.asks ≤ s.served + length s.batch)
+
+abbrev pub HereKeeps : Option ControlBlock → Option Stay → Type 0
+HereKeeps None o = Unit {0}
+HereKeeps (Some b) None = Unit {0}
+HereKeeps (Some b) (Some s) = BothKeep b s
+
+-- an epoch fits the two bytes in which a message has it
+abbrev pub IsEarly : Option BackRow → Type 0
+IsEarly None = Unit {0}
+IsEarly (Some row) = row.epoch.0 < 2 ^ 16
+
+-- Of what node n keeps: at most so many messages are held.
+pub record NodeKeeps (n most : ℕ) (p : NodePart) : Type 0 where
+  pub early : IsEarly p.row
+  pub here : HereKeeps (endpoint_of p.row) p.stay
+  pub kept : AreHeld (Node n) p.kept
+  pub few : length p.kept ≤ most
+  pub fetches : AreHeld (Node n) p.fetches
+  pub few_fetches : length p.fetches ≤ most
+
+pub keeps-wider : (n most more : ℕ) (p : NodePart) → most ≤ more → NodeKeeps n most p → NodeKeeps n more p
+keeps-wider n most more p le h = let few = h.few in let fetches = h.few_fetches in
+    record { early = h.early; here = h.here; kept = h.kept; few = omega (arith, few, le); fetches = h.fetches; few_fetches = omega (arith, fetches, le) }
+
+-- ---- what a rule comes to
+
+abbrev pub NodeTurnFits : ℕ → NodeTurn → Type 0
+NodeTurnFits n t = IsTurn (Node n) t.notes t.segments t.gave t.messages × Each JobFits t.jobs
+
+abbrev pub DeedFits : ℕ → ℕ → Deed → Type 0
+DeedFits n most Drops = Unit {0}
+DeedFits n most (Says messages) = Each (IsLetter (Node n)) messages × (length messages ≤ 2 ^ 30)
+DeedFits n most (Does x) = NodeKeeps n (most + length x.1.messages) x.0 × NodeTurnFits n x.1
+
+both-keep : (b : Option ControlBlock) (s : Option Stay) → HereKeeps b s → IfSome (both_of b s) (λ x. BothKeep x.0 x.1)
+both-keep None s h = tt
+both-keep (Some b) None h = tt
+both-keep (Some b) (Some s) h = h
+
+-- where it is here in the epoch
+staying-keeps : (epoch : ℕ) (row : Option BackRow) (s : Option Stay) → HereKeeps (endpoint_of row) s → IfSome (both_of (staying epoch row) s) (λ x. BothKeep x.0 x.1)
+staying-keeps epoch None s h = tt
+staying-keeps epoch (Some row) s h = cond_both (row.epoch.0 == epoch) (held_in row.stage) None (λ (o : Option ControlBlock). IfSome (both_of o s) (λ x. BothKeep x.0 x.1)) (λ t. both-keep (held_in row.stage) s h) (λ t. tt)
+
+gone-early : (row : Option BackRow) → IsEarly row → IsEarly (gone row)
+gone-early None h = tt
+gone-early (Some row) h = h
+
+gone-keeps : (row : Option BackRow) (s : Option Stay) → HereKeeps (endpoint_of (gone row)) s
+gone-keeps None s = tt
+gone-keeps (Some row) s = tt
+
+-- ---- the rules, in an environment of a node
+
+module _ (env : NodeEnv) (own : env.serve.place ≡ Node env.n) (node : IsNumber env.n) (conn : cluster.IsNumber env.serve.c) (early : env.epoch < 2 ^ 16) (small : env.serve.stream ≤ 2 ^ 30) (files : AreNamed env.serve.files) (short : env.queue ≤ 2 ^ 30) (most : ℕ) (packets : most ≤ 2 ^ 20) where
+  abbrev number : IsNumber env.serve.c
+  number = works.number env own node conn early small files short
+
+  abbrev Works : ℕ → Work → Type 0
+  Works j w = IsAtWork env own node conn early small files short 8 j w
+
+  abbrev IsSaid : Place × List ℕ → Type 0
+  IsSaid s = IsLetter (Node env.n) s
+
+  -- ---- messages
+
+  ask-sent : (a : Asked) → AskFits a → IsSaid (sent_of (ask_kept env.serve.c env.epoch a))
+  ask-sent a h =
+      let size = h.0 in
+      let few = h.1 in (
+        tt,
+        bytes-message env.serve.c env.epoch (body.Ask a.number a.queue a.size a.paths) (omega (arith, size), omega (arith, few, size), Each-weaker IsNamed AreBytes (λ p k. k.1) a.paths h.2),
+        ask-says env.serve.c env.epoch a.number a.queue a.size a.paths h.2,
+        spells env.serve.c env.epoch (body.Ask a.number a.queue a.size a.paths) conn early (h.0, h.3, h.1, each-all IsPath a.paths (Each-weaker IsNamed IsPath (λ p k. k.2) a.paths h.2)) (h.4, h.5),
+      )
+
+  asks-sent : (o : Option Asked) → IfSome o AskFits → Each IsSaid (asked_sent env o)
+  asks-sent None h = tt
+  asks-sent (Some a) h = (ask-sent a h, tt)
+
+  fetch-sent : (w : Want) → WantFits w → IsSaid (sent_of (fetch_of env w))
+  fetch-sent w h = (h.0, bytes-message env.serve.c env.epoch (body.Fetch w.r w.path) h.1.1, tt, spells env.serve.c env.epoch (body.Fetch w.r w.path) conn early h.1.2 h.2)
+
+  wants-said : (ws : List Want) → Each WantFits ws → Each IsSaid (wants_sent env ws)
+  wants-said [] h = tt
+  wants-said (w ∷ ws) h = (fetch-sent w h.0, wants-said ws h.1)
+
+  wants-length : (ws : List Want) → length (wants_sent env ws) ≡ length ws
+  wants-length [] = refl
+  wants-length (w ∷ ws) = ap suc (wants-length ws)
+
+  end-said : (over : Option ℕ) (n : ℕ) (last : Final) → EndTells over n (Over last) → IsSaid (sent_of (ended_kept env.serve.c env.epoch last (count_of over)))
+  end-said over n last h =
+      let count : ℕ = count_of over in (
+        tt,
+        bytes-message env.serve.c env.epoch (body.Ended last.reason last.snd.0 last.rcv.0 count) tt,
+        ended-says env.serve.c env.epoch last.reason last.snd.0 last.rcv.0 count,
+        spells env.serve.c env.epoch (body.Ended last.reason last.snd.0 last.rcv.0 count) conn early h.0 h.1,
+      )
+
+  ends-said : (over : Option ℕ) (n : ℕ) (e : Ending) → EndTells over n e → Each IsSaid (ended_sent env over e)
+  ends-said over n (Here b count) h = tt
+  ends-said over n (Over last) h = (end-said over n last h, tt)
+
+  ends-few : (over : Option ℕ) (e : Ending) → length (ended_sent env over e) ≤ 1
+  ends-few over (Here b count) = omega arith
+  ends-few over (Over last) = omega arith
+
+  asks-few : (o : Option Asked) → length (asked_sent env o) ≤ 1
+  asks-few None = omega arith
+  asks-few (Some a) = omega arith
+
+  gave-range : (e : Ending) → Each IsInRange (gave_by env e)
+  gave-range (Here b count) = tt
+  gave-range (Over last) = ((node, number, omega (arith, early)), tt)
+
+  -- ---- what is held after a turn
+
+  asked-held : (o : Option Asked) (ks : List Kept) → IfSome o AskFits → AreHeld (Node env.n) ks → AreHeld (Node env.n) (asked_kept env o ks)
+  asked-held None ks a h = h
+  asked-held (Some a) ks f h = held-more (Node env.n) (ask_kept env.serve.c env.epoch a) ks (ask-sent a f) h
+
+  asked-length : (o : Option Asked) (ks : List Kept) → length (asked_kept env o ks) ≤ length ks + length (asked_sent env o)
+  asked-length None ks = omega arith
+  asked-length (Some a) ks = length-more (ask_kept env.serve.c env.epoch a) ks
+
+  wants-held : (ws : List Want) (ks : List Kept) → Each WantFits ws → AreHeld (Node env.n) ks → AreHeld (Node env.n) (wants_kept env ws ks)
+  wants-held [] ks f h = h
+  wants-held (w ∷ ws) ks f h = wants-held ws (anew (fetch_of env w) ks) f.1 (held-more (Node env.n) (fetch_of env w) ks (fetch-sent w f.0) h)
+
+  held-length : (ws : List Want) (ks : List Kept) → length (wants_kept env ws ks) ≤ length ks + length ws
+  held-length [] ks = omega arith
+  held-length (w ∷ ws) ks = let more = length-more (fetch_of env w) ks in let rest = held-length ws (anew (fetch_of env w) ks) in omega (arith, more, rest)
+
+  -- ---- the end of a turn
+
+  module _ (p : NodePart) (held : NodeKeeps env.n most p) (before : List (Place × List ℕ)) (said : Each IsSaid before) (few : length before ≤ 2 ^ 22) (w : Work) (works : Works 8 w) (counts : IsCounted w) where
+    abbrev Sends : Ending → List (Place × List ℕ)
+    Sends e = all_sent env before w ++ ended_sent env w.service.over e
+
+    sends-length : (e : Ending) → length (Sends e) ≡ length before + length (asked_sent env w.asked) + length w.wants + length (ended_sent env w.service.over e)
+    sends-length e =
+        let a = length-append before (asked_sent env w.asked) in
+        let b = length-append (before ++ asked_sent env w.asked) (wants_sent env w.wants) in
+        let d = length-append (all_sent env before w) (ended_sent env w.service.over e) in
+        let wants = wants-length w.wants in
+        omega (arith, a, b, d, wants)
+
+    after-keeps : (e : Ending) → EndKeeps e → EndTells w.service.over w.service.count e → NodeKeeps env.n (most + length (Sends e)) (kept_after env p w e)
+    after-keeps (Here b count) h tells =
+        let all = sends-length (Here b count) in
+        let one = asked-length w.asked p.kept in
+        let more = held-length w.wants p.fetches in
+        let kept_few = held.few in
+        let fetches_few = held.few_fetches in
+        let asks = counts.asks in
+        record {
+          early = early;
+          here = (h, works.batch, works.few, omega (arith, asks, tells));
+          kept = asked-held w.asked p.kept works.asked held.kept;
+          few = omega (arith, all, one, kept_few);
+          fetches = wants-held w.wants p.fetches works.wants held.fetches;
+          few_fetches = omega (arith, all, more, fetches_few);
+        }
+    after-keeps (Over last) h tells =
+        let all = sends-length (Over last) in
+        record { early = early; here = tt; kept = (end-said w.service.over w.service.count last tells, tt); few = omega (arith, all); fetches = tt; few_fetches = omega arith }
+
+    result : (given : Ending × Turn) → EndFits (Node env.n) given → EndTells w.service.over w.service.count given.0 → DeedFits env.n most (Does (kept_after env p w given.0, turn_by env before w given))
+    result given h tells =
+        let all = sends-length given.0 in
+        let one = asks-few w.asked in
+        let last = ends-few w.service.over given.0 in
+        let eight = works.few_wants in (
+          after-keeps given.0 h.keeps tells,
+          (
+            record {
+              notes = h.turn.notes;
+              segments = h.turn.sent;
+              few = h.turn.few;
+              gave = gave-range given.0;
+              messages = Each-append IsSaid (all_sent env before w) (ended_sent env w.service.over given.0)
+                  (Each-append IsSaid (before ++ asked_sent env w.asked) (wants_sent env w.wants)
+                  (Each-append IsSaid before (asked_sent env w.asked) said (asks-sent w.asked works.asked)) (wants-said w.wants works.wants))
+                  (ends-said w.service.over w.service.count given.0 tells);
+              few_messages = omega (arith, all, one, last, eight, few);
+            },
+            works.jobs,
+          ),
+        )
+
+  abbrev Fits : Deed → Type 0
+  Fits d = DeedFits env.n most d
+
+  work-fits : (p : NodePart) → NodeKeeps env.n most p → (before : List (Place × List ℕ)) → Each IsSaid before → length before ≤ 2 ^ 22 → (w : Work) → Works 8 w × IsCounted w → Fits (with_work env p before w)
+  work-fits p held before said few w works = result p held before said few w works.0 works.1 (settled env.serve w.service)
+      (subst (λ (q : Place). EndFits q (settled env.serve w.service)) own (settled-fits env.serve number small (contents env.serve.files files) (at env own node conn early small files short) w.service works.0.service))
+      (settled-tells env.serve number small (contents env.serve.files files) (at env own node conn early small files short) w.service works.0.service)
+
+  wide : (w : Work) → Works 0 w → Works 8 w
+  wide w h = work-wider env own node conn early small files short 8 0 8 8 w (omega arith) (omega arith) h
+
+  -- nothing was done in the turn yet
+  fresh : (b : ControlBlock) (s : Stay) → BothKeep b s → Works 0 (work_of b s)
+  fresh b s h = record { service = record { notes = tt; keeps = h.0; over = tt }; batch = h.1; few = h.2; jobs = tt; wants = tt; few_wants = omega arith; asked = tt }
+
+  fresh-counts : (b : ControlBlock) (s : Stay) → BothKeep b s → IsCounted (work_of b s)
+  fresh-counts b s h = record { asks = h.3; jobs = omega arith }
+
+  module _ (p : NodePart) (held : NodeKeeps env.n most p) where
+    abbrev HasBoth : Option (ControlBlock × Stay) → Type 0
+    HasBoth o = IfSome o (λ x. BothKeep x.0 x.1)
+
+    here-has : HasBoth (here env.epoch p)
+    here-has = staying-keeps env.epoch p.row p.stay held.here
+
+    heard-fits : (r : Result Said SegFault) (x : Option (ControlBlock × Stay)) → ((s : Said) → r ≡ Ok s → IsTold s) → HasBoth x → Fits (heard_by env p r x)
+    heard-fits (Err fault) x d h = tt
+    heard-fits (Ok s) None d h = tt
+    heard-fits (Ok s) (Some x) d h =
+        let w : Work = work_of (on_segment x.0 s).1 x.1 in
+        let both : BothKeep (on_segment x.0 s).1 x.1 = (keeping-segment (x.1.served - 2 ^ 30) x.0 s (d s refl) h.0, h.1, h.2, h.3) in
+        work-fits p held [] tt (omega arith) (goes_on env w)
+        (goes-works env own node conn early small files short 8 w (wide w (fresh (on_segment x.0 s).1 x.1 both)) (fresh-counts (on_segment x.0 s).1 x.1 both))
+
+    pub forwarded-fits : (r : Result Said SegFault) → ((s : Said) → r ≡ Ok s → IsTold s) → Fits (node_forwarded env p r)
+    forwarded-fits r d = heard-fits r (here env.epoch p) d here-has
+
+    tagged_by-fits : (z : ℕ) (nodes : List ℕ) (x : Option (ControlBlock × Stay)) → Each IsNumber nodes → HasBoth x → Fits (tagged_by env z nodes p x)
+    tagged_by-fits z nodes None ns h = tt
+    tagged_by-fits z nodes (Some x) ns h =
+        let q : NodePart = record p { kept = without kind.Ask 0 p.kept } in
+        let w : Work = tagged env nodes (work_of x.0 x.1) in
+        let few = held.few in
+        let fewer = length-less kind.Ask 0 p.kept in
+        let less : NodeKeeps env.n most q = record { early = held.early; here = held.here; kept = held-less kind.Ask 0 (Node env.n) p.kept held.kept; few = omega (arith, few, fewer); fetches = held.fetches; few_fetches = held.few_fetches } in
+        cond_both (is_awaited env z nodes p x.1) (with_work env q [] (goes_on env w)) Drops Fits
+        (λ t. work-fits q less [] tt (omega arith) (goes_on env w) (goes-works env own node conn early small files short 8 w (tagged-works env own node conn early small files short nodes (work_of x.0 x.1) ns (fresh x.0 x.1 h))
+        (tagged-counts env nodes (work_of x.0 x.1) (omega arith) (fresh-counts x.0 x.1 h)))) (λ t. tt)
+
+    pub tagged-fits : (z : ℕ) (nodes : List ℕ) → Each IsNumber nodes → Fits (node_tagged env p z nodes)
+    tagged-fits z nodes ns = tagged_by-fits z nodes (here env.epoch p) ns here-has
+
+    came : (f : Progress → Progress) → ((x : Progress) → ProgressFits x → ProgressFits (f x)) → (r : ℕ) (b : ControlBlock) (s : Stay) → BothKeep b s
+        → Works 8 (goes_on env (came_for f r (work_of b s))) × IsCounted (goes_on env (came_for f r (work_of b s)))
+    came f on r b s h =
+        let w : Work = came_for f r (work_of b s) in
+        goes-works env own node conn early small files short 8 w (wide w (came-works env own node conn early small files short f on r (work_of b s) (fresh b s h))) (came-counts env f r (work_of b s) (fresh-counts b s h))
+
+    come_by-fits : (from r : ℕ) (x : Option (ControlBlock × Stay)) → IsNumber from → HasBoth x → Fits (come_by env from r p x)
+    come_by-fits from r None n h = tt
+    come_by-fits from r (Some x) n h =
+        let q : NodePart = record p { fetches = without kind.Fetch r p.fetches } in
+        let w : Work = came_for (come_progress from) r (work_of x.0 x.1) in
+        let few = held.few_fetches in
+        let fewer = length-less kind.Fetch r p.fetches in
+        let less : NodeKeeps env.n most q = record { early = held.early; here = held.here; kept = held.kept; few = held.few; fetches = held-less kind.Fetch r (Node env.n) p.fetches held.fetches; few_fetches = omega (arith, few, fewer) } in
+        cond_both (is_from from env.epoch (find (is_under kind.Fetch r) p.fetches)) (with_work env q [] (goes_on env w)) Drops Fits
+        (λ t. work-fits q less [] tt (omega arith) (goes_on env w) (came (come_progress from) (came-fits from n) r x.0 x.1 h)) (λ t. tt)
+
+    pub content-fits : (from r : ℕ) → IsNumber from → Fits (node_content env p from r)
+    content-fits from r n = come_by-fits from r (here env.epoch p) n here-has
+
+    read_by-fits : (r : ℕ) (x : Option (ControlBlock × Stay)) → HasBoth x → Fits (read_by env r p x)
+    read_by-fits r None h = tt
+    read_by-fits r (Some x) h = work-fits p held [] tt (omega arith) (goes_on env (came_for read_progress r (work_of x.0 x.1))) (came read_progress read-fits r x.0 x.1 h)
+
+    pub read-deed : (r : ℕ) → Fits (node_read env p r)
+    read-deed r = read_by-fits r (here env.epoch p) here-has
+
+    -- ---- an Offer
+
+    takes : Each IsSaid (taken_sent env)
+    takes = ((tt, bytes-message env.serve.c env.epoch body.Taken tt, taken-says env.serve.c env.epoch, spells env.serve.c env.epoch body.Taken conn early tt tt), tt)
+
+    offered_by-fits : (parts : EndpointParts) (a : Adopt) → IsValidParts parts → message.Fits (body.Offer parts) → AreBytes parts.unread → Fits (offered_by env parts p a)
+    offered_by-fits parts New valid wide_enough unread =
+        let got = valid.received in
+        let answered = valid.answered in
+        let acked = valid.acknowledged in
+        let w : Work = state_of (reads_batch env true (begins env parts)) in
+        let start : IsAtWork env own node conn early small files short 0 0 (begins env parts) = record {
+          service = record { notes = ((node, number, omega (arith, early)), tt); keeps = ((tt, omega (arith, got, answered), omega (arith, acked)), unread, fit-adopted parts valid wide_enough); over = tt };
+          batch = tt;
+          few = omega arith;
+          jobs = tt;
+          wants = tt;
+          few_wants = omega arith;
+          asked = tt;
+        } in
+        let first : IsCounted (begins env parts) = record { asks = omega arith; jobs = omega arith } in
+        work-fits p held (taken_sent env) takes (omega arith) (goes_on env w)
+        (goes-works env own node conn early small files short 8 w (wide w (batch-works env own node conn early small files short 0 true (begins env parts) start first))
+        (state-counts env (reads_batch env true (begins env parts)) (batch-counts env true (begins env parts) (omega arith) first)))
+    offered_by-fits parts Again valid wide_enough unread = (takes, omega arith)
+    offered_by-fits parts Stale valid wide_enough unread = tt
+
+    pub offered-fits : (parts : EndpointParts) → IsValidParts parts → message.Fits (body.Offer parts) → AreBytes parts.unread → Fits (node_offered env p parts)
+    offered-fits parts valid wide_enough unread = offered_by-fits parts (offer_answer env.epoch p.row) valid wide_enough unread
+
+    -- ---- the end of a stay
+
+    pub acknowledged-fits : Fits (node_acknowledged env p)
+    acknowledged-fits =
+        let q : NodePart = record p { row = gone p.row; kept = without kind.Ended 0 p.kept } in
+        let few = held.few in
+        let fetches = held.few_fetches in
+        let fewer = length-less kind.Ended 0 p.kept in
+        let keeps : NodeKeeps env.n (most + 0) q = record {
+          early = gone-early p.row held.early;
+          here = gone-keeps p.row p.stay;
+          kept = held-less kind.Ended 0 (Node env.n) p.kept held.kept;
+          few = omega (arith, few, fewer);
+          fetches = held.fetches;
+          few_fetches = omega (arith, fetches);
+        } in
+        cond_both (awaits_ack env.epoch p.row) (Does (q, saying [])) Drops Fits (λ t. (keeps, (sends (Node env.n) [] tt (omega arith), tt))) (λ t. tt)
+
+    -- ---- timers
+
+    again-few : length (again_sent p) ≤ 2 ^ 22
+    again-few =
+        let few = held.few in
+        let fetches = held.few_fetches in
+        let both = length-append p.kept p.fetches in
+        let same = length-held (p.kept ++ p.fetches) in
+        omega (arith, few, fetches, both, same, packets)
+
+    again : Each IsSaid (again_sent p)
+    again = held-sent (Node env.n) (p.kept ++ p.fetches) (Each-append (λ k. IsSaid (sent_of k)) p.kept p.fetches held.kept held.fetches)
+
+    fired_by-fits : (x : Option (ControlBlock × Stay)) → HasBoth x → Fits (fired_by env p x)
+    fired_by-fits None h = let few = again-few in (again, omega (arith, few))
+    fired_by-fits (Some x) h =
+        let b : ControlBlock = after_timer x.0 in
+        let after : Keeps x.1.served b = keeping-timer (x.1.served - 2 ^ 30) x.0 h.0 in
+        let w : Work = work_of b x.1 in
+        let both : BothKeep b x.1 = (after, h.1, h.2, h.3) in
+        result p held (again_sent p) again again-few w (wide w (fresh b x.1 both)) (fresh-counts b x.1 both) (spoken env.serve (serving b x.1.served []) (ready_of env.serve b (timed x.0)))
+        (subst (λ (q : Place). EndFits q (spoken env.serve (serving b x.1.served []) (ready_of env.serve b (timed x.0)))) own
+        (spoken-fits env.serve number small (contents env.serve.files files) (at env own node conn early small files short) (serving b x.1.served []) (ready_of env.serve b (timed x.0))
+        (ready-sent env.serve number (x.1.served - 2 ^ 30) b (timed x.0) after) (ready-few env.serve number b (timed x.0)) (record { notes = tt; keeps = after; over = tt })))
+        (spoken-tells env.serve number small (contents env.serve.files files) (at env own node conn early small files short) (serving b x.1.served []) (ready_of env.serve b (timed x.0)))
+
+    pub fires-fits : Fits (node_timer env p)
+    fires-fits = fired_by-fits (both_of (endpoint_of p.row) p.stay) (both-keep (endpoint_of p.row) p.stay held.here)

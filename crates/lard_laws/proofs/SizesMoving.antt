@@ -1,0 +1,350 @@
+-- In each move the client of a connection is told what it has to be, and what its Asks say is so.
+use Rattle.std.proofs.Common.{◌≡◌, ◌≢◌, ◌⊎◌, ◌+◌, ◌==◌, ℕ, Bool, true, false, eq-eqb, eqb-true, List, [], ◌∷◌, ◌++◌, map, Option, Some, None, Ok, inl, inr, ⊎_elim, refl, sym, ap, ◌∙◌, subst, append-nil}
+use Rattle.std.specs.List.{fold}
+use Rattle.lard_answers.specs.Answers.{FilesAt}
+use Rattle.lard_base.specs.declared.place.Place.{Place}
+use Rattle.lard_base.specs.declared.place.Place.TheVariants.{Client, Front, Node}
+use Rattle.lard_law_connections.specs.BytesLaw.{IsHead}
+use Rattle.lard_law_connections.specs.BytesTurning.{IsNoteOf}
+use Rattle.lard_law_connections.proofs.BytesTold.{Bytes, bytes_of, move-bytes, place-notes}
+use Rattle.lard_law_connections.specs.Line.{said_of}
+use Rattle.lard_law_connections.proofs.LineSpeaking.{heard_by}
+use Rattle.lard_law_connections.proofs.LineStands.{Stand, came_stand, row_step, sent_stand, stand-grown, stand_at, stand_before, stand_step, unknown}
+use Rattle.lard_law_connections.proofs.OffersSent.{AreSeen, SentSeen, grown-seen}
+use Rattle.lard_law_connections.specs.Places.{Owning, owning}
+use Rattle.lard_law_connections.proofs.PlacesNodeRules.{has-at}
+use Rattle.lard_law_connections.proofs.PlacesRows.{MayOwnBy, OwnsBy, SendsOwn, after, after_all}
+use Rattle.lard_law_connections.proofs.PlacesTurns.{IsPlaced, Owes}
+use Rattle.lard_laws.specs.Sizes.{BodyIsOfBatch, Marks}
+use Rattle.lard_laws.proofs.SizesTurns.{PartReach, Reads, RowTold, SaysFit, StageTold, now_told, reads-reach}
+use Rattle.lard_law_view.specs.Carry.{tale_at}
+use Rattle.lard_law_view.specs.View.{Conn, Move, Part, Was, grown, rows_of, seen_in, sending, timer_rows}
+use Rattle.lard_law_view.proofs.Fine.{IsItsOwn}
+use Rattle.lard_law_view.proofs.Rows.{tale_before}
+use Rattle.lard_law_view.proofs.Saying.{GaveAt, NotedAt}
+use Rattle.lard_law_view.proofs.Timers.{IsTimerAt, timer_rows-are}
+use Rattle.lard_handoff_back.specs.declared.row.BackConn.{BackConn}
+use Rattle.lard_handoff_back.specs.declared.row.BackConn.TheVariants as back
+use Rattle.lard_handoff_back.specs.declared.row.BackRow.{BackRow}
+use Rattle.lard_history.specs.Journal.{Tale, told_on}
+use Rattle.lard_history.specs.Own.{Came, Row, Seen, tale_of}
+use Rattle.lard_history.proofs.Each.{Each, Each-append, Each-weaker}
+use Rattle.lard_journal.specs.declared.rec.Rec.{Rec}
+use Rattle.lard_journal.specs.declared.rec.Rec.TheVariants as rec
+use Rattle.lard_law_view.specs.Keeping.{resets, served_in, size_in}
+use Rattle.lard_law_view.proofs.Notes.{Adds}
+use Rattle.lard_message.specs.declared.message.Message.{Message}
+use Rattle.lard_message.specs.Reading.{decoded_message}
+use Rattle.lard_rules.specs.Node.{NodePart}
+use Rattle.lard_segment.specs.declared.segment.Dir.TheVariants.{ToClient}
+use Rattle.lard_segment.specs.Segment.{Said, decoded}
+use Rattle.lard_law_view.proofs.EndpointSends.{AllTo}
+use Rattle.std.specs.List.{list_any}
+
+-- ---- what is told
+
+-- by what a connection saw
+abbrev pub seen_marks : ℕ → List Seen → Marks
+seen_marks c ss = record { numbers = (tale_of c ss).numbers; wrote = (tale_of c ss).wrote; served = (tale_of c ss).served; told = (fold (stand_step c) unknown ss).told }
+
+abbrev pub marks_now : Conn → Marks
+marks_now x = seen_marks x.c x.seen
+
+-- Each packet was seen to go out, and where a node has the endpoint, the client was told all that came.
+pub record IsTelling (x : Conn) : Type 0 where
+  pub seen : AreSeen x
+  pub told : (n : ℕ) → RowTold (stand_at x).told (x.part.nodes n).row
+
+-- ---- what may be seen of a step
+
+abbrev pub SentFits : FilesAt → ℕ → ℕ → List Seen → List Seen → Place → Place → List ℕ → Type 0
+SentFits files c u past step (Node n) Front bytes =
+    (SentSeen (Node n) Front bytes past → ⊥) → (m : Message) → decoded_message bytes ≡ Ok m → BodyIsOfBatch files u (seen_marks c (past ++ step)) m.body
+SentFits files c u past step _ _ bytes = Unit {0}
+
+abbrev pub RowFits : FilesAt → ℕ → ℕ → List Seen → List Seen → Rec → Type 0
+RowFits files c u past step (rec.Sent k from to bytes) = SentFits files c u past step from to bytes
+RowFits files c u past step _ = Unit {0}
+
+abbrev pub SeenFits : FilesAt → ℕ → ℕ → List Seen → List Seen → Seen → Type 0
+SeenFits files c u past step (Row r) = RowFits files c u past step r
+SeenFits files c u past step (Came l) = Unit {0}
+
+abbrev pub AllFit : FilesAt → ℕ → Conn → Move → Type 0
+AllFit files u x v = Each (SeenFits files x.c u x.seen (seen_in x v)) (seen_in x v)
+
+-- behind which so many requests were read, u before it
+abbrev pub Reaches : ℕ → Conn → Type 0
+Reaches u x = (n : ℕ) → PartReach u (tale_at x).wrote (x.part.nodes n)
+
+-- it tells what it has to, what its Asks say is so, and so many requests are read
+abbrev pub IsSaid : FilesAt → ℕ → Conn → Move → Type 0
+IsSaid files u x v = IsTelling (grown x v) × AllFit files u x v × Reaches u (grown x v)
+
+abbrev pub IsNoNode : Place → Type 0
+IsNoNode Front = Unit {0}
+IsNoNode (Client d) = Unit {0}
+IsNoNode (Node n) = ⊥
+
+-- ---- records that send nothing
+
+module _ (files : FilesAt) (c u : ℕ) (past step : List Seen) where
+  note-fits : (place : Place) (d : ℕ) (r : Rec) → NotedAt place d r → RowFits files c u past step r
+  note-fits (Client e) d (rec.Sent k from to bytes) h = absurd h
+  note-fits Front d (rec.Sent k from to bytes) h = absurd h
+  note-fits (Node n) d (rec.Sent k from to bytes) h = absurd h
+  note-fits place d _ h = tt
+
+  gift-fits : (place : Place) (d : ℕ) (r : Rec) → GaveAt place d r → RowFits files c u past step r
+  gift-fits (Client e) d (rec.Sent k from to bytes) h = absurd h
+  gift-fits Front d (rec.Sent k from to bytes) h = absurd h
+  gift-fits (Node n) d (rec.Sent k from to bytes) h = absurd h
+  gift-fits place d _ h = tt
+
+  timer-fits : (place : Place) (d : ℕ) (r : Rec) → IsTimerAt place d r → RowFits files c u past step r
+  timer-fits place d (rec.Armed p e kind) h = tt
+  timer-fits place d (rec.Cleared p e kind) h = tt
+  timer-fits place d _ h = absurd h
+
+  head-fits : (s : Seen) → IsHead s → SeenFits files c u past step s
+  head-fits (Came l) h = tt
+  head-fits (Row (rec.Event i e)) h = tt
+  head-fits (Row (rec.Opened d isn iss wnd mss)) h = tt
+  head-fits (Row _) h = absurd h
+
+  rows-fit : (rs : List Rec) → Each (RowFits files c u past step) rs → Each (SeenFits files c u past step) (map Row rs)
+  rows-fit [] h = tt
+  rows-fit (r ∷ rs) h = (h.0, rows-fit rs h.1)
+
+  -- another place than a node asks nothing
+  pub else-sends : (place : Place) → IsNoNode place → (ss : List (Place × List ℕ)) → Each (RowFits files c u past step) (map (sending place) ss)
+  else-sends place apart [] = tt
+  else-sends Front apart (s ∷ ss) = (tt, else-sends Front apart ss)
+  else-sends (Client d) apart (s ∷ ss) = (tt, else-sends (Client d) apart ss)
+  else-sends (Node n) apart (s ∷ ss) = absurd apart
+
+  -- nor does a segment to a client
+  client-sends : (n d : ℕ) (ss : List (Place × List ℕ)) → AllTo (Client d) ss → Each (RowFits files c u past step) (map (sending (Node n)) ss)
+  client-sends n d [] h = tt
+  client-sends n d (s ∷ ss) h = (subst (λ (to : Place). SentFits files c u past step (Node n) to s.1) (sym h.0) tt, client-sends n d ss h.1)
+
+module _ (files : FilesAt) (u : ℕ) (x : Conn) (v : Move) (own : IsItsOwn x v) where
+  abbrev Fit : Rec → Type 0
+  Fit r = RowFits files x.c u x.seen (seen_in x v) r
+
+  -- all of a move, once its packets may be
+  pub all-fit : Each (SeenFits files x.c u x.seen (seen_in x v)) v.heads → Each Fit (map (sending v.place) v.said.segments) → Each Fit (map (sending v.place) v.said.messages) → AllFit files u x v
+  all-fit heads segments messages =
+      let S : List Rec = map (sending v.place) v.said.segments in
+      let M : List Rec = map (sending v.place) v.said.messages in
+      let T : List Rec = timer_rows v.place x.c x.part v.part in
+      let N : List Rec = v.said.notes in
+      let G : List Rec = v.said.gave in
+      Each-append (SeenFits files x.c u x.seen (seen_in x v)) v.heads (map Row (rows_of x v)) heads
+      (rows-fit files x.c u x.seen (seen_in x v) (rows_of x v)
+      (Each-append Fit (N ++ S ++ G ++ M) T
+      (Each-append Fit (N ++ S ++ G) M
+      (Each-append Fit (N ++ S) G
+      (Each-append Fit N S (Each-weaker (NotedAt v.place x.c) Fit (note-fits files x.c u x.seen (seen_in x v) v.place x.c) N own.notes) segments)
+      (Each-weaker (GaveAt v.place x.c) Fit (gift-fits files x.c u x.seen (seen_in x v) v.place x.c) G own.gave))
+      messages)
+      (Each-weaker (IsTimerAt v.place x.c) Fit (timer-fits files x.c u x.seen (seen_in x v) v.place x.c) T (timer_rows-are v.place x.c x.part v.part))))
+
+-- ---- what the client was told last
+
+-- to whom, and from whom
+abbrev told_one : ℕ → Place → Place → List ℕ → Option Said → Option Said
+told_one c (Client d) Front bytes o = said_of (decoded bytes c ToClient)
+told_one c (Client d) (Node n) bytes o = said_of (decoded bytes c ToClient)
+told_one c (Client d) (Client e) bytes o = o
+told_one c Front from bytes o = o
+told_one c (Node n) from bytes o = o
+
+abbrev told_behind : ℕ → Place → Option Said → List (Place × List ℕ) → Option Said
+told_behind c place o [] = o
+told_behind c place o (s ∷ ss) = told_behind c place (told_one c s.0 place s.1 o) ss
+
+sent-one : (c : ℕ) (s : Stand) (to from : Place) (bytes : List ℕ) → (sent_stand c s to from bytes).told ≡ told_one c to from bytes s.told
+sent-one c s (Client d) Front bytes = refl
+sent-one c s (Client d) (Node n) bytes = refl
+sent-one c s (Client d) (Client e) bytes = refl
+sent-one c s Front from bytes = refl
+sent-one c s (Node n) from bytes = refl
+
+sends-told : (c : ℕ) (place : Place) (s : Stand) (ss : List (Place × List ℕ)) → (fold (row_step c) s (map (sending place) ss)).told ≡ told_behind c place s.told ss
+sends-told c place s [] = refl
+sends-told c place s (y ∷ ys) = sends-told c place (sent_stand c s y.0 place y.1) ys ∙ ap (λ (o : Option Said). told_behind c place o ys) (sent-one c s y.0 place y.1)
+
+note-told : (place : Place) (c d : ℕ) (s : Stand) (r : Rec) → NotedAt place d r → (row_step c s r).told ≡ s.told
+note-told (Client e) c d s (rec.Sent k from to bytes) h = absurd h
+note-told Front c d s (rec.Sent k from to bytes) h = absurd h
+note-told (Node n) c d s (rec.Sent k from to bytes) h = absurd h
+note-told place c d s _ h = refl
+
+notes-told : (place : Place) (c d : ℕ) (s : Stand) (rs : List Rec) → Each (NotedAt place d) rs → (fold (row_step c) s rs).told ≡ s.told
+notes-told place c d s [] h = refl
+notes-told place c d s (r ∷ rs) h = notes-told place c d (row_step c s r) rs h.1 ∙ note-told place c d s r h.0
+
+came-told : (c : ℕ) (s : Stand) (to from : Place) (bytes : List ℕ) → (came_stand c s to from bytes).told ≡ s.told
+came-told c s Front (Client d) bytes = refl
+came-told c s Front Front bytes = refl
+came-told c s Front (Node n) bytes = refl
+came-told c s (Node m) from bytes = refl
+came-told c s (Client d) from bytes = refl
+
+head-told : (c : ℕ) (s : Stand) (h : Seen) → IsHead h → (stand_step c s h).told ≡ s.told
+head-told c s (Came l) h = came-told c s l.to l.from l.bytes
+head-told c s (Row (rec.Event i e)) h = refl
+head-told c s (Row (rec.Opened d isn iss wnd mss)) h = refl
+head-told c s (Row _) h = absurd h
+
+heads-told : (c : ℕ) (s : Stand) (hs : List Seen) → Each IsHead hs → (fold (stand_step c) s hs).told ≡ s.told
+heads-told c s [] h = refl
+heads-told c s (y ∷ ys) h = heads-told c (stand_step c s y) ys h.1 ∙ head-told c s y h.0
+
+-- behind a move
+told-grown : (x : Conn) (v : Move) → IsItsOwn x v → Each IsHead v.heads → (stand_at (grown x v)).told ≡ told_behind x.c v.place (stand_at x).told v.said.segments
+told-grown x v own heads =
+    let s : Stand = fold (row_step x.c) (stand_before x v) v.said.notes in
+    ap (λ (t : Stand). t.told) (stand-grown x v own) ∙ sends-told x.c v.place s v.said.segments
+    ∙ ap (λ (o : Option Said). told_behind x.c v.place o v.said.segments) (notes-told v.place x.c x.c (stand_before x v) v.said.notes own.notes ∙ heads-told x.c (stand_at x) v.heads heads)
+
+-- a node tells the last of what it sends
+node-told : (c n : ℕ) (o : Option Said) (ss : List (Place × List ℕ)) → AllTo (Client c) ss → told_behind c (Node n) o ss ≡ heard_by c o ss
+node-told c n o [] h = refl
+node-told c n o (s ∷ ss) h = ap (λ (to : Place). told_behind c (Node n) (told_one c to (Node n) s.1 o) ss) h.0 ∙ node-told c n (said_of (decoded s.1 c ToClient)) ss h.1
+
+-- ---- who does not own the connection tells its client nothing
+
+silent-one : (c : ℕ) (w : Owning) (place q to : Place) (bytes : List ℕ) (o : Option Said) → w.owner ≡ Some q → place ≢ q → SendsOwn c w place to → told_one c to place bytes o ≡ o
+silent-one c w Front q (Client d) bytes o mine other h = let same : Some q ≡ Some Front = sym mine ∙ h.1 in absurd (other (let e : q ≡ Front = cc in sym e))
+silent-one c w (Node n) q (Client d) bytes o mine other h = let same : Some q ≡ Some (Node n) = sym mine ∙ h.1 in absurd (other (let e : q ≡ Node n = cc in sym e))
+silent-one c w (Client e) q (Client d) bytes o mine other h = refl
+silent-one c w place q Front bytes o mine other h = refl
+silent-one c w place q (Node n) bytes o mine other h = refl
+
+silent-behind : (c : ℕ) (w : Owning) (place q : Place) (o : Option Said) (ss : List (Place × List ℕ)) → w.owner ≡ Some q → place ≢ q → OwnsBy c w (map (sending place) ss) → told_behind c place o ss ≡ o
+silent-behind c w place q o [] mine other h = refl
+silent-behind c w place q o (s ∷ ss) mine other h =
+    ap (λ (t : Option Said). told_behind c place t ss) (silent-one c w place q s.0 s.1 o mine other h.0) ∙ silent-behind c w place q o ss mine other h.1
+
+-- the owner stays, while another place notes
+note-owner : (place : Place) (c d : ℕ) (w : Owning) (q : Place) (r : Rec) → NotedAt place d r → w.owner ≡ Some q → MayOwnBy c w r → (after w r).owner ≡ Some q
+note-owner place c d w q (rec.Took p e epoch) h mine may = let no : Some q ≡ None = sym mine ∙ may.2 in absurd cc
+note-owner (Client k) c d w q (rec.Gave p e epoch) h mine may = absurd h
+note-owner Front c d w q (rec.Gave p e epoch) h mine may = absurd h
+note-owner (Node n) c d w q (rec.Gave p e epoch) h mine may = absurd h
+note-owner place c d w q _ h mine may = mine
+
+notes-owner : (place : Place) (c d : ℕ) (w : Owning) (q : Place) (ns rest : List Rec) → Each (NotedAt place d) ns → w.owner ≡ Some q → OwnsBy c w (ns ++ rest) → ((after_all w ns).owner ≡ Some q) × OwnsBy c (after_all w ns) rest
+notes-owner place c d w q [] rest h mine owns = (mine, owns)
+notes-owner place c d w q (r ∷ rs) rest h mine owns = notes-owner place c d (after w r) q rs rest h.1 (note-owner place c d w q r h.0 mine owns.0) owns.1
+
+owns-first : (c : ℕ) (w : Owning) (xs ys : List Rec) → OwnsBy c w (xs ++ ys) → OwnsBy c w xs
+owns-first c w [] ys h = tt
+owns-first c w (y ∷ xs) ys h = (h.0, owns-first c (after w y) xs ys h.1)
+
+module _ (x : Conn) (v : Move) (own : IsItsOwn x v) (owes : Owes x v) (placed : IsPlaced x) (heads : Each IsHead v.heads) where
+  silent-told : (q : Place) → (owning (tale_at x)).owner ≡ Some q → v.place ≢ q → (stand_at (grown x v)).told ≡ (stand_at x).told
+  silent-told q mine other =
+      let w : Owning = owning (tale_at x) in
+      let N : List Rec = v.said.notes in
+      let S : List Rec = map (sending v.place) v.said.segments in
+      let G : List Rec = v.said.gave in
+      let M : List Rec = map (sending v.place) v.said.messages in
+      let T : List Rec = timer_rows v.place x.c x.part v.part in
+      let owns : OwnsBy x.c w (N ++ S) = owns-first x.c w (N ++ S) G (owns-first x.c w (N ++ S ++ G) M (owns-first x.c w (N ++ S ++ G ++ M) T owes.rows)) in
+      let behind = notes-owner v.place x.c x.c w q N S own.notes mine owns in
+      told-grown x v own heads ∙ silent-behind x.c (after_all w N) v.place q (stand_at x).told v.said.segments behind.0 other behind.1
+
+  -- so what another node has is told as it was
+  row-still : (q : ℕ) (r : Option BackRow) → (x.part.nodes q).row ≡ r → v.place ≢ Node q → RowTold (stand_at x).told r → RowTold (stand_at (grown x v)).told r
+  row-still q None found other h = tt
+  row-still q (Some row) found other h = go row.stage refl h where
+    go : (d : BackConn) → row.stage ≡ d → StageTold (stand_at x).told d → StageTold (stand_at (grown x v)).told d
+    go (back.Here b) at t = subst (λ (o : Option Said). StageTold o (back.Here b)) (sym (silent-told (Node q) (has-at x placed q row b found at x.part.front.row refl).owner other)) t
+    go back.Out at t = tt
+    go back.Ended at t = tt
+    go back.Gone at t = tt
+
+  node-still : (q : ℕ) → v.place ≢ Node q → (v.part.nodes q).row ≡ (x.part.nodes q).row → RowTold (stand_at x).told (x.part.nodes q).row → RowTold (stand_at (grown x v)).told (v.part.nodes q).row
+  node-still q other same h = subst (RowTold (stand_at (grown x v)).told) (sym same) (row-still q (x.part.nodes q).row refl other h)
+
+  -- ---- where another place than a node acts
+
+  no-node : (place : Place) (q : ℕ) → IsNoNode place → place ≢ Node q
+  no-node Front q h e = let no : Front ≡ Node q = e in cc
+  no-node (Client d) q h e = let no : Client d ≡ Node q = e in cc
+  no-node (Node n) q h e = absurd h
+
+  pub else-said : (files : FilesAt) → IsNoNode v.place → v.part.nodes ≡ x.part.nodes → IsTelling x → (u : ℕ) → Reads u x → IsSaid files u x v
+  else-said files apart same h u reads = (
+    record { seen = grown-seen x v h.seen; told = λ q. node-still q (no-node v.place q apart) (ap (λ (nodes : ℕ → NodePart). (nodes q).row) same) (h.told q) },
+    all-fit files u x v own (Each-weaker IsHead (SeenFits files x.c u x.seen (seen_in x v)) (head-fits files x.c u x.seen (seen_in x v)) v.heads heads)
+        (else-sends files x.c u x.seen (seen_in x v) v.place apart v.said.segments) (else-sends files x.c u x.seen (seen_in x v) v.place apart v.said.messages),
+    λ q. subst (λ (nodes : ℕ → NodePart). PartReach u (tale_at (grown x v)).wrote (nodes q)) (sym same) (reads-reach u (tale_at (grown x v)).wrote (x.part.nodes q).stay (x.part.nodes q).row (reads.here q)),
+  )
+
+-- ---- where a node acts
+
+module _ (files : FilesAt) (u : ℕ) (x : Conn) (n : ℕ) (heads : List Seen) (notes : List Rec) (segments : List (Place × List ℕ)) (gave : List Rec) (messages : List (Place × List ℕ)) (part : Part) where
+  abbrev pub acts : Move
+  acts = record { place = Node n; heads = heads; said = record { notes = notes; segments = segments; gave = gave; messages = messages }; part = part }
+
+  abbrev now : Marks
+  now = now_told files x.c x n u (marks_now x) ((marks_now x).served + served_in notes) segments
+
+  module _ (own : IsItsOwn x acts) (owes : Owes x acts) (placed : IsPlaced x) (are : Each IsHead heads) (quiet : bytes_of (tale_before x acts) ≡ bytes_of (tale_at x)) (each : Each (IsNoteOf x.c) notes) (to : AllTo (Client x.c) segments) where
+    -- what is told with the step
+    told-now : (stand_at (grown x acts)).told ≡ heard_by x.c (stand_at x).told segments
+    told-now = told-grown x acts own are ∙ node-told x.c n (stand_at x).told segments to
+
+    marks-grown : seen_marks x.c (x.seen ++ seen_in x acts) ≡ now
+    marks-grown =
+        let before : Tale = tale_before x acts in
+        let adds : Adds before [] [] (served_in notes) (size_in notes) (list_any resets notes) (told_on x.c before notes) = place-notes x.c before notes each in
+        let moved : bytes_of (tale_at (grown x acts)) ≡ bytes_of (told_on x.c before notes) = move-bytes x acts own.messages own.gave in
+        λ i. record {
+          numbers = (ap (λ (b : Bytes). b.numbers) moved ∙ adds.numbers ∙ ap (λ (b : Bytes). b.numbers) quiet) i;
+          wrote = (ap (λ (b : Bytes). b.wrote) moved ∙ adds.wrote ∙ append-nil before.wrote ∙ ap (λ (b : Bytes). b.wrote) quiet) i;
+          served = (ap (λ (b : Bytes). b.served) moved ∙ adds.served ∙ ap (λ (b : Bytes). b.served + served_in notes) quiet) i;
+          told = told-now i;
+        }
+
+    -- what is said was seen before, or it is of its batch
+    message-fits : IsTelling x → (s : Place × List ℕ) → SaysFit files x.c x n u (marks_now x) now s → SentFits files x.c u x.seen (seen_in x acts) (Node n) s.0 s.1
+    message-fits h s says = go s.0 says where
+      go : (p : Place) → SaysFit files x.c x n u (marks_now x) now (p, s.1) → SentFits files x.c u x.seen (seen_in x acts) (Node n) p s.1
+      go (Client d) f = tt
+      go (Node m) f = tt
+      go Front f = λ new m d. ⊎_elim
+          (λ (was : Was x (Node n) Front s.1). absurd (new (h.seen (record { from = Node n; to = Front; bytes = s.1 }) was)))
+          (λ (g : (m : Message) → decoded_message s.1 ≡ Ok m → BodyIsOfBatch files u now m.body). subst (λ (t : Marks). BodyIsOfBatch files u t m.body) (sym marks-grown) (g m d)) f
+
+    messages-fit : IsTelling x → (ss : List (Place × List ℕ)) → Each (SaysFit files x.c x n u (marks_now x) now) ss → Each (RowFits files x.c u x.seen (seen_in x acts)) (map (sending (Node n)) ss)
+    messages-fit h [] f = tt
+    messages-fit h (s ∷ ss) f = (message-fits h s f.0, messages-fit h ss f.1)
+
+    pub node-said : ((q : ℕ) → q ≢ n → part.nodes q ≡ x.part.nodes q) → RowTold (heard_by x.c (stand_at x).told segments) (part.nodes n).row → PartReach u (marks_now x).wrote (part.nodes n) → Each (SaysFit files x.c x n u (marks_now x) now) messages
+        → IsTelling x → Reads u x → IsSaid files u x acts
+    node-said others mine mine_reach says h reads = (
+      record { seen = grown-seen x acts h.seen; told = λ q. by_node q (same_number_here q n) },
+      all-fit files u x acts own (Each-weaker IsHead (SeenFits files x.c u x.seen (seen_in x acts)) (head-fits files x.c u x.seen (seen_in x acts)) heads are)
+          (client-sends files x.c u x.seen (seen_in x acts) n x.c segments to) (messages-fit h messages says),
+      λ q. reach_by q (same_number_here q n),
+    ) where
+      reach_by : (q : ℕ) → (q ≡ n) ⊎ (q ≢ n) → PartReach u (tale_at (grown x acts)).wrote (part.nodes q)
+      reach_by q e = ⊎_elim
+          (λ (same : q ≡ n). subst (λ (i : ℕ). PartReach u (tale_at (grown x acts)).wrote (part.nodes i)) (sym same) (subst (λ (l : List ℕ). PartReach u l (part.nodes n)) (sym (ap (λ (m : Marks). m.wrote) marks-grown)) mine_reach))
+          (λ (other : q ≢ n). subst (PartReach u (tale_at (grown x acts)).wrote) (sym (others q other)) (reads-reach u (tale_at (grown x acts)).wrote (x.part.nodes q).stay (x.part.nodes q).row (reads.here q))) e
+
+      by_node : (q : ℕ) → (q ≡ n) ⊎ (q ≢ n) → RowTold (stand_at (grown x acts)).told (part.nodes q).row
+      by_node q e = ⊎_elim
+          (λ (same : q ≡ n). subst (λ (i : ℕ). RowTold (stand_at (grown x acts)).told (part.nodes i).row) (sym same) (subst (λ (o : Option Said). RowTold o (part.nodes n).row) (sym told-now) mine))
+          (λ (other : q ≢ n). node-still x acts own owes placed are q (λ f. let same : n ≡ q = cc in other (sym same)) (ap (λ (p : NodePart). p.row) (others q other)) (h.told q)) e
+
+      same_number_here : (a b : ℕ) → (a ≡ b) ⊎ (a ≢ b)
+      same_number_here a b = go (a == b) refl where
+        go : (t : Bool) → (a == b) ≡ t → (a ≡ b) ⊎ (a ≢ b)
+        go true e = inl (eqb-true a b e)
+        go false e = inr (λ f. let no : true ≡ false = sym (eq-eqb a b f) ∙ e in cc)

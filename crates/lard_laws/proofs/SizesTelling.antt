@@ -1,0 +1,228 @@
+-- What the client of a connection is told in a turn of its node: the last segment acknowledges all that came.
+use Rattle.std.proofs.Common.{◌≡◌, ◌⊎◌, ◌≤◌, ◌+◌, ℕ, Bool, true, false, nat_lt, List, [], ◌∷◌, ◌++◌, length, Option, Some, None, inl, inr, ⊎_elim, refl, sym, ap, ◌∙◌, subst, arith}
+use Rattle.std.proofs.lemmas.Bool.{cond_both}
+use Rattle.std.proofs.lemmas.List.{length-drop}
+use Rattle.lard_answers.specs.Answers.{answer}
+use Rattle.lard_base.specs.declared.place.Place.{Place}
+use Rattle.lard_base.specs.declared.place.Reason.TheVariants.{Limit}
+use Rattle.lard_base.specs.declared.place.Via.{Via}
+use Rattle.lard_law_connections.specs.Line.{said_of}
+use Rattle.lard_law_connections.proofs.LineHearing.{Hears, is_reset, segment-hears}
+use Rattle.lard_law_connections.proofs.LineHolding.{EndsHeld, IsReady, held-ends, ready-quiet, settled-ends}
+use Rattle.lard_law_connections.proofs.LineSpeaking.{HasSpoken, IsSound, IsTold, heard_by, speaks-spoken, timer-spoken, told-on}
+use Rattle.lard_laws.proofs.SizesEntering.{enters-grow}
+use Rattle.lard_endpoint.specs.Arriving.{on_segment}
+use Rattle.lard_endpoint.specs.Control.{ControlBlock, consuming, discarding_on, finishing, queueing, rcv_nxt, rcv_wnd}
+use Rattle.lard_endpoint.specs.Leaving.{after_timer, emits_left, timed}
+use Rattle.lard_endpoint.specs.Moving.{end_reason, final_of, may_end}
+use Rattle.lard_law_view.proofs.EndpointStreams.{IsBetween, between-sound}
+use Rattle.lard_law_view.proofs.EndpointSpeaking.{Spoke, emits-spoke, emits_symbols-spoke}
+use Rattle.lard_rules.specs.declared.stay.Entry.{Entry}
+use Rattle.lard_rules.specs.declared.stay.Next.{Next}
+use Rattle.lard_rules.specs.declared.stay.Next.TheVariants as next
+use Rattle.lard_rules.specs.declared.stay.Progress.{Progress}
+use Rattle.lard_rules.specs.declared.stay.Progress.TheVariants as progress
+use Rattle.lard_rules.specs.Stay.{NodeEnv, Work, asks_for, enters, goes_on, left, named_paths, next_of, reads_batch, reads_these, serves_by, serves_first, turn, turned}
+use Rattle.lard_reader.specs.Batches.{batch_of, bytes_used}
+use Rattle.lard_recv.specs.Recv.{awaited, room}
+use Rattle.lard_request.specs.declared.verdict.Verdict.{Verdict}
+use Rattle.lard_request.specs.Verdict.{closes}
+use Rattle.lard_rules.specs.declared.places.Ending.{Ending}
+use Rattle.lard_rules.specs.declared.places.Ending.TheVariants as ending
+use Rattle.lard_rules.specs.declared.places.Turn.{Turn}
+use Rattle.lard_rules.specs.Loop.{Step, More, Done, state_of}
+use Rattle.lard_rules.specs.Serving.{ServeEnv, Service, answered, closed_behind, consumed, cut_off, ended_at_fin, limit_said, passed_over, queued, ready_of, serving, settled, spoken, told}
+use Rattle.lard_rules.specs.Speaking.{speaks, speaks_symbols}
+use Rattle.lard_rules.proofs.Runs.{runs_keep}
+use Rattle.lard_segment.specs.declared.segment.Dir.TheVariants.{ToClient}
+use Rattle.lard_segment.specs.Segment.{Said, decoded}
+use Rattle.lard_segment.proofs.Again.{again}
+use Rattle.lard_law_view.specs.Truth.{Stream}
+
+-- ---- what answering leaves of an endpoint
+
+-- It awaits the same, has no less room, and owes what it owed.
+pub record IsWider (b d : ControlBlock) : Type 0 where
+  pub next : rcv_nxt d ≡ rcv_nxt b
+  pub wide : rcv_wnd b ≤ rcv_wnd d
+  pub last : d.last_window ≡ b.last_window
+  pub owed : d.owed ≡ b.owed
+  pub reset : d.reset ≡ b.reset
+
+wider-same : (b : ControlBlock) → IsWider b b
+wider-same b = record { next = refl; wide = omega arith; last = refl; owed = refl; reset = refl }
+
+wider-then : (b c d : ControlBlock) → IsWider b c → IsWider c d → IsWider b d
+wider-then b c d g h = let x = g.wide in let y = h.wide in record { next = h.next ∙ g.next; wide = omega (arith, x, y); last = h.last ∙ g.last; owed = h.owed ∙ g.owed; reset = h.reset ∙ g.reset }
+
+consuming-wider : (b : ControlBlock) (n : ℕ) → IsWider b (consuming b n)
+consuming-wider b n = let size = length-drop n b.recv.unread in record { next = refl; wide = omega arith; last = refl; owed = refl; reset = refl }
+
+discarding-wider : (b : ControlBlock) → IsWider b (discarding_on b)
+discarding-wider b = record { next = refl; wide = omega arith; last = refl; owed = refl; reset = refl }
+
+-- the sending half is no part of it
+sending-wider : (b d : ControlBlock) → d.recv ≡ b.recv → d.last_window ≡ b.last_window → d.owed ≡ b.owed → d.reset ≡ b.reset → IsWider b d
+sending-wider b d e l o r = record { next = ap awaited e; wide = let same : rcv_wnd d ≡ rcv_wnd b = ap room e in omega (arith, same); last = l; owed = o; reset = r }
+
+closed-wider : (v : Verdict) (b : ControlBlock) → IsWider b (closed_behind v b)
+closed-wider v b = cond_both (closes v) (finishing (discarding_on b)) b (IsWider b)
+    (λ t. wider-then b (discarding_on b) (finishing (discarding_on b)) (discarding-wider b) (sending-wider (discarding_on b) (finishing (discarding_on b)) refl refl refl refl)) (λ t. wider-same b)
+
+-- an ACK is owed, or the client was told what is so, unless it reset the connection
+abbrev pub IsQuiet : Option Said → ControlBlock → Type 0
+IsQuiet o b = b.reset ≡ false → (b.owed ≡ true) ⊎ IsTold o b
+
+told-wider : (o : Option Said) (b d : ControlBlock) → IsWider b d → IsTold o b → IsTold o d
+told-wider o b d g t = let more = g.wide in record { said = t.said; is = t.is; ack = t.ack ∙ sym g.next; window = t.window ∙ sym g.last; shut = λ z. g.last ∙ t.shut (omega (arith, more, z)) }
+
+pub wider-quiet : (o : Option Said) (b d : ControlBlock) → IsWider b d → IsQuiet o b → IsQuiet o d
+wider-quiet o b d g q r = ⊎_elim (λ (owed : b.owed ≡ true). inl (g.owed ∙ owed)) (λ (t : IsTold o b). inr (told-wider o b d g t)) (q (sym g.reset ∙ r))
+
+-- a segment that came is owed an ACK, where anything of it was taken
+pub heard-quiet : (o : Option Said) (b : ControlBlock) (s : Said) → b.reset ≡ false → IsTold o b → IsQuiet o (on_segment b s).1
+heard-quiet o b s calm t open_ =
+    let h : Hears b (is_reset b s) (on_segment b s).1 = segment-hears b s calm in
+    ⊎_elim (λ e. inr (told-on o b (on_segment b s).1 e h.last t)) (λ e. inl e) h.taken_in
+
+-- ---- turn by turn
+
+module _ (env : NodeEnv) where
+  abbrev Wider : Work → Work → Type 0
+  Wider k u = IsWider k.service.block u.service.block
+
+  same-wider : (k u : Work) → u.service.block ≡ k.service.block → Wider k u
+  same-wider k u e = subst (IsWider k.service.block) (sym e) (wider-same k.service.block)
+
+  abbrev StepWider : Work → Step Work → Type 0
+  StepWider k (More u) = Wider k u
+  StepWider k (Done u) = Wider k u
+
+  answered-wider : (s : ServeEnv) (way : Via) (v : Verdict) (w : Service) → IsWider w.block (answered s way v w).block
+  answered-wider s way v w =
+      let bytes : List ℕ = answer s.files v in
+      let total : ℕ = w.block.send.total + length bytes in
+      cond_both (nat_lt s.stream total) (passed_over s total w) (queued s way v bytes w) (λ (t : Service). IsWider w.block t.block)
+      (λ t. wider-same w.block)
+      (λ t. wider-then w.block (queueing w.block bytes) (closed_behind v (queueing w.block bytes)) (sending-wider w.block (queueing w.block bytes) refl refl refl refl) (closed-wider v (queueing w.block bytes)))
+
+  serves-wider : (k : Work) (e : Entry) (rest : List Entry) (p : Progress) → Wider k (serves_by env e rest k p)
+  serves-wider k e rest (progress.Ready way) = answered-wider env.serve way e.verdict k.service
+  serves-wider k e rest _ = wider-same k.service.block
+
+  first-wider : (k : Work) (es : List Entry) → Wider k (serves_first env k es)
+  first-wider k [] = wider-same k.service.block
+  first-wider k (e ∷ rest) = serves-wider k e rest e.progress
+
+  fin-wider : (w : Service) → IsWider w.block (ended_at_fin w).block
+  fin-wider w = cond_both w.block.recv.fin (record w { block = finishing w.block }) w (λ (t : Service). IsWider w.block t.block) (λ t. sending-wider w.block (finishing w.block) refl refl refl refl) (λ t. wider-same w.block)
+
+  asks-wider : (size : ℕ) (paths : List (List ℕ)) (k : Work) → Wider k (asks_for env size paths k)
+  asks-wider size [] k = wider-same k.service.block
+  asks-wider size (path ∷ paths) k = wider-same k.service.block
+
+  these-wider : (here : Bool) (used : ℕ) (k : Work) (us : List Verdict) → StepWider k (reads_these env here used k us)
+  these-wider here used k [] = wider-then k.service.block (consuming k.service.block used) (ended_at_fin (consumed used k.service)).block (consuming-wider k.service.block used) (fin-wider (consumed used k.service))
+  these-wider here used k (v ∷ us) =
+      let start : Work = record k { service = consumed used k.service } in
+      let all : Work = enters env here (k.service.count + 1) (v ∷ us) start in
+      let asked : Work = asks_for env (length (v ∷ us)) (named_paths env.serve.files all.batch) all in
+      wider-then k.service.block (consuming k.service.block used) asked.service.block (consuming-wider k.service.block used)
+      (wider-then (consuming k.service.block used) all.service.block asked.service.block (same-wider start all (enters-grow env here (k.service.count + 1) (v ∷ us) start).block) (asks-wider (length (v ∷ us)) (named_paths env.serve.files all.batch) all))
+
+  batch-wider : (here : Bool) (k : Work) → StepWider k (reads_batch env here k)
+  batch-wider here k = these-wider here (bytes_used 8 k.service.block.recv.unread) k (batch_of 8 k.service.block.recv.unread)
+
+  state-wider : (k : Work) (s : Step Work) → StepWider k s → Wider k (state_of s)
+  state-wider k (More u) h = h
+  state-wider k (Done u) h = h
+
+  pub batch-state : (here : Bool) (k : Work) → Wider k (state_of (reads_batch env here k))
+  batch-state here k = state-wider k (reads_batch env here k) (batch-wider here k)
+
+  turn-wider : (k : Work) → StepWider k (turn env k)
+  turn-wider k = go (next_of k) where
+    go : (n : Next) → StepWider k (turned env k n)
+    go next.Serve = first-wider k k.batch
+    go next.Read = batch-wider false k
+    go next.Stop = wider-same k.service.block
+
+  step-then : (k y : Work) (s : Step Work) → Wider k y → StepWider y s → StepWider k s
+  step-then k y (More u) g h = wider-then k.service.block y.service.block u.service.block g h
+  step-then k y (Done u) g h = wider-then k.service.block y.service.block u.service.block g h
+
+  pub goes-wider : (k : Work) → Wider k (goes_on env k)
+  goes-wider k = runs_keep (turn env) left (Wider k) (record {
+    more = λ y z e p. subst (StepWider k) e (step-then k y (turn env y) p (turn-wider y));
+    done = λ y z e p. subst (StepWider k) e (step-then k y (turn env y) p (turn-wider y));
+  }) k (wider-same k.service.block)
+
+-- ---- the end of a turn
+
+-- the last segment
+heard-last : (c : ℕ) (o : Option Said) (ss : List (Place × List ℕ)) (s : Place × List ℕ) → heard_by c o (ss ++ s ∷ []) ≡ said_of (decoded s.1 c ToClient)
+heard-last c o [] s = refl
+heard-last c o (x ∷ ss) s = heard-last c (said_of (decoded x.1 c ToClient)) ss s
+
+-- The last segment acknowledges so much.
+pub record Acknowledges (o : Option Said) (next : ℕ) : Type 0 where
+  pub said : Said
+  pub is : o ≡ Some said
+  pub ack : said.ack ≡ next
+
+-- an endpoint that stays has what it received
+abbrev pub SameRecv : ControlBlock → Ending → Type 0
+SameRecv b (ending.Here d count) = d.recv ≡ b.recv
+SameRecv b (ending.Over last) = Unit {0}
+
+module _ (env : ServeEnv) (o : Option Said) (w out : Stream) (s : Service) (between : IsBetween w out s.block) (quiet : IsQuiet o s.block) where
+  pub sound : IsSound s.block
+  sound = record { block = between-sound w out s.block between; number = between.speaks.number }
+
+  pub ready : IsReady o s.block
+  ready = record { sound = sound; quiet = quiet }
+
+  limit-told : s.block.reset ≡ false → Acknowledges (heard_by env.c o (cut_off env s).1.segments) (rcv_nxt s.block)
+  limit-told calm =
+      let said = speaks_symbols env.c s.block in
+      let last = final_of said.1 Limit in
+      let talk : Spoke env.c w out true s.block said = emits_symbols-spoke env.c w out true (emits_left s.block) s.block between in
+      record {
+        said = limit_said last;
+        is = heard-last env.c o said.0 (told env (limit_said last))
+            ∙ ap said_of (again env.c ToClient (limit_said last) (record { seq_fits = omega arith; ack_fits = omega arith; wnd_fits = omega arith; some_mss = tt; small_mss = tt; small_payload = omega arith; no_ack = λ f. absurd cc }));
+        ack = ap awaited talk.recv;
+      }
+
+  spoken-told : s.block.reset ≡ false → Acknowledges (heard_by env.c o (spoken env s []).1.segments) (rcv_nxt s.block)
+  spoken-told calm =
+      let spoke : HasSpoken env.c o s.block (speaks env.c s.block) = speaks-spoken env.c o s.block sound (ready-quiet o s.block ready calm) in
+      record { said = spoke.told_is.said; is = spoke.told_is.is; ack = spoke.told_is.ack ∙ ap awaited spoke.left.recv }
+
+  -- wherever the turn ends, unless the client reset the connection
+  pub settled-told : s.block.reset ≡ false → Acknowledges (heard_by env.c o (settled env s).1.segments) (rcv_nxt s.block)
+  settled-told calm = go s.over where
+    go : (p : Option ℕ) → Acknowledges (heard_by env.c o (elim p as (λ p. Ending × Turn) [ None ↦ spoken env s [] | Some total ↦ cut_off env s ]).1.segments) (rcv_nxt s.block)
+    go None = spoken-told calm
+    go (Some total) = limit-told calm
+
+  -- where it stays, it received what it had
+  spoken-recv : SameRecv s.block (spoken env s []).0
+  spoken-recv =
+      let said = speaks env.c s.block in
+      let talk : Spoke env.c w out true s.block said = emits-spoke env.c w out true (emits_left s.block) s.block between in
+      cond_both (may_end said.1) (ending.Over (final_of said.1 (end_reason said.1))) (ending.Here said.1 s.count) (SameRecv s.block) (λ t. tt) (λ t. talk.recv)
+
+  pub settled-recv : SameRecv s.block (settled env s).0
+  settled-recv = go s.over where
+    go : (p : Option ℕ) → SameRecv s.block (elim p as (λ p. Ending × Turn) [ None ↦ spoken env s [] | Some total ↦ cut_off env s ]).0
+    go None = spoken-recv
+    go (Some total) = tt
+
+  pub settled-held : EndsHeld env.c o s.notes (settled env s)
+  settled-held = settled-ends env o s ready
+
+-- what the timer sends
+module _ (env : ServeEnv) (o : Option Said) (b : ControlBlock) (sound : IsSound b) (calm : b.reset ≡ false) (t : IsTold o b) (count : ℕ) where
+  pub fired-held : EndsHeld env.c o [] (spoken env (serving (after_timer b) count []) (ready_of env (after_timer b) (timed b)))
+  fired-held = held-ends env.c o (serving (after_timer b) count []) b (ready_of env (after_timer b) (timed b) ++ (speaks env.c (after_timer b)).0, (speaks env.c (after_timer b)).1) calm (timer-spoken env o b sound t)

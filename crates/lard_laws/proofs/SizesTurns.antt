@@ -1,0 +1,305 @@
+-- What a turn of a node leaves: its client was told all that came, and an Ask says what its batch is.
+use Rattle.std.proofs.Common.{◌≡◌, ◌≢◌, ◌⊎◌, ◌≤◌, ◌<◌, ◌+◌, ◌-◌, ◌*◌, ◌/◌, ◌^◌, ℕ, min, Bool, true, false, List, [], ◌∷◌, ◌++◌, length, take, drop, Option, Some, None, Ok, inl, inr, refl, sym, ap, ◌∙◌, subst, arith}
+use Rattle.std.proofs.lemmas.List.{length-take, take-append-drop, take_all}
+use Rattle.lard_answers.specs.Answers.{FilesAt, verdicts}
+use Rattle.lard_base.specs.declared.place.Place.{Place}
+use Rattle.lard_base.specs.declared.place.Place.TheVariants.{Client, Front, Node}
+use Rattle.lard_law_connections.specs.BytesKeeping.{IsTalk}
+use Rattle.lard_law_connections.specs.BytesTurning.{IsNoteOf}
+use Rattle.lard_law_connections.proofs.BytesWorking.{Right, Works}
+use Rattle.lard_law_connections.proofs.LineHolding.{EndsHeld, IsHeld}
+use Rattle.lard_law_connections.proofs.LineSpeaking.{IsTold, heard_by}
+use Rattle.lard_laws.specs.Sizes.{BodyIsOfBatch, IsOfBatch, Marks, acknowledged, batch_behind, begins, complete, to_assign}
+use Rattle.lard_law_connections.proofs.AwaitsNodes.{HasServed, settled-served}
+use Rattle.lard_law_connections.proofs.PlacesHeads.{kinds-same}
+use Rattle.lard_laws.proofs.SizesReading.{AskSo, Fits, Reach, goes-fit}
+use Rattle.lard_laws.proofs.SizesTelling.{Acknowledges, IsQuiet, SameRecv, goes-wider, settled-held, settled-recv, settled-told, wider-quiet}
+use Rattle.lard_law_view.specs.Carry.{tale_at}
+use Rattle.lard_law_view.specs.View.{Conn, Was}
+use Rattle.lard_laws.specs.Ways.{good_paths}
+use Rattle.lard_laws.proofs.WaysGoods.{good-append}
+use Rattle.lard_laws.proofs.WaysShort.{AreShort, short-within, wanted-short}
+use Rattle.lard_laws.proofs.WaysSpelling.{ReadsAsk, ask-reads}
+use Rattle.lard_endpoint.specs.Control.{ControlBlock, rcv_nxt}
+use Rattle.lard_handoff_back.specs.declared.row.BackConn.{BackConn}
+use Rattle.lard_handoff_back.specs.declared.row.BackConn.TheVariants as back
+use Rattle.lard_handoff_back.specs.declared.row.BackRow.{BackRow}
+use Rattle.lard_history.specs.Journal.{Numbers}
+use Rattle.lard_history.proofs.Each.{Each, Each-append}
+use Rattle.lard_law_view.specs.Keeping.{served_in}
+use Rattle.lard_message.specs.declared.kind.Kind.TheVariants as kind
+use Rattle.lard_message.specs.declared.message.Body.{Body}
+use Rattle.lard_message.specs.declared.message.Body.TheVariants as body
+use Rattle.lard_message.specs.declared.message.Message.{Message}
+use Rattle.lard_message.specs.Message.{kind_of}
+use Rattle.lard_message.specs.Reading.{decoded_message}
+use Rattle.lard_rules.specs.declared.node.NodeTurn.{NodeTurn}
+use Rattle.lard_rules.specs.declared.stay.Asked.{Asked}
+use Rattle.lard_rules.specs.declared.stay.Entry.{Entry}
+use Rattle.lard_rules.specs.declared.stay.Stay.{Stay}
+use Rattle.lard_rules.specs.declared.stay.Want.{Want}
+use Rattle.lard_rules.specs.Node.{Deed, Drops, Says, Does, NodePart, asked_sent, ended_sent, kept_after, message, wants_sent, with_work}
+use Rattle.lard_rules.specs.Node as node
+use Rattle.lard_rules.specs.Stay.{NodeEnv, Work, goes_on, named_paths}
+use Rattle.lard_recv.specs.Recv.{Received, awaited}
+use Rattle.lard_request.specs.declared.verdict.Verdict.{Verdict}
+use Rattle.lard_rules.specs.declared.places.Ending.{Ending}
+use Rattle.lard_rules.specs.declared.places.Ending.TheVariants as ending
+use Rattle.lard_rules.specs.declared.places.Turn.{Turn}
+use Rattle.lard_rules.specs.Serving.{Service, settled}
+use Rattle.lard_segment.specs.Segment.{Said}
+use Rattle.lard_seq.specs.Seq.{one_if, seq_add, seq_offset}
+use Rattle.lard_law_view.specs.Truth.{Hears, IsStream, Stream}
+use Rattle.lard_law_view.proofs.EndpointSends.{AllTo}
+
+-- ---- what a turn leaves
+
+-- where the endpoint is here, its client was told all that came
+abbrev pub StageTold : Option Said → BackConn → Type 0
+StageTold o (back.Here b) = IsTold o b
+StageTold o _ = Unit {0}
+
+abbrev pub RowTold : Option Said → Option BackRow → Type 0
+RowTold o None = Unit {0}
+RowTold o (Some row) = StageTold o row.stage
+
+-- ---- how many requests were read
+
+-- where a node has the endpoint, those that are answered, and its batch
+abbrev pub StayReads : ℕ → Option Stay → Type 0
+StayReads u None = Unit {0}
+StayReads u (Some s) = u ≡ s.served + length s.batch
+
+abbrev pub StageReads : ℕ → Option Stay → BackConn → Type 0
+StageReads u o (back.Here b) = StayReads u o
+StageReads u o _ = Unit {0}
+
+abbrev pub RowReads : ℕ → Option Stay → Option BackRow → Type 0
+RowReads u o None = Unit {0}
+RowReads u o (Some row) = StageReads u o row.stage
+
+-- behind a turn before which u were read, of the requests in these bytes
+abbrev pub StayReach : ℕ → List ℕ → ControlBlock → Option Stay → Type 0
+StayReach u wrote b None = Unit {0}
+StayReach u wrote b (Some s) = Reach u s.served (s.served + length s.batch) (length (verdicts (take b.recv.got wrote)))
+
+abbrev pub StageReach : ℕ → List ℕ → Option Stay → BackConn → Type 0
+StageReach u wrote o (back.Here b) = StayReach u wrote b o
+StageReach u wrote o _ = Unit {0}
+
+abbrev pub RowReach : ℕ → List ℕ → Option Stay → Option BackRow → Type 0
+RowReach u wrote o None = Unit {0}
+RowReach u wrote o (Some row) = StageReach u wrote o row.stage
+
+abbrev pub PartReach : ℕ → List ℕ → NodePart → Type 0
+PartReach u wrote p = RowReach u wrote p.stay p.row
+
+-- nothing is read where nothing is done
+pub reads-reach : (u : ℕ) (wrote : List ℕ) (o : Option Stay) (row : Option BackRow) → RowReads u o row → RowReach u wrote o row
+reads-reach u wrote o None h = tt
+reads-reach u wrote o (Some row) h = go row.stage h where
+  stays : (b : ControlBlock) (o : Option Stay) → StayReads u o → StayReach u wrote b o
+  stays b None h = tt
+  stays b (Some s) h = inl (sym h)
+
+  go : (d : BackConn) → StageReads u o d → StageReach u wrote o d
+  go (back.Here b) h = stays b o h
+  go back.Out h = tt
+  go back.Ended h = tt
+  go back.Gone h = tt
+
+-- So many requests of a connection were read: where no node has it, each is answered as it is read.
+pub record Reads (u : ℕ) (x : Conn) : Type 0 where
+  pub here : (n : ℕ) → RowReads u (x.part.nodes n).stay (x.part.nodes n).row
+  pub away : ((n : ℕ) → (tale_at x).owner ≢ Some (Node n)) → u ≡ (tale_at x).served
+
+-- ---- what a turn says
+
+module _ (files : FilesAt) (c : ℕ) (x : Conn) (n : ℕ) (u : ℕ) (past : Marks) where
+  -- A message was sent before, or it is no Ask, or one of a batch.
+  abbrev pub SaysFit : Marks → Place × List ℕ → Type 0
+  SaysFit now s = Was x (Node n) s.0 s.1 ⊎ ((m : Message) → decoded_message s.1 ≡ Ok m → BodyIsOfBatch files u now m.body)
+
+  -- what is told behind so many responses and these segments
+  abbrev pub now_told : ℕ → List (Place × List ℕ) → Marks
+  now_told served segments = record { numbers = past.numbers; wrote = past.wrote; served = served; told = heard_by c past.told segments }
+
+  pub record TurnFits (given : NodePart × NodeTurn) : Type 0 where
+    pub each : Each (IsNoteOf c) given.1.notes
+    pub to : AllTo (Client c) given.1.segments
+    pub row : RowTold (heard_by c past.told given.1.segments) given.0.row
+    pub reach : PartReach u past.wrote given.0
+    pub says : Each (SaysFit (now_told (past.served + served_in given.1.notes) given.1.segments)) given.1.messages
+
+  abbrev pub DeedFits : Deed → Type 0
+  DeedFits Drops = Unit {0}
+  DeedFits (Says ms) = Each (SaysFit past) ms
+  DeedFits (Does given) = TurnFits given
+
+-- ---- messages of other kinds
+
+pub no-ask : (files : FilesAt) (u : ℕ) (now : Marks) (b : Body) → kind_of b ≢ kind.Ask → BodyIsOfBatch files u now b
+no-ask files u now (body.Ask number queue size paths) not = absurd (not refl)
+no-ask files u now _ not = tt
+
+pub other-says : (files : FilesAt) (x : Conn) (n u : ℕ) (past now : Marks) (c e : ℕ) (to : Place) (b : Body) → kind_of b ≢ kind.Ask → SaysFit files c x n u past now (to, message c e b)
+other-says files x n u past now c e to b not = inr (λ m d. no-ask files u now m.body (λ ask. not (kinds-same (record { c = c; epoch = record { 0 = e }; body = b }) m d ∙ ask)))
+
+-- ---- paths are short
+
+short-drop : (paths : List (List ℕ)) → AreShort paths → AreShort (drop 1 paths)
+short-drop [] h = tt
+short-drop (path ∷ paths) h = h.1
+
+short-assign : (gone paths : List (List ℕ)) → AreShort paths → AreShort (to_assign gone paths)
+short-assign [] paths h = short-drop paths h
+short-assign (g ∷ gs) paths h = h
+
+batch-short : (files : FilesAt) (q : List ℕ) (before : ℕ) → AreShort (good_paths files (batch_behind before (verdicts q)))
+batch-short files q before =
+    let all : List Verdict = verdicts q in
+    let rest : List Verdict = drop before all in
+    short-within (good_paths files (take before all)) (good_paths files (take 8 rest)) (good_paths files (drop 8 rest)) (good_paths files all)
+    (ap (good_paths files) (sym (take-append-drop before all) ∙ ap (λ (l : List Verdict). take before all ++ l) (sym (take-append-drop 8 rest)))
+    ∙ good-append files (take before all) (take 8 rest ++ drop 8 rest)
+    ∙ ap (λ (l : List (List ℕ)). good_paths files (take before all) ++ l) (good-append files (take 8 rest) (drop 8 rest))
+    ∙ sym (append_assoc_here (good_paths files (take before all)) (good_paths files (take 8 rest)) (good_paths files (drop 8 rest))))
+    (wanted-short files q) where
+      append_assoc_here : (a b d : List (List ℕ)) → (a ++ b) ++ d ≡ a ++ (b ++ d)
+      append_assoc_here [] b d = refl
+      append_assoc_here (y ∷ a) b d = ap (λ (l : List (List ℕ)). y ∷ l) (append_assoc_here a b d)
+
+-- ---- what was acknowledged is what came
+
+-- bytes, and the FIN only behind all of them
+took-all : (w : Stream) (r : Received) → Hears w r → take (r.got + one_if r.fin) w.bytes ≡ take r.got w.bytes
+took-all w r h = go r.fin refl where
+  go : (f : Bool) → r.fin ≡ f → take (r.got + one_if f) w.bytes ≡ take r.got w.bytes
+  go true e =
+      let all : r.got ≡ length w.bytes = (h.final e).0 in
+      take_all (r.got + 1) w.bytes (omega (arith, all)) ∙ sym (take_all r.got w.bytes (omega (arith, all)))
+  go false e = ap (λ (i : ℕ). take i w.bytes) (let none : r.got + 0 ≡ r.got = omega arith in none)
+
+one-most : (f : Bool) → one_if f ≤ 1
+one-most true = omega arith
+one-most false = omega arith
+
+offset-is : (w : Stream) (r : Received) → IsStream w → Hears w r → seq_offset (awaited r) w.first ≡ 1 + r.got + one_if r.fin
+offset-is w r is h =
+    let number = is.number in
+    let most = is.most in
+    let within = h.within in
+    let one = one-most r.fin in
+    let first : r.irs ≡ w.first = h.first in
+    ap (λ (i : ℕ). seq_offset (seq_add i (1 + r.got + one_if r.fin)) w.first) first ∙ added w.first (1 + r.got + one_if r.fin) number (omega (arith, most, within, one)) where
+      added : (b i : ℕ) → b < 2 ^ 32 → i < 2 ^ 32 → seq_offset (seq_add b i) b ≡ i
+      added b i small fits = omega arith
+
+pub complete-is : (w : Stream) (r : Received) → IsStream w → Hears w r → (now : Marks) (num : Numbers) → now.numbers ≡ Some num → num.isn ≡ w.first → now.wrote ≡ w.bytes → Acknowledges now.told (awaited r) → complete now ≡ verdicts (take r.got w.bytes)
+complete-is w r is h now num numbers first wrote told =
+    let ack : acknowledged now.numbers now.told ≡ 1 + r.got + one_if r.fin =
+    (λ i. acknowledged (numbers i) (told.is i)) ∙ (λ i. seq_offset (told.ack i) (first i)) ∙ offset-is w r is h in
+    let less : acknowledged now.numbers now.told - 1 ≡ r.got + one_if r.fin = omega (arith, ack) in
+    (λ i. verdicts (take (less i) (wrote i))) ∙ ap verdicts (took-all w r h)
+
+-- ---- the end of a turn
+
+-- the last batch begins behind whole ones
+begins-at : (u i before size served : ℕ) → before ≡ u + 8 * i → before ≤ served → served < before + size → size ≤ 8 → before ≡ u + 8 * ((served - u) / 8)
+begins-at u i before size served is le less small = let number : (served - u) / 8 ≡ i = omega (arith, is, le, less, small) in omega (arith, is, number)
+
+batch-some : (files : FilesAt) (es : List Entry) → named_paths files es ≢ [] → 1 ≤ length es
+batch-some files [] h = absurd (h refl)
+batch-some files (e ∷ es) h = omega arith
+
+module _ (env : NodeEnv) (x : Conn) (n u : ℕ) (past : Marks) (w out : Stream) (vs : List Verdict) (talk : IsTalk env w out vs) (num : Numbers) (numbers : past.numbers ≡ Some num) (isn : num.isn ≡ w.first) (wrote : past.wrote ≡ w.bytes)
+    (counted : past.served ≡ length vs) where
+  abbrev files : FilesAt
+  files = env.serve.files
+
+  abbrev c : ℕ
+  c = env.serve.c
+
+  abbrev Fit : Deed → Type 0
+  Fit d = DeedFits files c x n u past d
+
+  abbrev Say : Marks → Place × List ℕ → Type 0
+  Say now s = SaysFit files c x n u past now s
+
+  wants-say : (now : Marks) (ws : List Want) → Each (Say now) (wants_sent env ws)
+  wants-say now [] = tt
+  wants-say now (y ∷ ys) = (other-says files x n u past now c env.epoch (Node y.node) (body.Fetch y.r y.path) (λ e. let no : kind.Fetch ≡ kind.Ask = e in absurd cc), wants-say now ys)
+
+  pub ended-says : (now : Marks) (over : Option ℕ) (e : Ending) → Each (Say now) (ended_sent env over e)
+  ended-says now over (ending.Here b count) = tt
+  ended-says now over (ending.Over last) = (other-says files x n u past now c env.epoch Front (body.Ended last.reason last.snd.0 last.rcv.0 (node.count_of over)) (λ e. let no : kind.Ended ≡ kind.Ask = e in absurd cc), tt)
+
+  module _ (k : Work) (works : Works env w out vs k) (fits : Fits env w out vs u k) (quiet : IsQuiet past.told k.service.block) where
+    -- an Ask is of its batch
+    asked-says : (now : Marks) → now.numbers ≡ past.numbers → now.wrote ≡ past.wrote → now.served ≡ k.service.count → (k.service.block.reset ≡ false → Acknowledges now.told (rcv_nxt k.service.block))
+        → (o : Option Asked) → AskSo env w out vs u k o → Each (Say now) (asked_sent env o)
+    asked-says now same_numbers same_wrote served told None h = tt
+    asked-says now same_numbers same_wrote served told (Some a) h =
+        let got : ℕ = k.service.block.recv.got in
+        let all : complete now ≡ verdicts (take got w.bytes) =
+        complete-is w k.service.block.recv talk.stream works.between.hears now num (same_numbers ∙ numbers) isn (same_wrote ∙ wrote) (told h.calm) in
+        let some : 1 ≤ length k.batch = batch-some files k.batch (λ e. h.some (h.names ∙ e)) in
+        let rest = h.rest in
+        let more = h.answered_more in
+        let behind : h.before ≡ u + 8 * h.batches = h.begins in
+        let answered : h.before ≤ now.served = omega (arith, served, more) in
+        let goes : now.served < h.before + a.size = omega (arith, served, rest, some) in
+        let size : a.size ≡ length (batch_behind h.before (verdicts (take got w.bytes))) = h.size_is in
+        let most : length (batch_behind h.before (verdicts (take got w.bytes))) ≡ min 8 (length (drop h.before (verdicts (take got w.bytes)))) = length-take 8 (drop h.before (verdicts (take got w.bytes))) in
+        let at : h.before ≡ begins u now = begins-at u h.batches h.before a.size now.served behind answered goes (omega (arith, size, most)) in
+        let it : IsOfBatch files u now a.size a.paths = record {
+          answered = omega (arith, behind, answered);
+          goes_on = subst (λ (i : ℕ). now.served < i + a.size) at goes;
+          size_is = size ∙ (λ i. length (batch_behind (at i) (sym all i)));
+          paths_are = h.paths_are ∙ (λ i. to_assign (good_paths files (take (at i) (sym all i))) (good_paths files (batch_behind (at i) (sym all i))));
+        } in
+        let short : AreShort a.paths = subst AreShort (sym h.paths_are) (short-assign (good_paths files (take h.before (verdicts (take got w.bytes)))) (good_paths files (batch_behind h.before (verdicts (take got w.bytes)))) (batch-short files (take got w.bytes) h.before)) in (
+          inr (λ m d.
+              let read : ReadsAsk a.number a.size a.paths m.body = ask-reads c env.epoch a.number a.queue a.size a.paths short m d in
+              subst (BodyIsOfBatch files u now) (sym read.is) it),
+          tt,
+        )
+
+    row-told : (o : Option Said) (part : NodePart) (e : Ending) → ((b : ControlBlock) (count : ℕ) → e ≡ ending.Here b count → IsHeld o b) → RowTold o (kept_after env part k e).row
+    row-told o part (ending.Here b count) held = (held b count refl).told_is
+    row-told o part (ending.Over last) held = tt
+
+    row-reach : (part : NodePart) (e : Ending) → HasServed k.service.count e → SameRecv k.service.block e → PartReach u past.wrote (kept_after env part k e)
+    row-reach part (ending.Here b count) served recv =
+        subst (λ (j : ℕ). Reach u j (j + length k.batch) (length (verdicts (take b.recv.got past.wrote)))) (sym served)
+        (subst (λ (r : Received). Reach u k.service.count (k.service.count + length k.batch) (length (verdicts (take r.got past.wrote)))) (sym recv)
+        (subst (λ (l : List ℕ). Reach u k.service.count (k.service.count + length k.batch) (length (verdicts (take k.service.block.recv.got l)))) (sym wrote) fits.reach))
+    row-reach part (ending.Over last) served recv = tt
+
+    pub work-fits : (part : NodePart) (before : List (Place × List ℕ)) → ((now : Marks) → Each (Say now) before) → Fit (with_work env part before k)
+    work-fits part before first =
+        let s : Service = k.service in
+        let given : Ending × Turn = settled env.serve s in
+        let held : EndsHeld c past.told s.notes given = settled-held env.serve past.told w works.out_now s works.between quiet in
+        let segments : List (Place × List ℕ) = given.1.segments in
+        let now : Marks = now_told files c x n u past (past.served + served_in given.1.notes) segments in
+        let served : now.served ≡ s.count =
+        (let a = works.counted in let b = works.noted.served in let d : served_in given.1.notes ≡ served_in s.notes = ap served_in held.noted in omega (arith, a, b, d, counted)) in
+        record {
+          each = subst (Each (IsNoteOf c)) (sym held.noted) works.noted.each;
+          to = held.to;
+          row = row-told (heard_by c past.told segments) part given.0 held.held;
+          reach = row-reach part given.0 (settled-served env.serve s) (settled-recv env.serve past.told w works.out_now s works.between quiet);
+          says = Each-append (Say now) (before ++ asked_sent env k.asked ++ wants_sent env k.wants) (ended_sent env s.over given.0)
+              (Each-append (Say now) (before ++ asked_sent env k.asked) (wants_sent env k.wants)
+              (Each-append (Say now) before (asked_sent env k.asked) (first now)
+              (asked-says now refl refl served (λ calm. settled-told env.serve past.told w works.out_now s works.between quiet calm) k.asked fits.asked))
+              (wants-say now k.wants))
+              (ended-says now s.over given.0);
+        }
+
+  -- the stay goes on
+  pub goes-on-fits : (part : NodePart) (before : List (Place × List ℕ)) → ((now : Marks) → Each (Say now) before) → (k : Work) → Works env w out vs k → Right env w out vs k → Fits env w out vs u k → IsQuiet past.told k.service.block → (after : Works env w out vs (goes_on env k))
+      → Fit (with_work env part before (goes_on env k))
+  goes-on-fits part before first k works right fits quiet after =
+      work-fits (goes_on env k) after (goes-fit env w out vs u talk.most k works right fits) (wider-quiet past.told k.service.block (goes_on env k).service.block (goes-wider env k) quiet) part before first

@@ -1,0 +1,338 @@
+-- When timers change: what each move tells of its connection's timers, and what a step does.
+use Rattle.std.proofs.Common.{◌≡◌, ◌≢◌, ℕ, ◌+◌, List, [], ◌∷◌, ◌++◌, map, length, append-nil, Bool, true, false, Ok, inl, inr, ⊎_elim, refl, sym, ap, ◌∙◌, subst, nat_eq}
+use Rattle.std.specs.Prelude.{◌⊎◌}
+use Rattle.std.proofs.lemmas.Bool.{both_ways}
+use Rattle.std.proofs.lemmas.List.Sums.{fold-append}
+use Rattle.std.specs.List.{fold, list_all}
+use Rattle.lard_base.specs.declared.config.Config.{Config}
+use Rattle.lard_base.specs.declared.event.Event.{Event}
+use Rattle.lard_base.specs.declared.event.Event.TheVariants as event
+use Rattle.lard_base.specs.declared.place.Place.{Place}
+use Rattle.lard_base.specs.declared.place.Place.TheVariants.{Front, Node, Client}
+use Rattle.lard_base.specs.declared.place.TimerKind.{TimerKind}
+use Rattle.lard_base.specs.declared.place.TimerKind.TheVariants.{Tcp, Offer, Ask, Fetch, Ended}
+use Rattle.lard_rules.specs.declared.machine.Machine.{Machine}
+use Rattle.lard_rules.specs.Bounds.{HasRule, HasTimer}
+use Rattle.lard_rules.specs.Machine.{IsReached, machine_step}
+use Rattle.lard_laws.specs.StepsTimers.{RunsAsKept, TimersChangeInSteps, TimersRunAsKept, armed_at, client_armed}
+use Rattle.lard_law_view.specs.Carry.{IsLaw, MayMove, OfEach, setting}
+use Rattle.lard_law_view.specs.View.{Conn, IsMachine, IsViewed, Move, Part, Rules, Setting, blank, conn, grown, part_of, rows_of, sending, timer_rows}
+use Rattle.lard_law_view.proofs.Acts.{ActsAlone, ActsBoth, IsPassing, IsStepOf, step_acts}
+use Rattle.lard_law_view.proofs.After.{IsAfter, step-after}
+use Rattle.lard_law_view.proofs.Carried.{IsOn, carried, carried-keep, on-setting}
+use Rattle.lard_law_view.proofs.Fine.{IsFine, IsItsOwn, fine}
+use Rattle.lard_law_view.proofs.Frames.{IsAtMachine, IsHeadAt, KeepsAt, Owed, fronts-leave, nodes-leave}
+use Rattle.lard_law_view.proofs.Guarded.{both, weaker}
+use Rattle.lard_law_view.proofs.Rows.{grown-told}
+use Rattle.lard_law_view.proofs.Saying.{GaveAt, NotedAt}
+use Rattle.lard_law_view.proofs.Timers.{timer_rows-same}
+use Rattle.lard_rules.specs.Front.{front_armed}
+use Rattle.lard_history.specs.Journal.{armed_step, is_place}
+use Rattle.lard_history.specs.Own.{Seen, Row, Came, seen_step}
+use Rattle.lard_history.proofs.Each.{Each, Each-append, Each-weaker}
+use Rattle.lard_history.proofs.Lifting.{fold-own}
+use Rattle.lard_history.proofs.Seeing.{by_number, same_number}
+use Rattle.lard_history.proofs.Stepping.{AreLawful, cancel, one-more}
+use Rattle.lard_journal.specs.declared.rec.Rec.{Rec}
+use Rattle.lard_journal.specs.declared.rec.Rec.TheVariants as rec
+use Rattle.lard_law_view.specs.Timers.{ChangesTimers, is_change}
+use Rattle.lard_law_view.proofs.TimerChanges.{AreOthers, Exactly, IsStill, Still, all-both, all-change, changes, exactly-both, exactly-changes, exactly-none, kinds-change, number-others, place-is, place-others, step-changes, still-behind, still-rows, still-seen, still-sents, timer-is-own}
+use Rattle.lard_rules.specs.Sent.{packets_of, sent_records}
+use Rattle.lard_rules.specs.Node.{NodePart, node_armed}
+use Rattle.lard_rules.specs.Outs.{kinds, timer_change}
+use Rattle.lard_law_view.proofs.OwnRecords.{behind}
+
+-- ---- records of no timer
+
+still-note : (place : Place) (c : ℕ) (r : Rec) → NotedAt place c r → is_change r ≡ false
+still-note (Client e) c (rec.Armed p d kind) h = absurd h
+still-note (Client e) c (rec.Cleared p d kind) h = absurd h
+still-note Front c (rec.Armed p d kind) h = absurd h
+still-note Front c (rec.Cleared p d kind) h = absurd h
+still-note (Node n) c (rec.Armed p d kind) h = absurd h
+still-note (Node n) c (rec.Cleared p d kind) h = absurd h
+still-note _ c _ h = refl
+
+still-gave : (place : Place) (c : ℕ) (r : Rec) → GaveAt place c r → is_change r ≡ false
+still-gave Front c (rec.Gave Front d epoch) h = refl
+still-gave (Node n) c (rec.Gave (Node j) d epoch) h = refl
+still-gave _ c _ h = absurd h
+
+still-notes : (place : Place) (c : ℕ) (rs : List Rec) → Each (NotedAt place c) rs → Still rs
+still-notes place c rs e = Each-weaker (NotedAt place c) (λ r. is_change r ≡ false) (still-note place c) rs e
+
+still-gaves : (place : Place) (c : ℕ) (rs : List Rec) → Each (GaveAt place c) rs → Still rs
+still-gaves place c rs e = Each-weaker (GaveAt place c) (λ r. is_change r ≡ false) (still-gave place c) rs e
+
+still-sends : (place : Place) (ss : List (Place × List ℕ)) → Still (map (sending place) ss)
+still-sends place [] = tt
+still-sends place (s ∷ ss) = (refl, still-sends place ss)
+
+still-both : (xs ys : List Rec) → Still xs → Still ys → Still (xs ++ ys)
+still-both xs ys e f = Each-append (λ r. is_change r ≡ false) xs ys e f
+
+-- ---- the records of a place's timers, kind by kind
+
+rows-change : (place : Place) (c : ℕ) (p q : Part) → timer_rows place c p q ≡ changes place c (armed_at place p) (armed_at place q) kinds
+unfolding timer_rows
+rows-change (Client d) c p q = sym (append-nil (timer_change (Client d) c (client_armed p.station Tcp) (client_armed q.station Tcp)))
+rows-change Front c p q = refl
+rows-change (Node n) c p q = refl
+
+-- ---- a move changes what its own place keeps, or nothing
+
+abbrev KeepsOthers : Conn → Move → Type 0
+KeepsOthers x v = (HasTimer v.place x.c × KeepsAt v.place x.part v.part) ⊎ (v.part ≡ x.part)
+
+-- and what is seen before its notes is of no timer
+record IsPlain (x : Conn) (v : Move) : Type 0 where
+  heads : Each IsStill v.heads
+  acts : KeepsOthers x v
+
+machine-timer : (place : Place) (c : ℕ) → IsMachine place → HasTimer place c
+machine-timer Front c h = tt
+machine-timer (Node n) c h = tt
+machine-timer (Client d) c h = absurd h
+
+head-still : (place : Place) (c : ℕ) (s : Seen) → IsHeadAt place c s → IsStill s
+head-still place c (Row (rec.Event i (event.Timer p d))) h = refl
+head-still place c (Came l) h = tt
+head-still place c _ h = absurd h
+
+machine-plain : (x : Conn) (v : Move) → IsAtMachine x v → IsPlain x v
+machine-plain x v at = record {
+  heads = Each-weaker (IsHeadAt v.place x.c) IsStill (head-still v.place x.c) v.heads at.heads;
+  acts = inl (machine-timer v.place x.c at.machine, at.keeps);
+}
+
+plainly : (k : Setting) → Rules k (Owed IsPlain)
+plainly k = record {
+  untouched = record {
+    client = record {
+      opens = λ x isn iss wnd mss rule none number sound. record { heads = (refl, (refl, tt)); acts = inl (refl, (refl, refl)) };
+      gets = λ x s path there le number sound. record { heads = (refl, tt); acts = inl (refl, (refl, refl)) };
+      writes = λ x s bytes there le number sound. record { heads = (refl, tt); acts = inl (refl, (refl, refl)) };
+      shuts = λ x s there number sound. record { heads = (refl, tt); acts = inl (refl, (refl, refl)) };
+      aborts = λ x s there number sound. record { heads = (refl, tt); acts = inl (refl, (refl, refl)) };
+      holds = λ x s there number sound. record { heads = (refl, tt); acts = inl (refl, (refl, refl)) };
+      takes = λ x s there number sound. record { heads = (refl, tt); acts = inl (refl, (refl, refl)) };
+      fires = λ x s there number sound. record { heads = (refl, tt); acts = inl (refl, (refl, refl)) };
+      hears = λ x s from bytes there was number sound. record { heads = (tt, tt); acts = inl (refl, (refl, refl)) };
+    };
+    front = fronts-leave k IsPlain (λ x v at own number sound. machine-plain x v at);
+    node = nodes-leave k IsPlain (λ x v at own number sound. machine-plain x v at);
+    ignores = λ x from to bytes was number sound. record { heads = (tt, tt); acts = inr refl };
+  };
+  injects = λ x s bytes there rule number sound. record { heads = (refl, (refl, tt)); acts = inl (refl, (refl, refl)) };
+}
+
+abbrev Changes : Conn → Move → Type 0
+Changes x v = Owed IsPlain x v × IsFine x v
+
+changing : (k : Setting) → Rules k Changes
+changing k = both k (Owed IsPlain) IsFine (plainly k) (fine k)
+
+-- ---- the flags of the other places
+
+not-same : (n j : ℕ) → nat_eq n j ≡ false → n ≢ j
+not-same n j e same = both_ways (nat_eq n j) e (subst (λ i. nat_eq n i ≡ true) same (same_number n))
+
+flags-elsewhere : (place q : Place) (c : ℕ) (p r : Part) (kind : TimerKind) → is_place place q ≡ false → HasTimer place c → HasTimer q c → KeepsAt place p r → armed_at q r kind ≡ armed_at q p kind
+flags-elsewhere (Client d) (Client e) c p r kind n mine its keeps = absurd (not-same d e n (mine ∙ sym its))
+flags-elsewhere (Client d) Front c p r kind n mine its keeps = ap (λ f. front_armed f kind) keeps.0
+flags-elsewhere (Client d) (Node i) c p r kind n mine its keeps = ap (λ (ns : ℕ → NodePart). node_armed (ns i) kind) keeps.1
+flags-elsewhere Front (Client e) c p r kind n mine its keeps = ap (λ s. client_armed s kind) keeps.0
+flags-elsewhere Front Front c p r kind n mine its keeps = absurd (both_ways true n refl)
+flags-elsewhere Front (Node i) c p r kind n mine its keeps = ap (λ (ns : ℕ → NodePart). node_armed (ns i) kind) keeps.1
+flags-elsewhere (Node j) (Client e) c p r kind n mine its keeps = ap (λ s. client_armed s kind) keeps.0
+flags-elsewhere (Node j) Front c p r kind n mine its keeps = ap (λ f. front_armed f kind) keeps.1
+flags-elsewhere (Node j) (Node i) c p r kind n mine its keeps = ap (λ (b : NodePart). node_armed b kind) (keeps.2 i (λ same. not-same j i n (sym same)))
+
+-- ---- what is told of a connection's timers is what is kept
+
+abbrev told : Conn → Place → TimerKind → Bool
+told x place kind = fold (seen_step (armed_step place x.c kind)) false x.seen
+
+abbrev IsTimed : Conn → Type 0
+IsTimed x = (place : Place) → HasTimer place x.c → (kind : TimerKind) → told x place kind ≡ armed_at place x.part kind
+
+each-kind : (P : TimerKind → Type 0) → P Tcp → P Offer → P Ask → P Fetch → P Ended → (kind : TimerKind) → P kind
+each-kind P t o a f e Tcp = t
+each-kind P t o a f e Offer = o
+each-kind P t o a f e Ask = a
+each-kind P t o a f e Fetch = f
+each-kind P t o a f e Ended = e
+
+-- no timer runs at the start
+none-runs : (c : ℕ) (place : Place) (kind : TimerKind) → false ≡ armed_at place (blank c).part kind
+none-runs c (Client d) kind = each-kind (λ k. false ≡ armed_at (Client d) (blank c).part k) refl refl refl refl refl kind
+none-runs c Front kind = each-kind (λ k. false ≡ armed_at Front (blank c).part k) refl refl refl refl refl kind
+none-runs c (Node n) kind = each-kind (λ k. false ≡ armed_at (Node n) (blank c).part k) refl refl refl refl refl kind
+
+module _ (x : Conn) (v : Move) (is : IsPlain x v) (own : IsItsOwn x v) where
+  -- a move tells its place's timers
+  grown-timer : (p : Place) (kind : TimerKind) → told (grown x v) p kind ≡ fold (armed_step p x.c kind) (told x p kind) (timer_rows v.place x.c x.part v.part)
+  grown-timer p kind =
+      let step : Bool → Rec → Bool = armed_step p x.c kind in
+      let segments : List Rec = map (sending v.place) v.said.segments in
+      let messages : List Rec = map (sending v.place) v.said.messages in
+      let spoken : List Rec = v.said.notes ++ segments ++ v.said.gave ++ messages in
+      let none : Still spoken =
+      still-both (v.said.notes ++ segments ++ v.said.gave) messages
+      (still-both (v.said.notes ++ segments) v.said.gave (still-both v.said.notes segments (still-notes v.place x.c v.said.notes own.notes) (still-sends v.place v.said.segments))
+      (still-gaves v.place x.c v.said.gave own.gave))
+      (still-sends v.place v.said.messages) in
+      grown-told step false x v ∙ ap (λ b. fold step b (rows_of x v)) (still-seen p x.c kind (told x p kind) v.heads is.heads)
+      ∙ fold-append step (told x p kind) spoken (timer_rows v.place x.c x.part v.part) ∙ ap (λ b. fold step b (timer_rows v.place x.c x.part v.part)) (still-rows p x.c kind (told x p kind) spoken none)
+
+  timed-grown : IsTimed x → IsTimed (grown x v)
+  timed-grown h q its kind = grown-timer q kind ∙ ⊎_elim
+      (λ (a : HasTimer v.place x.c × KeepsAt v.place x.part v.part).
+      ap (fold (armed_step q x.c kind) (told x q kind)) (rows-change v.place x.c x.part v.part) ∙ by-place a (is_place v.place q) refl)
+      (λ (same : v.part ≡ x.part).
+      ap (fold (armed_step q x.c kind) (told x q kind)) (ap (timer_rows v.place x.c x.part) same ∙ timer_rows-same v.place x.c x.part) ∙ h q its kind ∙ ap (λ (p : Part). armed_at q p kind) (sym same))
+      is.acts
+    where
+      rows : List Rec
+      rows = changes v.place x.c (armed_at v.place x.part) (armed_at v.place v.part) kinds
+
+      by-place : HasTimer v.place x.c × KeepsAt v.place x.part v.part → (b : Bool) → is_place v.place q ≡ b → fold (armed_step q x.c kind) (told x q kind) rows ≡ armed_at q v.part kind
+      by-place a true e = subst (λ (p : Place). fold (armed_step p x.c kind) (told x p kind) rows ≡ armed_at p v.part kind) (place-is v.place q e)
+          (ap (λ b. fold (armed_step v.place x.c kind) b rows) (h v.place a.0 kind) ∙ (kinds-change v.place x.c (armed_at v.place x.part) (armed_at v.place v.part) kind).tells)
+      by-place a false n =
+          (place-others q v.place x.c x.c (armed_at v.place x.part) (armed_at v.place v.part) kind n).stays (told x q kind) ∙ h q its kind
+          ∙ sym (flags-elsewhere v.place q x.c x.part v.part kind n a.0 its a.1)
+
+-- nothing more is given
+abbrev Anything : Conn → Type 0
+Anything x = Unit {0}
+
+timing : (k : Setting) → IsLaw k Anything IsTimed
+timing k = record {
+  begins = λ c place its kind. none-runs c place kind;
+  moves = weaker k Changes (λ x v. MayMove Anything x → IsTimed x → IsTimed (grown x v))
+      (λ x v does may h. timed-grown x v (does.0 may.number may.sound) (does.1 may.number may.sound).0 h) (changing k);
+}
+
+module _ (config : Config) (files : List (List ℕ × List ℕ)) where
+  timed-always : OfEach config files IsTimed
+  timed-always = carried config files Anything IsTimed (timing (setting config files)) (λ m r q. tt)
+
+  runs-kept : (m : Machine) → IsReached config files m → (c : ℕ) → RunsAsKept m c
+  unfolding conn
+  runs-kept m r c place its kind = fold-own c (armed_step place c kind) (timer-is-own place c kind) false m.journal ∙ timed-always m r c place its kind
+
+pub timers-kept : TimersRunAsKept
+timers-kept config files m r c = runs-kept config files m r c
+
+-- ---- a step
+
+-- of a state whose timers run as kept
+module _ (m : Machine) (view : IsViewed m) (kept : (c : ℕ) → RunsAsKept m c) (e : Event) (adds : List Rec) where
+  abbrev first : Rec
+  first = rec.Event (m.events + 1) e
+
+  module _ (place : Place) (c : ℕ) (r : Part) where
+    abbrev rows : List Rec
+    rows = timer_rows place c (part_of m c) r
+
+    rows-all : list_all is_change rows ≡ true
+    rows-all = subst (λ (rs : List Rec). list_all is_change rs ≡ true) (sym (rows-change place c (part_of m c) r)) (all-change place c (armed_at place (part_of m c)) (armed_at place r) kinds)
+
+    rows-exactly : (HasTimer place c × KeepsAt place (part_of m c) r) ⊎ (r ≡ part_of m c) → Exactly m.journal rows
+    rows-exactly acts = ⊎_elim
+        (λ (a : HasTimer place c × KeepsAt place (part_of m c) r).
+        subst (Exactly m.journal) (sym (rows-change place c (part_of m c) r)) (exactly-changes m.journal place c (armed_at place (part_of m c)) (armed_at place r) (λ kind. kept c place a.0 kind)))
+        (λ (same : r ≡ part_of m c). subst (Exactly m.journal) (sym (ap (timer_rows place c (part_of m c)) same ∙ timer_rows-same place c (part_of m c))) (exactly-none m.journal))
+        acts
+
+    -- none is of another connection
+    rows-others : (p : Place) (d : ℕ) (kind : TimerKind) → c ≢ d → AreOthers p d kind rows
+    rows-others p d kind n = subst (AreOthers p d kind) (sym (rows-change place c (part_of m c) r)) (number-others p place c d (armed_at place (part_of m c)) (armed_at place r) kind n)
+
+  -- what stands before the records of timers
+  module _ (place : Place) (notes : List Rec) (segments : List (Place × List ℕ)) (gave : List Rec) (messages : List (Place × List ℕ)) where
+    abbrev spoken : List Rec
+    spoken = behind e ++ notes ++ sent_records (length m.net + 1) place segments ++ gave ++ sent_records (length (m.net ++ packets_of place segments) + 1) place messages
+
+    spoken-still : Still notes → Still gave → Still (first ∷ spoken)
+    spoken-still n g =
+        let S : List Rec = sent_records (length m.net + 1) place segments in
+        let M : List Rec = sent_records (length (m.net ++ packets_of place segments) + 1) place messages in (
+          refl,
+          still-both (behind e ++ notes ++ S ++ gave) M
+              (still-both (behind e ++ notes ++ S) gave (still-both (behind e ++ notes) S (still-both (behind e) notes (still-behind e) n) (still-sents (length m.net + 1) place segments)) g)
+              (still-sents (length (m.net ++ packets_of place segments) + 1) place messages),
+        )
+
+    spoken-changes : (timers : List Rec) → Still notes → Still gave → list_all is_change timers ≡ true → Exactly m.journal timers → ChangesTimers m.journal (first ∷ spoken ++ timers)
+    spoken-changes timers n g all exact = step-changes m.journal (first ∷ spoken) timers (spoken-still n g) all exact
+
+  alone-change : ActsAlone Changes m e adds → ChangesTimers m.journal (first ∷ adds)
+  unfolding conn
+  alone-change a =
+      let v : Move = a.move in
+      let own : IsItsOwn (conn m a.c) v = (a.moves.does.1 a.moves.number (view.sound a.c)).0 in
+      let plain : IsPlain (conn m a.c) v = a.moves.does.0 a.moves.number (view.sound a.c) in
+      subst (λ (rs : List Rec). ChangesTimers m.journal (first ∷ rs)) (sym a.are)
+      (spoken-changes v.place a.noted v.said.segments v.said.gave v.said.messages (rows v.place a.c v.part) (still-notes v.place a.c a.noted a.moves.notes) (still-gaves v.place a.c v.said.gave own.gave)
+      (rows-all v.place a.c v.part) (rows-exactly v.place a.c v.part plain.acts))
+
+  both-change : ActsBoth Changes m e adds → ChangesTimers m.journal (first ∷ adds)
+  unfolding conn
+  both-change a =
+      let v : Move = a.first in
+      let w : Move = a.second in
+      let own : IsItsOwn (conn m a.c) v = (a.moves.does.1 a.moves.number (view.sound a.c)).0 in
+      let its : IsItsOwn (conn m a.d) w = (a.moves_too.does.1 a.moves_too.number (view.sound a.d)).0 in
+      let plain : IsPlain (conn m a.c) v = a.moves.does.0 a.moves.number (view.sound a.c) in
+      let plain_too : IsPlain (conn m a.d) w = a.moves_too.does.0 a.moves_too.number (view.sound a.d) in
+      let cs : List Rec = rows v.place a.c v.part in
+      let ds : List Rec = rows w.place a.d w.part in
+      let c_all = rows-all v.place a.c v.part in
+      let d_all = rows-all w.place a.d w.part in
+      let c_exactly = rows-exactly v.place a.c v.part plain.acts in
+      let d_exactly = rows-exactly w.place a.d w.part plain_too.acts in
+      let apart : (p : Place) (q : ℕ) (kind : TimerKind) → AreOthers p q kind cs ⊎ AreOthers p q kind ds =
+      λ p q kind. by_number (AreOthers p q kind cs ⊎ AreOthers p q kind ds) a.c q
+      (λ same. inr (rows-others w.place a.d w.part p q kind (λ e. a.apart (e ∙ sym same))))
+      (λ n. inl (rows-others v.place a.c v.part p q kind n)) in
+      let turned : (p : Place) (q : ℕ) (kind : TimerKind) → AreOthers p q kind ds ⊎ AreOthers p q kind cs =
+      λ p q kind. ⊎_elim (λ (o : AreOthers p q kind cs). inr o) (λ (o : AreOthers p q kind ds). inl o) (apart p q kind) in
+      let all : list_all is_change a.timers ≡ true = ⊎_elim
+      (λ (e : a.timers ≡ cs ++ ds). subst (λ (rs : List Rec). list_all is_change rs ≡ true) (sym e) (all-both cs ds c_all d_all))
+      (λ (e : a.timers ≡ ds ++ cs). subst (λ (rs : List Rec). list_all is_change rs ≡ true) (sym e) (all-both ds cs d_all c_all))
+      a.order in
+      let exact : Exactly m.journal a.timers = ⊎_elim
+      (λ (e : a.timers ≡ cs ++ ds). subst (Exactly m.journal) (sym e) (exactly-both m.journal cs ds c_exactly d_exactly apart))
+      (λ (e : a.timers ≡ ds ++ cs). subst (Exactly m.journal) (sym e) (exactly-both m.journal ds cs d_exactly c_exactly turned))
+      a.order in
+      subst (λ (rs : List Rec). ChangesTimers m.journal (first ∷ rs)) (sym a.are)
+      (spoken-changes v.place (v.said.notes ++ w.said.notes) (v.said.segments ++ w.said.segments) (v.said.gave ++ w.said.gave) (v.said.messages ++ w.said.messages) a.timers
+      (still-both v.said.notes w.said.notes (still-notes v.place a.c v.said.notes own.notes) (still-notes w.place a.d w.said.notes its.notes))
+      (still-both v.said.gave w.said.gave (still-gaves v.place a.c v.said.gave own.gave) (still-gaves w.place a.d w.said.gave its.gave))
+      all exact)
+
+  adds-change : IsPassing m e adds ⊎ (ActsAlone Changes m e adds ⊎ ActsBoth Changes m e adds) → ChangesTimers m.journal (first ∷ adds)
+  adds-change (inl passing) = subst (λ (rs : List Rec). ChangesTimers m.journal (first ∷ rs)) (append-nil adds) (step-changes m.journal (first ∷ adds) [] (refl, passing-still e adds passing) refl (exactly-none m.journal)) where
+    passing-still : (d : Event) (rs : List Rec) → IsPassing m d rs → Still rs
+    passing-still (event.Clock ms) rs h = subst Still (sym h) (refl, tt)
+    passing-still d rs h = subst Still (sym h) (still-behind d)
+  adds-change (inr (inl a)) = alone-change a
+  adds-change (inr (inr a)) = both-change a
+
+-- ---- every run
+
+module _ (config : Config) (files : List (List ℕ × List ℕ)) where
+  one-step : (k n : Machine) (e : Event) → IsOn config files k → AreLawful ChangesTimers k.journal → HasRule e → machine_step k e ≡ Ok n → AreLawful ChangesTimers n.journal
+  one-step k n e on h rule is =
+      let shape : IsAfter k e n = step-after k on.view e n rule is in
+      let step : IsStepOf Changes k n e = step_acts k n e Changes on.view (subst (λ (s : Setting). Rules s Changes) (on-setting config files k on) (changing (setting config files))) rule is in
+      let opening : Rec = rec.Event (k.events + 1) e in
+      let same : shape.step ≡ opening ∷ step.adds = cancel k.journal shape.step (opening ∷ step.adds) (sym shape.is ∙ step.journal) in
+      subst (AreLawful ChangesTimers) (sym shape.is)
+      (one-more ChangesTimers k.journal shape.step shape.one h
+      (subst (ChangesTimers k.journal) (sym same) (adds-change k on.view (runs-kept config files k on.reached) e step.adds step.acts)))
+
+pub timers-change : TimersChangeInSteps
+timers-change config files m r = (carried-keep config files (λ k. AreLawful ChangesTimers k.journal) (refl, tt) (one-step config files) m r).1

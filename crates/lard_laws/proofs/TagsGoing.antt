@@ -1,0 +1,64 @@
+-- In every run: Fetches go to nodes that are there, and so do connections.
+use Rattle.std.proofs.Common.{◌≡◌, ℕ, false, true, List, Ok, subst}
+use Rattle.lard_base.specs.Config.{config_check}
+use Rattle.lard_base.specs.declared.config.Config.{Config}
+use Rattle.lard_law_connections.specs.Kept.{IsKeptByStage}
+use Rattle.lard_law_connections.proofs.KeptRuns.{kept-law}
+use Rattle.lard_law_connections.proofs.PolicyCounted.{IsCounted, reached-counted}
+use Rattle.lard_laws.proofs.TagsAgree.{Agreed, tags-name}
+use Rattle.lard_laws.proofs.TagsChoices.{with-there}
+use Rattle.lard_laws.proofs.TagsRuns.{connections-name-nodes, known-of}
+use Rattle.lard_law_view.specs.Carry.{IsUntouchedLaw, MayMove, OfEach, Untouched, setting, tale_at}
+use Rattle.lard_law_view.specs.View.{Conn, Setting, conn, grown, part_of}
+use Rattle.lard_law_view.proofs.Carried.{carried}
+use Rattle.lard_law_view.proofs.Guarded.{untouched-law, untouched-weaker}
+use Rattle.lard_dispatch.specs.Sound.{IsNode}
+use Rattle.lard_files.specs.Files.{file_at}
+use Rattle.lard_rules.specs.Front.{is_at}
+
+module _ (config : Config) (files : List (List ℕ × List ℕ)) (checked : config_check config ≡ Ok tt) where
+  abbrev N : ℕ → Type 0
+  N = IsNode config.nodes
+
+  -- all laws of a connection that the schedule did not touch
+  pub each-agrees : OfEach config files (Untouched (Agreed N (file_at files)))
+  each-agrees m r q untouched =
+      let known = known-of config files checked m r q untouched in record {
+        facts = known.facts;
+        kept = known.kept;
+        names = connections-name-nodes config files checked m r q untouched;
+      }
+
+  -- ---- where Fetches go
+
+  abbrev Inv : Conn → Type 0
+  Inv x = IsKeptByStage N (file_at files) x
+
+  abbrev Given : Conn → Type 0
+  Given x = Untouched (Agreed N (file_at files)) x
+
+  -- with what is known of it as long as it is untouched
+  abbrev Now : Conn → Type 0
+  Now x = Agreed N (file_at files) x
+
+  going-law : IsUntouchedLaw (setting config files) Given Inv
+  going-law =
+      let k : Setting = setting config files in
+      let law = kept-law N Now (tags-name N (file_at files)) k in record {
+        begins = law.begins;
+        moves = untouched-weaker k (λ x v. MayMove Now x → Inv x → Inv (grown x v)) (λ x v. MayMove Given x → (tale_at x).touched ≡ false → Inv x → Inv (grown x v))
+            (λ x v moves may untouched h. moves (record { number = may.number; sound = may.sound; given = may.given untouched }) h) law.moves.untouched;
+      }
+
+  -- each Fetch of a connection goes to a node that is there
+  pub each-goes : OfEach config files (Untouched Inv)
+  each-goes = carried config files Given (Untouched Inv) (untouched-law (setting config files) Given Inv going-law) each-agrees
+
+  -- ---- where connections are
+
+  -- the front end has a connection with a node that is there
+  pub each-with : OfEach config files (λ x. (n e : ℕ) → is_at n e x.part.front.row ≡ true → N n)
+  unfolding conn part_of
+  each-with m r q n e at =
+      let counted : IsCounted config m = reached-counted config files checked m r in
+      subst (λ (c : Config). IsNode c.nodes n) counted.config_is (with-there m counted.sound q n e at)

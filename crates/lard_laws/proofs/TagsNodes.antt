@@ -1,0 +1,150 @@
+-- What a node does leaves the last Tag with as many nodes as requests wait for one.
+use Rattle.std.proofs.Common.{◌≡◌, ◌⊎◌, ◌+◌, ◌==◌, ℕ, true, false, List, [], length, Option, Some, None, refl, sym, ap, ◌∙◌, subst, arith, eqb-true, inl, inr, ⊎_elim}
+use Rattle.std.proofs.lemmas.Bool.{and_parts}
+use Rattle.lard_answers.specs.Answers.{FilesAt}
+use Rattle.lard_law_connections.proofs.KeptHere.{IsHere, here-is}
+use Rattle.lard_law_connections.proofs.KeptNodes.{DeedFollows, DeedGoes, IsIdle, IsOfEpoch, MayFollow, StayFollows}
+use Rattle.lard_law_connections.specs.Places.{IsPast, Sits, StageSits, owning}
+use Rattle.lard_law_connections.proofs.PlacesNodeRules.{not-decided}
+use Rattle.lard_law_connections.proofs.PlacesTurns.{IsPlaced}
+use Rattle.lard_laws.specs.Tags.{FitsAt, NamesNodes}
+use Rattle.lard_law_view.specs.Carry.{tale_at}
+use Rattle.lard_law_view.specs.View.{Conn, grown, node_does}
+use Rattle.lard_law_view.proofs.Parts.{put-each}
+use Rattle.lard_laws.specs.WaysState.{GoesItsWay, IsAway, SeatWays, StageWays, StayWays, marks_at}
+use Rattle.lard_endpoint.specs.Control.{ControlBlock}
+use Rattle.lard_rules.specs.declared.front.FrontRest.{FrontRest}
+use Rattle.lard_rules.specs.Front.{is_at, is_with, rest_of}
+use Rattle.lard_handoff_back.specs.declared.row.BackConn.TheVariants as back
+use Rattle.lard_handoff_back.specs.declared.row.BackRow.{BackRow}
+use Rattle.lard_handoff_back.specs.declared.table.Adopt.TheVariants.{New}
+use Rattle.lard_handoff_back.specs.Back.{offer_answer}
+use Rattle.lard_handoff_front.specs.declared.row.FrontConn.{FrontConn}
+use Rattle.lard_handoff_front.specs.declared.row.FrontConn.TheVariants as stage
+use Rattle.lard_handoff_front.specs.declared.row.FrontRow.{FrontRow}
+use Rattle.lard_history.specs.Own.{Seen}
+use Rattle.lard_rules.specs.declared.stay.Stay.{Stay}
+use Rattle.lard_rules.specs.Node.{Deed, Drops, Says, Does, NodePart, here}
+use Rattle.lard_rules.specs.Stay.{named_paths}
+
+-- what is known of a connection beside its Tags
+pub record Facts (files : FilesAt) (x : Conn) : Type 0 where
+  pub placed : IsPlaced x
+  pub ways : GoesItsWay files x
+
+-- ---- what is known of its Asks
+
+module _ (files : FilesAt) (x : Conn) (facts : Facts files x) (n e : ℕ) (r : FrontRest) (at : is_at n e x.part.front.row ≡ true) (found : x.part.front.rest ≡ Some r) where
+  abbrev p : NodePart
+  p = x.part.nodes n
+
+  -- it is away with this node, in this epoch
+  pub record IsItsAway : Type 0 where
+    pub away : IsAway files (marks_at x) r n e p
+
+  away-is : IsItsAway
+  away-is = go x.part.front.row refl at where
+    by-stage : (row : FrontRow) → x.part.front.row ≡ Some row → (st : FrontConn) → row.stage ≡ st → is_with n e st ≡ true → IsItsAway
+    by-stage row is (stage.Held b) eq t = let no : false ≡ true = t in absurd cc
+    by-stage row is (stage.Waiting b) eq t = let no : false ≡ true = t in absurd cc
+    by-stage row is stage.Lent eq t = let no : false ≡ true = t in absurd cc
+    by-stage row is (stage.Closed last) eq t = let no : false ≡ true = t in absurd cc
+    by-stage row is (stage.Offering m d) eq t =
+        let tests = and_parts (m == n) (d.0 == e) t in
+        let node : m ≡ n = eqb-true m n tests.0 in
+        let sits : StageSits row.epoch.0 (owning (tale_at x)) x.part.nodes (stage.Offering m d) =
+        subst (StageSits row.epoch.0 (owning (tale_at x)) x.part.nodes) eq (subst (Sits (owning (tale_at x)) x.part.nodes) is facts.placed.sits).0 in
+        let epoch : row.epoch.0 ≡ e = sym sits.1 ∙ eqb-true d.0 e tests.1 in
+        let its : StageWays files (marks_at x) x.part row.epoch.0 (stage.Offering m d) =
+        subst (StageWays files (marks_at x) x.part row.epoch.0) eq (subst (SeatWays files (marks_at x) x.part) is facts.ways.seat) in
+        record { away = subst (λ (t : FrontRest × ℕ × ℕ). IsAway files (marks_at x) t.0 t.1 t.2 (x.part.nodes t.1)) (λ i. (ap rest_of found i, node i, epoch i)) its }
+    by-stage row is (stage.Moved m d) eq t =
+        let tests = and_parts (m == n) (d.0 == e) t in
+        let node : m ≡ n = eqb-true m n tests.0 in
+        let sits : StageSits row.epoch.0 (owning (tale_at x)) x.part.nodes (stage.Moved m d) =
+        subst (StageSits row.epoch.0 (owning (tale_at x)) x.part.nodes) eq (subst (Sits (owning (tale_at x)) x.part.nodes) is facts.placed.sits).0 in
+        let epoch : row.epoch.0 ≡ e = sym sits.1 ∙ eqb-true d.0 e tests.1 in
+        let its : StageWays files (marks_at x) x.part row.epoch.0 (stage.Moved m d) =
+        subst (StageWays files (marks_at x) x.part row.epoch.0) eq (subst (SeatWays files (marks_at x) x.part) is facts.ways.seat) in
+        record { away = subst (λ (t : FrontRest × ℕ × ℕ). IsAway files (marks_at x) t.0 t.1 t.2 (x.part.nodes t.1)) (λ i. (ap rest_of found i, node i, epoch i)) its }
+
+    go : (o : Option FrontRow) → x.part.front.row ≡ o → is_at n e o ≡ true → IsItsAway
+    go None is t = let no : false ≡ true = t in absurd cc
+    go (Some row) is t = by-stage row is row.stage refl t
+
+  -- its last Ask was answered, or not yet
+  pub asks-are : (b : ControlBlock) (s : Stay) → IsHere e p b s → (s.asks ≡ r.asks) ⊎ ((s.asks ≡ r.asks + 1) × (named_paths files s.batch ≡ [] → ⊥))
+  asks-are b s h = ⊎_elim
+      (λ past. absurd (subst (λ (o : Option BackRow). IsPast e o) h.row past.0).1)
+      (λ there.
+      let stay : StayWays files n (marks_at x) r (Some s) = subst (StayWays files n (marks_at x) r) h.stay there.2 in
+      ⊎_elim (λ (q : _). inl q.0) (λ (q : _). inr (q.0, q.2)) stay.asking)
+      away-is.away
+
+  -- where an Offer of this epoch is new, no Ask was answered
+  pub none-answered : offer_answer e p.row ≡ New → r.asks ≡ 0
+  none-answered new = ⊎_elim (λ past. past.1.asks) (λ there. absurd (not-decided e p.row new there.0)) away-is.away
+
+-- ---- a rule of a node
+
+module _ (N : ℕ → Type 0) (files : FilesAt) (x : Conn) (facts : Facts files x) (h : NamesNodes N files x) (n : ℕ) where
+  abbrev ours : NodePart
+  ours = x.part.nodes n
+
+  -- the new part is of the epoch, and its stay goes on
+  from-row : (d e : ℕ) (b : ControlBlock) (q : NodePart) → IsOfEpoch d q.row → q.row ≡ Some (record { stage = back.Here b; epoch = record { 0 = e } }) → e ≡ d
+  from-row d e b q of row = subst (IsOfEpoch d) row of
+
+  goes-on : (d : ℕ) (b0 : ControlBlock) (s0 : Stay) (q : NodePart) → IsHere d ours b0 s0 → MayFollow files s0.asks (named_paths files s0.batch) q.stay → IsOfEpoch d q.row → FitsAt files x.part.front n q
+  goes-on d b0 s0 q was follows of e b s r at row stay rest answered =
+      let same : e ≡ d = from-row d e b q of row in
+      let then : is_at n d x.part.front.row ≡ true = subst (λ (i : ℕ). is_at n i x.part.front.row ≡ true) same at in
+      let goes : StayFollows files s0.asks (named_paths files s0.batch) s = subst (MayFollow files s0.asks (named_paths files s0.batch)) stay follows in
+      ⊎_elim
+      (λ (k : (s.asks ≡ s0.asks) × ((named_paths files s.batch ≡ []) ⊎ (named_paths files s.batch ≡ named_paths files s0.batch))). ⊎_elim
+      (λ (none : named_paths files s.batch ≡ []). inl none)
+      (λ (as_was : named_paths files s.batch ≡ named_paths files s0.batch).
+      subst (λ (ps : List (List ℕ)). (ps ≡ []) ⊎ (length r.tag ≡ length ps)) (sym as_was) (h.fits n d b0 s0 r then was.row was.stay rest (sym k.0 ∙ answered)))
+      k.1)
+      (λ (more : s.asks ≡ s0.asks + 1). ⊎_elim
+      (λ (one : s0.asks ≡ r.asks). absurd (omega (arith, one, more, answered)))
+      (λ (two : (s0.asks ≡ r.asks + 1) × (named_paths files s0.batch ≡ [] → ⊥)). absurd (let asks = two.0 in omega (arith, asks, more, answered)))
+      (asks-are files x facts n d r then rest b0 s0 was))
+      goes
+
+  abbrev pub DeedFits : Deed → Type 0
+  DeedFits Drops = Unit {0}
+  DeedFits (Says ms) = Unit {0}
+  DeedFits (Does given) = FitsAt files x.part.front n given.0
+
+  pub goes-fit : (e : ℕ) (d : Deed) → DeedGoes files e (here e ours) d → DeedFits d
+  goes-fit e Drops k = tt
+  goes-fit e (Says ms) k = tt
+  goes-fit e (Does given) k = go (here e ours) refl k where
+    go : (o : Option (ControlBlock × Stay)) → here e ours ≡ o → DeedGoes files e o (Does given) → FitsAt files x.part.front n given.0
+    go None is l = absurd l
+    go (Some y) is l = goes-on e y.0 y.1 given.0 (here-is e ours y.0 y.1 is) l.0 l.1
+
+  -- a stay that begins
+  begins : (d : ℕ) (q : NodePart) → offer_answer d ours.row ≡ New → MayFollow files 0 [] q.stay → IsOfEpoch d q.row → FitsAt files x.part.front n q
+  begins d q new follows of e b s r at row stay rest answered =
+      let same : e ≡ d = from-row d e b q of row in
+      let then : is_at n d x.part.front.row ≡ true = subst (λ (i : ℕ). is_at n i x.part.front.row ≡ true) same at in
+      let none : r.asks ≡ 0 = none-answered files x facts n d r then rest new in
+      let goes : StayFollows files 0 [] s = subst (MayFollow files 0 []) stay follows in
+      ⊎_elim
+      (λ (k : (s.asks ≡ 0) × ((named_paths files s.batch ≡ []) ⊎ (named_paths files s.batch ≡ []))). ⊎_elim (λ (e : named_paths files s.batch ≡ []). inl e) (λ (e : named_paths files s.batch ≡ []). inl e) k.1)
+      (λ (more : s.asks ≡ 0 + 1). absurd (omega (arith, more, none, answered)))
+      goes
+
+  pub begins-fit : (e : ℕ) (d : Deed) → (IsIdle d ⊎ (offer_answer e ours.row ≡ New)) → DeedFollows files e 0 [] d → DeedFits d
+  begins-fit e Drops k f = tt
+  begins-fit e (Says ms) k f = tt
+  begins-fit e (Does given) k f = ⊎_elim (λ (no : ⊥). absurd no) (λ (new : offer_answer e ours.row ≡ New). begins e given.0 new f.0 f.1) k
+
+  -- ---- its move
+
+  pub node-move : (heads : List Seen) (d : Deed) → DeedFits d → NamesNodes N files (grown x (node_does x n heads d))
+  node-move heads Drops k = record { nodes = h.nodes; fits = h.fits }
+  node-move heads (Says ms) k = record { nodes = h.nodes; fits = h.fits }
+  node-move heads (Does given) k = record { nodes = h.nodes; fits = put-each x.part.nodes n given.0 (λ m p. FitsAt files x.part.front m p) k (λ m other. h.fits m) }

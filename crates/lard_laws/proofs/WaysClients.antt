@@ -1,0 +1,135 @@
+-- What a client does leaves its connection on its way.
+use Rattle.std.proofs.Common.{◌≡◌, ◌≤◌, ◌^◌, ℕ, List, [], ◌∷◌, ◌++◌, map, length, Option, Some, None, inl, inr, ⊎_elim, refl, sym, ap, ◌∙◌, arith, append-nil, append_assoc}
+use Rattle.std.proofs.lemmas.List.{length-append}
+use Rattle.lard_answers.specs.Answers.{FilesAt, verdicts}
+use Rattle.lard_base.specs.declared.place.Place.{Place}
+use Rattle.lard_base.specs.declared.place.Place.TheVariants.{Client}
+use Rattle.lard_client.specs.Control.{ClientBlock}
+use Rattle.lard_law_connections.specs.BytesAgreement.{ConnAgrees, IsTruthful}
+use Rattle.lard_law_connections.specs.Places.{IsDecided, IsPast}
+use Rattle.lard_law_view.specs.View.{ClientRules, Conn, Move, Part, Setting, client_does, letter, with_station}
+use Rattle.lard_law_view.proofs.Saying.{NotedAt}
+use Rattle.lard_laws.specs.WaysState.{IsAway, IsPlacedOnce, LetterWays, SeatWays, StageWays, StayWays, marks_at}
+use Rattle.lard_laws.specs.WaysUnder.{Assigned}
+use Rattle.lard_laws.specs.Ways.{Marks, good_paths, paths_answered}
+use Rattle.lard_laws.proofs.WaysGoods.{answered-grow, wanted-grow}
+use Rattle.lard_laws.proofs.WaysLetters.{IsSame, assigned-same, carries-same}
+use Rattle.lard_laws.proofs.WaysMarking.{Rightly, marked}
+use Rattle.lard_laws.proofs.WaysMoving.{Keeps, makes}
+use Rattle.lard_laws.proofs.WaysNodeRules.{Owes}
+use Rattle.lard_rules.specs.declared.front.FrontRest.{FrontRest}
+use Rattle.lard_rules.specs.Front.{rest_of}
+use Rattle.lard_handoff_front.specs.declared.row.FrontConn.{FrontConn}
+use Rattle.lard_handoff_front.specs.declared.row.FrontConn.TheVariants as stage
+use Rattle.lard_handoff_front.specs.declared.row.FrontRow.{FrontRow}
+use Rattle.lard_history.specs.Journal.{request}
+use Rattle.lard_history.specs.Own.{Seen}
+use Rattle.lard_history.proofs.Each.{Each}
+use Rattle.lard_journal.specs.declared.rec.Rec.{Rec}
+use Rattle.lard_journal.specs.declared.rec.Rec.TheVariants as rec
+use Rattle.lard_rules.specs.declared.stay.Stay.{Stay}
+use Rattle.lard_rules.specs.Node.{NodePart}
+use Rattle.lard_rules.specs.declared.places.Station.{Station}
+use Rattle.lard_rules.specs.declared.places.Turn.{Turn}
+use Rattle.lard_rules.specs.Client.{client_aborts, client_gets, client_holds, client_shuts, client_takes, client_timer, client_writes}
+use Rattle.lard_segment.specs.declared.segment.Dir.TheVariants.{ToClient}
+use Rattle.lard_segment.specs.Segment.{decoded}
+
+-- ---- it writes on
+
+abbrev more_of : Marks → List ℕ → Marks
+more_of m z = record m { wrote = m.wrote ++ z }
+
+record Writes (files : FilesAt) (m : Marks) (rs : List Rec) : Type 0 where
+  more : List ℕ
+  told : marked m rs ≡ more_of m more
+  notes : Rightly files m rs
+
+client-notes : (files : FilesAt) (e c : ℕ) (m : Marks) (rs : List Rec) → Each (NotedAt (Client e) c) rs → Writes files m rs
+client-notes files e c m [] h = record { more = []; told = ap (λ (l : List ℕ). record m { wrote = l }) (sym (append-nil m.wrote)); notes = tt }
+client-notes files e c m (rec.Wrote d bytes ∷ rs) h =
+    let later = client-notes files e c (more_of m bytes) rs h.1 in
+    record { more = bytes ++ later.more; told = later.told ∙ ap (λ (l : List ℕ). record m { wrote = l }) (append_assoc m.wrote bytes later.more); notes = (tt, later.notes) }
+client-notes files e c m (rec.Accepted d bytes ∷ rs) h = let later = client-notes files e c m rs h.1 in record { more = later.more; told = later.told; notes = (tt, later.notes) }
+client-notes files e c m (rec.Eof d ∷ rs) h = let later = client-notes files e c m rs h.1 in record { more = later.more; told = later.told; notes = (tt, later.notes) }
+client-notes files e c m (rec.Aborted d ∷ rs) h = let later = client-notes files e c m rs h.1 in record { more = later.more; told = later.told; notes = (tt, later.notes) }
+client-notes files e c m (_ ∷ rs) h = absurd h.0
+
+-- ---- what was answered is as it was
+
+module _ (files : FilesAt) (m : Marks) (z : List ℕ) (same : paths_answered files (more_of m z) ≡ paths_answered files m) (p : Part) where
+  abbrev r : FrontRest
+  r = rest_of p.front.rest
+
+  stay-more : (home : ℕ) (o : Option Stay) → StayWays files home m r o → StayWays files home (more_of m z) r o
+  stay-more home None h = tt
+  stay-more home (Some s) h = record { gone = h.gone; under = h.under; walked = h.walked ∙ sym same; lies = h.lies; asking = h.asking }
+
+  away-more : (home e : ℕ) (q : NodePart) → IsAway files m r home e q → IsAway files (more_of m z) r home e q
+  away-more home e q h = ⊎_elim
+      (λ (a : IsPast e q.row × IsPlacedOnce files m r home). inl (a.0, record { path = a.1.path; assigned = a.1.assigned; answered = same ∙ a.1.answered; asks = a.1.asks }))
+      (λ (a : IsDecided e q.row × ((path : List ℕ) × (others : List Assigned) × (m.assigned ≡ (path, home) ∷ others)) × StayWays files home m r q.stay). inr (a.0, a.1, stay-more home q.stay a.2)) h
+
+  stage-more : (e : ℕ) (d : FrontConn) → StageWays files m p e d → StageWays files (more_of m z) p e d
+  stage-more e (stage.Held b) h = (h.0, same ∙ h.1)
+  stage-more e (stage.Waiting b) h = ((h.0.0, same ∙ h.0.1), h.1)
+  stage-more e stage.Lent h = tt
+  stage-more e (stage.Offering n d) h = away-more n e (p.nodes n) h
+  stage-more e (stage.Moved n d) h = away-more n e (p.nodes n) h
+  stage-more e (stage.Closed last) h = tt
+
+  seat-more : (o : Option FrontRow) → SeatWays files m p o → SeatWays files (more_of m z) p o
+  seat-more None h = (h.0, same ∙ h.1)
+  seat-more (Some row) h = stage-more row.epoch.0 row.stage h
+
+-- no more is answered than was asked for
+served-within : (files : FilesAt) (x : Conn) → IsTruthful files x → (marks_at x).served ≤ length (verdicts (marks_at x).wrote)
+served-within files x h = go x.part.station h.agrees where
+  go : (o : Option Station) → ConnAgrees files x h.talk h.pend o → (marks_at x).served ≤ length (verdicts (marks_at x).wrote)
+  go None u = let zero_is = u.served in omega (arith, zero_is)
+  go (Some s) o =
+      let front = o.says.fronts [] in
+      let all : verdicts (marks_at x).wrote ≡ h.talk.vs ++ front.0 = ap verdicts (o.tale.wrote ∙ sym (append-nil h.talk.w.bytes)) ∙ front.1 in
+      let served = o.tale.served in
+      omega (arith, served, ap length all, length-append h.talk.vs front.0)
+
+-- ---- a move of the client
+
+client-says : (files : FilesAt) (m : Marks) (p : Part) (c : ℕ) (ss : List (Place × List ℕ)) → Each (LetterWays files m p) (map (letter (Client c)) ss)
+client-says files m p c [] = tt
+client-says files m p c (s ∷ ss) = (tt, client-says files m p c ss)
+
+abbrev client_move : Conn → List Seen → List Rec → List (Place × List ℕ) → Station → Move
+client_move x heads notes segments s = record { place = Client x.c; heads = heads; said = record { notes = notes; segments = segments; gave = []; messages = [] }; part = with_station x.part s }
+
+client-makes : (files : FilesAt) (x : Conn) (heads : List Seen) (notes : List Rec) (segments : List (Place × List ℕ)) (s : Station) → IsTruthful files x → Keeps files x (client_move x heads notes segments s)
+client-makes files x heads notes segments s h help g =
+    let m : Marks = marks_at x in
+    let v : Move = client_move x heads notes segments s in
+    let w : Writes files m notes = client-notes files x.c x.c m notes help.own.notes in
+    let n : Marks = more_of m w.more in
+    let same : paths_answered files n ≡ paths_answered files m = ap (good_paths files) (answered-grow m.served m.wrote w.more (served-within files x h)) in
+    let is : IsSame files m n = record { assigned = refl; wanted = wanted-grow files m.wrote w.more } in
+    makes files x v help g n w.notes w.told (assigned-same files m n is g.paths) (seat-more files m w.more same x.part x.part.front.row g.seat)
+    (carries-same files m n is x.part v.part help.owes.grows refl refl (λ i e ps c d a. a))
+    (λ old. none-behind n v.part segments (client-says files n v.part x.c segments)) where
+      none-behind : (n : Marks) (q : Part) (ss : List (Place × List ℕ)) → Each (LetterWays files n q) (map (letter (Client x.c)) ss) → Each (LetterWays files n q) (map (letter (Client x.c)) ss ++ [])
+      none-behind n q [] h = tt
+      none-behind n q (y ∷ ss) h = (h.0, none-behind n q ss h.1)
+
+module _ (k : Setting) (small : k.stream ≤ 2 ^ 30) where
+  does : (x : Conn) (s : Station) (heads : List Seen) (given : ClientBlock × Turn) → Owes k small x (client_does x s heads given)
+  does x s heads given h = client-makes k.files x heads given.1.notes given.1.segments (record { client = given.0; iss = s.iss }) h
+
+  pub clients : ClientRules k (Owes k small)
+  clients = record {
+    opens = λ x isn iss wnd mss rule none h. client-makes k.files x _ _ _ _ h;
+    gets = λ x s path there fits. does x s _ (client_writes s.client (request path));
+    writes = λ x s bytes there fits. does x s _ (client_writes s.client bytes);
+    shuts = λ x s there. does x s _ (client_shuts s.client);
+    aborts = λ x s there. does x s _ (client_aborts s.client);
+    holds = λ x s there. does x s _ (client_holds s.client);
+    takes = λ x s there. does x s _ (client_takes s.client);
+    fires = λ x s there. does x s _ (client_timer s.client);
+    hears = λ x s from bytes there was. does x s _ (client_gets s.client (decoded bytes x.c ToClient));
+  }

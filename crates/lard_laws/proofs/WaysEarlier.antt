@@ -1,0 +1,365 @@
+-- So it is in every run: each content that is served was there before.
+use Rattle.std.proofs.Common.{◌≡◌, ℕ, Bool, true, false, cond, List, [], ◌∷◌, ◌++◌, map, Option, Some, None, Ok, is_some, refl, sym, ap, ◌∙◌, subst, inl, inr, ⊎_elim, append_assoc, append-nil}
+use Rattle.lard_base.specs.declared.config.Config.{Config}
+use Rattle.lard_base.specs.declared.event.Event.TheVariants as event
+use Rattle.lard_base.specs.declared.place.Place.{Place}
+use Rattle.lard_base.specs.declared.place.Place.TheVariants.{Client, Front, Node}
+use Rattle.lard_rules.specs.declared.machine.Machine.{Machine}
+use Rattle.lard_rules.specs.Machine.{IsReached}
+use Rattle.lard_law_view.specs.Carry.{IsLaw, MayMove, OfEach, setting}
+use Rattle.lard_law_view.specs.View.{ClientRules, Conn, FrontRules, IsNodeEnv, Move, NodeRules, Rules, Setting, brought_said, conn, contents, epoch_in, event_seen, front_does, grown, named, node_does, nothing_said, packet_seen, reads_first, rows_of, seen_in, sending, stands, timer_rows}
+use Rattle.lard_law_view.specs.View as view
+use Rattle.lard_law_view.proofs.Carried.{carried}
+use Rattle.lard_law_view.proofs.Fine.{IsFine, IsItsOwn, fine}
+use Rattle.lard_law_view.proofs.Guarded.{both, weaker}
+use Rattle.lard_law_view.proofs.InSteps.{carried-records}
+use Rattle.lard_law_view.proofs.Parts.{put-each}
+use Rattle.lard_law_view.proofs.Saying.{GaveAt, NamesAll, NotedAt}
+use Rattle.lard_law_view.proofs.Timers.{IsTimerAt, timer_rows-are}
+use Rattle.lard_laws.specs.WaysBefore.{ContentsWereThere, MayBeServed, MayFollow, SawBehind, WasAt, WasThere}
+use Rattle.lard_laws.proofs.WaysBacked.{DeedThere, PartThere, TookIn, acknowledged-there, content-there, fires-there, forwarded-there, offered-there, part-more, read-there, stay-more, tagged-there, there-more}
+use Rattle.lard_laws.proofs.WaysBacking.{IsNoted}
+use Rattle.lard_rules.specs.Front as front
+use Rattle.lard_rules.specs.Front.{ask_of, front_asked, front_ended, front_gets, front_taken, front_timer}
+use Rattle.lard_history.specs.Own.{Came, EachRow, Has, Letter, Row, Seen, own, plain, whose}
+use Rattle.lard_history.proofs.Each.{Each, Each-append, Each-weaker}
+use Rattle.lard_history.proofs.Lifting.{each_row-append}
+use Rattle.lard_history.proofs.Seeing.{has-before, has-behind}
+use Rattle.lard_journal.specs.declared.rec.Rec.{Rec}
+use Rattle.lard_journal.specs.declared.rec.Rec.TheVariants as rec
+use Rattle.lard_message.specs.declared.message.Body.TheVariants as body
+use Rattle.lard_message.specs.Reading.{decoded_message}
+use Rattle.lard_rules.specs.Node as node
+use Rattle.lard_rules.specs.Node.{NodePart, node_acknowledged, node_content, node_forwarded, node_offered, node_read, node_tagged, node_timer}
+use Rattle.lard_rules.specs.Stay.{NodeEnv}
+use Rattle.lard_segment.specs.declared.segment.Dir.TheVariants.{ToCluster}
+use Rattle.lard_segment.specs.Segment.{decoded}
+
+-- ---- rows behind what was seen
+
+-- however much more was seen before it
+abbrev RowAt : ℕ → List Seen → Rec → Type 0
+RowAt c past r = (later : List Seen) → MayFollow c (past ++ later) r
+
+rows-there : (c : ℕ) (past later : List Seen) (rs : List Rec) → Each (RowAt c past) rs → EachRow (MayFollow c) (past ++ later) (map Row rs)
+rows-there c past later [] h = tt
+rows-there c past later (r ∷ rs) h = (h.0 later, subst (λ (p : List Seen). EachRow (MayFollow c) p (map Row rs)) (sym (append_assoc past later (Row r ∷ []))) (rows-there c past (later ++ Row r ∷ []) rs h.1))
+
+rows-now : (c : ℕ) (past : List Seen) (rs : List Rec) → Each (RowAt c past) rs → EachRow (MayFollow c) past (map Row rs)
+rows-now c past rs h = subst (λ (p : List Seen). EachRow (MayFollow c) p (map Row rs)) (append-nil past) (rows-there c past [] rs h)
+
+-- what a node notes
+note-at : (n c : ℕ) (past : List Seen) (r : Rec) → NotedAt (Node n) c r → IsNoted (WasThere past n c) r → RowAt c past r
+note-at n c past (rec.Served (Node k) d r code size way) own h = λ later.
+    subst (λ (i : ℕ). WasThere (past ++ later) i d r way) (sym own.0) (subst (λ (j : ℕ). WasThere (past ++ later) n j r way) (sym own.1) (there-more past later n c r way h))
+note-at n c past (rec.Served Front d r code size way) own h = absurd own
+note-at n c past (rec.Served (Client k) d r code size way) own h = absurd own
+note-at n c past _ own h = λ later. tt
+
+notes-at : (n c : ℕ) (past : List Seen) (rs : List Rec) → Each (NotedAt (Node n) c) rs → Each (IsNoted (WasThere past n c)) rs → Each (RowAt c past) rs
+notes-at n c past [] own h = tt
+notes-at n c past (r ∷ rs) own h = (note-at n c past r own.0 h.0, notes-at n c past rs own.1 h.1)
+
+-- what the front end and clients note
+other-at : (place : Place) (c : ℕ) (past : List Seen) → NamesAll place → (r : Rec) → NotedAt place c r → RowAt c past r
+other-at Front c past names (rec.Served Front d r code size way) own = λ later. tt
+other-at Front c past names (rec.Served (Node k) d r code size way) own = absurd own
+other-at Front c past names (rec.Served (Client k) d r code size way) own = absurd own
+other-at (Client e) c past names (rec.Served place d r code size way) own = absurd own
+other-at (Node n) c past names (rec.Served place d r code size way) own = absurd names
+other-at place c past names _ own = λ later. tt
+
+sends-at : (place : Place) (c : ℕ) (past : List Seen) (ss : List (Place × List ℕ)) → Each (RowAt c past) (map (sending place) ss)
+sends-at place c past [] = tt
+sends-at place c past (s ∷ ss) = (λ later. tt, sends-at place c past ss)
+
+gave-at : (place : Place) (c : ℕ) (past : List Seen) (r : Rec) → GaveAt place c r → RowAt c past r
+gave-at Front c past (rec.Served place d r code size way) own = absurd own
+gave-at (Node n) c past (rec.Served place d r code size way) own = absurd own
+gave-at (Client e) c past (rec.Served place d r code size way) own = absurd own
+gave-at place c past _ own = λ later. tt
+
+timer-at : (place : Place) (d c : ℕ) (past : List Seen) (r : Rec) → IsTimerAt place d r → RowAt c past r
+timer-at place d c past (rec.Served p e r code size way) own = absurd own
+timer-at place d c past _ own = λ later. tt
+
+-- ---- a move
+
+module _ (x : Conn) (v : Move) (its : IsItsOwn x v) where
+  all-rows : (past : List Seen) → Each (RowAt x.c past) v.said.notes → Each (RowAt x.c past) (rows_of x v)
+  all-rows past notes =
+      let P : Rec → Type 0 = RowAt x.c past in
+      let S : List Rec = map (sending v.place) v.said.segments in
+      let M : List Rec = map (sending v.place) v.said.messages in
+      let T : List Rec = timer_rows v.place x.c x.part v.part in
+      let gave : Each P v.said.gave = Each-weaker (GaveAt v.place x.c) P (gave-at v.place x.c past) v.said.gave its.gave in
+      let timers : Each P T = Each-weaker (IsTimerAt v.place x.c) P (timer-at v.place x.c x.c past) T (timer_rows-are v.place x.c x.part v.part) in
+      Each-append P (v.said.notes ++ S ++ v.said.gave ++ M) T
+      (Each-append P (v.said.notes ++ S ++ v.said.gave) M
+      (Each-append P (v.said.notes ++ S) v.said.gave (Each-append P v.said.notes S notes (sends-at v.place x.c past v.said.segments)) gave)
+      (sends-at v.place x.c past v.said.messages))
+      timers
+
+  -- behind its heads
+  move-rows : EachRow (MayFollow x.c) x.seen v.heads → Each (RowAt x.c (x.seen ++ v.heads)) v.said.notes → EachRow (MayFollow x.c) x.seen (seen_in x v)
+  move-rows heads notes = each_row-append (MayFollow x.c) x.seen v.heads (map Row (rows_of x v)) heads (rows-now x.c (x.seen ++ v.heads) (rows_of x v) (all-rows (x.seen ++ v.heads) notes))
+
+  -- of a place that is no node
+  other-rows : NamesAll v.place → EachRow (MayFollow x.c) x.seen v.heads → EachRow (MayFollow x.c) x.seen (seen_in x v)
+  other-rows names heads = move-rows heads (Each-weaker (NotedAt v.place x.c) (RowAt x.c (x.seen ++ v.heads)) (other-at v.place x.c (x.seen ++ v.heads) names) v.said.notes its.notes)
+
+-- each node keeps what was there
+abbrev HoldsThere : Conn → Type 0
+HoldsThere x = (n : ℕ) → PartThere n x.c x.seen (x.part.nodes n)
+
+abbrev Owes : Conn → Move → Type 0
+Owes x v = IsItsOwn x v → HoldsThere x → HoldsThere (grown x v) × EachRow (MayFollow x.c) x.seen (seen_in x v)
+
+more-there : (x : Conn) (v : Move) → HoldsThere x → (n : ℕ) → PartThere n x.c (x.seen ++ seen_in x v) (x.part.nodes n)
+more-there x v h n = part-more n x.c x.seen (seen_in x v) (x.part.nodes n) (h n)
+
+-- a note is among the rows
+has-row : (r : Rec) (rs : List Rec) → Has r rs → Has (Row r) (map Row rs)
+has-row r [] h = absurd h
+has-row r (y ∷ ys) h = ⊎_elim (λ (e : y ≡ r). inl (ap (λ (z : Rec). Row z) e)) (λ (k : Has r ys). inr (has-row r ys k)) h
+
+noted-row : (x : Conn) (v : Move) (r : Rec) → Has r v.said.notes → Has (Row r) (map Row (rows_of x v))
+noted-row x v r h =
+    let S : List Rec = map (sending v.place) v.said.segments in
+    let M : List Rec = map (sending v.place) v.said.messages in
+    has-row r (rows_of x v)
+    (has-before r (v.said.notes ++ S ++ v.said.gave ++ M) (timer_rows v.place x.c x.part v.part)
+    (has-before r (v.said.notes ++ S ++ v.said.gave) M (has-before r (v.said.notes ++ S) v.said.gave (has-before r v.said.notes S h))))
+
+-- ---- a node
+
+-- what is noted of a connection is among the records that name one
+has-named : (r : Rec) (c : ℕ) → whose r ≡ Some c → (rs : List Rec) → Has r rs → Has r (named rs)
+has-named r c of [] h = absurd h
+has-named r c of (y ∷ ys) h = ⊎_elim
+    (λ (e : y ≡ r).
+    let some : is_some (whose y) ≡ true = ap (λ (z : Rec). is_some (whose z)) e ∙ ap (λ (o : Option ℕ). is_some o) of in
+    subst (λ (b : Bool). Has r (cond b (y ∷ named ys) (named ys))) (sym some) (inl e))
+    (λ (k : Has r ys). go (is_some (whose y)) (has-named r c of ys k))
+    h where
+      go : (b : Bool) → Has r (named ys) → Has r (cond b (y ∷ named ys) (named ys))
+      go true k = inr k
+      go false k = k
+
+each-named : (P : Rec → Type 0) (rs : List Rec) → Each P rs → Each P (named rs)
+each-named P [] h = tt
+each-named P (y ∷ ys) h = go (is_some (whose y)) (each-named P ys h.1) where
+  go : (b : Bool) → Each P (named ys) → Each P (cond b (y ∷ named ys) (named ys))
+  go true k = (h.0, k)
+  go false k = k
+
+module _ (x : Conn) (n : ℕ) (heads : List Seen) where
+  -- what it does, where so much was seen before
+  node-holds : (d : node.Deed) (past rows step : List Seen) → DeedThere n x.c past d → HoldsThere x → (sees : (r : Rec) → Has r (node_does x n heads d).said.notes → Has (Row r) rows) → x.seen ++ step ≡ past ++ rows
+      → (k : ℕ) → PartThere k x.c (x.seen ++ step) ((node_does x n heads d).part.nodes k)
+  node-holds node.Drops past rows step q h sees same k = part-more k x.c x.seen step (x.part.nodes k) (h k)
+  node-holds (node.Says ms) past rows step q h sees same k = part-more k x.c x.seen step (x.part.nodes k) (h k)
+  node-holds (node.Does given) past rows step q h sees same k =
+      let now : List Seen = x.seen ++ step in
+      let took : (e : ℕ) → Has (rec.Took (Node n) x.c (record { 0 = e })) given.1.notes → TookIn n x.c (past ++ rows) e = λ e there.
+      let r : Rec = rec.Took (Node n) x.c (record { 0 = e }) in has-behind (Row r) past rows (sees r (has-named r x.c refl given.1.notes there)) in
+      let mine : PartThere n x.c now given.0 = subst (λ (s : List Seen). PartThere n x.c s given.0) (sym same) (record { row = q.row rows took; stay = stay-more n x.c past rows given.0.stay q.stay }) in
+      put-each x.part.nodes n given.0 (λ m p. PartThere m x.c now p) mine (λ m other. part-more m x.c x.seen step (x.part.nodes m) (h m)) k
+
+  node-notes : (d : node.Deed) (past : List Seen) → DeedThere n x.c past d → Each (NotedAt (Node n) x.c) (node_does x n heads d).said.notes → Each (RowAt x.c past) (node_does x n heads d).said.notes
+  node-notes node.Drops past q own = tt
+  node-notes (node.Says ms) past q own = tt
+  node-notes (node.Does given) past q own = notes-at n x.c past (named given.1.notes) own (each-named (IsNoted (WasThere past n x.c)) given.1.notes q.notes)
+
+  node-place : (d : node.Deed) → (node_does x n heads d).place ≡ Node n
+  node-place node.Drops = refl
+  node-place (node.Says ms) = refl
+  node-place (node.Does given) = refl
+
+  node-heads : (d : node.Deed) → (node_does x n heads d).heads ≡ heads
+  node-heads node.Drops = refl
+  node-heads (node.Says ms) = refl
+  node-heads (node.Does given) = refl
+
+  -- a rule of it
+  node-owes : (d : node.Deed) → DeedThere n x.c (x.seen ++ heads) d → EachRow (MayFollow x.c) x.seen heads → Owes x (node_does x n heads d)
+  node-owes d q seen its h =
+      let v : Move = node_does x n heads d in
+      let past : List Seen = x.seen ++ heads in
+      let same : x.seen ++ seen_in x v ≡ past ++ map Row (rows_of x v) = ap (λ (hs : List Seen). x.seen ++ (hs ++ map Row (rows_of x v))) (node-heads d) ∙ sym (append_assoc x.seen heads (map Row (rows_of x v))) in
+      let own : Each (NotedAt (Node n) x.c) v.said.notes = subst (λ (place : Place). Each (NotedAt place x.c) v.said.notes) (node-place d) its.notes in (
+        node-holds d past (map Row (rows_of x v)) (seen_in x v) q h (noted-row x v) same,
+        move-rows x v its (subst (EachRow (MayFollow x.c) x.seen) (sym (node-heads d)) seen)
+            (subst (λ (hs : List Seen). Each (RowAt x.c (x.seen ++ hs)) v.said.notes) (sym (node-heads d)) (node-notes d past q own)),
+      )
+
+  -- with the record of its job in front
+  read-owes : (r : Rec) → ((past : List Seen) → MayFollow x.c past r) → (d : node.Deed) → DeedThere n x.c (x.seen ++ Row r ∷ []) d → heads ≡ [] → Owes x (reads_first r (node_does x n heads d))
+  read-owes r plain_row d q none its h =
+      let v : Move = node_does x n heads d in
+      let past : List Seen = x.seen ++ Row r ∷ [] in
+      let plain_its : IsItsOwn x v = record { notes = its.notes.1; segments = its.segments; gave = its.gave; messages = its.messages } in
+      let own : Each (NotedAt (Node n) x.c) v.said.notes = subst (λ (place : Place). Each (NotedAt place x.c) v.said.notes) (node-place d) its.notes.1 in
+      let empty : v.heads ≡ [] = node-heads d ∙ none in
+      let seen : seen_in x (reads_first r v) ≡ Row r ∷ map Row (rows_of x v) = ap (λ (hs : List Seen). hs ++ (Row r ∷ map Row (rows_of x v))) empty in
+      let same : x.seen ++ seen_in x (reads_first r v) ≡ past ++ map Row (rows_of x v) = ap (λ (l : List Seen). x.seen ++ l) seen ∙ sym (append_assoc x.seen (Row r ∷ []) (map Row (rows_of x v))) in (
+        node-holds d past (map Row (rows_of x v)) (seen_in x (reads_first r v)) q h (noted-row x v) same,
+        subst (EachRow (MayFollow x.c) x.seen) (sym seen) (plain_row x.seen, rows-now x.c past (rows_of x v) (all-rows x v plain_its past (node-notes d past q own))),
+      )
+
+-- ---- what is seen last is seen behind all else
+
+in-front : (a it : Seen) (xs : List Seen) → (it ≡ a → ⊥) → Has a (xs ++ it ∷ []) → Has a xs
+in-front a it [] other h = ⊎_elim (λ (e : it ≡ a). other e) (λ (k : ⊥). k) h
+in-front a it (x ∷ xs) other h = ⊎_elim (λ (e : x ≡ a). inl e) (λ (k : Has a (xs ++ it ∷ [])). inr (in-front a it xs other k)) h
+
+last-behind : (n c epoch : ℕ) (seen : List Seen) (it : Seen) → (it ≡ Row (rec.Took (Node n) c (record { 0 = epoch })) → ⊥) → TookIn n c (seen ++ it ∷ []) epoch → SawBehind (seen ++ it ∷ []) n c epoch it
+last-behind n c epoch seen it other took = record { before = seen; later = it ∷ []; split = refl; took = in-front (Row (rec.Took (Node n) c (record { 0 = epoch }))) it seen other took; saw = inl refl }
+
+read-took : (n c r : ℕ) (path : List ℕ) (epoch : ℕ) → Row (rec.Read n n c r path) ≡ Row (rec.Took (Node n) c (record { 0 = epoch })) → ⊥
+read-took n c r path epoch e = cc
+
+came-took : (l : Letter) (r : Rec) → Came l ≡ Row r → ⊥
+came-took l r e = cc
+
+-- ---- the rules
+
+module _ (k : Setting) where
+  -- what the front end and clients do
+  others : (x : Conn) (v : Move) → v.part.nodes ≡ x.part.nodes → NamesAll v.place → EachRow (MayFollow x.c) x.seen v.heads → Owes x v
+  others x v same names heads its h = (subst (λ (nodes : ℕ → NodePart). (n : ℕ) → PartThere n x.c (x.seen ++ seen_in x v) (nodes n)) (sym same) (more-there x v h), other-rows x v its names heads)
+
+  front-owes : (x : Conn) (heads : List Seen) (d : front.Deed) → EachRow (MayFollow x.c) x.seen heads → Owes x (front_does x heads d)
+  front-owes x heads front.Drops seen = others x (front_does x heads front.Drops) refl tt seen
+  front-owes x heads (front.Says turn) seen = others x (front_does x heads (front.Says turn)) refl tt seen
+  front-owes x heads (front.Does did) seen = others x (front_does x heads (front.Does did)) refl tt seen
+
+  clients : ClientRules k Owes
+  clients = record {
+    opens = λ x isn iss wnd mss rule none. others x _ refl tt (tt, (tt, tt));
+    gets = λ x s path there fits. others x _ refl tt (tt, tt);
+    writes = λ x s bytes there fits. others x _ refl tt (tt, tt);
+    shuts = λ x s there. others x _ refl tt (tt, tt);
+    aborts = λ x s there. others x _ refl tt (tt, tt);
+    holds = λ x s there. others x _ refl tt (tt, tt);
+    takes = λ x s there. others x _ refl tt (tt, tt);
+    fires = λ x s there. others x _ refl tt (tt, tt);
+    hears = λ x s from bytes there was. others x _ refl tt tt;
+  }
+
+  fronts : FrontRules k Owes
+  fronts = record {
+    hears = λ x s env bytes there is iss was. front-owes x (packet_seen (Client x.c) Front bytes) (front_gets env x.part.front bytes (decoded bytes x.c ToCluster)) tt;
+    fires = λ x s env there is. front-owes x (event_seen (event.Timer Front x.c)) (front_timer env x.part.front) (tt, tt);
+    taken = λ x env n epoch bytes is spells was. front-owes x (packet_seen (Node n) Front bytes) (front_taken x.part.front epoch) tt;
+    asked = λ x env n epoch number queue size paths bytes is spells was. front-owes x (packet_seen (Node n) Front bytes) (front_asked env x.part.front n epoch (ask_of x.c n number queue size paths)) tt;
+    ended = λ x env n epoch reason snd rcv count bytes is spells was. front-owes x (packet_seen (Node n) Front bytes) (front_ended env x.part.front n epoch (record { reason = reason; snd = record { 0 = snd }; rcv = record { 0 = rcv } })) tt;
+    admitted = λ x env choice given is e. others x _ refl tt tt;
+  }
+
+  -- a rule of a node, whose number and connection are those of the rule
+  by-node : (x : Conn) (n epoch : ℕ) (env : NodeEnv) → IsNodeEnv k x.c n epoch env → (past : List Seen) (d : node.Deed) → (PartThere env.n env.serve.c past (x.part.nodes n) → DeedThere env.n env.serve.c past d) → PartThere n x.c past (x.part.nodes n) → DeedThere n x.c past d
+  by-node x n epoch env is past d rule h =
+      subst (λ (i : ℕ). DeedThere i x.c past d) is.node (subst (λ (j : ℕ). DeedThere env.n j past d) is.number
+      (rule (subst (λ (i : ℕ). PartThere i env.serve.c past (x.part.nodes n)) (sym is.node) (subst (λ (j : ℕ). PartThere n j past (x.part.nodes n)) (sym is.number) h))))
+
+  owes : (x : Conn) (n epoch : ℕ) (env : NodeEnv) → IsNodeEnv k x.c n epoch env → (heads : List Seen) (d : node.Deed) → (PartThere env.n env.serve.c (x.seen ++ heads) (x.part.nodes n) → DeedThere env.n env.serve.c (x.seen ++ heads) d) → EachRow (MayFollow x.c) x.seen heads → Owes x (node_does x n heads d)
+  owes x n epoch env is heads d rule seen its h = node-owes x n heads d (by-node x n epoch env is (x.seen ++ heads) d rule (part-more n x.c x.seen heads (x.part.nodes n) (h n))) seen its h
+
+  -- a content that came is read so by the rule
+  came-reads : (x : Conn) (n from epoch r : ℕ) (env : NodeEnv) (file bytes : List ℕ) → IsNodeEnv k x.c n epoch env → decoded_message bytes ≡ Ok (record { c = x.c; epoch = record { 0 = epoch }; body = body.Content r file })
+      → decoded_message bytes ≡ Ok (record { c = env.serve.c; epoch = record { 0 = env.epoch }; body = body.Content r file })
+  came-reads x n from epoch r env file bytes is spells = spells ∙ (λ i. Ok (record { c = sym is.number i; epoch = record { 0 = sym is.epoch_is i }; body = body.Content r file }))
+
+  was-read : (x : Conn) (n epoch r : ℕ) (path : List ℕ) (env : NodeEnv) → IsNodeEnv k x.c n epoch env → TookIn env.n env.serve.c (x.seen ++ Row (rec.Read n n x.c r path) ∷ []) env.epoch
+      → SawBehind (x.seen ++ Row (rec.Read n n x.c r path) ∷ []) env.n env.serve.c env.epoch (Row (rec.Read env.n env.n env.serve.c r path))
+  was-read x n epoch r path env is =
+      let job : Seen = Row (rec.Read n n x.c r path) in
+      let past : List Seen = x.seen ++ job ∷ [] in
+      subst (λ (i : ℕ). TookIn i env.serve.c past env.epoch → SawBehind past i env.serve.c env.epoch (Row (rec.Read i i env.serve.c r path))) (sym is.node)
+      (subst (λ (j : ℕ). TookIn n j past env.epoch → SawBehind past n j env.epoch (Row (rec.Read n n j r path))) (sym is.number) (last-behind n x.c env.epoch x.seen job (λ e. read-took n x.c r path env.epoch e)))
+
+  has-come : (x : Conn) (n from epoch : ℕ) (bytes : List ℕ) (env : NodeEnv) → IsNodeEnv k x.c n epoch env → TookIn env.n env.serve.c (x.seen ++ packet_seen (Node from) (Node n) bytes) env.epoch
+      → SawBehind (x.seen ++ packet_seen (Node from) (Node n) bytes) env.n env.serve.c env.epoch (Came (record { from = Node from; to = Node env.n; bytes = bytes }))
+  has-come x n from epoch bytes env is =
+      let it : Seen = Came (record { from = Node from; to = Node n; bytes = bytes }) in
+      subst (λ (i : ℕ). TookIn i env.serve.c (x.seen ++ it ∷ []) env.epoch → SawBehind (x.seen ++ it ∷ []) i env.serve.c env.epoch (Came (record { from = Node from; to = Node i; bytes = bytes }))) (sym is.node)
+      (last-behind n env.serve.c env.epoch x.seen it (λ e. came-took (record { from = Node from; to = Node n; bytes = bytes }) (rec.Took (Node n) env.serve.c (record { 0 = env.epoch })) e))
+
+  -- what a node does for another one, or not at all
+  aside : (x : Conn) (n : ℕ) (heads : List Seen) (said : view.Said) → EachRow (MayFollow x.c) x.seen heads → ((past : List Seen) → Each (RowAt x.c past) said.notes) → Owes x (stands x (Node n) heads said)
+  aside x n heads said seen notes its h = (more-there x (stands x (Node n) heads said) h, move-rows x (stands x (Node n) heads said) its seen (notes (x.seen ++ heads)))
+
+  nodes : NodeRules k Owes
+  nodes = record {
+    offered = λ x n epoch env parts bytes is spells was. owes x n epoch env is (packet_seen Front (Node n) bytes) (node_offered env (x.part.nodes n) parts) (λ g. offered-there env (x.seen ++ packet_seen Front (Node n) bytes) (x.part.nodes n) g parts) tt;
+    forwarded = λ x n epoch env segment bytes is spells was. owes x n epoch env is (packet_seen Front (Node n) bytes) (node_forwarded env (x.part.nodes n) (decoded segment x.c ToCluster)) (λ g. forwarded-there env (x.seen ++ packet_seen Front (Node n) bytes) (x.part.nodes n) g (decoded segment x.c ToCluster)) tt;
+    tagged = λ x n epoch number tags env bytes is spells was. owes x n epoch env is (packet_seen Front (Node n) bytes) (node_tagged env (x.part.nodes n) number tags) (λ g. tagged-there env (x.seen ++ packet_seen Front (Node n) bytes) (x.part.nodes n) g number tags) tt;
+    content = λ x n from epoch r env file bytes is spells was. owes x n epoch env is (packet_seen (Node from) (Node n) bytes) (node_content env (x.part.nodes n) from r)
+        (λ g. content-there env (x.seen ++ packet_seen (Node from) (Node n) bytes) (x.part.nodes n) g from r file bytes
+        (has-come x n from epoch bytes env is)
+        (came-reads x n from epoch r env file bytes is spells)) tt;
+    acknowledged = λ x n epoch env bytes is spells was. owes x n epoch env is (packet_seen Front (Node n) bytes) (node_acknowledged env (x.part.nodes n)) (λ g. acknowledged-there env (x.seen ++ packet_seen Front (Node n) bytes) (x.part.nodes n) g) tt;
+    read = λ x n epoch r env path is its h.
+        let job : Rec = rec.Read n n x.c r path in
+        let past : List Seen = x.seen ++ Row job ∷ [] in
+        read-owes x n [] job (λ p. tt) (node_read env (x.part.nodes n) r)
+        (by-node x n epoch env is past (node_read env (x.part.nodes n) r)
+        (λ g. read-there env past (x.part.nodes n) g r (λ took. record { epoch = env.epoch; path = path; read = was-read x n epoch r path env is took }))
+        (part-more n x.c x.seen (Row job ∷ []) (x.part.nodes n) (h n)))
+        refl its h;
+    fires = λ x s n env there is. owes x n (epoch_in (x.part.nodes n)) env is (event_seen (event.Timer (Node n) x.c)) (node_timer env (x.part.nodes n)) (λ g. fires-there env (x.seen ++ event_seen (event.Timer (Node n) x.c)) (x.part.nodes n) g is.epoch_is) (tt, tt);
+    answers = λ x n from epoch r path file bytes there spells was. aside x n (packet_seen (Node from) (Node n) bytes) (contents k n from x.c epoch r path) tt (λ past. tt);
+    queues = λ x n from epoch r path file bytes there spells was. aside x n (packet_seen (Node from) (Node n) bytes) (record nothing_said { notes = rec.Queued n from x.c r path ∷ [] }) tt (λ past. (λ later. tt, tt));
+    brings = λ x n from epoch r path. aside x n [] (brought_said k n from x.c epoch r path) tt (λ past. (λ later. tt, tt));
+  }
+
+  ignored : (x : Conn) (from to : Place) (bytes : List ℕ) → Owes x (stands x to (packet_seen from to bytes) nothing_said)
+  ignored x from to bytes its h = (more-there x (stands x to (packet_seen from to bytes) nothing_said) h, move-rows x (stands x to (packet_seen from to bytes) nothing_said) its tt tt)
+
+  rules : Rules k Owes
+  rules = record {
+    untouched = record { client = clients; front = fronts; node = nodes; ignores = λ x from to bytes was. ignored x from to bytes };
+    injects = λ x s bytes there rule. others x _ refl tt (tt, (tt, tt));
+  }
+
+  -- ---- the law
+
+  abbrev pub Anything : Conn → Type 0
+  Anything x = Unit {0}
+
+  abbrev pub IsServedSo : Conn → Type 0
+  IsServedSo x = HoldsThere x × EachRow (MayFollow x.c) [] x.seen
+
+  abbrev Moves : Conn → Move → Type 0
+  Moves x v = MayMove Anything x → IsServedSo x → IsServedSo (grown x v)
+
+  moves : (x : Conn) (v : Move) → IsFine x v × Owes x v → Moves x v
+  moves x v h may so = let g = h.1 (h.0 may.number may.sound).0 so.0 in (g.0, each_row-append (MayFollow x.c) [] x.seen (seen_in x v) so.1 g.1)
+
+  pub served-law : IsLaw k Anything IsServedSo
+  served-law = record { begins = λ c. (λ n. record { row = tt; stay = tt }, tt); moves = weaker k (λ x v. IsFine x v × Owes x v) Moves moves (both k IsFine Owes (fine k) rules) }
+
+-- ---- from a connection's records to the journal's
+
+some-number : (a b : ℕ) → Some a ≡ Some b → a ≡ b
+some-number a b e = cc
+
+somebody : (J : List Rec) (r : Rec) (c : ℕ) → whose r ≡ Some c → MayFollow c (own c J) (plain r) → MayBeServed J r
+somebody J (rec.Served place d r code size way) c e h = let same : d ≡ c = some-number d c e in subst (λ (q : ℕ). WasAt (own q J) place d r way) (sym same) h
+somebody J _ c e h = tt
+
+nobody : (J : List Rec) (r : Rec) → whose r ≡ None → MayBeServed J r
+nobody J (rec.Served place d r code size way) e = let no : Some d ≡ None = e in absurd (let f : ⊥ = cc in f)
+nobody J _ e = tt
+
+module _ (config : Config) (files : List (List ℕ × List ℕ)) where
+  pub each-served : OfEach config files (IsServedSo (setting config files))
+  each-served = carried config files (Anything (setting config files)) (IsServedSo (setting config files)) (served-law (setting config files)) (λ m r q. tt)
+
+  each : (m : Machine) → IsReached config files m → (q : ℕ) → EachRow (MayFollow q) [] (conn m q).seen
+  unfolding conn
+  each m r q = (each-served m r q).1
+
+pub contents-were-there : ContentsWereThere
+contents-were-there config files m r = carried-records config files MayBeServed MayFollow nobody somebody (each config files) m r

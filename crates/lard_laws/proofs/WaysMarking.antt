@@ -1,0 +1,227 @@
+-- What the records of a move tell of its connection's requests.
+use Rattle.std.proofs.Common.{◌≡◌, ◌+◌, ℕ, List, [], ◌∷◌, ◌++◌, map, true, cond, refl, sym, ap, ◌∙◌, subst, nat_eq}
+use Rattle.std.specs.List.{fold}
+use Rattle.std.proofs.lemmas.List.Sums.{fold-append}
+use Rattle.lard_answers.specs.Answers.{FilesAt}
+use Rattle.lard_base.specs.declared.place.Place.{Place}
+use Rattle.lard_base.specs.declared.place.Place.TheVariants.{Client, Front, Node}
+use Rattle.lard_law_connections.specs.BytesLaw.{IsHead}
+use Rattle.lard_law_view.specs.Carry.{TellsBy, tale_at}
+use Rattle.lard_law_view.specs.View.{Conn, Move, grown, seen_in, sending, timer_rows}
+use Rattle.lard_law_view.proofs.Fine.{IsItsOwn}
+use Rattle.lard_law_view.proofs.Rows.{grown-tale, move-lawful, tale_before, tale_said}
+use Rattle.lard_law_view.proofs.Saying.{GaveAt, NotedAt}
+use Rattle.lard_law_view.proofs.Timers.{IsTimerAt, timer_rows-are}
+use Rattle.lard_laws.specs.WaysState.{marks_at, marks_of}
+use Rattle.lard_laws.specs.Ways.{AnswersNext, IsNextGood, Marks}
+use Rattle.lard_history.specs.Journal.{Tale, tale_step, told_on}
+use Rattle.lard_history.specs.Own.{Came, EachRow, Row, Seen, seen_step, tale_of}
+use Rattle.lard_history.proofs.Each.{Each, Each-weaker}
+use Rattle.lard_history.proofs.Seeing.{same_number}
+use Rattle.lard_journal.specs.declared.rec.Rec.{Rec}
+use Rattle.lard_journal.specs.declared.rec.Rec.TheVariants as rec
+
+-- ---- a record of the connection
+
+abbrev pub mark : Marks → Rec → Marks
+mark m (rec.Wrote d bytes) = record m { wrote = m.wrote ++ bytes }
+mark m (rec.Served place d r code size way) = record m { served = m.served + 1 }
+mark m (rec.AssignedFirst d r path n add remove) = record m { assigned = m.assigned ++ (path, n) ∷ [] }
+mark m (rec.AssignedLater d r path n add size queue) = record m { assigned = m.assigned ++ (path, n) ∷ [] }
+mark m _ = m
+
+abbrev pub marked : Marks → List Rec → Marks
+marked m rs = fold mark m rs
+
+abbrev pub MayMark : FilesAt → Marks → Rec → Type 0
+MayMark files m (rec.Served place d r code size way) = AnswersNext files m place way
+MayMark files m (rec.AssignedFirst d r path n add remove) = IsNextGood files m path
+MayMark files m (rec.AssignedLater d r path n add size queue) = IsNextGood files m path
+MayMark files m _ = Unit {0}
+
+-- records, one after another
+abbrev pub Rightly : FilesAt → Marks → List Rec → Type 0
+Rightly files m [] = Unit {0}
+Rightly files m (r ∷ rs) = MayMark files m r × Rightly files (mark m r) rs
+
+pub rightly-append : (files : FilesAt) (m : Marks) (xs ys : List Rec) → Rightly files m xs → Rightly files (marked m xs) ys → Rightly files m (xs ++ ys)
+rightly-append files m [] ys h k = k
+rightly-append files m (x ∷ xs) ys h k = (h.0, rightly-append files (mark m x) xs ys h.1 k)
+
+pub marked-append : (m : Marks) (xs ys : List Rec) → marked m (xs ++ ys) ≡ marked (marked m xs) ys
+marked-append m xs ys = fold-append mark m xs ys
+
+-- it tells nothing of requests
+abbrev pub IsPlain : Rec → Type 0
+IsPlain (rec.Wrote d bytes) = ⊥
+IsPlain (rec.Served place d r code size way) = ⊥
+IsPlain (rec.AssignedFirst d r path n add remove) = ⊥
+IsPlain (rec.AssignedLater d r path n add size queue) = ⊥
+IsPlain _ = Unit {0}
+
+plain-mark : (m : Marks) (r : Rec) → IsPlain r → mark m r ≡ m
+plain-mark m (rec.Wrote d bytes) h = absurd h
+plain-mark m (rec.Served place d r code size way) h = absurd h
+plain-mark m (rec.AssignedFirst d r path n add remove) h = absurd h
+plain-mark m (rec.AssignedLater d r path n add size queue) h = absurd h
+plain-mark m _ h = refl
+
+plain-may : (files : FilesAt) (m : Marks) (r : Rec) → IsPlain r → MayMark files m r
+plain-may files m (rec.Served place d r code size way) h = absurd h
+plain-may files m (rec.AssignedFirst d r path n add remove) h = absurd h
+plain-may files m (rec.AssignedLater d r path n add size queue) h = absurd h
+plain-may files m _ h = tt
+
+pub plain-marked : (m : Marks) (rs : List Rec) → Each IsPlain rs → marked m rs ≡ m
+plain-marked m [] h = refl
+plain-marked m (r ∷ rs) h = ap (λ (n : Marks). marked n rs) (plain-mark m r h.0) ∙ plain-marked m rs h.1
+
+pub plain-rightly : (files : FilesAt) (m : Marks) (rs : List Rec) → Each IsPlain rs → Rightly files m rs
+plain-rightly files m [] h = tt
+plain-rightly files m (r ∷ rs) h = (plain-may files m r h.0, plain-rightly files (mark m r) rs h.1)
+
+-- ---- in the tale
+
+abbrev pub IsOwnMark : ℕ → Rec → Type 0
+IsOwnMark c (rec.Wrote d bytes) = d ≡ c
+IsOwnMark c (rec.Served place d r code size way) = d ≡ c
+IsOwnMark c (rec.AssignedFirst d r path n add remove) = d ≡ c
+IsOwnMark c (rec.AssignedLater d r path n add size queue) = d ≡ c
+IsOwnMark c _ = Unit {0}
+
+noted-own : (place : Place) (c : ℕ) (r : Rec) → NotedAt place c r → IsOwnMark c r
+noted-own (Client e) c (rec.Wrote d bytes) h = h
+noted-own Front c (rec.Wrote d bytes) h = absurd h
+noted-own (Node n) c (rec.Wrote d bytes) h = absurd h
+noted-own Front c (rec.Served Front d r code size way) h = h
+noted-own Front c (rec.Served (Node k) d r code size way) h = absurd h
+noted-own Front c (rec.Served (Client k) d r code size way) h = absurd h
+noted-own (Node n) c (rec.Served (Node k) d r code size way) h = h.1
+noted-own (Node n) c (rec.Served Front d r code size way) h = absurd h
+noted-own (Node n) c (rec.Served (Client k) d r code size way) h = absurd h
+noted-own (Client e) c (rec.Served place d r code size way) h = absurd h
+noted-own Front c (rec.AssignedFirst d r path n add remove) h = h
+noted-own (Node k) c (rec.AssignedFirst d r path n add remove) h = absurd h
+noted-own (Client k) c (rec.AssignedFirst d r path n add remove) h = absurd h
+noted-own Front c (rec.AssignedLater d r path n add size queue) h = h
+noted-own (Node k) c (rec.AssignedLater d r path n add size queue) h = absurd h
+noted-own (Client k) c (rec.AssignedLater d r path n add size queue) h = absurd h
+noted-own place c _ h = tt
+
+mine : (d c : ℕ) → d ≡ c → nat_eq d c ≡ true
+mine d c e = subst (λ (n : ℕ). nat_eq n c ≡ true) (sym e) (same_number c)
+
+one-step : (c : ℕ) (t : Tale) (r : Rec) → IsOwnMark c r → marks_of (tale_step c t r) ≡ mark (marks_of t) r
+one-step c t (rec.Wrote d bytes) h = ap (λ b. record (marks_of t) { wrote = cond b (t.wrote ++ bytes) t.wrote }) (mine d c h)
+one-step c t (rec.Served place d r code size way) h = ap (λ b. record (marks_of t) { served = cond b (t.served + 1) t.served }) (mine d c h)
+one-step c t (rec.AssignedFirst d r path n add remove) h = ap (λ b. record (marks_of t) { assigned = cond b (t.assigned ++ (path, n) ∷ []) t.assigned }) (mine d c h)
+one-step c t (rec.AssignedLater d r path n add size queue) h = ap (λ b. record (marks_of t) { assigned = cond b (t.assigned ++ (path, n) ∷ []) t.assigned }) (mine d c h)
+one-step c t _ h = refl
+
+module _ (files : FilesAt) (c : ℕ) where
+  abbrev pub MayTell : Tale → Rec → Type 0
+  MayTell t r = MayMark files (marks_of t) r
+
+  told-marks : (t : Tale) (rs : List Rec) → Each (IsOwnMark c) rs → marks_of (told_on c t rs) ≡ marked (marks_of t) rs
+  told-marks t [] own = refl
+  told-marks t (r ∷ rs) own = told-marks (tale_step c t r) rs own.1 ∙ ap (λ (m : Marks). marked m rs) (one-step c t r own.0)
+
+  told-rightly : (t : Tale) (rs : List Rec) → Each (IsOwnMark c) rs → Rightly files (marks_of t) rs → TellsBy MayTell c t rs
+  told-rightly t [] own h = tt
+  told-rightly t (r ∷ rs) own h = (h.0, told-rightly (tale_step c t r) rs own.1 (subst (λ (m : Marks). Rightly files m rs) (sym (one-step c t r own.0)) h.1))
+
+  -- what is plain is of nobody
+  plain-own : (r : Rec) → IsPlain r → IsOwnMark c r
+  plain-own (rec.Wrote d bytes) h = absurd h
+  plain-own (rec.Served place d r code size way) h = absurd h
+  plain-own (rec.AssignedFirst d r path n add remove) h = absurd h
+  plain-own (rec.AssignedLater d r path n add size queue) h = absurd h
+  plain-own _ h = tt
+
+  plain-tells : (t : Tale) (rs : List Rec) → Each IsPlain rs → TellsBy MayTell c t rs
+  plain-tells t rs h = told-rightly t rs (Each-weaker IsPlain (IsOwnMark c) plain-own rs h) (plain-rightly files (marks_of t) rs h)
+
+  plain-told : (t : Tale) (rs : List Rec) → Each IsPlain rs → marks_of (told_on c t rs) ≡ marks_of t
+  plain-told t rs h = told-marks t rs (Each-weaker IsPlain (IsOwnMark c) plain-own rs h) ∙ plain-marked (marks_of t) rs h
+
+  -- what the connection sees of a record
+  abbrev pub Mine : List Seen → Rec → Type 0
+  Mine past r = MayTell (tale_of c past) r
+
+-- ---- what a move tells beside its notes
+
+sends-plain : (place : Place) (ss : List (Place × List ℕ)) → Each IsPlain (map (sending place) ss)
+sends-plain place [] = tt
+sends-plain place (s ∷ ss) = (tt, sends-plain place ss)
+
+gave-plain : (place : Place) (c : ℕ) (r : Rec) → GaveAt place c r → IsPlain r
+gave-plain Front c (rec.Gave Front d epoch) h = tt
+gave-plain (Node n) c (rec.Gave (Node k) d epoch) h = tt
+gave-plain _ c _ h = absurd h
+
+timer-plain : (place : Place) (d : ℕ) (r : Rec) → IsTimerAt place d r → IsPlain r
+timer-plain place d (rec.Armed p k kind) h = tt
+timer-plain place d (rec.Cleared p k kind) h = tt
+timer-plain place d _ h = absurd h
+
+heads-marks : (c : ℕ) (heads : List Seen) (t : Tale) → Each IsHead heads → marks_of (fold (seen_step (tale_step c)) t heads) ≡ marks_of t
+heads-marks c [] t h = refl
+heads-marks c (Came l ∷ ss) t h = heads-marks c ss t h.1
+heads-marks c (Row (rec.Event i e) ∷ ss) t h = heads-marks c ss (tale_step c t (rec.Event i e)) h.1
+heads-marks c (Row (rec.Opened d isn iss wnd mss) ∷ ss) t h = heads-marks c ss (tale_step c t (rec.Opened d isn iss wnd mss)) h.1
+heads-marks c (Row _ ∷ ss) t h = absurd h.0
+
+heads-mine : (files : FilesAt) (c : ℕ) (past heads : List Seen) → Each IsHead heads → EachRow (Mine files c) past heads
+heads-mine files c past [] h = tt
+heads-mine files c past (Came l ∷ ss) h = heads-mine files c (past ++ Came l ∷ []) ss h.1
+heads-mine files c past (Row (rec.Event i e) ∷ ss) h = (tt, heads-mine files c (past ++ Row (rec.Event i e) ∷ []) ss h.1)
+heads-mine files c past (Row (rec.Opened d isn iss wnd mss) ∷ ss) h = (tt, heads-mine files c (past ++ Row (rec.Opened d isn iss wnd mss) ∷ []) ss h.1)
+heads-mine files c past (Row _ ∷ ss) h = absurd h.0
+
+-- ---- a move
+
+module _ (files : FilesAt) (x : Conn) (v : Move) (own : IsItsOwn x v) (heads : Each IsHead v.heads) where
+  ours : Each (IsOwnMark x.c) v.said.notes
+  ours = Each-weaker (NotedAt v.place x.c) (IsOwnMark x.c) (noted-own v.place x.c) v.said.notes own.notes
+
+  before : Tale
+  before = tale_before x v
+
+  noted : Tale
+  noted = told_on x.c before v.said.notes
+
+  segments : List Rec
+  segments = map (sending v.place) v.said.segments
+
+  messages : List Rec
+  messages = map (sending v.place) v.said.messages
+
+  timers : List Rec
+  timers = timer_rows v.place x.c x.part v.part
+
+  gave : Each IsPlain v.said.gave
+  gave = Each-weaker (GaveAt v.place x.c) IsPlain (gave-plain v.place x.c) v.said.gave own.gave
+
+  before-same : marks_of before ≡ marks_at x
+  unfolding before
+  before-same = heads-marks x.c v.heads (tale_at x) heads
+
+  -- what is told behind a move
+  pub marks-after : marks_at (grown x v) ≡ marked (marks_at x) v.said.notes
+  unfolding before noted segments
+  marks-after =
+      ap marks_of (grown-tale x v own.messages)
+      ∙ plain-told files x.c (told_on x.c noted segments) v.said.gave gave
+      ∙ plain-told files x.c noted segments (sends-plain v.place v.said.segments)
+      ∙ told-marks files x.c before v.said.notes ours
+      ∙ ap (λ (m : Marks). marked m v.said.notes) before-same
+
+  -- and what it tells may stand
+  pub rows-mine : Rightly files (marks_at x) v.said.notes → EachRow (Mine files x.c) x.seen (seen_in x v)
+  unfolding before noted segments messages timers
+  rows-mine h = move-lawful (MayTell files x.c) x v (heads-mine files x.c x.seen v.heads heads)
+      (told-rightly files x.c before v.said.notes ours (subst (λ (m : Marks). Rightly files m v.said.notes) (sym before-same) h))
+      (plain-tells files x.c noted segments (sends-plain v.place v.said.segments))
+      (plain-tells files x.c (told_on x.c noted segments) v.said.gave gave)
+      (plain-tells files x.c (tale_said x v before) messages (sends-plain v.place v.said.messages))
+      (plain-tells files x.c (told_on x.c (tale_said x v before) messages) timers (Each-weaker (IsTimerAt v.place x.c) IsPlain (timer-plain v.place x.c) timers (timer_rows-are v.place x.c x.part v.part)))

@@ -1,0 +1,75 @@
+-- A move leaves a connection on its way, where its notes may stand, its seat agrees, and what is said agrees.
+use Rattle.std.proofs.Common.{◌≡◌, ℕ, List, [], ◌∷◌, ◌++◌, map, refl, sym, ◌∙◌, subst, append-nil}
+use Rattle.lard_answers.specs.Answers.{FilesAt, IsPrefix}
+use Rattle.lard_base.specs.declared.place.Place.{Place}
+use Rattle.lard_base.specs.declared.place.Place.TheVariants.{Client, Front, Node}
+use Rattle.lard_law_connections.specs.BytesLaw.{Helps}
+use Rattle.lard_law_connections.proofs.BytesClientMoves.{has-fair}
+use Rattle.lard_law_connections.proofs.PlacesGrowing.{grows-still}
+use Rattle.lard_law_view.specs.View.{AreSent, Conn, Move, Part, Said, grown, letter, letters_of, seen_in, stands}
+use Rattle.lard_laws.specs.WaysState.{GoesItsWay, LetterWays, SeatWays, marks_at}
+use Rattle.lard_laws.specs.Ways.{Marks, paths_assigned, paths_wanted}
+use Rattle.lard_laws.proofs.WaysLetters.{Carries, IsSame, carries-same, letters-on}
+use Rattle.lard_laws.proofs.WaysMarking.{IsPlain, Mine, Rightly, marked, marks-after, plain-marked, plain-rightly, rows-mine}
+use Rattle.lard_history.specs.Own.{EachRow, Seen}
+use Rattle.lard_history.proofs.Each.{Each, Each-append}
+use Rattle.lard_resend.specs.declared.kept.Kept.{Kept}
+use Rattle.lard_resend.specs.Pending.{sent_of}
+
+-- it is on its way still, and all that it sees of the move may stand
+abbrev pub IsMade : FilesAt → Conn → Move → Type 0
+IsMade files x v = GoesItsWay files (grown x v) × EachRow (Mine files x.c) x.seen (seen_in x v)
+
+-- what a move owes
+abbrev pub Keeps : FilesAt → Conn → Move → Type 0
+Keeps files x v = Helps x v → GoesItsWay files x → IsMade files x v
+
+-- ---- letters
+
+module _ (files : FilesAt) (m : Marks) (p : Part) where
+  -- a client is told nothing of ways, nor is a node by another
+  pub clients-say : (place : Place) (c : ℕ) (ss : List (Place × List ℕ)) → Each (λ s. s.0 ≡ Client c) ss → Each (LetterWays files m p) (map (letter place) ss)
+  clients-say place c [] h = tt
+  clients-say place c (s ∷ ss) h = (one place s.0 h.0, clients-say place c ss h.1) where
+    one : (from to : Place) → to ≡ Client c → LetterWays files m p (record { from = from; to = to; bytes = s.1 })
+    one (Node n) to e = subst (λ (q : Place). LetterWays files m p (record { from = Node n; to = q; bytes = s.1 })) (sym e) tt
+    one Front to e = subst (λ (q : Place). LetterWays files m p (record { from = Front; to = q; bytes = s.1 })) (sym e) tt
+    one (Client d) to e = tt
+
+  pub says-append : (place : Place) (xs ys : List (Place × List ℕ)) → Each (LetterWays files m p) (map (letter place) xs) → Each (LetterWays files m p) (map (letter place) ys) → Each (LetterWays files m p) (map (letter place) (xs ++ ys))
+  says-append place [] ys h k = k
+  says-append place (x ∷ xs) ys h k = (h.0, says-append place xs ys h.1 k)
+
+  -- what is held was sent before
+  pub sent-say : (x : Conn) (place : Place) (ks : List Kept) → AreSent x place ks → Each (LetterWays files m p) x.letters → Each (LetterWays files m p) (map (letter place) (map sent_of ks))
+  sent-say x place [] h all = tt
+  sent-say x place (k ∷ ks) h all = (has-fair (LetterWays files m p) (record { from = place; to = k.to; bytes = k.bytes }) x.letters h.0.1 all, sent-say x place ks h.1 all)
+
+-- ---- a move
+
+module _ (files : FilesAt) (x : Conn) (v : Move) (help : Helps x v) (g : GoesItsWay files x) where
+  pub makes : (n : Marks) → Rightly files (marks_at x) v.said.notes → marked (marks_at x) v.said.notes ≡ n → IsPrefix (paths_assigned n) (paths_wanted files n) → SeatWays files n v.part v.part.front.row
+      → Carries files (marks_at x) n x.part v.part → (Each (LetterWays files n v.part) x.letters → Each (LetterWays files n v.part) (letters_of v)) → IsMade files x v
+  makes n notes told paths seat carries new =
+      let after : marks_at (grown x v) ≡ n = marks-after files x v help.own help.heads ∙ told in
+      let old : Each (LetterWays files n v.part) x.letters = letters-on files (marks_at x) n x.part v.part carries x.letters help.placed.letters g.letters in (
+        record {
+          paths = subst (λ (m : Marks). IsPrefix (paths_assigned m) (paths_wanted files m)) (sym after) paths;
+          seat = subst (λ (m : Marks). SeatWays files m v.part v.part.front.row) (sym after) seat;
+          letters = subst (λ (m : Marks). Each (LetterWays files m v.part) (x.letters ++ letters_of v)) (sym after)
+              (Each-append (LetterWays files n v.part) x.letters (letters_of v) old (new old));
+        },
+        rows-mine files x v help.own help.heads notes,
+      )
+
+-- what was assigned is the same, and so is what the client wrote
+pub same-marks : (files : FilesAt) (m : Marks) (n : ℕ) → IsSame files m (record m { served = n })
+same-marks files m n = record { assigned = refl; wanted = ([], sym (append-nil (paths_wanted files m))) }
+
+-- nothing that is kept changes, and nothing is told
+pub stands-makes : (files : FilesAt) (x : Conn) (place : Place) (heads : List Seen) (said : Said) → Each IsPlain said.notes
+    → (Each (LetterWays files (marks_at x) x.part) x.letters → Each (LetterWays files (marks_at x) x.part) (letters_of (stands x place heads said))) → Keeps files x (stands x place heads said)
+stands-makes files x place heads said plain new help g =
+    let m : Marks = marks_at x in
+    makes files x (stands x place heads said) help g m (plain-rightly files m said.notes plain) (plain-marked m said.notes plain) g.paths g.seat
+    (carries-same files m m (same-marks files m m.served) x.part x.part (grows-still x.part) refl refl (λ i e ps at decided a. a)) new

@@ -1,0 +1,209 @@
+-- Each rule leaves a connection on its way, so it is in every run; and what its records say the journal says.
+use Rattle.std.proofs.Common.{◌≡◌, ◌≤◌, ◌^◌, ℕ, false, List, [], Option, Some, None, Result, Ok, refl, sym, ap, ◌∙◌, subst}
+use Rattle.lard_answers.specs.Answers.{FilesAt}
+use Rattle.lard_base.specs.declared.config.Config.{Config}
+use Rattle.lard_base.specs.declared.event.Event.TheVariants as event
+use Rattle.lard_base.specs.declared.place.Place.TheVariants.{Client, Front, Node}
+use Rattle.lard_rules.specs.declared.machine.Machine.{Machine}
+use Rattle.lard_rules.specs.Machine.{IsReached}
+use Rattle.lard_law_connections.specs.BytesAgreement.{IsFair, IsFairOn, IsTruthful}
+use Rattle.lard_law_connections.proofs.BytesClientMoves.{has-fair, open-at}
+use Rattle.lard_law_connections.proofs.BytesFrontMessages.{opened-at}
+use Rattle.lard_law_connections.proofs.BytesFrontMoves.{talk-of}
+use Rattle.lard_law_connections.proofs.BytesOwners.{Known, Knows, known}
+use Rattle.lard_law_connections.proofs.BytesRuns.{states-truthful}
+use Rattle.lard_law_connections.proofs.PlacesLaw.{owing}
+use Rattle.lard_law_connections.proofs.PlacesRuns.{each-placed}
+use Rattle.lard_law_connections.proofs.PlacesTurns.{IsPlaced}
+use Rattle.lard_law_connections.proofs.PlacesTurns as places
+use Rattle.lard_law_view.specs.Carry.{Guarded, IsGuardedLaw, MayMove, OfEach, Untouched, WhileUntouched, setting, tale_at}
+use Rattle.lard_law_view.specs.View.{Conn, FrontRules, IsFrontEnv, Move, Setting, UntouchedRules, Was, conn, event_seen, front_admits, front_does, grown, packet_seen, seen_in}
+use Rattle.lard_law_view.proofs.Carried.{carried}
+use Rattle.lard_law_view.proofs.Fine.{IsFine, IsItsOwn, fine}
+use Rattle.lard_law_view.proofs.Guarded.{guarded-law, untouched-both, untouched-weaker}
+use Rattle.lard_law_view.proofs.InSteps.{carried-records}
+use Rattle.lard_laws.specs.WaysRuns.{ContentsComeAsAssigned, JournalsAssignAPrefix, JournalsAssignInOrder}
+use Rattle.lard_laws.specs.WaysState.{GoesItsWay, LetterWays, marks_at, marks_of}
+use Rattle.lard_laws.specs.Ways.{AnswersNext, IsNextGood, Marks, MayBeAssigned, MayCome, marks, paths_wanted}
+use Rattle.lard_laws.proofs.WaysClients.{clients}
+use Rattle.lard_laws.proofs.WaysFrontAnswers.{asked-makes, ended-makes, taken-row}
+use Rattle.lard_laws.proofs.WaysFrontStays.{fires-row, hears-row, waits-frozen}
+use Rattle.lard_laws.proofs.WaysMarking.{MayTell, Mine}
+use Rattle.lard_laws.proofs.WaysMoments.{assigns-a-prefix}
+use Rattle.lard_laws.proofs.WaysMoving.{Keeps}
+use Rattle.lard_laws.proofs.WaysNodeRules.{Owes, ignores, nodes}
+use Rattle.lard_files.specs.Files.{file_at}
+use Rattle.lard_rules.specs.Front.{FrontEnv, FrontPart, admitted_at, admitted_by, ask_of, front_gets, front_timer}
+use Rattle.lard_rules.specs.declared.front.FrontTurn.{FrontTurn}
+use Rattle.lard_handoff_front.specs.declared.row.FrontConn.{FrontConn}
+use Rattle.lard_handoff_front.specs.declared.row.FrontConn.TheVariants as stage
+use Rattle.lard_handoff_front.specs.declared.row.FrontRow.{FrontRow}
+use Rattle.lard_handoff_front.specs.Front.{end_answer}
+use Rattle.lard_history.specs.Journal.{Tale, is_touched}
+use Rattle.lard_history.specs.Own.{EachRow, Seen, own, plain, tale_of, whose}
+use Rattle.lard_history.proofs.Lifting.{tale-own}
+use Rattle.lard_history.proofs.Tales.{assigned-tale, served-tale, touched-tale, wrote-tale}
+use Rattle.lard_journal.specs.declared.rec.Rec.{Rec}
+use Rattle.lard_journal.specs.declared.rec.Rec.TheVariants as rec
+use Rattle.lard_policy.specs.declared.first.FirstChoice.{FirstChoice}
+use Rattle.lard_rules.specs.declared.places.Station.{Station}
+use Rattle.lard_segment.specs.declared.fault.SegFault.{SegFault}
+use Rattle.lard_segment.specs.declared.segment.Dir.TheVariants.{ToCluster}
+use Rattle.lard_segment.specs.Segment.{Said, decoded}
+use Rattle.lard_segment.proofs.Again.{again}
+
+-- ---- the rules of the front end
+
+module _ (k : Setting) (small : k.stream ≤ 2 ^ 30) where
+  by-files : (x : Conn) (env : FrontEnv) → IsFrontEnv k x.c env → (v : Move) → Keeps env.serve.files x v → Keeps k.files x v
+  by-files x env is v h = subst (λ (f : FilesAt). Keeps f x v) is.files h
+
+  front-hears : (x : Conn) (s : Station) (env : FrontEnv) (bytes : List ℕ) → x.part.station ≡ Some s → IsFrontEnv k x.c env → env.iss ≡ s.iss → Was x (Client x.c) Front bytes
+      → Owes k small x (front_does x (packet_seen (Client x.c) Front bytes) (front_gets env x.part.front bytes (decoded bytes x.c ToCluster)))
+  front-hears x s env bytes there is iss was h =
+      let o = open-at k.files x s there h in
+      let f : IsFairOn h.talk x.c x.part (Client x.c) Front bytes = has-fair (IsFair h.talk x.c x.part) (record { from = Client x.c; to = Front; bytes = bytes }) x.letters was o.fair in
+      let heads : List Seen = packet_seen (Client x.c) Front bytes in
+      let same : decoded bytes x.c ToCluster ≡ Ok f.0 = ap (λ (b : List ℕ). decoded b x.c ToCluster) f.1 ∙ again x.c ToCluster f.0 f.2.sendable in
+      subst (λ (r : Result Said SegFault). Keeps k.files x (front_does x heads (front_gets env x.part.front bytes r))) (sym same)
+      (by-files x env is _ (hears-row k small x s there env is h.talk h.pend o heads bytes f.0 f.2 (talk-of k small x env is s h.talk h.pend o iss) x.part.front.row refl))
+
+  front-fires : (x : Conn) (s : Station) (env : FrontEnv) → x.part.station ≡ Some s → IsFrontEnv k x.c env → Owes k small x (front_does x (event_seen (event.Timer Front x.c)) (front_timer env x.part.front))
+  front-fires x s env there is h =
+      let o = open-at k.files x s there h in
+      let same : FrontEnv = record env { iss = s.iss } in
+      let mine : IsFrontEnv k x.c same = record { place = is.place; number = is.number; files = is.files; stream = is.stream } in
+      by-files x env is _ (fires-row k small x s there same mine h.talk h.pend o (event_seen (event.Timer Front x.c)) (talk-of k small x same mine s h.talk h.pend o refl) x.part.front.row refl)
+
+  -- ---- the head of the line
+
+  module _ (x : Conn) (env : FrontEnv) (choice : FirstChoice) (given : FrontPart × FrontTurn) (is : IsFrontEnv k x.c env) (h : IsTruthful k.files x) where
+    abbrev Admits : Type 0
+    Admits = Keeps k.files x (front_admits x given)
+
+    by-stage : (row : FrontRow) → x.part.front.row ≡ Some row → (d : FrontConn) → row.stage ≡ d → admitted_at env x.part.front choice row d ≡ Some given → Admits
+    by-stage row found (stage.Waiting b) at e =
+        let opened = opened-at k.files x h (λ u. let no : Some row ≡ None = sym found ∙ u.front in absurd cc) in
+        let o = open-at k.files x opened.0 opened.1 h in
+        by-files x env is (front_admits x given) (waits-frozen k small x opened.0 opened.1 env is h.talk h.pend o row found b at choice given e)
+    by-stage row found _ at e = let no : None ≡ Some given = e in absurd cc
+
+    by-row : (o : Option FrontRow) → x.part.front.row ≡ o → admitted_by env x.part.front choice o ≡ Some given → Admits
+    by-row None found e = let no : None ≡ Some given = e in absurd cc
+    by-row (Some row) found e = by-stage row found row.stage refl e
+
+  fronts : FrontRules k (Owes k small)
+  fronts = record {
+    hears = front-hears;
+    fires = front-fires;
+    taken = λ x env n epoch bytes is spells was h. by-files x env is _ (taken-row env x (packet_seen (Node n) Front bytes) epoch x.part.front.row refl);
+    asked = λ x env n epoch number queue size paths bytes is spells was h. by-files x env is _
+        (asked-makes env x (packet_seen (Node n) Front bytes) n epoch (ask_of x.c n number queue size paths) (λ g. (has-fair (LetterWays env.serve.files (marks_at x) x.part) (record { from = Node n; to = Front; bytes = bytes }) x.letters was g.letters) _ spells));
+    ended = λ x env n epoch reason snd rcv count bytes is spells was h. by-files x env is _
+        (ended-makes env x (packet_seen (Node n) Front bytes) n epoch (record { reason = reason; snd = record { 0 = snd }; rcv = record { 0 = rcv } }) x.part.front.row (end_answer epoch x.part.front.row));
+    admitted = λ x env choice given is e h. by-row x env choice given is h x.part.front.row refl e;
+  }
+
+  -- ---- the law
+
+  keeps : UntouchedRules k (Owes k small)
+  keeps = record { client = clients k small; front = fronts; node = nodes k small; ignores = λ x from to bytes was. ignores k small x from to bytes }
+
+  abbrev Owed : Conn → Move → Type 0
+  Owed x v = MayMove IsPlaced x → IsPlaced x → places.Owes x v
+
+  abbrev Given : Conn → Type 0
+  Given x = IsPlaced x × Untouched (IsTruthful k.files) x
+
+  abbrev All : Conn → Move → Type 0
+  All x v = ((IsFine x v × Owed x v) × Knows x v) × Owes k small x v
+
+  abbrev Wanted : Conn → Move → Type 0
+  Wanted x v = MayMove Given x → (tale_at x).touched ≡ false → GoesItsWay k.files x → GoesItsWay k.files (grown x v) × EachRow (Mine k.files x.c) x.seen (seen_in x v)
+
+  all : UntouchedRules k All
+  all = untouched-both k (λ x v. (IsFine x v × Owed x v) × Knows x v) (Owes k small) (untouched-both k (λ x v. IsFine x v × Owed x v) Knows (untouched-both k IsFine Owed (fine k).untouched (owing k IsPlaced).untouched) (known k)) keeps
+
+  wanted : (x : Conn) (v : Move) → All x v → Wanted x v
+  wanted x v h may untouched way =
+      let placed : MayMove IsPlaced x = record { number = may.number; sound = may.sound; given = may.given.0 } in
+      let own : IsItsOwn x v = (h.0.0.0 may.number may.sound).0 in
+      let more : Known x v = h.0.1 placed own in
+      h.1 (may.given.1 untouched) (record { number = may.number; sound = may.sound; placed = may.given.0; owes = h.0.0.1 placed may.given.0; own = own; heads = more.heads; serves = more.serves }) way
+
+  ways-law : IsGuardedLaw k Given (GoesItsWay k.files) (λ c. Mine k.files c)
+  ways-law = record {
+    begins = λ c. record { paths = (paths_wanted k.files (marks_of (tale_of c [])), refl); seat = (refl, refl); letters = tt };
+    events = λ c past e. tt;
+    injected = λ c past. tt;
+    moves = untouched-weaker k All Wanted wanted all;
+  }
+
+-- ---- from a connection's records to the journal's
+
+module _ (files : FilesAt) where
+  abbrev seen_so : ℕ → List Seen → Rec → Type 0
+  seen_so c past r = WhileUntouched (λ c. Mine files c) c past r
+
+  marks-own : (J : List Rec) (c : ℕ) → marks_of (tale_of c (own c J)) ≡ marks J c
+  marks-own J c = ap marks_of (sym (tale-own J c)) ∙ (λ i. record { wrote = sym (wrote-tale J c) i; served = sym (served-tale J c) i; assigned = sym (assigned-tale J c) i })
+
+  says : (J : List Rec) (r : Rec) (c d : ℕ) → d ≡ c → seen_so c (own c J) r → is_touched J d ≡ false → MayTell files c (tale_of c (own c J)) r
+  says J r c d same h u = h (ap (λ (t : Tale). t.touched) (sym (tale-own J c)) ∙ sym (touched-tale J c) ∙ subst (λ (q : ℕ). is_touched J q ≡ false) same u)
+
+  some-number : (a b : ℕ) → Some a ≡ Some b → a ≡ b
+  some-number a b e = cc
+
+  of-it : (P : Marks → Type 0) (J : List Rec) (c d : ℕ) → d ≡ c → P (marks_of (tale_of c (own c J))) → P (marks J d)
+  of-it P J c d same h = subst (λ (q : ℕ). P (marks J q)) (sym same) (subst P (marks-own J c) h)
+
+  none-number : (a : ℕ) → Some a ≡ None → ⊥
+  none-number a e = cc
+
+  comes-somebody : (J : List Rec) (r : Rec) (c : ℕ) → whose r ≡ Some c → seen_so c (own c J) (plain r) → MayCome files J r
+  comes-somebody J (rec.Served place d r code size way) c e h = λ u.
+      let same : d ≡ c = some-number d c e in
+      of-it (λ (m : Marks). AnswersNext files m place way) J c d same (says J (rec.Served place d r code size way) c d same h u)
+  comes-somebody J _ c e h = tt
+
+  comes-nobody : (J : List Rec) (r : Rec) → whose r ≡ None → MayCome files J r
+  comes-nobody J (rec.Served place d r code size way) e = absurd (none-number d e)
+  comes-nobody J _ e = tt
+
+  assigned-somebody : (J : List Rec) (r : Rec) (c : ℕ) → whose r ≡ Some c → seen_so c (own c J) (plain r) → MayBeAssigned files J r
+  assigned-somebody J (rec.AssignedFirst d r path n add remove) c e h = λ u.
+      let same : d ≡ c = some-number d c e in
+      of-it (λ (m : Marks). IsNextGood files m path) J c d same (says J (rec.AssignedFirst d r path n add remove) c d same h u)
+  assigned-somebody J (rec.AssignedLater d r path n add size queue) c e h = λ u.
+      let same : d ≡ c = some-number d c e in
+      of-it (λ (m : Marks). IsNextGood files m path) J c d same (says J (rec.AssignedLater d r path n add size queue) c d same h u)
+  assigned-somebody J _ c e h = tt
+
+  assigned-nobody : (J : List Rec) (r : Rec) → whose r ≡ None → MayBeAssigned files J r
+  assigned-nobody J (rec.AssignedFirst d r path n add remove) e = absurd (none-number d e)
+  assigned-nobody J (rec.AssignedLater d r path n add size queue) e = absurd (none-number d e)
+  assigned-nobody J _ e = tt
+
+-- ---- every run
+
+module _ (config : Config) (files : List (List ℕ × List ℕ)) (small : config.stream ≤ 2 ^ 30) where
+  abbrev k : Setting
+  k = setting config files
+
+  pub each-guarded : OfEach config files (Guarded (GoesItsWay (file_at files)) (λ c. Mine (file_at files) c))
+  each-guarded = carried config files (Given k small) (Guarded (GoesItsWay (file_at files)) (λ c. Mine (file_at files) c))
+      (guarded-law k (Given k small) (GoesItsWay (file_at files)) (λ c. Mine (file_at files) c) (ways-law k small))
+      (λ m r q. (each-placed config files m r q, states-truthful config files small m r q))
+
+  each : (m : Machine) → IsReached config files m → (q : ℕ) → EachRow (seen_so (file_at files) q) [] (conn m q).seen
+  unfolding conn
+  each m r q = (each-guarded m r q).1
+
+pub contents-come : ContentsComeAsAssigned
+contents-come config files m small r = carried-records config files (MayCome (file_at files)) (seen_so (file_at files)) (comes-nobody (file_at files)) (comes-somebody (file_at files)) (each config files small) m r
+
+pub assign-in-order : JournalsAssignInOrder
+assign-in-order config files m small r = carried-records config files (MayBeAssigned (file_at files)) (seen_so (file_at files)) (assigned-nobody (file_at files)) (assigned-somebody (file_at files)) (each config files small) m r
+
+pub assign-a-prefix : JournalsAssignAPrefix
+assign-a-prefix config files m small r = assigns-a-prefix (file_at files) m.journal (assign-in-order config files m small r)

@@ -1,0 +1,296 @@
+-- An endpoint that took its client's SYN alone goes on so while nothing but the SYN comes.
+use Rattle.std.proofs.Common.{◌≡◌, ◌≤◌, ◌<◌, ◌+◌, ◌^◌, ◌==◌, ◌&&◌, ◌||◌, nat_lt, not, zero, suc, ℕ, Bool, true, false, cond, List, [], ◌∷◌, ◌++◌, length, take, drop, Option, Some, None, refl, sym, ap, ◌∙◌, subst, arith}
+use Rattle.std.proofs.lemmas.Bool.{and_parts, both_ways, cond_both, eqb-true}
+use Rattle.lard_arrival.specs.Arrival.{bare, is_acceptable, is_allowed, seg_len}
+use Rattle.lard_base.specs.declared.place.Place.{Place}
+use Rattle.lard_base.specs.declared.place.Place.TheVariants.{Front}
+use Rattle.lard_block.specs.declared.block.Found.{Found}
+use Rattle.lard_block.specs.declared.block.Found.TheVariants as found
+use Rattle.lard_block.specs.Blocks.{cut_of, head_end, skipped}
+use Rattle.lard_law_connections.proofs.SilenceTurns.{AreTold, Told}
+use Rattle.lard_laws.specs.WindowsEarly.{IsFresh, RowIsFresh, StageIsFresh}
+use Rattle.lard_endpoint.specs.declared.control.arriving.Arrival.{Arrival}
+use Rattle.lard_endpoint.specs.declared.control.arriving.Arrival.TheVariants.{Fine, AckOwed, Reset}
+use Rattle.lard_endpoint.specs.Arriving.{on_ack, on_acked, on_rst, on_segment, on_syn, on_text, on_unacceptable, owing}
+use Rattle.lard_endpoint.specs.Control.{ControlBlock, listening, rcv_nxt, rcv_wnd}
+use Rattle.lard_endpoint.specs.Leaving.{advanced, after_emit, after_owed, after_piece, after_timer, filled, owes, retried, timed, told}
+use Rattle.lard_endpoint.specs.Moving.{may_end}
+use Rattle.lard_endpoint.proofs.Windows.{emit-recv, emitted-tells, timed-tells, timer-recv}
+use Rattle.lard_rules.specs.Front.{Deed, Drops, Says, Does, FrontEnv, FrontPart, begun, fired_by, fires_at, front_hears, heard, hears_at, holds, rest_of, settled_by, stage_after}
+use Rattle.lard_rules.specs.declared.front.FrontRest.{FrontRest}
+use Rattle.lard_rules.specs.FrontReading.{Reading, left, reads, reads_found, turn}
+use Rattle.lard_handoff_front.specs.declared.row.FrontConn.{FrontConn}
+use Rattle.lard_handoff_front.specs.declared.row.FrontConn.TheVariants as stage
+use Rattle.lard_handoff_front.specs.declared.row.FrontRow.{FrontRow}
+use Rattle.lard_history.proofs.Each.{Each-append}
+use Rattle.lard_journal.specs.declared.rec.Rec.TheVariants as rec
+use Rattle.lard_law_view.proofs.EndpointStreams.{segment-takes}
+use Rattle.lard_recv.specs.Recv.{Received, arrived, awaited, begins_after, ends, fresh, taken}
+use Rattle.lard_rules.specs.declared.places.Ending.{Ending}
+use Rattle.lard_rules.specs.declared.places.Ending.TheVariants as ending
+use Rattle.lard_rules.specs.declared.places.Turn.{Turn}
+use Rattle.lard_rules.specs.Tombstone.{is_plain_syn}
+use Rattle.lard_rules.specs.Loop.{Step, More, Done}
+use Rattle.lard_rules.specs.Serving.{Service, consumed, cut_off, may_read, ready_of, rested, serving, spoken}
+use Rattle.lard_rules.specs.Speaking.{speaks}
+use Rattle.lard_rules.proofs.Loops.{speaks_keep}
+use Rattle.lard_rules.proofs.Runs.{runs_keep}
+use Rattle.lard_segment.specs.declared.segment.Ready.{Ready}
+use Rattle.lard_segment.specs.Segment.{Said}
+use Rattle.lard_send.specs.Send.{after_ack, next_piece, resent_piece}
+use Rattle.lard_send.specs.declared.piece.Piece.{Piece}
+use Rattle.lard_seq.specs.Seq.{one_if, seq_add, seq_offset}
+
+-- ---- what is taken
+
+-- of the client's SYN alone
+abbrev HalfIsFresh : ℕ → Received → Type 0
+HalfIsFresh isn r = (r.irs ≡ isn) × (r.got ≡ 0) × (r.fin ≡ false) × (r.unread ≡ [])
+
+awaits-next : (isn : ℕ) (r : Received) → HalfIsFresh isn r → awaited r ≡ seq_add isn 1
+awaits-next isn r h =
+    let none : one_if r.fin ≡ 0 = ap one_if h.2 in
+    let one : 1 + r.got + one_if r.fin ≡ 1 = omega (arith, h.1, none) in
+    ap (λ i. seq_add i (1 + r.got + one_if r.fin)) h.0 ∙ ap (λ n. seq_add isn n) one
+
+few-drop : (data_ : List ℕ) → length data_ ≤ 1 → drop 1 data_ ≡ []
+few-drop [] few = refl
+few-drop (a ∷ []) few = refl
+few-drop (a ∷ b ∷ more) few = absurd (omega (arith, few))
+
+no-data : (data_ : List ℕ) → length data_ ≤ 0 → data_ ≡ []
+no-data [] few = refl
+no-data (a ∷ more) few = absurd (omega (arith, few))
+
+abbrev nothing : List ℕ
+nothing = []
+
+take-nothing : (n : ℕ) → take n nothing ≡ []
+take-nothing zero = refl
+take-nothing (suc n) = refl
+
+drop-nothing : (n : ℕ) → drop n nothing ≡ []
+drop-nothing zero = refl
+drop-nothing (suc n) = refl
+
+take-none : (n : ℕ) (data_ : List ℕ) → data_ ≡ [] → take n data_ ≡ []
+take-none n data_ e = ap (take n) e ∙ take-nothing n
+
+-- a segment that ends with the SYN's number, or before
+module _ (isn : ℕ) (small : isn < 2 ^ 32) (s : Said) (seq_small : s.seq < 2 ^ 32) (within : seq_offset s.seq isn + seg_len s ≤ 1) where
+  len-few : length s.payload ≤ seg_len s
+  len-few = omega arith
+
+  module _ (r : Received) (h : HalfIsFresh isn r) where
+    -- brings no byte
+    none-fresh : fresh r s.seq s.payload ≡ []
+    none-fresh = by-length (length s.payload) refl where
+      by-length : (n : ℕ) → length s.payload ≡ n → fresh r s.seq s.payload ≡ []
+      by-length zero e = take-none _ _ (ap (drop (seq_offset (awaited r) s.seq)) (no-data s.payload (omega (arith, e))) ∙ drop-nothing (seq_offset (awaited r) s.seq))
+      by-length (suc n) e =
+          let first : seq_offset s.seq isn ≡ 0 = let l = len-few in omega (arith, within, l, e) in
+          let same : s.seq ≡ isn = omega (arith, first, small, seq_small) in
+          let one : seq_offset (awaited r) s.seq ≡ 1 = ap (λ a. seq_offset a s.seq) (awaits-next isn r h) ∙ (let m = same in omega (arith, m, small)) in
+          take-none _ _ (ap (λ n. drop n s.payload) one ∙ few-drop s.payload (let l = len-few in omega (arith, within, l)))
+
+    -- and no FIN
+    no-fin : ends r s.seq s.payload s.flags.fin ≡ false
+    no-fin = go s.flags.fin refl where
+      never : (a b : ℕ) → b < a → (a == b) ≡ false
+      never a b less = by (a == b) refl where
+        by : (t : Bool) → (a == b) ≡ t → (a == b) ≡ false
+        by false e = e
+        by true e = absurd (let z : a ≡ b = eqb-true a b e in omega (arith, z, less))
+
+      go : (f : Bool) → s.flags.fin ≡ f → (f && (seq_offset (awaited r) s.seq + length (fresh r s.seq s.payload) == length s.payload)) ≡ false
+      go false e = refl
+      go true e =
+          let fin : ◌≡◌ {A = ℕ} (cond {A = ℕ} s.flags.fin 1 0) 1 = ap (λ b. cond {A = ℕ} b 1 0) e in
+          let first : seq_offset s.seq isn ≡ 0 = omega (arith, within, fin) in
+          let same : s.seq ≡ isn = omega (arith, first, small, seq_small) in
+          let one : seq_offset (awaited r) s.seq ≡ 1 = ap (λ a. seq_offset a s.seq) (awaits-next isn r h) ∙ (let m = same in omega (arith, m, small)) in
+          let none : length s.payload ≡ 0 = omega (arith, within, fin) in
+          never (seq_offset (awaited r) s.seq + length (fresh r s.seq s.payload)) (length s.payload) (omega (arith, one, none))
+
+    arrived-fresh : HalfIsFresh isn (arrived r s.seq s.payload s.flags.fin)
+    arrived-fresh = cond_both (begins_after s.seq (awaited r)) r (cond r.fin r more) (HalfIsFresh isn) (λ t. h) (λ t. cond_both r.fin r more (HalfIsFresh isn) (λ u. h) (λ u. so)) where
+      more : Received
+      more = taken r (fresh r s.seq s.payload) (ends r s.seq s.payload s.flags.fin)
+
+      so : HalfIsFresh isn (taken r (fresh r s.seq s.payload) (ends r s.seq s.payload s.flags.fin))
+      so = (
+        h.0,
+        (let n = ap length none-fresh in omega (arith, n, h.1)),
+        no-fin,
+        cond_both r.discarding r.unread (r.unread ++ fresh r s.seq s.payload) (λ l. l ≡ []) (λ t. h.3) (λ t. ap (λ l. l ++ fresh r s.seq s.payload) h.3 ∙ none-fresh),
+      )
+
+  -- ---- the endpoint
+
+  module _ (plain : s.flags.rst ≡ false) where
+    abbrev Unreset : Arrival × ControlBlock → Type 0
+    Unreset p = p.1.reset ≡ false
+
+    text-unreset : (b : ControlBlock) (t : Said) → b.reset ≡ false → Unreset (on_text b t)
+    text-unreset b t h = cond_both (length t.payload == 0 && not t.flags.fin) (Fine, b) (AckOwed, record b { recv = arrived b.recv t.seq t.payload t.flags.fin; owed = true }) Unreset (λ u. h) (λ u. h)
+
+    acked-unreset : (b : ControlBlock) (t : Said) → b.reset ≡ false → Unreset (on_acked b t)
+    acked-unreset b t h = cond_both (b.send.una == 0) (Fine, b) (on_text b t) Unreset (λ u. h) (λ u. text-unreset b t h)
+
+    ack-unreset : (b : ControlBlock) (t : Said) → b.reset ≡ false → Unreset (on_ack b t)
+    ack-unreset b t h =
+        let next : Arrival × ControlBlock = on_acked (record b { send = after_ack b.send t.ack t.seq t.wnd }) t in
+        cond_both (not t.flags.ack) (Fine, b) (cond (nat_lt b.send.nxt (seq_offset t.ack b.send.iss)) (AckOwed, owing b) next) Unreset (λ u. h) (λ u.
+        cond_both (nat_lt b.send.nxt (seq_offset t.ack b.send.iss)) (AckOwed, owing b) next Unreset (λ v. h) (λ v. acked-unreset (record b { send = after_ack b.send t.ack t.seq t.wnd }) t h))
+
+    syn-unreset : (b : ControlBlock) → b.reset ≡ false → Unreset (on_syn b s)
+    syn-unreset b h = cond_both s.flags.syn (AckOwed, owing b) (on_ack b s) Unreset (λ u. h) (λ u. ack-unreset b s h)
+
+    rst-unreset : (b : ControlBlock) → b.reset ≡ false → Unreset (on_rst b s)
+    rst-unreset b h = cond_both (not s.flags.rst) (on_syn b s) (cond (s.seq == rcv_nxt b) (Reset, record b { reset = true }) (AckOwed, owing b)) Unreset (λ u. syn-unreset b h) (λ u. absurd (both_ways (not s.flags.rst) u (ap not plain)))
+
+    unacceptable-unreset : (b : ControlBlock) → b.reset ≡ false → Unreset (on_unacceptable b s)
+    unacceptable-unreset b h =
+        cond_both (is_allowed (rcv_nxt b) (rcv_wnd b) s) (AckOwed, (on_ack (owing b) (bare s)).1) (cond s.flags.rst (Fine, b) (AckOwed, owing b)) Unreset (λ u. ack-unreset (owing b) (bare s) h)
+        (λ u. cond_both s.flags.rst (Fine, b) (AckOwed, owing b) Unreset (λ v. h) (λ v. h))
+
+    segment-unreset : (b : ControlBlock) → b.reset ≡ false → Unreset (on_segment b s)
+    segment-unreset b h = cond_both (is_acceptable (rcv_nxt b) (rcv_wnd b) s) (on_rst b s) (on_unacceptable b s) Unreset (λ u. rst-unreset b h) (λ u. unacceptable-unreset b h)
+
+    pub segment-fresh : (b : ControlBlock) → IsFresh isn b → IsFresh isn (on_segment b s).1
+    segment-fresh b h =
+        let half : HalfIsFresh isn b.recv = (h.irs_is, h.got, h.fin, h.unread) in
+        let r : HalfIsFresh isn (on_segment b s).1.recv = segment-takes (HalfIsFresh isn) s b half (arrived-fresh b.recv half) in
+        record { irs_is = r.0; got = r.1; fin = r.2; unread = r.3; reset = segment-unreset b h.reset }
+
+-- ---- what it says
+
+-- the number that it acknowledges
+abbrev pub AcksFirst : ℕ → Said → Type 0
+AcksFirst isn s = s.flags.ack ≡ true → s.ack ≡ seq_add isn 1
+
+module _ (isn : ℕ) where
+  next-number : (b : ControlBlock) → IsFresh isn b → rcv_nxt b ≡ seq_add isn 1
+  next-number b h = awaits-next isn b.recv (h.irs_is, h.got, h.fin, h.unread)
+
+  of-recv : (b d : ControlBlock) → d.recv ≡ b.recv → d.reset ≡ b.reset → IsFresh isn b → IsFresh isn d
+  of-recv b d recv reset h = record {
+    irs_is = ap (λ (r : Received). r.irs) recv ∙ h.irs_is;
+    got = ap (λ (r : Received). r.got) recv ∙ h.got;
+    fin = ap (λ (r : Received). r.fin) recv ∙ h.fin;
+    unread = ap (λ (r : Received). r.unread) recv ∙ h.unread;
+    reset = reset ∙ h.reset;
+  }
+
+  piece-reset : (b c d : ControlBlock) (p : Option Piece) → c.reset ≡ b.reset → d.reset ≡ b.reset → (after_piece c p d).reset ≡ b.reset
+  piece-reset b c d (Some p) e f = e
+  piece-reset b c d None e f = f
+
+  emit-reset : (b : ControlBlock) → (after_emit b).reset ≡ b.reset
+  emit-reset b = cond_both b.reset b (after_piece (advanced b) (next_piece b.send) (after_owed (advanced b))) (λ (d : ControlBlock). d.reset ≡ b.reset) (λ t. refl)
+      (λ t. piece-reset b (advanced b) (after_owed (advanced b)) (next_piece b.send) refl (cond_both (owes (advanced b)) (told (advanced b)) (advanced b) (λ (d : ControlBlock). d.reset ≡ b.reset) (λ u. refl) (λ u. refl)))
+
+  timer-reset : (b : ControlBlock) → (after_timer b).reset ≡ b.reset
+  timer-reset b = cond_both b.reset b (after_piece (retried b) (resent_piece b.send) (retried b)) (λ (d : ControlBlock). d.reset ≡ b.reset) (λ t. refl) (λ t. piece-reset b (retried b) (retried b) (resent_piece b.send) refl refl)
+
+  emit-fresh : (b : ControlBlock) → IsFresh isn b → IsFresh isn (after_emit b)
+  emit-fresh b h = of-recv b (after_emit b) (emit-recv b) (emit-reset b) h
+
+  timer-fresh : (b : ControlBlock) → IsFresh isn b → IsFresh isn (after_timer b)
+  timer-fresh b h = of-recv b (after_timer b) (timer-recv b) (timer-reset b) h
+
+  -- in a turn
+  speaks-fresh : (c : ℕ) (b : ControlBlock) → IsFresh isn b → IsFresh isn (speaks c b).1 × AreTold c (AcksFirst isn) (speaks c b).0
+  speaks-fresh c b = speaks_keep c (λ (b : ControlBlock) ss d. IsFresh isn b → IsFresh isn d × AreTold c (AcksFirst isn) ss) (record {
+    rests = λ b h. (h, tt);
+    says = λ b r ss d e later h.
+        let l = later (emit-fresh b h) in
+        (l.0, ((refl, (filled (after_emit b) r, refl, λ a. (emitted-tells b r e).ack ∙ next-number b h)), l.1));
+  }) b
+
+  may-not : (b : ControlBlock) → IsFresh isn b → may_end b ≡ false
+  may-not b h = go b.reset b.recv.fin (b.send.finished && _) h.reset h.fin where
+    go : (t f a : Bool) → t ≡ false → f ≡ false → (t || (a && f)) ≡ false
+    go true f a e g = absurd (let bad : true ≡ false = e in cc)
+    go false true a e g = absurd (let bad : true ≡ false = g in cc)
+    go false false true e g = refl
+    go false false false e g = refl
+
+  -- ---- the front end's deeds
+
+  abbrev pub DeedIsEarly : ℕ → Deed → Type 0
+  DeedIsEarly c Drops = Unit {0}
+  DeedIsEarly c (Says turn) = ⊥
+  DeedIsEarly c (Does did) = RowIsFresh isn did.part.row × AreTold c (AcksFirst isn) did.turn.segments × (did.turn.messages ≡ [])
+
+  module _ (env : FrontEnv) (p : FrontPart) where
+    abbrev c : ℕ
+    c = env.serve.c
+
+    stays : (b : ControlBlock) (count : ℕ) → IsFresh isn b → StageIsFresh isn (stage_after stage.Held (rested b count))
+    stays b count h = cond_both (may_end b) (ending.Over _) (ending.Here b count) (λ (e : Ending). StageIsFresh isn (stage_after stage.Held e)) (λ t. absurd (both_ways (may_end b) (may-not b h) t)) (λ t. h)
+
+    holds-early : (row : FrontRow) (rest : FrontRest) (w : Service) (before : List (Place × List ℕ)) → IsFresh isn w.block → AreTold c (AcksFirst isn) before → DeedIsEarly c (holds p row rest (spoken env.serve w before))
+    holds-early row rest w before h sent =
+        let l = speaks-fresh c w.block h in
+        (stays (speaks c w.block).1 w.count l.0, Each-append (Told c (AcksFirst isn)) before (speaks c w.block).0 sent l.1, refl)
+
+    -- it has nothing to read
+    abbrev ReadsNothing : Reading → Type 0
+    ReadsNothing x = IsFresh isn x.service.block × (x.service.over ≡ None) × (x.target ≡ None)
+
+    abbrev StepReads : Step Reading → Type 0
+    StepReads (More x) = ReadsNothing x
+    StepReads (Done x) = ReadsNothing x
+
+    cut-none : cut_of [] ≡ found.More 0
+    unfolding cut_of skipped head_end
+    cut-none = refl
+
+    turn-reads : (x : Reading) → ReadsNothing x → StepReads (turn env.serve x)
+    turn-reads x h = cond_both (may_read x.service) (reads_found env.serve x (cut_of x.service.block.recv.unread)) (Done x) StepReads
+        (λ may. subst (λ (f : Found). StepReads (reads_found env.serve x f)) (sym (ap cut_of h.0.unread ∙ cut-none))
+        (cond_both x.service.block.recv.fin _ (consumed 0 x.service) (λ (w : Service). IsFresh isn w.block × (w.over ≡ None) × (x.target ≡ None)) (λ t. absurd (both_ways x.service.block.recv.fin h.0.fin t))
+        (λ t. (record { irs_is = h.0.irs_is; got = h.0.got; fin = h.0.fin; unread = h.0.unread; reset = h.0.reset }, h.1, h.2))))
+        (λ t. h)
+
+    reads-nothing : (x : Reading) → ReadsNothing x → ReadsNothing (reads env.serve x)
+    reads-nothing x h = runs_keep (turn env.serve) left ReadsNothing (record {
+      more = λ y z e q. subst StepReads e (turn-reads y q);
+      done = λ y z e q. subst StepReads e (turn-reads y q);
+    }) x h
+
+    heard-early : (row : FrontRow) (rest : FrontRest) (b : ControlBlock) → IsFresh isn b → DeedIsEarly c (heard env p row rest b)
+    heard-early row rest b h =
+        let x : Reading = reads env.serve (record { service = serving b rest.count []; target = None }) in
+        let n : ReadsNothing x = reads-nothing (record { service = serving b rest.count []; target = None }) (h, refl, refl) in
+        subst (λ (t : Option (List ℕ)). DeedIsEarly c (settled_by env p row rest x.service t)) (sym n.2) (go x.service n.0 x.service.over n.1)
+      where
+        go : (w : Service) → IsFresh isn w.block → (o : Option ℕ) → o ≡ None → DeedIsEarly c (holds p row rest (elim o as (λ q. Ending × Turn) [ None ↦ spoken env.serve w [] | Some total ↦ cut_off env.serve w ]))
+        go w h None e = holds-early row rest w [] h tt
+        go w h (Some total) e = absurd (let bad : Some total ≡ None = e in cc)
+
+    module _ (small : isn < 2 ^ 32) (s : Said) (seq_small : s.seq < 2 ^ 32) (within : seq_offset s.seq isn + seg_len s ≤ 1) (plain : s.flags.rst ≡ false) (greets : s.flags.syn ≡ true → s.seq ≡ isn) where
+      hears-at-early : (bytes : List ℕ) (row : FrontRow) (st : FrontConn) → StageIsFresh isn st → DeedIsEarly c (hears_at env p row bytes s st)
+      hears-at-early bytes row (stage.Held b) h = heard-early row (rest_of p.rest) (on_segment b s).1 (segment-fresh isn small s seq_small within plain b h)
+      hears-at-early bytes row _ h = absurd h
+
+      pub hears-early : (bytes : List ℕ) (q : Option FrontRow) → RowIsFresh isn q → DeedIsEarly c (front_hears env p bytes s q)
+      hears-early bytes None h = cond_both (is_plain_syn s) (begun env p s) Drops (DeedIsEarly c)
+          (λ t.
+          let row : FrontRow = record { stage = stage.Lent; epoch = record { 0 = 1 }; ended_by = None } in
+          let w : Service = serving (listening s env.iss) 0 (rec.Took Front env.serve.c (record { 0 = 1 }) ∷ []) in
+          holds-early row (rest_of None) w [] (record { irs_is = greets (and_parts s.flags.syn _ t).0; got = refl; fin = refl; unread = refl; reset = refl }) tt)
+          (λ t. tt)
+      hears-early bytes (Some row) h = hears-at-early bytes row row.stage h
+
+    fires-at-early : (row : FrontRow) (st : FrontConn) → StageIsFresh isn st → DeedIsEarly c (fires_at env p row st)
+    fires-at-early row (stage.Held b) h = holds-early row (rest_of p.rest) (serving (after_timer b) (rest_of p.rest).count []) (ready_of env.serve (after_timer b) (timed b)) (timer-fresh b h) (go (timed b) refl) where
+      go : (o : Option Ready) → timed b ≡ o → AreTold c (AcksFirst isn) (ready_of env.serve (after_timer b) o)
+      go None e = tt
+      go (Some r) e = ((refl, (filled (after_timer b) r, refl, λ a. (timed-tells b r e).ack ∙ next-number b h)), tt)
+    fires-at-early row _ h = absurd h
+
+    pub fires-early : (q : Option FrontRow) → RowIsFresh isn q → DeedIsEarly c (fired_by env p q)
+    fires-early None h = tt
+    fires-early (Some row) h = fires-at-early row row.stage h

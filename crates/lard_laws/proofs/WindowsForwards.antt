@@ -1,0 +1,337 @@
+-- What the front end forwards was a packet of the client's.
+use Rattle.std.proofs.Common.{◌≡◌, ◌+◌, ◌==◌, ◌&&◌, nat_lt, ℕ, cond, List, [], ◌∷◌, ◌++◌, map, Option, Some, None, Result, Ok, Err, IfSome, refl, sym, ap, ◌∙◌, subst}
+use Rattle.std.proofs.lemmas.Bool.{cond_both}
+use Rattle.lard_base.specs.declared.event.Event.TheVariants as event
+use Rattle.lard_base.specs.declared.place.Place.{Place}
+use Rattle.lard_base.specs.declared.place.Place.TheVariants.{Client, Front, Node}
+use Rattle.lard_law_connections.proofs.BytesMessages.{forwards-read}
+use Rattle.lard_law_connections.proofs.PlacesFrontRules.{has-each}
+use Rattle.lard_law_connections.proofs.PlacesHeads.{kinds-same}
+use Rattle.lard_law_connections.proofs.SilenceEndpoints.{AnyReply, Anything}
+use Rattle.lard_law_connections.proofs.SilenceFronts as fronts
+use Rattle.lard_law_connections.proofs.SilenceTurns.{AreTold, IsKept, nobody}
+use Rattle.lard_law_connections.specs.SilencePlaces.{FrontHas, FrontStageHas}
+use Rattle.lard_law_view.specs.Carry.{IsLaw, MayMove, setting}
+use Rattle.lard_law_view.specs.View.{AreSent, ClientRules, Conn, FrontRules, IsFrontEnv, Move, NodeRules, Rules, Setting, brought_said, client_begins, client_does, contents, event_seen, front_does, grown, letter, inject_seen, letters_of, node_does, nothing_said, packet_seen, stands}
+use Rattle.lard_law_view.proofs.Carried.{carried}
+use Rattle.lard_laws.specs.WindowsLaws.{ForwardsComeFromClients}
+use Rattle.lard_laws.specs.Windows.{AnyBlock}
+use Rattle.lard_laws.specs.WindowsWords.{ForwardWas, ForwardWasOn, ForwardsWere}
+use Rattle.lard_dispatch.specs.declared.dispatch.Ask.{Ask}
+use Rattle.lard_dispatch.specs.declared.dispatch.First.{First}
+use Rattle.lard_dispatch.specs.declared.dispatch.First.TheVariants as first
+use Rattle.lard_endpoint.specs.declared.control.moving.Final.{Final}
+use Rattle.lard_endpoint.specs.Arriving.{on_segment}
+use Rattle.lard_endpoint.specs.Control.{ControlBlock}
+use Rattle.lard_rules.specs.declared.front.FrontRest.{FrontRest}
+use Rattle.lard_rules.specs.declared.front.FrontTurn.{FrontTurn}
+use Rattle.lard_rules.specs.Front as front
+use Rattle.lard_rules.specs.Front.{Deed, Drops, Says, Does, FrontEnv, FrontPart, admitted_at, admitted_by, admitted_with, ask_of, asked_by, assigns, begun, ended_by, fired_by, fires_at, front_admitted, front_asked, front_ended, front_gets, front_hears, front_taken, front_timer, handed_off, hears_at, is_at, message, placed, rest_of, saying, settled_by, tag_sent, taken_by}
+use Rattle.lard_rules.specs.FrontReading.{Reading, reads}
+use Rattle.lard_handoff_front.specs.declared.row.FrontConn.{FrontConn}
+use Rattle.lard_handoff_front.specs.declared.row.FrontConn.TheVariants as stage
+use Rattle.lard_handoff_front.specs.declared.row.FrontRow.{FrontRow}
+use Rattle.lard_handoff_front.specs.declared.table.OnEnded.{OnEnded}
+use Rattle.lard_handoff_front.specs.declared.table.OnEnded.TheVariants.{New, Again, Stale}
+use Rattle.lard_handoff_front.specs.Front.{asked_node, end_answer}
+use Rattle.lard_history.specs.Journal.{request}
+use Rattle.lard_history.specs.Own.{Has, Letter, Seen}
+use Rattle.lard_history.proofs.Each.{Each, Each-append, Each-weaker}
+use Rattle.lard_history.proofs.Seeing.{has-before}
+use Rattle.lard_journal.specs.declared.rec.Rec.TheVariants as rec
+use Rattle.lard_message.specs.declared.kind.Kind.TheVariants as kind
+use Rattle.lard_message.specs.declared.message.Body.{Body}
+use Rattle.lard_message.specs.declared.message.Body.TheVariants as body
+use Rattle.lard_message.specs.declared.message.Message.{Message}
+use Rattle.lard_message.specs.Message.{kind_of}
+use Rattle.lard_message.specs.Reading.{decoded_message}
+use Rattle.lard_rules.specs.Node as node
+use Rattle.lard_rules.specs.Node.{node_acknowledged, node_content, node_forwarded, node_offered, node_read, node_tagged, node_timer}
+use Rattle.lard_policy.specs.declared.first.FirstChoice.{FirstChoice}
+use Rattle.lard_resend.specs.declared.kept.Kept.{Kept}
+use Rattle.lard_resend.specs.Pending.{sent_of}
+use Rattle.lard_rules.specs.Client.{client_aborts, client_gets, client_holds, client_injects, client_opens, client_shuts, client_takes, client_timer, client_writes}
+use Rattle.lard_rules.specs.Tombstone.{is_plain_syn}
+use Rattle.lard_rules.specs.Serving.{Service, ServeEnv, serving}
+use Rattle.lard_segment.specs.declared.fault.SegFault.{SegFault}
+use Rattle.lard_segment.specs.declared.segment.Dir.TheVariants.{ToClient, ToCluster}
+use Rattle.lard_segment.specs.Segment.{Said, decoded}
+
+-- ---- letters
+
+module _ (c : ℕ) (ls : List Letter) where
+  -- a message of the front end
+  abbrev MessageWas : List ℕ → Type 0
+  MessageWas bytes = (m : Message) (segment : List ℕ) → decoded_message bytes ≡ Ok m → m.body ≡ body.Forward segment → Has (record { from = Client c; to = Front; bytes = segment }) ls
+
+  -- of another kind
+  other-was : (c' e : ℕ) (b : Body) → (kind_of b ≡ kind.Forward → ⊥) → MessageWas (message c' e b)
+  other-was c' e b other m segment d is = absurd (other (kinds-same (record { c = c'; epoch = record { 0 = e }; body = b }) m d ∙ ap kind_of is))
+
+  -- what came is forwarded
+  forward-was : (c' e : ℕ) (bytes : List ℕ) → Has (record { from = Client c; to = Front; bytes = bytes }) ls → MessageWas (message c' e (body.Forward bytes))
+  forward-was c' e bytes has m segment d is = subst (λ (b : List ℕ). Has (record { from = Client c; to = Front; bytes = b }) ls) (sym (forwards-read c' e bytes segment m d is)) has
+
+  abbrev Sent : List (Place × List ℕ) → Type 0
+  Sent ms = Each (λ (p : Place × List ℕ). ForwardWasOn c ls Front p.0 p.1) ms
+
+  abbrev pub DeedWas : Deed → Type 0
+  DeedWas Drops = Unit {0}
+  DeedWas (Says turn) = Sent turn.messages
+  DeedWas (Does did) = Sent did.turn.messages
+
+  -- ---- the front end's deeds
+
+  module _ (env : FrontEnv) (p : FrontPart) where
+    offer-was : (row : FrontRow) (w : Service) (path : List ℕ) (choice : FirstChoice) → Sent (handed_off env row w path choice).1.messages
+    offer-was row w path choice = (other-was _ _ _ (λ e. cc), tt)
+
+    placed-was : (row : FrontRow) (rest : FrontRest) (w : Service) (path : List ℕ) (f : First) → DeedWas (Does (placed env p row rest w path f))
+    placed-was row rest w path (first.Go choice) = offer-was row w path choice
+    placed-was row rest w path first.Waits = tt
+
+    settled-was : (row : FrontRow) (rest : FrontRest) (w : Service) (t : Option (List ℕ)) → DeedWas (settled_by env p row rest w t)
+    settled-was row rest w None = tt
+    settled-was row rest w (Some path) = placed-was row rest w path (env.first path)
+
+    module _ (bytes : List ℕ) (s : Said) (has : Has (record { from = Client c; to = Front; bytes = bytes }) ls) where
+      hears-at-was : (row : FrontRow) (st : FrontConn) → DeedWas (hears_at env p row bytes s st)
+      hears-at-was row (stage.Held b) =
+          let x : Reading = reads env.serve (record { service = serving (on_segment b s).1 (rest_of p.rest).count []; target = None }) in
+          settled-was row (rest_of p.rest) x.service x.target
+      hears-at-was row (stage.Offering n e) = (forward-was env.serve.c e.0 bytes has, tt)
+      hears-at-was row (stage.Moved n e) = (forward-was env.serve.c e.0 bytes has, tt)
+      hears-at-was row _ = tt
+
+      hears-was : (q : Option FrontRow) → DeedWas (front_hears env p bytes s q)
+      hears-was None = cond_both (is_plain_syn s) (begun env p s) Drops DeedWas (λ t. tt) (λ t. tt)
+      hears-was (Some row) = hears-at-was row row.stage
+
+    pub gets-was : (bytes : List ℕ) (r : Result Said SegFault) → Has (record { from = Client c; to = Front; bytes = bytes }) ls → DeedWas (front_gets env p bytes r)
+    gets-was bytes (Err fault) has = tt
+    gets-was bytes (Ok s) has = hears-was bytes s has p.row
+
+    fires-at-was : (row : FrontRow) (st : FrontConn) → Sent (map sent_of p.kept) → DeedWas (fires_at env p row st)
+    fires-at-was row (stage.Offering n e) h = h
+    fires-at-was row _ h = tt
+
+    fires-was : (q : Option FrontRow) → Sent (map sent_of p.kept) → DeedWas (fired_by env p q)
+    fires-was None h = tt
+    fires-was (Some row) h = fires-at-was row row.stage h
+
+    asked-by-was : (n epoch : ℕ) (ask : Ask) (q : Option FrontRest) → DeedWas (asked_by env p n epoch ask q)
+    asked-by-was n epoch ask None = tt
+    asked-by-was n epoch ask (Some rest) =
+        let e : Deed = Says (saying (tag_sent env n epoch rest.asks rest.tag)) in
+        cond_both (ask.number == rest.asks + 1) (Does (assigns env p rest n epoch ask (env.later ask))) (cond (ask.number == rest.asks && nat_lt 0 rest.asks) e Drops) DeedWas (λ t. (other-was _ _ _ (λ e. cc), tt))
+        (λ t. cond_both (ask.number == rest.asks && nat_lt 0 rest.asks) e Drops DeedWas (λ u. (other-was _ _ _ (λ e. cc), tt)) (λ u. tt))
+
+    pub asked-was : (n epoch : ℕ) (ask : Ask) → DeedWas (front_asked env p n epoch ask)
+    asked-was n epoch ask = cond_both (is_at n epoch p.row) (asked_by env p n epoch ask p.rest) Drops DeedWas (λ t. asked-by-was n epoch ask p.rest) (λ t. tt)
+
+    ended-by-was : (n epoch : ℕ) (last : Final) (q : Option FrontRow) (a : OnEnded) → DeedWas (ended_by env p n epoch last q a)
+    ended-by-was n epoch last None a = tt
+    ended-by-was n epoch last (Some row) (New next) = (other-was _ _ _ (λ e. cc), tt)
+    ended-by-was n epoch last (Some row) Again = (other-was _ _ _ (λ e. cc), tt)
+    ended-by-was n epoch last (Some row) Stale = tt
+
+    pub ended-was : (n epoch : ℕ) (last : Final) → DeedWas (front_ended env p n epoch last)
+    ended-was n epoch last = ended-by-was n epoch last p.row (end_answer epoch p.row)
+
+    taken-by-was : (epoch : ℕ) (q : Option FrontRow) (a : Option ℕ) → DeedWas (taken_by p epoch q a)
+    taken-by-was epoch None a = tt
+    taken-by-was epoch (Some row) None = tt
+    taken-by-was epoch (Some row) (Some n) = tt
+
+    pub taken-was : (epoch : ℕ) → DeedWas (front_taken p epoch)
+    taken-was epoch = taken-by-was epoch p.row (asked_node epoch p.row)
+
+    module _ (choice : FirstChoice) (given : FrontPart × FrontTurn) where
+      admitted-with-was : (row : FrontRow) (b : ControlBlock) (t : Option (List ℕ)) → admitted_with env row (rest_of p.rest) b choice t ≡ Some given → Sent given.1.messages
+      admitted-with-was row b None e = let no : None ≡ Some given = e in absurd cc
+      admitted-with-was row b (Some path) e =
+          let same : handed_off env row (serving b (rest_of p.rest).count []) path choice ≡ given = cc in
+          subst (λ (g : FrontPart × FrontTurn). Sent g.1.messages) same (offer-was row (serving b (rest_of p.rest).count []) path choice)
+
+      admitted-at-was : (row : FrontRow) (st : FrontConn) → admitted_at env p choice row st ≡ Some given → Sent given.1.messages
+      admitted-at-was row (stage.Waiting b) e = admitted-with-was row b (rest_of p.rest).target e
+      admitted-at-was row _ e = let no : None ≡ Some given = e in absurd cc
+
+      admitted-by-was : (q : Option FrontRow) → admitted_by env p choice q ≡ Some given → Sent given.1.messages
+      admitted-by-was None e = let no : None ≡ Some given = e in absurd cc
+      admitted-by-was (Some row) e = admitted-at-was row row.stage e
+
+      pub admitted-was : front_admitted env p choice ≡ Some given → Sent given.1.messages
+      admitted-was e = admitted-by-was p.row e
+
+-- ---- segments go to the client
+
+any-kept : (env : ServeEnv) → IsKept env AnyBlock AnyBlock Anything AnyReply
+any-kept env = record {
+  begins = λ b h. tt;
+  hears = λ b s h w. tt;
+  fires = λ b h. tt;
+  again = λ b r h e. tt;
+  emits = λ b h. tt;
+  says = λ b r h e. tt;
+  later = λ b s h r. tt;
+  cuts = λ b h. tt;
+  serves = record { notes = λ w rs starts h. tt; reads = λ w n h. tt; ends = λ w h. tt; answers = λ w way v may h. tt };
+  rests = λ b h stays. tt;
+}
+
+pub any-front : (q : Option FrontRow) → FrontHas AnyBlock q
+any-front None = tt
+any-front (Some row) = go row.stage where
+  go : (st : FrontConn) → FrontStageHas AnyBlock st
+  go (stage.Held b) = tt
+  go (stage.Waiting b) = tt
+  go stage.Lent = tt
+  go (stage.Offering n e) = tt
+  go (stage.Moved n e) = tt
+  go (stage.Closed last) = tt
+
+any-words : (o : Option Said) → IfSome o (λ (t : Said). (d : ControlBlock) → AnyReply d t)
+any-words None = tt
+any-words (Some s) = λ d. tt
+
+told-were : (c : ℕ) (ls : List Letter) (d : ℕ) (P : Said → Type 0) (ss : List (Place × List ℕ)) → AreTold d P ss → Each (ForwardWas c ls) (map (letter Front) ss)
+told-were c ls d P [] h = tt
+told-were c ls d P (s ∷ ss) h = (subst (λ (to : Place). ForwardWasOn c ls Front to s.1) (sym h.0.0) tt, told-were c ls d P ss h.1)
+
+-- ---- the law
+
+-- no other law is needed
+abbrev Nothing : Conn → Type 0
+Nothing x = Unit {0}
+
+module _ (k : Setting) where
+  abbrev Keeps : Conn → Move → Type 0
+  Keeps x v = MayMove Nothing x → ForwardsWere x → ForwardsWere (grown x v)
+
+  -- what goes out was so, with all that was sent before
+  grows : (x : Conn) (v : Move) → Each (ForwardWas x.c (x.letters ++ letters_of v)) (letters_of v) → ForwardsWere x → ForwardsWere (grown x v)
+  grows x v new h = Each-append (ForwardWas x.c (x.letters ++ letters_of v)) x.letters (letters_of v)
+      (Each-weaker (ForwardWas x.c x.letters) (ForwardWas x.c (x.letters ++ letters_of v)) (λ l w. go l.from l.to l.bytes w) x.letters h) new
+    where
+      go : (from to : Place) (bytes : List ℕ) → ForwardWasOn x.c x.letters from to bytes → ForwardWasOn x.c (x.letters ++ letters_of v) from to bytes
+      go Front (Node n) bytes w = λ m segment d is. has-before (record { from = Client x.c; to = Front; bytes = segment }) x.letters (letters_of v) (w m segment d is)
+      go Front Front bytes w = tt
+      go Front (Client e) bytes w = tt
+      go (Node n) to bytes w = tt
+      go (Client d) to bytes w = tt
+
+  from-front : (x : Conn) (ls : List Letter) (ms : List (Place × List ℕ)) → Each (λ (p : Place × List ℕ). ForwardWasOn x.c ls Front p.0 p.1) ms → Each (ForwardWas x.c ls) (map (letter Front) ms)
+  from-front x ls [] h = tt
+  from-front x ls (p ∷ ps) h = (h.0, from-front x ls ps h.1)
+
+  front-rule : (x : Conn) (heads : List Seen) (d : Deed) → (R : ControlBlock → Type 0) → fronts.DeedHas R AnyReply x.c d → ((ls : List Letter) → ((l : Letter) → Has l x.letters → Has l ls) → DeedWas x.c ls d) → Keeps x (front_does x heads d)
+  front-rule x heads Drops R told was may h = grows x (front_does x heads Drops) tt h
+  front-rule x heads (Says turn) R told was may h =
+      let v : Move = front_does x heads (Says turn) in
+      let ls : List Letter = x.letters ++ letters_of v in
+      grows x v (Each-append (ForwardWas x.c ls) (map (letter Front) turn.segments) (map (letter Front) turn.messages) (told-were x.c ls x.c Anything turn.segments (told nobody)) (from-front x ls turn.messages (was ls (λ l has. has-before l x.letters (letters_of v) has)))) h
+  front-rule x heads (Does did) R told was may h =
+      let v : Move = front_does x heads (Does did) in
+      let ls : List Letter = x.letters ++ letters_of v in
+      grows x v (Each-append (ForwardWas x.c ls) (map (letter Front) did.turn.segments) (map (letter Front) did.turn.messages) (told-were x.c ls x.c Anything did.turn.segments told.1.1) (from-front x ls did.turn.messages (was ls (λ l has. has-before l x.letters (letters_of v) has)))) h
+
+  own-number : (x : Conn) (env : FrontEnv) → IsFrontEnv k x.c env → (d : Deed) → fronts.DeedHas AnyBlock AnyReply env.serve.c d → fronts.DeedHas AnyBlock AnyReply x.c d
+  own-number x env is d f = subst (λ (c : ℕ). fronts.DeedHas AnyBlock AnyReply c d) is.number f
+
+  gets-told : (x : Conn) (env : FrontEnv) (bytes : List ℕ) (r : Result Said SegFault) → fronts.DeedHas AnyBlock AnyReply env.serve.c (front_gets env x.part.front bytes r)
+  gets-told x env bytes (Err fault) = tt
+  gets-told x env bytes (Ok s) = fronts.gets-has env AnyBlock AnyBlock Anything AnyReply (any-kept env.serve) x.part.front (any-front x.part.front.row) s tt (λ none plain. tt) (λ row last found at. any-words _) bytes
+
+  -- what is kept was sent
+  kept-were : (x : Conn) (ls : List Letter) → ((l : Letter) → Has l x.letters → Has l ls) → ForwardsWere x → (ks : List Kept) → AreSent x Front ks → Each (λ (p : Place × List ℕ). ForwardWasOn x.c ls Front p.0 p.1) (map sent_of ks)
+  kept-were x ls goes h [] sent = tt
+  kept-were x ls goes h (q ∷ ks) sent = (later q.to q.bytes (has-each (ForwardWas x.c x.letters) (record { from = Front; to = q.to; bytes = q.bytes }) x.letters sent.0.1 h), kept-were x ls goes h ks sent.1) where
+    later : (to : Place) (bytes : List ℕ) → ForwardWasOn x.c x.letters Front to bytes → ForwardWasOn x.c ls Front to bytes
+    later (Node n) bytes w = λ m segment d is. goes (record { from = Client x.c; to = Front; bytes = segment }) (w m segment d is)
+    later Front bytes w = tt
+    later (Client e) bytes w = tt
+
+  front-rules : FrontRules k Keeps
+  front-rules = record {
+    hears = λ x s env bytes there is iss was. front-rule x (packet_seen (Client x.c) Front bytes) (front_gets env x.part.front bytes (decoded bytes x.c ToCluster)) AnyBlock
+        (own-number x env is (front_gets env x.part.front bytes (decoded bytes x.c ToCluster)) (gets-told x env bytes (decoded bytes x.c ToCluster)))
+        (λ ls goes. gets-was x.c ls env x.part.front bytes (decoded bytes x.c ToCluster) (goes (record { from = Client x.c; to = Front; bytes = bytes }) was));
+    fires = λ x s env there is may h. front-rule x (event_seen (event.Timer Front x.c)) (front_timer env x.part.front) AnyBlock
+        (own-number x env is (front_timer env x.part.front) (fronts.timer-has env AnyBlock AnyBlock Anything AnyReply (any-kept env.serve) x.part.front (any-front x.part.front.row)))
+        (λ ls goes. fires-was x.c ls env x.part.front x.part.front.row (kept-were x ls goes h x.part.front.kept may.sound.front)) may h;
+    taken = λ x env n epoch bytes is spells was. front-rule x (packet_seen (Node n) Front bytes) (front_taken x.part.front epoch) AnyBlock
+        (fronts.taken-has AnyBlock AnyReply x.c x.part.front epoch) (λ ls goes. taken-was x.c ls env x.part.front epoch);
+    asked = λ x env n epoch number queue size paths bytes is spells was. front-rule x (packet_seen (Node n) Front bytes) (front_asked env x.part.front n epoch (ask_of x.c n number queue size paths)) AnyBlock
+        (fronts.asked-has AnyBlock AnyReply x.c x.part.front (any-front x.part.front.row) env n epoch (ask_of x.c n number queue size paths)) (λ ls goes. asked-was x.c ls env x.part.front n epoch (ask_of x.c n number queue size paths));
+    ended = λ x env n epoch reason snd rcv count bytes is spells was. front-rule x (packet_seen (Node n) Front bytes) (front_ended env x.part.front n epoch (record { reason = reason; snd = record { 0 = snd }; rcv = record { 0 = rcv } })) AnyBlock
+        (fronts.ended-has AnyBlock AnyReply x.c x.part.front env n epoch (record { reason = reason; snd = record { 0 = snd }; rcv = record { 0 = rcv } }))
+        (λ ls goes. ended-was x.c ls env x.part.front n epoch (record { reason = reason; snd = record { 0 = snd }; rcv = record { 0 = rcv } }));
+    admitted = λ x env choice given is e. front-rule x [] (front.Does (record { part = given.0; turn = given.1; calls = [] })) AnyBlock
+        (fronts.admitted-has AnyBlock AnyReply x.c x.part.front env choice given e) (λ ls goes. admitted-was x.c ls env x.part.front choice given e);
+  }
+
+  -- ---- no other place forwards
+
+  other-from : (x : Conn) (ls : List Letter) (place : Place) → (Front ≡ place → ⊥) → (ss : List (Place × List ℕ)) → Each (ForwardWas x.c ls) (map (letter place) ss)
+  other-from x ls place other [] = tt
+  other-from x ls place other (s ∷ ss) = (go place s.0 other, other-from x ls place other ss) where
+    go : (from to : Place) → (Front ≡ from → ⊥) → ForwardWasOn x.c ls from to s.1
+    go Front to differs = absurd (differs refl)
+    go (Node n) to differs = tt
+    go (Client d) to differs = tt
+
+  node-rule : (x : Conn) (n : ℕ) (heads : List Seen) (d : node.Deed) → Keeps x (node_does x n heads d)
+  node-rule x n heads node.Drops may h = grows x (node_does x n heads node.Drops) tt h
+  node-rule x n heads (node.Says ms) may h = grows x (node_does x n heads (node.Says ms)) (other-from x _ (Node n) (λ e. cc) ms) h
+  node-rule x n heads (node.Does given) may h =
+      let v : Move = node_does x n heads (node.Does given) in
+      let ls : List Letter = x.letters ++ letters_of v in
+      grows x v (Each-append (ForwardWas x.c ls) (map (letter (Node n)) given.1.segments) (map (letter (Node n)) given.1.messages) (other-from x ls (Node n) (λ e. cc) given.1.segments) (other-from x ls (Node n) (λ e. cc) given.1.messages)) h
+
+  client-rule : (x : Conn) (v : Move) (ss : List (Place × List ℕ)) → letters_of v ≡ map (letter (Client x.c)) ss ++ [] → Keeps x v
+  client-rule x v ss is may h = grows x v (subst (Each (ForwardWas x.c (x.letters ++ letters_of v))) (sym is)
+      (Each-append (ForwardWas x.c (x.letters ++ letters_of v)) (map (letter (Client x.c)) ss) [] (other-from x (x.letters ++ letters_of v) (Client x.c) (λ e. cc) ss) tt)) h
+
+  still-rule : (x : Conn) (v : Move) → ((ls : List Letter) → Each (ForwardWas x.c ls) (letters_of v)) → Keeps x v
+  still-rule x v new may h = grows x v (new (x.letters ++ letters_of v)) h
+
+  node-rules : NodeRules k Keeps
+  node-rules = record {
+    offered = λ x n epoch env parts bytes is spells was. node-rule x n (packet_seen Front (Node n) bytes) (node_offered env (x.part.nodes n) parts);
+    forwarded = λ x n epoch env segment bytes is spells was. node-rule x n (packet_seen Front (Node n) bytes) (node_forwarded env (x.part.nodes n) (decoded segment x.c ToCluster));
+    tagged = λ x n epoch number tags env bytes is spells was. node-rule x n (packet_seen Front (Node n) bytes) (node_tagged env (x.part.nodes n) number tags);
+    content = λ x n from epoch r env file bytes is spells was. node-rule x n (packet_seen (Node from) (Node n) bytes) (node_content env (x.part.nodes n) from r);
+    acknowledged = λ x n epoch env bytes is spells was. node-rule x n (packet_seen Front (Node n) bytes) (node_acknowledged env (x.part.nodes n));
+    read = λ x n epoch r env path is. node-rule x n [] (node_read env (x.part.nodes n) r);
+    fires = λ x s n env there is. node-rule x n (event_seen (event.Timer (Node n) x.c)) (node_timer env (x.part.nodes n));
+    answers = λ x n from epoch r path file bytes there spells was. still-rule x (stands x (Node n) (packet_seen (Node from) (Node n) bytes) (contents k n from x.c epoch r path)) (λ ls. (tt, tt));
+    queues = λ x n from epoch r path file bytes there spells was. still-rule x (stands x (Node n) (packet_seen (Node from) (Node n) bytes) (record nothing_said { notes = rec.Queued n from x.c r path ∷ [] })) (λ ls. tt);
+    brings = λ x n from epoch r path. still-rule x (stands x (Node n) [] (brought_said k n from x.c epoch r path)) (λ ls. (tt, tt));
+  }
+
+  client-rules : ClientRules k Keeps
+  client-rules = record {
+    opens = λ x isn iss wnd mss rule none. client-rule x (client_begins x isn iss wnd mss) (client_opens x.c isn wnd mss).1.segments refl;
+    gets = λ x s path there fits. client-rule x (client_does x s (event_seen (event.Get x.c path)) (client_writes s.client (request path))) (client_writes s.client (request path)).1.segments refl;
+    writes = λ x s bytes there fits. client-rule x (client_does x s (event_seen (event.Write x.c bytes)) (client_writes s.client bytes)) (client_writes s.client bytes).1.segments refl;
+    shuts = λ x s there. client-rule x (client_does x s (event_seen (event.Shut x.c)) (client_shuts s.client)) (client_shuts s.client).1.segments refl;
+    aborts = λ x s there. client-rule x (client_does x s (event_seen (event.Abort x.c)) (client_aborts s.client)) (client_aborts s.client).1.segments refl;
+    holds = λ x s there. client-rule x (client_does x s (event_seen (event.Hold x.c)) (client_holds s.client)) (client_holds s.client).1.segments refl;
+    takes = λ x s there. client-rule x (client_does x s (event_seen (event.Take x.c)) (client_takes s.client)) (client_takes s.client).1.segments refl;
+    fires = λ x s there. client-rule x (client_does x s (event_seen (event.Timer (Client x.c) x.c)) (client_timer s.client)) (client_timer s.client).1.segments refl;
+    hears = λ x s from bytes there was. client-rule x (client_does x s (packet_seen from (Client x.c) bytes) (client_gets s.client (decoded bytes x.c ToClient))) (client_gets s.client (decoded bytes x.c ToClient)).1.segments refl;
+  }
+
+  rules : Rules k Keeps
+  rules = record {
+    untouched = record { client = client-rules; front = front-rules; node = node-rules; ignores = λ x from to bytes was. still-rule x (stands x to (packet_seen from to bytes) nothing_said) (λ ls. tt) };
+    injects = λ x s bytes there rule. client-rule x (client_does x s (inject_seen x.c bytes) (client_injects s.client bytes)) (client_injects s.client bytes).1.segments refl;
+  }
+
+  forwards-law : IsLaw k Nothing ForwardsWere
+  forwards-law = record { begins = λ c. tt; moves = rules }
+
+-- In every state that events lead to.
+pub forwards-were : ForwardsComeFromClients
+forwards-were config files = carried config files Nothing ForwardsWere (forwards-law (setting config files)) (λ m r q. tt)

@@ -1,0 +1,296 @@
+-- Each rule keeps that the segments of a client fit it, so it is in every run.
+use Rattle.std.proofs.Common.{◌≡◌, ◌<◌, ◌≤◌, ◌^◌, nat_lt, false, ℕ, List, [], ◌∷◌, ◌++◌, map, Option, Some, None, Result, Ok, refl, sym, ap, ◌∙◌, subst, arith}
+use Rattle.lard_base.specs.declared.config.Config.{Config}
+use Rattle.lard_base.specs.declared.event.Event.TheVariants as event
+use Rattle.lard_base.specs.declared.place.Place.{Place}
+use Rattle.lard_base.specs.declared.place.Place.TheVariants.{Client, Front, Node}
+use Rattle.lard_client.specs.Control.{ClientBlock, opened, written_len}
+use Rattle.lard_rules.specs.Bounds.{HasRule}
+use Rattle.lard_laws.proofs.AcksRuns.{front-station, node-station}
+use Rattle.lard_law_connections.specs.BytesAgreement.{IsFair, IsFairOn, IsTruthful}
+use Rattle.lard_law_connections.proofs.BytesClientMoves.{has-fair, open-at, was-between}
+use Rattle.lard_law_connections.proofs.BytesRuns.{states-truthful}
+use Rattle.lard_law_view.specs.Carry.{IsUntouchedLaw, OfEach, MayMove, Untouched, setting, tale_at}
+use Rattle.lard_law_view.specs.View.{ClientRules, Conn, FrontRules, GoesBetween, IsMachine, IsSound, Move, NodeRules, Setting, UntouchedRules, Was, brought_said, client_begins, client_does, contents, event_seen, front_does, grown, letter, letters_of, node_does, nothing_said, packet_seen, reads_first, stands}
+use Rattle.lard_law_view.proofs.Carried.{carried}
+use Rattle.lard_law_view.proofs.Guarded.{untouched-law, untouched-weaker}
+use Rattle.lard_laws.specs.WindowsLaws.{ClientsStart, WordsFit}
+use Rattle.lard_laws.specs.WindowsWords.{BytesFit, Fits, FitsOn, HasFittingWords, HasStarted, IsNoWord, IsNoWordOn, StartsOn, WordFits, WordFitsOn}
+use Rattle.lard_laws.proofs.WindowsWords.{IsLater, fits-later, later-self, starts-later}
+use Rattle.lard_laws.proofs.WindowsWordTurns.{Out, Turned, aborts-turned, gets-turned, holds-turned, opens-turned, shuts-turned, takes-turned, timer-turned, writes-turned}
+use Rattle.lard_rules.specs.Front as front
+use Rattle.lard_rules.specs.Front.{ask_of, front_asked, front_ended, front_gets, front_taken, front_timer}
+use Rattle.lard_history.specs.Journal.{request}
+use Rattle.lard_history.specs.Own.{Has, Letter, Seen}
+use Rattle.lard_history.proofs.Each.{Each, Each-append, Each-weaker}
+use Rattle.lard_history.proofs.Seeing.{has-before}
+use Rattle.lard_journal.specs.declared.rec.Rec.TheVariants as rec
+use Rattle.lard_law_view.specs.Agreement.{ClientAgrees, IsReply}
+use Rattle.lard_rules.specs.Node as node
+use Rattle.lard_rules.specs.Node.{node_acknowledged, node_content, node_forwarded, node_offered, node_read, node_tagged, node_timer}
+use Rattle.lard_rules.specs.declared.places.Station.{Station}
+use Rattle.lard_rules.specs.declared.places.Turn.{Turn}
+use Rattle.lard_rules.specs.Client.{client_aborts, client_gets, client_holds, client_opens, client_shuts, client_takes, client_timer, client_writes}
+use Rattle.lard_segment.proofs.Again.{again}
+use Rattle.lard_segment.specs.declared.fault.SegFault.{SegFault}
+use Rattle.lard_segment.specs.declared.segment.Dir.TheVariants.{ToClient, ToCluster}
+use Rattle.lard_segment.specs.Segment.{Said, decoded, spelled}
+
+-- ---- letters go on fitting
+
+module _ (c : ℕ) (x y : ClientBlock) (ls ms : List Letter) (later : IsLater x y) (goes : (l : Letter) → Has l ls → Has l ms) where
+  on-later : (from to : Place) (bytes : List ℕ) → WordFitsOn c x ls from to bytes → WordFitsOn c y ms from to bytes
+  on-later (Client d) Front bytes h = λ s e. fits-later c x y ls ms later goes s (h s e)
+  on-later (Client d) (Client e) bytes h = tt
+  on-later (Client d) (Node n) bytes h = tt
+  on-later Front to bytes h = tt
+  on-later (Node n) to bytes h = tt
+
+  letters-later : (all : List Letter) → Each (WordFits c x ls) all → Each (WordFits c y ms) all
+  letters-later all h = Each-weaker (WordFits c x ls) (WordFits c y ms) (λ l f. on-later l.from l.to l.bytes f) all h
+
+-- ---- what goes out from a machine of the cluster is no word of the client's
+
+from-machine : (c : ℕ) (x : ClientBlock) (ls : List Letter) (from to : Place) (bytes : List ℕ) → IsMachine from → WordFitsOn c x ls from to bytes
+from-machine c x ls Front to bytes m = tt
+from-machine c x ls (Node n) to bytes m = tt
+from-machine c x ls (Client d) to bytes m = absurd m
+
+none-from : (from to : Place) → IsMachine from → IsNoWordOn from to
+none-from Front to m = tt
+none-from (Node n) to m = tt
+none-from (Client d) to m = absurd m
+
+module _ (c : ℕ) (x : ClientBlock) (ls : List Letter) (place : Place) (m : IsMachine place) where
+  sent-fit : (ss : List (Place × List ℕ)) → Each (WordFits c x ls) (map (letter place) ss)
+  sent-fit [] = tt
+  sent-fit (s ∷ ss) = (from-machine c x ls place s.0 s.1 m, sent-fit ss)
+
+sent-none : (place : Place) → IsMachine place → (ss : List (Place × List ℕ)) → Each IsNoWord (map (letter place) ss)
+sent-none place m [] = tt
+sent-none place m (s ∷ ss) = (none-from place s.0 m, sent-none place m ss)
+
+-- ---- what a client sends
+
+same-said : (a b : Said) → ◌≡◌ {A = Result Said SegFault} (Ok a) (Ok b) → a ≡ b
+same-said a b e = cc
+
+module _ (c d : ℕ) (x : ClientBlock) (ls : List Letter) where
+  out-fit : (ss : List (Place × List ℕ)) → Each (Out c x ls) ss → Each (WordFits c x ls) (map (letter (Client d)) ss)
+  out-fit [] h = tt
+  out-fit (s ∷ ss) h = (subst (λ (to : Place). WordFitsOn c x ls (Client d) to s.1) (sym h.0.0) fits, out-fit ss h.1) where
+    said : Said
+    said = h.0.1.0
+
+    fits : BytesFit c x ls s.1
+    fits t e =
+        let same : said ≡ t = same-said said t (sym (again c ToCluster said h.0.1.2.0) ∙ ap (λ l. decoded l c ToCluster) (sym h.0.1.1) ∙ e) in
+        subst (λ (u : Said). Fits c x ls u) same h.0.1.2.1
+
+-- what no client sent fits any client
+none-fits : (c : ℕ) (x : ClientBlock) (ls all : List Letter) → Each IsNoWord all → Each (WordFits c x ls) all
+none-fits c x ls all h = Each-weaker IsNoWord (WordFits c x ls) (λ l n. go l.from l.to l.bytes n) all h where
+  go : (from to : Place) (bytes : List ℕ) → IsNoWordOn from to → WordFitsOn c x ls from to bytes
+  go Front to bytes n = tt
+  go (Node m) to bytes n = tt
+  go (Client d) Front bytes n = absurd n
+  go (Client d) (Client e) bytes n = tt
+  go (Client d) (Node m) bytes n = tt
+
+-- the segments of its client fit it, and it starts so
+abbrev All : Conn → Type 0
+All x = HasFittingWords x × HasStarted x
+
+module _ (k : Setting) (small : k.stream ≤ 2 ^ 30) where
+  -- what is known beside the words
+  pub record Helps (x : Conn) : Type 0 where
+    pub sound : IsSound x
+    pub truth : IsTruthful k.files x
+
+  abbrev Keeps : Conn → Move → Type 0
+  Keeps x v = Helps x → All x → All (grown x v)
+
+  -- ---- places of the cluster, and what nobody does
+
+  still-rule : (x : Conn) (v : Move) → v.part.station ≡ x.part.station → ((c : ℕ) (y : ClientBlock) (ls : List Letter) → Each (WordFits c y ls) (letters_of v)) → Each IsNoWord (letters_of v) → Keeps x v
+  still-rule x v same fit none help h = (go x.part.station refl h.0, subst StartsOn (sym same) h.1) where
+    go : (o : Option Station) → x.part.station ≡ o → FitsOn x o → FitsOn (grown x v) v.part.station
+    go None e r = subst (FitsOn (grown x v)) (sym (same ∙ e)) (Each-append IsNoWord x.letters (letters_of v) r none)
+    go (Some s) e r = subst (FitsOn (grown x v)) (sym (same ∙ e))
+        (Each-append (WordFits x.c s.client (x.letters ++ letters_of v)) x.letters (letters_of v)
+        (letters-later x.c s.client s.client x.letters (x.letters ++ letters_of v) (later-self s.client) (λ l has. has-before l x.letters (letters_of v) has) x.letters r) (fit x.c s.client (x.letters ++ letters_of v)))
+
+  front-rule : (x : Conn) (heads : List Seen) (d : front.Deed) → Keeps x (front_does x heads d)
+  front-rule x heads d = still-rule x (front_does x heads d) (front-station x heads d) (λ c y ls. fit c y ls d) (none d) where
+    fit : (c : ℕ) (y : ClientBlock) (ls : List Letter) (d : front.Deed) → Each (WordFits c y ls) (letters_of (front_does x heads d))
+    fit c y ls front.Drops = tt
+    fit c y ls (front.Says turn) = Each-append (WordFits c y ls) (map (letter Front) turn.segments) (map (letter Front) turn.messages) (sent-fit c y ls Front tt turn.segments) (sent-fit c y ls Front tt turn.messages)
+    fit c y ls (front.Does did) = Each-append (WordFits c y ls) (map (letter Front) did.turn.segments) (map (letter Front) did.turn.messages) (sent-fit c y ls Front tt did.turn.segments) (sent-fit c y ls Front tt did.turn.messages)
+
+    none : (d : front.Deed) → Each IsNoWord (letters_of (front_does x heads d))
+    none front.Drops = tt
+    none (front.Says turn) = Each-append IsNoWord (map (letter Front) turn.segments) (map (letter Front) turn.messages) (sent-none Front tt turn.segments) (sent-none Front tt turn.messages)
+    none (front.Does did) = Each-append IsNoWord (map (letter Front) did.turn.segments) (map (letter Front) did.turn.messages) (sent-none Front tt did.turn.segments) (sent-none Front tt did.turn.messages)
+
+  -- a node's, with the record of a job before it or not
+  module _ (x : Conn) (n : ℕ) where
+    fit : (c : ℕ) (y : ClientBlock) (ls : List Letter) (heads : List Seen) (d : node.Deed) → Each (WordFits c y ls) (letters_of (node_does x n heads d))
+    fit c y ls heads node.Drops = tt
+    fit c y ls heads (node.Says ms) = sent-fit c y ls (Node n) tt ms
+    fit c y ls heads (node.Does given) = Each-append (WordFits c y ls) (map (letter (Node n)) given.1.segments) (map (letter (Node n)) given.1.messages) (sent-fit c y ls (Node n) tt given.1.segments) (sent-fit c y ls (Node n) tt given.1.messages)
+
+    none : (heads : List Seen) (d : node.Deed) → Each IsNoWord (letters_of (node_does x n heads d))
+    none heads node.Drops = tt
+    none heads (node.Says ms) = sent-none (Node n) tt ms
+    none heads (node.Does given) = Each-append IsNoWord (map (letter (Node n)) given.1.segments) (map (letter (Node n)) given.1.messages) (sent-none (Node n) tt given.1.segments) (sent-none (Node n) tt given.1.messages)
+
+  node-rule : (x : Conn) (n : ℕ) (heads : List Seen) (d : node.Deed) → Keeps x (node_does x n heads d)
+  node-rule x n heads d = still-rule x (node_does x n heads d) (node-station x n heads d) (λ c y ls. fit x n c y ls heads d) (none x n heads d)
+
+  fronts : FrontRules k Keeps
+  fronts = record {
+    hears = λ x s env bytes there is iss was. front-rule x (packet_seen (Client x.c) Front bytes) (front_gets env x.part.front bytes (decoded bytes x.c ToCluster));
+    fires = λ x s env there is. front-rule x (event_seen (event.Timer Front x.c)) (front_timer env x.part.front);
+    taken = λ x env n epoch bytes is spells was. front-rule x (packet_seen (Node n) Front bytes) (front_taken x.part.front epoch);
+    asked = λ x env n epoch number queue size paths bytes is spells was. front-rule x (packet_seen (Node n) Front bytes) (front_asked env x.part.front n epoch (ask_of x.c n number queue size paths));
+    ended = λ x env n epoch reason snd rcv count bytes is spells was. front-rule x (packet_seen (Node n) Front bytes) (front_ended env x.part.front n epoch (record { reason = reason; snd = record { 0 = snd }; rcv = record { 0 = rcv } }));
+    admitted = λ x env choice given is e. front-rule x [] (front.Does (record { part = given.0; turn = given.1; calls = [] }));
+  }
+
+  nodes : NodeRules k Keeps
+  nodes = record {
+    offered = λ x n epoch env parts bytes is spells was. node-rule x n (packet_seen Front (Node n) bytes) (node_offered env (x.part.nodes n) parts);
+    forwarded = λ x n epoch env segment bytes is spells was. node-rule x n (packet_seen Front (Node n) bytes) (node_forwarded env (x.part.nodes n) (decoded segment x.c ToCluster));
+    tagged = λ x n epoch number tags env bytes is spells was. node-rule x n (packet_seen Front (Node n) bytes) (node_tagged env (x.part.nodes n) number tags);
+    content = λ x n from epoch r env file bytes is spells was. node-rule x n (packet_seen (Node from) (Node n) bytes) (node_content env (x.part.nodes n) from r);
+    acknowledged = λ x n epoch env bytes is spells was. node-rule x n (packet_seen Front (Node n) bytes) (node_acknowledged env (x.part.nodes n));
+    read = λ x n epoch r env path is.
+        let d : node.Deed = node_read env (x.part.nodes n) r in
+        still-rule x (reads_first (rec.Read n n x.c r path) (node_does x n [] d)) (node-station x n [] d) (λ c y ls. fit x n c y ls [] d) (none x n [] d);
+    fires = λ x s n env there is. node-rule x n (event_seen (event.Timer (Node n) x.c)) (node_timer env (x.part.nodes n));
+    answers = λ x n from epoch r path file bytes there spells was. still-rule x (stands x (Node n) (packet_seen (Node from) (Node n) bytes) (contents k n from x.c epoch r path)) refl (λ c y ls. (tt, tt)) (tt, tt);
+    queues = λ x n from epoch r path file bytes there spells was. still-rule x (stands x (Node n) (packet_seen (Node from) (Node n) bytes) (record nothing_said { notes = rec.Queued n from x.c r path ∷ [] })) refl (λ c y ls. tt) tt;
+    brings = λ x n from epoch r path. still-rule x (stands x (Node n) [] (brought_said k n from x.c epoch r path)) refl (λ c y ls. (tt, tt)) (tt, tt);
+  }
+
+  -- ---- clients
+
+  -- its turn, where what it says fits with all that was sent before
+  client-rule : (x : Conn) (s : Station) (heads : List Seen) (given : ClientBlock × Turn) → x.part.station ≡ Some s → (IsTruthful k.files x → Turned x.c s.client x.letters given) → Keeps x (client_does x s heads given)
+  client-rule x s heads given there turned help h0 =
+      let h : Each (WordFits x.c s.client x.letters) x.letters = subst (FitsOn x) there h0.0 in
+      let t : Turned x.c s.client x.letters given = turned help.truth in
+      let new : List Letter = letters_of (client_does x s heads given) in
+      let z : ClientBlock = given.0 in
+      let goes : (l : Letter) → Has l x.letters → Has l (x.letters ++ new) = λ l has. has-before l x.letters new has in (
+        Each-append (WordFits x.c z (x.letters ++ new)) x.letters new (letters-later x.c s.client z x.letters (x.letters ++ new) t.later goes x.letters h)
+            (Each-append (WordFits x.c z (x.letters ++ new)) (map (letter (Client x.c)) given.1.segments) []
+            (letters-later x.c z z x.letters (x.letters ++ new) (later-self z) goes (map (letter (Client x.c)) given.1.segments) (out-fit x.c x.c z x.letters given.1.segments t.words)) tt),
+        starts-later s.client z t.later (subst StartsOn there h0.1),
+      )
+
+  agrees : (x : Conn) (s : Station) → x.part.station ≡ Some s → (h : IsTruthful k.files x) → ClientAgrees x.c h.talk.w h.talk.out s.client
+  agrees x s there h = (open-at k.files x s there h).client
+
+  -- by the law of bytes
+  module _ (x : Conn) (s : Station) (there : x.part.station ≡ Some s) (h : IsTruthful k.files x) where
+    abbrev a : ClientAgrees x.c h.talk.w h.talk.out s.client
+    a = agrees x s there h
+
+    pub by-writes : (bytes : List ℕ) → nat_lt k.stream (written_len s.client bytes) ≡ false → Turned x.c s.client x.letters (client_writes s.client bytes)
+    by-writes bytes fits = writes-turned x.c x.letters s.client a.numbered a.sound a.wide h.talk.w.bytes a.speaks k.stream bytes small fits
+
+    pub by-shuts : Turned x.c s.client x.letters (client_shuts s.client)
+    by-shuts = shuts-turned x.c x.letters s.client a.numbered a.sound a.wide h.talk.w.bytes a.speaks
+
+    pub by-aborts : Turned x.c s.client x.letters (client_aborts s.client)
+    by-aborts = aborts-turned x.c x.letters s.client a.numbered a.sound a.wide h.talk.w.bytes a.speaks
+
+    pub by-holds : Turned x.c s.client x.letters (client_holds s.client)
+    by-holds = holds-turned x.c x.letters s.client a.numbered a.sound a.wide h.talk.w.bytes a.speaks
+
+    pub by-takes : Turned x.c s.client x.letters (client_takes s.client)
+    by-takes = takes-turned x.c x.letters s.client a.numbered a.sound a.wide h.talk.w.bytes a.speaks
+
+    pub by-timer : Turned x.c s.client x.letters (client_timer s.client)
+    by-timer = timer-turned x.c x.letters s.client a.numbered a.sound a.wide h.talk.w.bytes a.speaks
+
+    by-gets : (from : Place) (bytes : List ℕ) (t : Said) → Was x from (Client x.c) bytes → decoded bytes x.c ToClient ≡ Ok t → t.ack < 2 ^ 32 → Turned x.c s.client x.letters (client_gets s.client (Ok t))
+    by-gets from bytes t was read fits = gets-turned x.c x.letters s.client a.numbered a.sound a.wide h.talk.w.bytes a.speaks from bytes t was read fits
+
+  pub hears-turned : (x : Conn) (s : Station) (from : Place) (bytes : List ℕ) → x.part.station ≡ Some s → Was x from (Client x.c) bytes → IsSound x → IsTruthful k.files x → Turned x.c s.client x.letters (client_gets s.client (decoded bytes x.c ToClient))
+  hears-turned x s from bytes there was sound h =
+      let read : decoded bytes x.c ToClient ≡ Ok fair.0 = ap (λ (b : List ℕ). decoded b x.c ToClient) fair.1 ∙ again x.c ToClient fair.0 fair.2.sendable in
+      subst (λ (r : Result Said SegFault). Turned x.c s.client x.letters (client_gets s.client r)) (sym read) (by-gets x s there h from bytes fair.0 was read fair.2.sendable.ack_fits)
+    where
+      fair-from : (p : Place) → GoesBetween x.c p (Client x.c) bytes → IsFairOn h.talk x.c x.part p (Client x.c) bytes → (t : Said) × (bytes ≡ spelled x.c ToClient t) × IsReply h.talk.w h.talk.out h.talk.was_reset t
+      fair-from Front g f = f
+      fair-from (Node n) g f = f
+      fair-from (Client d) g f = absurd g
+
+      fair : (t : Said) × (bytes ≡ spelled x.c ToClient t) × IsReply h.talk.w h.talk.out h.talk.was_reset t
+      fair = fair-from from (was-between x from (Client x.c) bytes sound was) (has-fair (IsFair h.talk x.c x.part) (record { from = from; to = Client x.c; bytes = bytes }) x.letters was (open-at k.files x s there h).fair)
+
+  client-hears : (x : Conn) (s : Station) (from : Place) (bytes : List ℕ) → x.part.station ≡ Some s → Was x from (Client x.c) bytes → Keeps x (client_does x s (packet_seen from (Client x.c) bytes) (client_gets s.client (decoded bytes x.c ToClient)))
+  client-hears x s from bytes there was help h0 = client-rule x s (packet_seen from (Client x.c) bytes) (client_gets s.client (decoded bytes x.c ToClient)) there (λ h. hears-turned x s from bytes there was help.sound h) help h0
+
+  client-opens-so : (x : Conn) (isn iss wnd mss : ℕ) → HasRule (event.Open x.c isn iss wnd mss) → x.part.station ≡ None → Keeps x (client_begins x isn iss wnd mss)
+  client-opens-so x isn iss wnd mss rule none help h0 =
+      let z : ClientBlock = (client_opens x.c isn wnd mss).0 in
+      let old : Each IsNoWord x.letters = subst (FitsOn x) none h0.0 in
+      let new : List Letter = letters_of (client_begins x isn iss wnd mss) in
+      let goes : (l : Letter) → Has l x.letters → Has l (x.letters ++ new) = λ l has. has-before l x.letters new has in
+      let t : Turned x.c (opened x.c isn wnd mss) x.letters (client_opens x.c isn wnd mss) = opens-turned x.c x.letters isn wnd mss rule.4 rule.3 rule.1 rule.2 in
+      let ss : List (Place × List ℕ) = (client_opens x.c isn wnd mss).1.segments in (
+        Each-append (WordFits x.c z (x.letters ++ new)) x.letters new (none-fits x.c z (x.letters ++ new) x.letters old)
+            (Each-append (WordFits x.c z (x.letters ++ new)) (map (letter (Client x.c)) ss) [] (letters-later x.c z z x.letters (x.letters ++ new) (later-self z) goes (map (letter (Client x.c)) ss) (out-fit x.c x.c z x.letters ss t.words)) tt),
+        starts-later (opened x.c isn wnd mss) z t.later (record { window = rule.0; first = λ e. omega arith }),
+      )
+
+  clients : ClientRules k Keeps
+  clients = record {
+    opens = client-opens-so;
+    gets = λ x s path there fits. client-rule x s (event_seen (event.Get x.c path)) (client_writes s.client (request path)) there (λ h. by-writes x s there h (request path) fits);
+    writes = λ x s bytes there fits. client-rule x s (event_seen (event.Write x.c bytes)) (client_writes s.client bytes) there (λ h. by-writes x s there h bytes fits);
+    shuts = λ x s there. client-rule x s (event_seen (event.Shut x.c)) (client_shuts s.client) there (by-shuts x s there);
+    aborts = λ x s there. client-rule x s (event_seen (event.Abort x.c)) (client_aborts s.client) there (by-aborts x s there);
+    holds = λ x s there. client-rule x s (event_seen (event.Hold x.c)) (client_holds s.client) there (by-holds x s there);
+    takes = λ x s there. client-rule x s (event_seen (event.Take x.c)) (client_takes s.client) there (by-takes x s there);
+    fires = λ x s there. client-rule x s (event_seen (event.Timer (Client x.c) x.c)) (client_timer s.client) there (by-timer x s there);
+    hears = client-hears;
+  }
+
+  -- ---- the law
+
+  keeps : UntouchedRules k Keeps
+  keeps = record {
+    client = clients;
+    front = fronts;
+    node = nodes;
+    ignores = λ x from to bytes was. still-rule x (stands x to (packet_seen from to bytes) nothing_said) refl (λ c y ls. tt) tt;
+  }
+
+  -- that it agrees
+  abbrev pub Given : Conn → Type 0
+  Given x = Untouched (IsTruthful k.files) x
+
+  abbrev Wanted : Conn → Move → Type 0
+  Wanted x v = MayMove Given x → (tale_at x).touched ≡ false → All x → All (grown x v)
+
+  wanted : (x : Conn) (v : Move) → Keeps x v → Wanted x v
+  wanted x v keeps may untouched h = keeps (record { sound = may.sound; truth = may.given untouched }) h
+
+  fitting-law : IsUntouchedLaw k Given All
+  fitting-law = record { begins = λ c. (tt, tt); moves = untouched-weaker k Keeps Wanted wanted keeps }
+
+-- In every state that events lead to.
+all-fits : (config : Config) (files : List (List ℕ × List ℕ)) → config.stream ≤ 2 ^ 30 → OfEach config files (Untouched All)
+all-fits config files small =
+    let k : Setting = setting config files in
+    carried config files (Given k small) (Untouched All) (untouched-law k (Given k small) All (fitting-law k small)) (states-truthful config files small)
+
+pub words-fit : WordsFit
+words-fit config files small m r q untouched = (all-fits config files small m r q untouched).0
+
+pub clients-start : ClientsStart
+clients-start config files small m r q untouched = (all-fits config files small m r q untouched).1

@@ -1,0 +1,127 @@
+-- Which request of a connection something is for, which place answers it, and what backs the way of its response: in words of the
+-- journal.
+use Rattle.std.specs.Prelude.{◌≡◌, ℕ, ◌+◌, false, List, [], ◌∷◌, ◌++◌, take, Option, Some, Ok}
+use Rattle.std.specs.List.{slice_get}
+use Rattle.lard_answers.specs.Answers.{FilesAt, good_path, verdicts}
+use Rattle.lard_base.specs.declared.place.Place.{Place}
+use Rattle.lard_base.specs.declared.place.Place.TheVariants.{Client, Front, Node}
+use Rattle.lard_base.specs.declared.place.Via.{Via}
+use Rattle.lard_base.specs.declared.place.Via.TheVariants as via
+use Rattle.lard_laws.specs.BackingTold.{WasAssigned, WasTold}
+use Rattle.lard_laws.specs.Ways.{good_paths}
+use Rattle.lard_history.specs.Journal.{assigned, is_touched, served, wrote}
+use Rattle.lard_history.specs.Own.{Came, Has, Seen, net_of, seen_on}
+use Rattle.lard_journal.specs.declared.rec.Rec.{Rec}
+use Rattle.lard_journal.specs.declared.rec.Rec.TheVariants as rec
+use Rattle.lard_message.specs.declared.message.Body.TheVariants as body
+use Rattle.lard_message.specs.Reading.{decoded_message}
+use Rattle.lard_rules.specs.NodePlace.{bytes_of}
+use Rattle.lard_request.specs.declared.verdict.Verdict.{Verdict}
+
+-- Request r of all that a client wrote is for this path.
+pub record IsFor (files : FilesAt) (wrote : List ℕ) (r : ℕ) (path : List ℕ) : Type 0 where
+  pub before : ℕ
+  pub number : r ≡ before + 1
+  pub verdict : Verdict
+  pub is : slice_get (verdicts wrote) before ≡ Some verdict
+  pub good : good_path files verdict ≡ Some path
+
+-- ---- numbers
+
+-- The first assignment is for the next request, whose number it has, and a job is for the path of its request: as long as the
+-- schedule did not touch the connection.
+abbrev pub MayName : FilesAt → List Rec → Rec → Type 0
+MayName files past (rec.AssignedFirst c r path n add remove) = is_touched past c ≡ false → (assigned past c ≡ []) × (r ≡ served past c + 1) × IsFor files (wrote past c) r path
+MayName files past (rec.Queued n m c r path) = is_touched past c ≡ false → IsFor files (wrote past c) r path
+MayName files past _ = Unit {0}
+
+-- ---- places
+
+-- Where no request for a file is among these, the front end answers. The first of them and all later ones are answered by the home,
+-- the node of the first assignment.
+abbrev pub AnswersFrom : List (List ℕ) → List (List ℕ × ℕ) → Place → Type 0
+AnswersFrom [] chosen place = place ≡ Front
+AnswersFrom (path ∷ paths) chosen place = (first : List ℕ × ℕ) × (slice_get chosen 0 ≡ Some first) × (place ≡ Node first.1)
+
+-- the paths of the good requests up to the next one, which is answered
+abbrev pub paths_so_far : FilesAt → List Rec → ℕ → List (List ℕ)
+paths_so_far files past c = good_paths files (take (served past c + 1) (verdicts (wrote past c)))
+
+abbrev pub MayAnswer : FilesAt → List Rec → Rec → Type 0
+MayAnswer files past (rec.Served place c r code size way) = is_touched past c ≡ false → AnswersFrom (paths_so_far files past c) (assigned past c) place
+MayAnswer files past _ = Unit {0}
+
+-- ---- ways
+
+-- The node's own job for this request and this path was queued, and behind that its disk read it.
+pub record IsQueuedAndRead (rs : List Rec) (n c r : ℕ) (path : List ℕ) : Type 0 where
+  pub before : List Rec
+  pub later : List Rec
+  pub split : rs ≡ before ++ later
+  pub queued : Has (rec.Queued n n c r path) before
+  pub read : Has (rec.Read n n c r path) later
+
+-- A content of this epoch came there from node m for this request, and it is the file of this path.
+pub record HasComeFor (files : FilesAt) (seen : List Seen) (n m c epoch r : ℕ) (path : List ℕ) : Type 0 where
+  pub bytes : List ℕ
+  pub came : Has (Came (record { from = Node m; to = Node n; bytes = bytes })) seen
+  pub reads : decoded_message bytes ≡ Ok (record { c = c; epoch = record { 0 = epoch }; body = body.Content r (bytes_of (files path)) })
+
+-- what backs a way stands among the later of these records
+abbrev pub StandsFor : FilesAt → List Rec → List Rec → ℕ → ℕ → ℕ → ℕ → List ℕ → Via → Type 0
+StandsFor files before later n c epoch r path via.Own = Unit {0}
+StandsFor files before later n c epoch r path via.Cache = Has (rec.Hit n path) later
+StandsFor files before later n c epoch r path via.Disk = IsQueuedAndRead later n c r path
+StandsFor files before later n c epoch r path (via.Node m) = HasComeFor files (seen_on c (net_of before) later) n m c epoch r path
+
+-- the node from which a response of node n has its content
+abbrev pub comes_from : ℕ → Via → ℕ
+comes_from n via.Own = n
+comes_from n via.Cache = n
+comes_from n via.Disk = n
+comes_from n (via.Node m) = m
+
+-- Request r was assigned, for its path and to the node from which the content came. Node n was told of that, and what backs the way of the
+-- response stands behind it.
+pub record IsBehindTold (files : FilesAt) (past : List Rec) (n c r : ℕ) (path : List ℕ) (way : Via) : Type 0 where
+  pub epoch : ℕ
+  pub ask : Option ℕ
+  pub before : List Rec
+  pub later : List Rec
+  pub split : past ≡ before ++ later
+  pub assigned : WasAssigned files (wrote past c) before c r path (comes_from n way) ask
+  pub told : WasTold before n c epoch ask
+  pub stands : StandsFor files before later n c epoch r path way
+
+abbrev pub WasFor : FilesAt → List Rec → ℕ → ℕ → ℕ → List ℕ → Via → Type 0
+WasFor files past n c r path via.Own = Unit {0}
+WasFor files past n c r path via.Cache = IsBehindTold files past n c r path via.Cache
+WasFor files past n c r path via.Disk = IsBehindTold files past n c r path via.Disk
+WasFor files past n c r path (via.Node m) = IsBehindTold files past n c r path (via.Node m)
+
+abbrev pub WasForAt : FilesAt → List Rec → Place → ℕ → ℕ → List ℕ → Via → Type 0
+WasForAt files past (Node n) c r path way = WasFor files past n c r path way
+WasForAt files past Front c r path way = Unit {0}
+WasForAt files past (Client d) c r path way = Unit {0}
+
+-- The content of a response was there before by its way, behind what told the node where the request is assigned, and it is that of the
+-- path which the request is for.
+abbrev pub MayBeBacked : FilesAt → List Rec → Rec → Type 0
+MayBeBacked files past (rec.Served place c r code size way) = is_touched past c ≡ false → (path : List ℕ) → IsFor files (wrote past c) r path → WasForAt files past place c r path way
+MayBeBacked files past _ = Unit {0}
+
+-- ---- what starts
+
+-- Request r of connection c was assigned, for this path, and node n was told of it.
+pub record IsTold (files : FilesAt) (past : List Rec) (n c r : ℕ) (path : List ℕ) : Type 0 where
+  pub epoch : ℕ
+  pub ask : Option ℕ
+  pub node : ℕ
+  pub assigned : WasAssigned files (wrote past c) past c r path node ask
+  pub told : WasTold past n c epoch ask
+
+-- A job of the node itself is queued, and its disk reads it, only behind what told the node where the request is assigned.
+abbrev pub MayStart : FilesAt → List Rec → Rec → Type 0
+MayStart files past (rec.Queued n m c r path) = is_touched past c ≡ false → m ≡ n → IsTold files past n c r path
+MayStart files past (rec.Read n m c r path) = is_touched past c ≡ false → m ≡ n → IsTold files past n c r path
+MayStart files past _ = Unit {0}

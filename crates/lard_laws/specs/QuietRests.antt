@@ -1,0 +1,55 @@
+-- When nothing more comes of a connection that a place of the cluster has, as far as its two ends go; and that it is complete then.
+use Rattle.std.specs.Prelude.{◌≡◌, ◌⊎◌, ℕ, ◌≤◌, true, false, List, Some}
+use Rattle.lard_base.specs.declared.config.Config.{Config}
+use Rattle.lard_base.specs.declared.limits.TheConstants.{MAX_STREAM_BYTES}
+use Rattle.lard_client.specs.Control.{is_armed}
+use Rattle.lard_rules.specs.declared.machine.Machine.{Machine}
+use Rattle.lard_rules.specs.Machine.{IsReached}
+use Rattle.lard_law_connections.specs.Stops.{IsAwaited}
+use Rattle.lard_law_view.specs.View.{Conn, conn}
+use Rattle.lard_endpoint.specs.Control.{ControlBlock}
+use Rattle.lard_files.specs.Files.{file_at}
+use Rattle.lard_handoff_back.specs.declared.row.BackConn.TheVariants as back
+use Rattle.lard_handoff_back.specs.declared.row.BackRow.{BackRow}
+use Rattle.lard_handoff_front.specs.declared.row.FrontConn.TheVariants as stage
+use Rattle.lard_handoff_front.specs.declared.row.FrontRow.{FrontRow}
+use Rattle.lard_history.specs.Journal.{is_touched, was_reset}
+use Rattle.lard_law_view.specs.Quiet.{IsComplete, has_aborted}
+use Rattle.lard_rules.specs.declared.stay.Stay.{Stay}
+use Rattle.lard_rules.specs.declared.places.Station.{Station}
+use Rattle.lard_send.specs.Send.{is_clear}
+
+-- all that the client sent is acknowledged
+pub record ClientRests (x : Conn) : Type 0 where
+  pub station : Station
+  pub there : x.part.station ≡ Some station
+  pub quiet : is_armed station.client ≡ false
+
+-- the front end holds it, and all that was sent is acknowledged
+pub record HeldRests (x : Conn) : Type 0 where
+  pub row : FrontRow
+  pub block : ControlBlock
+  pub found : x.part.front.row ≡ Some row
+  pub at : row.stage ≡ stage.Held block
+  pub clear : is_clear block.send ≡ true
+
+-- node n has it, all that was sent is acknowledged, and the first request of its batch awaits nothing
+pub record StayRests (x : Conn) (n : ℕ) : Type 0 where
+  pub row : BackRow
+  pub block : ControlBlock
+  pub stay : Stay
+  pub found : (x.part.nodes n).row ≡ Some row
+  pub at : row.stage ≡ back.Here block
+  pub stays : (x.part.nodes n).stay ≡ Some stay
+  pub clear : is_clear block.send ≡ true
+  pub ready : IsAwaited stay.batch → ⊥
+
+abbrev pub RestsSomewhere : Conn → Type 0
+RestsSomewhere x = HeldRests x ⊎ ((n : ℕ) × StayRests x n)
+
+-- Where both ends rest and a place has the connection, it is complete, unless its client aborted it, the stream limit reset it, or
+-- the schedule touched it.
+abbrev pub RestingIsComplete : Type 0
+RestingIsComplete = (config : Config) (files : List (List ℕ × List ℕ)) (m : Machine) → config.stream ≤ MAX_STREAM_BYTES → IsReached config files m
+    → (c : ℕ) → is_touched m.journal c ≡ false → has_aborted m.journal c ≡ false → was_reset m.journal c ≡ false
+    → ClientRests (conn m c) → RestsSomewhere (conn m c) → IsComplete (file_at files) m.journal c
