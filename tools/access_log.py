@@ -20,11 +20,14 @@ from collections import Counter
 
 LONGEST = 65536       # bytes of a line
 LONGEST_PATH = 1024
+PROGRESS = 10**6      # lines after which progress is told
 GZIP = b"\x1f\x8b"    # how a file that is compressed begins
 LINE = re.compile(rb"\S+ \S+ .+? \[(\d\d/[A-Z][a-z][a-z]/\d{4}):(\d\d):(\d\d):(\d\d)(?:\.(\d{1,9}))? ([+-])(\d\d)(\d\d)\] "
                   rb'"((?:[^"\\]|\\.)*)" (\d{3}) (\d{1,18}|-)(?: (.*))?')
 DURATION = re.compile(rb"(\d{1,12})(?:\.(\d{1,9}))?")
 UNITS = {"D": 1000, "T": 10**9}  # nanoseconds of one: Apache's %D are microseconds, and %T seconds
+HOST = re.compile(rb"[A-Za-z][A-Za-z0-9+.-]*://[^/]*")
+PATH = re.compile(rb"/[!-~]{0,%d}" % (LONGEST_PATH - 1))
 MONTHS = b"Jan Feb Mar Apr May Jun Jul Aug Sep Oct Nov Dec".split()
 STATUSES = {b"200", b"206", b"304"}
 
@@ -55,13 +58,15 @@ class Log:
         self.lines, self.has_fractions, self.zone = 0, False, None
         self.days = {}
 
-    def read(self, file, name):
-        """Reads a log, which may be compressed by gzip. Why it ends too early, or None."""
+    def read(self, file, name, progress=None):
+        """Reads a log, which may be compressed by gzip. Why it ends too early, or None. progress is called now and then."""
         source = gzip.GzipFile(fileobj=file) if file.peek(2)[:2] == GZIP else file
         at = 0
         try:
             for at, line in enumerate(lines_of(source), 1):
                 self.lines += 1
+                if progress and self.lines % PROGRESS == 0:
+                    progress(self.lines)
                 try:
                     self.take(line)
                 except LeftOut as cause:
@@ -144,11 +149,13 @@ def words_of(request):
 def path_of(target):
     """The path of a target: what precedes `?` and `#`, and of an absolute form what follows its host. Escaped quotes and
     backslashes become what they stand for."""
-    path = re.sub(rb'\\(["\\])', rb"\1", re.split(rb"[?#]", target)[0])
-    host = re.match(rb"[A-Za-z][A-Za-z0-9+.-]*://[^/]*", path)
+    path = target.partition(b"?")[0].partition(b"#")[0]
+    if b"\\" in path:
+        path = re.sub(rb'\\(["\\])', rb"\1", path)
+    host = path[:1] != b"/" and HOST.match(path)
     if host:
         path = path[host.end():] or b"/"
-    if not re.fullmatch(rb"/[!-~]{0,%d}" % (LONGEST_PATH - 1), path):
+    if not PATH.fullmatch(path):
         raise LeftOut(NO_PATH)
     return path
 

@@ -243,8 +243,8 @@ MISUSES = [  # words, and the line on standard error
 REFUSED = [  # a trace, options, and the last line on standard error
     (("nodes 2, low 9", "/a 1", "/a /b"), "", "policies: TRACE: line 7: no such file"),
     (("nodes 2, low 9", "/a 1", "/a -2"), "", "policies: TRACE: line 7: request 2 is not open"),
-    (("nodes 1, low 2, high 2", "/a 1", "/a /a"), "--nodes 2", "policies: TRACE: 1 requests are full at its 1 nodes, and have no `done`, "
-     "so it serves no greater number of nodes: make it with `tools/trace --nodes 2`, or give --window"),
+    (("nodes 1, low 2, high 2", "/a 1", "/a /a"), "--nodes 2", "policies: TRACE: with its own numbers 1 of 2 requests find no room, and have no "
+     "`done`, so it serves no more nodes: make it with `tools/trace --nodes 2`, or give --window"),
     (("nodes 2, low 9", "/a 1", "/a"), "--low 66", "policies: low 66 above high 65"),
 ]
 
