@@ -186,6 +186,9 @@ ROWS = [  # a trace as the words of `made`, a policy, and its lines behind the h
      "requests 6 hits 4 full 0, n1 requests 3 hits 2 peak 3, n2 requests 3 hits 2 peak 2, n3 requests 0 hits 0 peak 0"),
     ((*THREE, "/a /a /a /a +10 /a -1 -2 -3 -4 -5 /a"), "lardr", "1m 1h 1h 2m 2h 1h",
      "requests 6 hits 4 full 0, n1 requests 4 hits 3 peak 3, n2 requests 2 hits 1 peak 2, n3 requests 0 hits 0 peak 0"),
+    # of two with equal loads the greater number leaves
+    ((*THREE, "/a /a /a /a -1 -2 +11 /a /a"), "lardr", "1m 1h 1h 2m 1h 1h",
+     "requests 6 hits 4 full 0, n1 requests 5 hits 4 peak 3, n2 requests 1 hits 0 peak 1, n3 requests 0 hits 0 peak 0"),
     # what was asked for longest ago leaves the cache; what is larger than it never comes in; an empty file does
     (("nodes 1, cache 10", "/a 6, /b 4, /c 3, /big 11, /zero 0", "/a /b /a /c /b /a /big /big /b /zero /zero"), "rr",
      "1m 1m 1h 1m 1m 1m 1m 1m 1h 1m 1h", "requests 11 hits 3 full 0, n1 requests 11 hits 3 peak 11"),
@@ -205,16 +208,20 @@ cache 10 bytes at each node, low 25, high 65, age 20,000 ms; BY
 
 nodes  policy   requests       hits     full  misses  greatest load over mean
 """
-# of the rows above, where the loads behind each request are those of 1 and 0, 1 and 1, 2 and 1; or 1 and 0, 2 and 0, 2 and 1
-TABLES = [  # options, and the rows: nodes, policy, requests, hits, full, share of misses, greatest load over mean
-    ("--nodes 2", "2 rr 3 0 0 1.000 1.44, 2 hash 3 1 0 0.667 1.78, 2 lard 3 1 0 0.667 1.78, 2 lardr 3 1 0 0.667 1.78, 2 one 3 1 0 0.667 -"),
-    ("--nodes 1,2 --policy one,rr", "1 rr 3 1 0 0.667 1.00, 1 one 3 1 0 0.667 -, 2 rr 3 0 0 1.000 1.44, 2 one 3 1 0 0.667 -"),
-    ("--nodes 2 --policy rr,hash --skip 1", "2 rr 2 0 0 1.000 1.17, 2 hash 2 1 0 0.500 1.67"),
-    ("--nodes 2 --policy rr,hash --window 1", "2 rr 3 0 0 1.000 2.00, 2 hash 3 1 0 0.667 2.00"),
-    ("--nodes 1,2 --policy rr,one --low 2 --high 2", "1 rr 1 0 2 1.000 1.00, 1 one 1 0 0 1.000 -, 2 rr 3 0 0 1.000 1.44, 2 one 3 1 0 0.667 -"),
-    ("--nodes 1 --policy rr --low 2 --high 2 --window room", "1 rr 3 1 0 0.667 1.00"),
-    ("--nodes 2 --policy rr,hash --cache 5", "2 rr 3 0 0 1.000 1.44, 2 hash 3 0 0 1.000 1.78"),
-    ("--nodes 3 --policy rr,lard", "3 rr 3 0 0 1.000 1.83, 3 lard 3 1 0 0.667 2.67"),
+# of the first rows above, where the loads behind each request are those of 1 and 0, 1 and 1, 2 and 1; or 1 and 0, 2 and 0, 2 and 1
+TABLES = [  # a trace, options, and the rows: nodes, policy, requests, hits, full, share of misses, greatest load over mean
+    (TWO, "--nodes 2", "2 rr 3 0 0 1.000 1.44, 2 hash 3 1 0 0.667 1.78, 2 lard 3 1 0 0.667 1.78, 2 lardr 3 1 0 0.667 1.78, 2 one 3 1 0 0.667 -"),
+    (TWO, "--nodes 1,2 --policy one,rr", "1 rr 3 1 0 0.667 1.00, 1 one 3 1 0 0.667 -, 2 rr 3 0 0 1.000 1.44, 2 one 3 1 0 0.667 -"),
+    (TWO, "--nodes 2 --policy rr,hash --skip 1", "2 rr 2 0 0 1.000 1.17, 2 hash 2 1 0 0.500 1.67"),
+    (TWO, "--nodes 2 --policy rr,hash --window 1", "2 rr 3 0 0 1.000 2.00, 2 hash 3 1 0 0.667 2.00"),
+    (TWO, "--nodes 1,2 --policy rr,one --low 2 --high 2", "1 rr 1 0 2 1.000 1.00, 1 one 1 0 0 1.000 -, 2 rr 3 0 0 1.000 1.44, 2 one 3 1 0 0.667 -"),
+    (TWO, "--nodes 1 --policy rr --low 2 --high 2 --window room", "1 rr 3 1 0 0.667 1.00"),
+    (TWO, "--nodes 2 --policy rr,hash --cache 5", "2 rr 3 0 0 1.000 1.44, 2 hash 3 0 0 1.000 1.78"),
+    (TWO, "--nodes 3 --policy rr,lard", "3 rr 3 0 0 1.000 1.83, 3 lard 3 1 0 0.667 2.67"),
+    # the caches of two nodes in one hold both files
+    ((*TWO[:2], "/a /b /a"), "--nodes 1,2 --policy rr,one", "1 rr 3 0 0 1.000 1.00, 1 one 3 0 0 1.000 -, 2 rr 3 1 0 0.667 1.44, 2 one 3 1 0 0.667 -"),
+    # at one node the second request is full, and then never done
+    (("nodes 2, low 9", "/a 1", "/a /a -1 -2 /a"), "--nodes 1 --policy rr,one --low 2 --high 2", "1 rr 2 1 1 0.500 1.00, 1 one 2 1 0 0.500 -"),
 ]
 
 # ---- words
