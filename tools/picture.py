@@ -1,4 +1,4 @@
-"""What the pictures of tools/sequence and tools/loads have alike: the head of an SVG, and its elements."""
+"""What the pictures of tools/sequence, tools/loads and tools/policies have alike: the head of an SVG, its elements, and axes."""
 
 import html
 
@@ -34,3 +34,26 @@ def picture(width, height, title, style, parts):
         *parts,
         "</svg>",
     ])
+
+
+# ---- series over axes
+
+# seven colours that stay apart for those who see some alike (Okabe and Ito), each with strokes of its own as well
+COLOURS = "#0072b2", "#d55e00", "#009e73", "#cc79a7", "#000000", "#e69f00", "#56b4e9"
+DASHES = None, "8 3", "2 3", "10 3 2 3", "14 4", "5 5", "1 4 8 4"
+AXES = """text{font:12px sans-serif;fill:#222}.name{font-weight:bold}.tick{fill:#555;font-size:11px}.grid{stroke:#e3e3e3}
+.axis{stroke:#666;fill:none}.series{fill:none;stroke-width:2;stroke-linejoin:round}"""
+
+
+def spacing(most):
+    """1, 2, 5, 10, 20 and so on: the first of which at most six make as many."""
+    size = 1
+    while size * 6 < most:
+        size = size * 5 // 2 if str(size)[0] == "2" else size * 2
+    return size
+
+
+def ticks(most):
+    """Round numbers from 0 on, of which the last is not below the most."""
+    size = spacing(most)
+    return [size * count for count in range(int(-(-most // size)) + 1)]

@@ -72,15 +72,15 @@ def faults_of(test):
         return [f"{test[0].__name__}: {error}"]
 
 
-def run_all(name, tests):
-    """Runs the tests, prints their faults and how many passed, and ends the check."""
+def run_all(name, tests, left_out=None):
+    """Runs the tests, prints their faults and how many passed, and ends the check. What was left out stands in the last line."""
     with ProcessPoolExecutor(os.cpu_count()) as pool:
         found = list(pool.map(faults_of, tests))
     for fault in (fault for faults in found for fault in faults):
         print(f"{name}: {fault}", file=sys.stderr)
     failed = sum(bool(faults) for faults in found)
-    if not os.path.exists(PROGRAM):
+    if left_out is None and not os.path.exists(PROGRAM):
         print(f"{name}: the program is not built, so nothing was replayed")
-    print(f"{name}: {len(found) - failed} passed, {failed} failed")
+    print(f"{name}: {left_out + '; ' if left_out else ''}{len(found) - failed} passed, {failed} failed")
     FOLDER.cleanup()
     sys.exit(failed > 0)
