@@ -9,7 +9,7 @@ use Rattle.lard_base.specs.declared.place.Place.TheVariants.{Client, Front, Node
 use Rattle.lard_client.specs.Control.{ClientBlock, written_len}
 use Rattle.lard_rules.specs.Bounds.{HasRule}
 use Rattle.lard_law_connections.specs.BytesAgreement.{ConnAgrees, IsFair, IsFairOn, IsInner, IsNode, IsOpen, IsTruthful, IsUnopened, SeatAgrees, StayComesOn, TaleAgrees}
-use Rattle.lard_law_connections.specs.BytesLaw.{Helps, IsSeenTrue, IsTrueMove, StaysTruthful}
+use Rattle.lard_law_connections.proofs.BytesLaw.{Helps, IsSeenTrue, IsTrueMove, StaysTruthful}
 use Rattle.lard_law_connections.specs.BytesRecords.{IsTrueAfter}
 use Rattle.lard_law_connections.proofs.BytesFair.{GoesOnFairly, all-on}
 use Rattle.lard_law_connections.proofs.BytesLater.{said-stays, seat-stays}

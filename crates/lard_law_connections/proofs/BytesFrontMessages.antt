@@ -6,7 +6,7 @@ use Rattle.lard_base.specs.declared.ids.Epoch.{Epoch}
 use Rattle.lard_base.specs.declared.place.Place.TheVariants.{Front, Node}
 use Rattle.lard_law_connections.specs.BytesAgreement.{AwayAgrees, ConnAgrees, IsFair, IsInner, IsOpen, IsTruthful, IsUnopened, NodeAgrees, SeatAgrees, StageAgrees}
 use Rattle.lard_law_connections.specs.BytesKeeping.{AdmittedKeeps, FrontAgrees, FrontTurned}
-use Rattle.lard_law_connections.specs.BytesLaw.{Helps, IsTrueMove, StaysTruthful}
+use Rattle.lard_law_connections.proofs.BytesLaw.{Helps, IsTrueMove, StaysTruthful}
 use Rattle.lard_law_connections.proofs.BytesClientMoves.{has-fair, open-at}
 use Rattle.lard_law_connections.proofs.BytesFrontMoves.{IsOurs, RowIsOurs, all-say, drops-goes, front-seat, home-past, ours-unoffered, seat-front, talk-of}
 use Rattle.lard_law_connections.proofs.BytesFronts.{admissions-keep}

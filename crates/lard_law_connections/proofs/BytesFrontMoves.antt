@@ -8,7 +8,7 @@ use Rattle.lard_base.specs.declared.place.Place.{Place}
 use Rattle.lard_base.specs.declared.place.Place.TheVariants.{Client, Front, Node}
 use Rattle.lard_law_connections.specs.BytesAgreement.{FrontHolds, FrontTells, IsFair, IsFairOn, IsOpen, SeatAgrees, StageAgrees}
 use Rattle.lard_law_connections.specs.BytesKeeping.{FrontAgrees, FrontDeedKeeps, FrontRowAgrees, FrontSays, FrontStageAgrees, FrontTurned, IsFrontTalk, SaysOfKind}
-use Rattle.lard_law_connections.specs.BytesLaw.{Helps, IsTrueMove, StaysTruthful}
+use Rattle.lard_law_connections.proofs.BytesLaw.{Helps, IsTrueMove, StaysTruthful}
 use Rattle.lard_law_connections.proofs.BytesClientMoves.{has-fair, open-at}
 use Rattle.lard_law_connections.proofs.BytesFronts.{front-hears, timer-keeps}
 use Rattle.lard_law_connections.proofs.BytesMessages.{forwards-read}

@@ -5,7 +5,7 @@ use Rattle.lard_answers.specs.Answers.{FilesAt}
 use Rattle.lard_base.specs.declared.place.Place.{Place}
 use Rattle.lard_base.specs.declared.place.Place.TheVariants.{Front, Node}
 use Rattle.lard_law_connections.specs.BytesAgreement.{ConnAgrees, IsFair, IsOpen, IsTruthful, SeatAgrees, StayComesOn, TaleAgrees}
-use Rattle.lard_law_connections.specs.BytesLaw.{Helps, IsSeenTrue, IsTrueMove, OwnerServes}
+use Rattle.lard_law_connections.proofs.BytesLaw.{Helps, IsSeenTrue, IsTrueMove, OwnerServes}
 use Rattle.lard_law_connections.specs.BytesRecords.{IsTrueAfter}
 use Rattle.lard_law_connections.specs.BytesTurning.{Counts, IsNoteOf}
 use Rattle.lard_law_connections.proofs.BytesFair.{GoesOnFairly, all-on}

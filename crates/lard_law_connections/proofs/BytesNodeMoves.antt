@@ -7,7 +7,7 @@ use Rattle.lard_base.specs.declared.place.Place.{Place}
 use Rattle.lard_base.specs.declared.place.Place.TheVariants.{Front, Node}
 use Rattle.lard_law_connections.specs.BytesAgreement.{IsFair, IsOffering, IsOpen, NodeAgrees, NodeTells, SeatAgrees, StageAgrees, StayComesOn}
 use Rattle.lard_law_connections.specs.BytesKeeping.{EndsOfKind, NodeSays, NodeTurned}
-use Rattle.lard_law_connections.specs.BytesLaw.{Helps, IsTrueMove}
+use Rattle.lard_law_connections.proofs.BytesLaw.{Helps, IsTrueMove}
 use Rattle.lard_law_connections.specs.BytesTurning.{AnswersAfter, IsNoteOf}
 use Rattle.lard_law_connections.proofs.BytesClientMoves.{has-fair}
 use Rattle.lard_law_connections.proofs.BytesFair.{GoesOnFairly, all-on}

@@ -12,7 +12,7 @@ use Rattle.lard_base.specs.declared.place.Place.{Place}
 use Rattle.lard_base.specs.declared.place.Place.TheVariants.{Front, Node}
 use Rattle.lard_base.specs.declared.place.TimerKind.TheVariants as timer
 use Rattle.lard_law_connections.specs.BytesAgreement.{ConnAgrees, IsFair, IsInner, IsOffering, IsOpen, IsTruthful, IsUnopened, NodeAgrees, SeatAgrees, StageAgrees}
-use Rattle.lard_law_connections.specs.BytesLaw.{Helps, IsSeenTrue, IsTrueMove, OwnerServes, StaysTruthful}
+use Rattle.lard_law_connections.proofs.BytesLaw.{Helps, IsSeenTrue, IsTrueMove, OwnerServes, StaysTruthful}
 use Rattle.lard_law_connections.specs.BytesRecords.{IsTrueAfter}
 use Rattle.lard_law_connections.proofs.BytesNext.{mute-answers}
 use Rattle.lard_law_connections.proofs.BytesTelling.{Tells, gave-true, heads-true, messages-true, notes-true, timers-true}

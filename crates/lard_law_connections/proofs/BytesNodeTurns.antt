@@ -21,7 +21,7 @@ use Rattle.lard_base.specs.declared.place.Place.{Place}
 use Rattle.lard_base.specs.declared.place.Place.TheVariants.{Front, Node}
 use Rattle.lard_law_connections.specs.BytesAgreement.{AwayAgrees, IsFair, IsKept, IsOffering, IsOpen, NodeAgrees, SeatAgrees, StageAgrees, StayComesOn}
 use Rattle.lard_law_connections.specs.BytesKeeping.{DeedKeeps, IsTalk}
-use Rattle.lard_law_connections.specs.BytesLaw.{Helps, IsTrueMove}
+use Rattle.lard_law_connections.proofs.BytesLaw.{Helps, IsTrueMove}
 use Rattle.lard_law_connections.specs.BytesTurning.{AnswersAfter}
 use Rattle.lard_law_connections.proofs.BytesNext.{named-tells}
 use Rattle.lard_law_connections.proofs.BytesNodeMoves.{HasIt, IsAt, Noted, again-fair, all-node, does-goes, has-it, known, stands-goes}

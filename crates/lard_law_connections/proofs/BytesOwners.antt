@@ -7,7 +7,7 @@ use Rattle.lard_base.specs.declared.parts.EndpointParts.{EndpointParts}
 use Rattle.lard_base.specs.declared.place.Place.{Place}
 use Rattle.lard_base.specs.declared.place.Place.TheVariants.{Client, Front, Node}
 use Rattle.lard_base.specs.declared.place.TimerKind.TheVariants as kind
-use Rattle.lard_law_connections.specs.BytesLaw.{IsHead, OwnerServes, ServesOwn}
+use Rattle.lard_law_connections.proofs.BytesLaw.{IsHead, OwnerServes, ServesOwn}
 use Rattle.lard_law_connections.proofs.BytesFrontMoves.{IsBefore}
 use Rattle.lard_law_connections.specs.Places.{Owning, Sits, StageSits, owning}
 use Rattle.lard_law_connections.proofs.PlacesLoops.{batch-state, came-notes, goes-notes, reads-notes, settled-is, tagged-notes}

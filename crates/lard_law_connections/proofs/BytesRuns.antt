@@ -7,7 +7,7 @@ use Rattle.lard_base.specs.declared.place.Place.TheVariants.{Client, Front, Node
 use Rattle.lard_rules.specs.declared.machine.Machine.{Machine}
 use Rattle.lard_rules.specs.Machine.{IsReached}
 use Rattle.lard_law_connections.specs.BytesAgreement.{IsTruthful}
-use Rattle.lard_law_connections.specs.BytesLaw.{IsSeenTrue, IsTrueMove, StaysTruthful}
+use Rattle.lard_law_connections.proofs.BytesLaw.{IsSeenTrue, IsTrueMove, StaysTruthful}
 use Rattle.lard_law_connections.specs.BytesRecords.{MayServe}
 use Rattle.lard_law_connections.specs.BytesRuns.{ClientsAcceptAnswers, JournalsServeTheAnswers, JournalsTellTheTruth, StatesAreTruthful}
 use Rattle.lard_law_connections.proofs.BytesClientMoves.{clients}

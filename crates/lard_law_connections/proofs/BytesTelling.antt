@@ -3,7 +3,7 @@ use Rattle.std.proofs.Common.{◌≡◌, ◌⊎◌, ℕ, Bool, true, false, List
 use Rattle.lard_answers.specs.Answers.{FilesAt}
 use Rattle.lard_base.specs.declared.place.Place.{Place}
 use Rattle.lard_base.specs.declared.place.Place.TheVariants.{Client, Front, Node}
-use Rattle.lard_law_connections.specs.BytesLaw.{IsHead, IsSeenTrue, OwnerServes}
+use Rattle.lard_law_connections.proofs.BytesLaw.{IsHead, IsSeenTrue, OwnerServes}
 use Rattle.lard_law_connections.specs.BytesRecords.{IsTrueAfter, MayServe}
 use Rattle.lard_law_connections.specs.BytesTurning.{AnswersAfter, IsNoteOf}
 use Rattle.lard_law_view.specs.Carry.{TellsBy}

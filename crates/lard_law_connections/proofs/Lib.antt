@@ -137,3 +137,4 @@ pub mod OffersSaying
 pub mod OffersRules
 pub mod OffersRows
 pub mod OffersRuns
+pub mod BytesLaw

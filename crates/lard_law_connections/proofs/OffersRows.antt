@@ -3,7 +3,7 @@ use Rattle.std.proofs.Common.{◌≡◌, ℕ, List, [], ◌∷◌, ◌++◌, map
 use Rattle.lard_answers.specs.Answers.{FilesAt}
 use Rattle.lard_base.specs.declared.place.Place.{Place}
 use Rattle.lard_base.specs.declared.place.Place.TheVariants.{Client, Front, Node}
-use Rattle.lard_law_connections.specs.BytesLaw.{IsHead}
+use Rattle.lard_law_connections.proofs.BytesLaw.{IsHead}
 use Rattle.lard_law_connections.proofs.BytesTold.{Bytes, bytes_of, move-bytes}
 use Rattle.lard_law_connections.specs.Offers.{BodyCarries}
 use Rattle.lard_law_connections.proofs.OffersRules.{SaysAt, SaysTruth}

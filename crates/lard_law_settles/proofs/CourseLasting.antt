@@ -22,7 +22,7 @@ use Rattle.lard_journal.specs.declared.rec.Rec.{Rec}
 use Rattle.lard_journal.specs.declared.rec.Rec.TheVariants as rec
 use Rattle.lard_rules.specs.Sent.{packets_of, sent_records}
 use Rattle.lard_net.specs.Net.{Packet}
-use Rattle.lard_law_settles.proofs.ProgressMost.{sum-less, sum-still}
+use Rattle.lard_law_progress.proofs.Most.{sum-less, sum-still}
 use Rattle.lard_law_view.proofs.OwnRecords.{behind}
 
 module _ (Given : Conn → Type 0) (Came : Conn → Move → Type 0) (all : ℕ → Whole) (m n : Machine) (e : Event) (s : IsStep Given Came all m n e) where

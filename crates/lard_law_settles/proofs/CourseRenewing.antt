@@ -30,7 +30,7 @@ use Rattle.lard_message.proofs.Whole.{again}
 use Rattle.lard_rules.specs.declared.stay.Stay.{Stay}
 use Rattle.lard_rules.specs.Node.{NodePart, ask_kept, ended_kept, message}
 use Rattle.lard_rules.specs.Stay.{named_paths}
-use Rattle.lard_law_settles.proofs.ProgressAway.{IsWith, away-here, seat-with}
+use Rattle.lard_law_progress.proofs.Away.{IsWith, away-here, seat-with}
 use Rattle.lard_resend.specs.declared.kept.Kept.{Kept}
 use Rattle.lard_resend.specs.Kept.{is_under}
 use Rattle.lard_rules.specs.declared.places.Station.{Station}

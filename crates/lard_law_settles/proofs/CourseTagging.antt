@@ -19,10 +19,10 @@ use Rattle.lard_rules.specs.declared.stay.Stay.{Stay}
 use Rattle.lard_rules.specs.Node as node
 use Rattle.lard_rules.specs.Node.{NodePart, here, is_awaited, node_tagged, rests, tagged_by, with_work, work_of}
 use Rattle.lard_rules.specs.Stay.{NodeEnv, goes_on, named_paths, tagged}
-use Rattle.lard_law_settles.proofs.ProgressAnswersNodeDeeds.{is-here}
-use Rattle.lard_law_settles.proofs.ProgressAnswersNodeGiven.{NodeGiven}
-use Rattle.lard_law_settles.proofs.ProgressAnswersNodeSeats.{both-here}
-use Rattle.lard_law_settles.proofs.ProgressAnswersNodeStill.{still, tag-falls}
+use Rattle.lard_law_progress.proofs.AnswersNodeDeeds.{is-here}
+use Rattle.lard_law_progress.proofs.AnswersNodeGiven.{NodeGiven}
+use Rattle.lard_law_progress.proofs.AnswersNodeSeats.{both-here}
+use Rattle.lard_law_progress.proofs.AnswersNodeStill.{still, tag-falls}
 use Rattle.lard_resend.specs.Kept.{is_under, without}
 use Rattle.lard_rules.specs.declared.places.Station.{Station}
 

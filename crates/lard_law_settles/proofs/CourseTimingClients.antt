@@ -36,7 +36,7 @@ use Rattle.lard_handoff_front.specs.declared.row.FrontRow.{FrontRow}
 use Rattle.lard_history.specs.Own.{Has, Letter}
 use Rattle.lard_history.proofs.Seeing.{has-before}
 use Rattle.lard_rules.specs.Node.{NodePart, holds_kind, node_armed}
-use Rattle.lard_law_settles.proofs.ProgressAway.{away-here, seat-with}
+use Rattle.lard_law_progress.proofs.Away.{away-here, seat-with}
 use Rattle.lard_resend.specs.declared.kept.Kept.{Kept}
 use Rattle.lard_resend.specs.Kept.{rank}
 use Rattle.lard_rules.specs.Client as rules

@@ -23,7 +23,7 @@ use Rattle.lard_handoff_front.specs.declared.row.FrontRow.{FrontRow}
 use Rattle.lard_history.specs.Own.{Has, Letter}
 use Rattle.lard_history.proofs.Seeing.{has-before}
 use Rattle.lard_rules.specs.Stay.{NodeEnv}
-use Rattle.lard_law_settles.proofs.ProgressAway.{away-here, seat-with}
+use Rattle.lard_law_progress.proofs.Away.{away-here, seat-with}
 use Rattle.lard_rules.specs.declared.places.Station.{Station}
 use Rattle.lard_rules.specs.Serving.{ServeEnv}
 use Rattle.lard_rules.specs.Speaking.{speaks}

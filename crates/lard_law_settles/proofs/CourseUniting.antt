@@ -6,7 +6,7 @@ use Rattle.lard_law_view.specs.View.{Conn, Move, Rules, Setting}
 use Rattle.lard_law_view.proofs.Guarded.{both, weaker}
 use Rattle.lard_law_settles.proofs.CourseOwing.{Owed}
 use Rattle.lard_law_settles.proofs.CourseTimingRules.{Timed, TimersKnown, rules-begin}
-use Rattle.lard_law_settles.proofs.ProgressLeading.{AllGiven, Comes, OwesAll, rules-lead}
+use Rattle.lard_law_progress.proofs.Leading.{AllGiven, Comes, OwesAll, rules-lead}
 
 -- what is given of a connection between two steps
 abbrev pub Known : Setting → (ℕ → Whole) → Conn → Type 0

@@ -39,11 +39,11 @@ use Rattle.lard_rules.specs.Node as node
 use Rattle.lard_rules.specs.Node.{NodePart, come_by, here, kept_after, node_content, rests, wants_kept, with_work, work_of}
 use Rattle.lard_rules.specs.NodePlace.{NodeSetting, node_deed, node_env, node_gets, node_hears, node_part}
 use Rattle.lard_rules.specs.Stay.{NodeEnv, Work, came_for, come_progress, goes_on}
-use Rattle.lard_law_settles.proofs.ProgressAnswersIgnored.{IsUnwanted}
-use Rattle.lard_law_settles.proofs.ProgressAnswersNodeAsks.{goes-asks}
-use Rattle.lard_law_settles.proofs.ProgressAnswersNodeGiven.{NodeGiven}
-use Rattle.lard_law_settles.proofs.ProgressAnswersNodeSeats.{here-both}
-use Rattle.lard_law_settles.proofs.ProgressComing.{came-on, content-comes, without-fewer}
+use Rattle.lard_law_progress.proofs.AnswersIgnored.{IsUnwanted}
+use Rattle.lard_law_progress.proofs.AnswersNodeAsks.{goes-asks}
+use Rattle.lard_law_progress.proofs.AnswersNodeGiven.{NodeGiven}
+use Rattle.lard_law_progress.proofs.AnswersNodeSeats.{here-both}
+use Rattle.lard_law_progress.proofs.Coming.{came-on, content-comes, without-fewer}
 use Rattle.lard_resend.specs.declared.kept.Kept.{Kept}
 use Rattle.lard_resend.specs.Kept.{is_under, without}
 use Rattle.lard_rules.specs.declared.places.Out.{Out}

@@ -10,7 +10,7 @@ use Rattle.lard_law_connections.specs.Kept.{awaited_in, awaits}
 use Rattle.lard_rules.specs.declared.stay.Entry.{Entry}
 use Rattle.lard_rules.specs.declared.stay.Progress.{Progress}
 use Rattle.lard_rules.specs.declared.stay.Progress.TheVariants as progress
-use Rattle.lard_law_settles.proofs.ProgressComing.{without-fewer}
+use Rattle.lard_law_progress.proofs.Coming.{without-fewer}
 use Rattle.lard_resend.specs.declared.kept.Kept.{Kept}
 use Rattle.lard_resend.specs.Kept.{is_under, rank, without}
 

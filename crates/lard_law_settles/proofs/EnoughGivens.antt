@@ -17,9 +17,9 @@ use Rattle.lard_law_settles.proofs.KnownEnds.{each-client, each-held, each-met, 
 use Rattle.lard_history.specs.Journal.{Tale, wrote}
 use Rattle.lard_history.proofs.Tales.{wrote-tale}
 use Rattle.lard_law_settles.proofs.KnownCalm.{its-tale, open-free}
-use Rattle.lard_law_settles.proofs.ProgressAnswersFrontGiven.{FrontGiven}
-use Rattle.lard_law_settles.proofs.ProgressGiven as progress
-use Rattle.lard_law_settles.proofs.ProgressLeading.{AllGiven}
+use Rattle.lard_law_progress.proofs.AnswersFrontGiven.{FrontGiven}
+use Rattle.lard_law_progress.proofs.Given as progress
+use Rattle.lard_law_progress.proofs.Leading.{AllGiven}
 use Rattle.lard_rules.specs.declared.places.Station.{Station}
 use Rattle.lard_law_settles.proofs.EnoughRested.{all-events, free-of, free-tale, holds}
 use Rattle.lard_law_settles.proofs.EnoughSums.{wholes}

@@ -33,7 +33,7 @@ use Rattle.lard_history.specs.Own.{Has, Seen}
 use Rattle.lard_journal.specs.declared.rec.Rec.{Rec}
 use Rattle.lard_journal.specs.declared.rec.Rec.TheVariants as rec
 use Rattle.lard_rules.specs.declared.fault.What.{What}
-use Rattle.lard_law_settles.proofs.ProgressClients.{speaks-told}
+use Rattle.lard_law_progress.proofs.Clients.{speaks-told}
 use Rattle.lard_rules.specs.declared.places.Station.{Station}
 use Rattle.lard_rules.specs.declared.places.Turn.{Turn}
 use Rattle.lard_rules.specs.Client.{client_takes, client_writes, silent, speaking}

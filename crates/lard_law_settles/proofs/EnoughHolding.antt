@@ -8,7 +8,7 @@ use Rattle.lard_client.specs.declared.phase.Phase.TheVariants.{Open, Aborted, Re
 use Rattle.lard_client.specs.Arriving.{accepting, answers_syn, arrived, begins_after, ends, established, fresh_len, heard_in, nothing, on_ack, on_fresh, on_greeting, on_rst, on_segment, on_syn, on_text, on_unacceptable, owing, part_of, reset_by_peer}
 use Rattle.lard_client.specs.Control.{ClientBlock, is_holding, is_open, is_open_in, rcv_nxt, rcv_wnd}
 use Rattle.lard_client.specs.Leaving.{after_emit, after_owed, after_piece, after_timer, owes, told}
-use Rattle.lard_law_settles.proofs.ProgressClients.{OnPhase, heard-turned, timer-turned}
+use Rattle.lard_law_progress.proofs.Clients.{OnPhase, heard-turned, timer-turned}
 use Rattle.lard_rules.specs.Client.{client_gets, client_timer}
 use Rattle.lard_rules.specs.Speaking.{client_speaks}
 use Rattle.lard_rules.proofs.Loops.{client_keeps}

@@ -26,9 +26,9 @@ use Rattle.lard_handoff_front.specs.declared.row.FrontConn.TheVariants as stage
 use Rattle.lard_law_settles.proofs.KnownAborts.{AbortedIsOver, each-aborted}
 use Rattle.lard_law_settles.proofs.KnownRuns.{OpenActs, StationActs, connections-ack, number-of, story_at}
 use Rattle.lard_law_settles.proofs.KnownTimed.{Speaking, SpeaksAt, client-low, held-acks, here-acks, irs-is, iss-small, peer-aborted, seat-speaks, took-few, unborn-none}
-use Rattle.lard_law_settles.proofs.ProgressAnswersClientGiven.{EndTells, SeatTells}
-use Rattle.lard_law_settles.proofs.ProgressLeading.{AllGiven}
-use Rattle.lard_law_settles.proofs.ProgressSeating.{seat-at}
+use Rattle.lard_law_progress.proofs.AnswersClientGiven.{EndTells, SeatTells}
+use Rattle.lard_law_progress.proofs.Leading.{AllGiven}
+use Rattle.lard_law_progress.proofs.Seating.{seat-at}
 use Rattle.lard_rules.specs.declared.places.Station.{Station}
 use Rattle.lard_law_settles.proofs.EnoughRenewals.{decided-are, renews-are}
 

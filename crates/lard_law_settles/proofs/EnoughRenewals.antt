@@ -54,7 +54,7 @@ use Rattle.lard_rules.specs.declared.stay.Stay.{Stay}
 use Rattle.lard_rules.specs.Node.{NodePart, ask_kept, ended_kept, message}
 use Rattle.lard_rules.specs.NodePlace.{node_part}
 use Rattle.lard_rules.specs.Stay.{and_path, named_path, named_paths, path_in}
-use Rattle.lard_law_settles.proofs.ProgressAway.{IsWith, away-ended, seat-with}
+use Rattle.lard_law_progress.proofs.Away.{IsWith, away-ended, seat-with}
 use Rattle.lard_resend.specs.declared.kept.Kept.{Kept}
 use Rattle.lard_law_settles.proofs.EnoughAwaited.{AreBelow, all-awaited}
 use Rattle.lard_law_settles.proofs.EnoughSpelt.{ask-may, ended-may, fetch-may, offer-may}

@@ -36,12 +36,12 @@ use Rattle.lard_law_settles.proofs.KnownCalm as known
 use Rattle.lard_law_settles.proofs.KnownEventsGiven.{IsOfSettle, config-of, settle-given}
 use Rattle.lard_law_settles.proofs.KnownNodesGiven.{fetch-opened, front-opened}
 use Rattle.lard_law_view.proofs.ByteLists.{each-all}
-use Rattle.lard_law_settles.proofs.ProgressAnswersForm.{IsLateOn}
-use Rattle.lard_law_settles.proofs.ProgressAnswersNodeGiven.{NodeGiven}
-use Rattle.lard_law_settles.proofs.ProgressGiven as progress
-use Rattle.lard_law_settles.proofs.ProgressGiven.{AreInner, IsInnerSeen}
-use Rattle.lard_law_settles.proofs.ProgressMost.{IsModest}
-use Rattle.lard_law_settles.proofs.ProgressLeading.{Comes}
+use Rattle.lard_law_progress.proofs.AnswersForm.{IsLateOn}
+use Rattle.lard_law_progress.proofs.AnswersNodeGiven.{NodeGiven}
+use Rattle.lard_law_progress.proofs.Given as progress
+use Rattle.lard_law_progress.proofs.Given.{AreInner, IsInnerSeen}
+use Rattle.lard_law_progress.proofs.Most.{IsModest}
+use Rattle.lard_law_progress.proofs.Leading.{Comes}
 use Rattle.lard_rules.specs.declared.places.Station.{Station}
 use Rattle.lard_law_settles.proofs.EnoughBeside.{Is}
 use Rattle.lard_law_settles.proofs.EnoughFetches.{fetches}

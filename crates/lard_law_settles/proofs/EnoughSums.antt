@@ -12,7 +12,7 @@ use Rattle.lard_history.proofs.Seeing.{by_number, other_number, same_number}
 use Rattle.lard_history.specs.Journal.{wrote}
 use Rattle.lard_history.specs.Own.{Has}
 use Rattle.lard_journal.specs.declared.rec.Rec.{Rec}
-use Rattle.lard_law_settles.proofs.ProgressMost.{IsModest, left-most}
+use Rattle.lard_law_progress.proofs.Most.{IsModest, left-most}
 use Rattle.lard_request.specs.Verdict.{closes}
 use Rattle.lard_request.specs.declared.verdict.Verdict.{Verdict}
 use Rattle.lard_rules.specs.declared.places.Station.{Station}

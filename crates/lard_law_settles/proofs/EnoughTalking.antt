@@ -12,7 +12,7 @@ use Rattle.lard_client.specs.Control.{ClientBlock, IsClientBlock, is_aborted_in,
 use Rattle.lard_client.specs.Leaving.{ack_ready, after_emit, after_owed, after_piece, after_timer, data_ready, emitted, filled, owed_ready, owes, piece_ready, ready_of, refusal, syn_ready, timed, told}
 use Rattle.lard_client.proofs.Accepted.{arrived-bounded, arrived-ended, arrived-reply}
 use Rattle.lard_history.proofs.Each.{Each, Each-append, Each-weaker}
-use Rattle.lard_law_settles.proofs.ProgressClients.{OnPhase, heard-turned, timer-turned}
+use Rattle.lard_law_progress.proofs.Clients.{OnPhase, heard-turned, timer-turned}
 use Rattle.lard_rules.specs.Client as rules
 use Rattle.lard_rules.specs.Client.{client_gets, client_timer}
 use Rattle.lard_rules.specs.Speaking.{client_speaks, to_front}

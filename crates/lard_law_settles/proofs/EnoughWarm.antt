@@ -10,7 +10,7 @@ use Rattle.lard_message.specs.declared.message.Body.{Body}
 use Rattle.lard_message.specs.declared.message.Body.TheVariants as body
 use Rattle.lard_message.specs.declared.message.Message.{Message}
 use Rattle.lard_message.specs.Reading.{decoded_message}
-use Rattle.lard_law_settles.proofs.ProgressAnswersForm.{IsLateBetween, IsLateBody, IsLateOn, IsLateWord}
+use Rattle.lard_law_progress.proofs.AnswersForm.{IsLateBetween, IsLateBody, IsLateOn, IsLateWord}
 use Rattle.lard_rules.specs.declared.places.Station.{Station}
 use Rattle.lard_segment.specs.declared.fault.SegFault.{SegFault}
 use Rattle.lard_segment.specs.declared.segment.Dir.TheVariants.{ToCluster}

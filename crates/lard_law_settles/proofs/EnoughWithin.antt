@@ -24,7 +24,7 @@ use Rattle.lard_history.specs.Journal.{is_touched, touched_step, wrote, wrote_st
 use Rattle.lard_history.specs.Own.{Has}
 use Rattle.lard_journal.specs.declared.rec.Rec.{Rec}
 use Rattle.lard_journal.specs.declared.rec.Rec.TheVariants as rec
-use Rattle.lard_law_settles.proofs.ProgressMost.{IsModest}
+use Rattle.lard_law_progress.proofs.Most.{IsModest}
 use Rattle.lard_rounds.specs.Rounds.{Owes}
 use Rattle.lard_rules.specs.declared.places.Station.{Station}
 use Rattle.lard_law_settles.proofs.EnoughBeside.{Beside, Is}

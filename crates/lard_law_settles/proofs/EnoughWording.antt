@@ -21,7 +21,7 @@ use Rattle.lard_message.specs.declared.kind.Kind.TheVariants as kind
 use Rattle.lard_message.specs.declared.message.Message.{Message}
 use Rattle.lard_message.specs.Message.{kind_of}
 use Rattle.lard_message.specs.Reading.{decoded_message}
-use Rattle.lard_law_settles.proofs.ProgressClients.{OnPhase}
+use Rattle.lard_law_progress.proofs.Clients.{OnPhase}
 use Rattle.lard_rules.specs.Client.{client_gets, client_timer}
 use Rattle.lard_rules.specs.declared.places.Station.{Station}
 use Rattle.lard_rules.specs.declared.places.Turn.{Turn}

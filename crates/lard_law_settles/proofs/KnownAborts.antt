@@ -30,7 +30,7 @@ use Rattle.lard_journal.specs.declared.rec.Rec.TheVariants as rec
 use Rattle.lard_law_view.proofs.Story.{Story, story_on, story_seen, story_step, unheard}
 use Rattle.lard_rules.specs.Node as node
 use Rattle.lard_rules.specs.Node.{node_acknowledged, node_content, node_forwarded, node_offered, node_read, node_tagged, node_timer}
-use Rattle.lard_law_settles.proofs.ProgressClients.{OnPhase, arrived-takes, speaks-told, timer-told}
+use Rattle.lard_law_progress.proofs.Clients.{OnPhase, arrived-takes, speaks-told, timer-told}
 use Rattle.lard_rules.specs.declared.places.Station.{Station}
 use Rattle.lard_rules.specs.declared.places.Turn.{Turn}
 use Rattle.lard_rules.specs.Client.{accepted_note, client_gets, client_holds, client_shuts, client_takes, client_timer, client_writes, eof_note, ready_of, silent, speaking}

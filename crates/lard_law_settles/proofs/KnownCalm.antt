@@ -36,7 +36,7 @@ use Rattle.lard_law_settles.proofs.KnownRuns.{each-modest, view}
 use Rattle.lard_law_view.specs.Agreement.{IsReply}
 use Rattle.lard_law_view.specs.Truthful.{Talk}
 use Rattle.lard_message.specs.declared.message.Body.TheVariants as body
-use Rattle.lard_law_settles.proofs.ProgressMost.{IsModest}
+use Rattle.lard_law_progress.proofs.Most.{IsModest}
 use Rattle.lard_request.specs.declared.verdict.Verdict.{Verdict}
 use Rattle.lard_resend.specs.declared.kept.Kept.{Kept}
 use Rattle.lard_resend.specs.Pending.{sent_of}

@@ -15,8 +15,8 @@ use Rattle.lard_endpoint.specs.Control.{ControlBlock}
 use Rattle.lard_law_settles.proofs.KnownTalking.{taken-is}
 use Rattle.lard_law_settles.proofs.KnownForwarded.{took-most}
 use Rattle.lard_law_view.specs.Truthful.{Talk}
-use Rattle.lard_law_settles.proofs.ProgressAnswersClientGiven.{IsCalm, Tells}
-use Rattle.lard_law_settles.proofs.ProgressAnswersFrontGiven.{IsTalking}
+use Rattle.lard_law_progress.proofs.AnswersClientGiven.{IsCalm, Tells}
+use Rattle.lard_law_progress.proofs.AnswersFrontGiven.{IsTalking}
 use Rattle.lard_request.specs.declared.verdict.Verdict.{Verdict}
 use Rattle.lard_rules.specs.declared.places.Station.{Station}
 use Rattle.lard_segment.specs.declared.segment.Ready.{Ready}

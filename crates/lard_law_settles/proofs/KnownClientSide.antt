@@ -29,11 +29,11 @@ use Rattle.lard_law_settles.proofs.KnownForwarded.{Refuses}
 use Rattle.lard_handoff_front.specs.declared.row.FrontConn.TheVariants as stage
 use Rattle.lard_history.specs.Own.{Letter}
 use Rattle.lard_law_view.proofs.Acked.{heard_by, taken_by}
-use Rattle.lard_law_settles.proofs.ProgressAnswersClientGiven.{ClientGiven, EndTells, IsCalm, IsCluster, IsReply, Matters, SeatTells}
-use Rattle.lard_law_settles.proofs.ProgressAnswersFrontGiven.{HasClosed, IsTalking}
-use Rattle.lard_law_settles.proofs.ProgressAnswersNodeGiven.{HasIt}
-use Rattle.lard_law_settles.proofs.ProgressData.{heard}
-use Rattle.lard_law_settles.proofs.ProgressGiven.{Known}
+use Rattle.lard_law_progress.proofs.AnswersClientGiven.{ClientGiven, EndTells, IsCalm, IsCluster, IsReply, Matters, SeatTells}
+use Rattle.lard_law_progress.proofs.AnswersFrontGiven.{HasClosed, IsTalking}
+use Rattle.lard_law_progress.proofs.AnswersNodeGiven.{HasIt}
+use Rattle.lard_law_progress.proofs.Data.{heard}
+use Rattle.lard_law_progress.proofs.Given.{Known}
 use Rattle.lard_rules.specs.declared.places.Station.{Station}
 use Rattle.lard_segment.specs.declared.segment.Dir.TheVariants.{ToClient}
 use Rattle.lard_segment.specs.Segment.{Said, decoded}

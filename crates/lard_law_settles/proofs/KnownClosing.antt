@@ -22,7 +22,7 @@ use Rattle.lard_law_view.proofs.Answered.{all-answered}
 use Rattle.lard_law_view.proofs.Prefix.{said-front}
 use Rattle.lard_law_view.proofs.Acked.{Acks, taken_by}
 use Rattle.lard_law_view.proofs.Complete.{BothClosed, both-closed, closed-taken}
-use Rattle.lard_law_settles.proofs.ProgressAnswersFrontGiven.{HasClosed}
+use Rattle.lard_law_progress.proofs.AnswersFrontGiven.{HasClosed}
 use Rattle.lard_request.specs.declared.verdict.Verdict.{Verdict}
 use Rattle.lard_rules.specs.declared.places.Ending.TheVariants as ending
 use Rattle.lard_rules.specs.declared.places.Station.{Station}

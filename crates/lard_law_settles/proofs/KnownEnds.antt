@@ -23,10 +23,10 @@ use Rattle.lard_files.specs.Files.{file_at}
 use Rattle.lard_law_settles.proofs.KnownClientSide.{IsMet, client-given}
 use Rattle.lard_law_settles.proofs.KnownMeeting.{met}
 use Rattle.lard_law_settles.proofs.KnownSeating.{IsLawful, held-given, talks-there, waiting-given}
-use Rattle.lard_law_settles.proofs.ProgressAnswersClientGiven.{ClientGiven}
-use Rattle.lard_law_settles.proofs.ProgressAnswersFrontGiven.{AtSeat, FrontGiven, IsTalking}
-use Rattle.lard_law_settles.proofs.ProgressAnswersNodeGiven.{HasIt}
-use Rattle.lard_law_settles.proofs.ProgressGiven.{Known}
+use Rattle.lard_law_progress.proofs.AnswersClientGiven.{ClientGiven}
+use Rattle.lard_law_progress.proofs.AnswersFrontGiven.{AtSeat, FrontGiven, IsTalking}
+use Rattle.lard_law_progress.proofs.AnswersNodeGiven.{HasIt}
+use Rattle.lard_law_progress.proofs.Given.{Known}
 use Rattle.lard_rules.specs.declared.places.Station.{Station}
 
 module _ (config : Config) (files : List (List ℕ × List ℕ)) (small : config.stream ≤ MAX_STREAM_BYTES) (m : Machine) (reached : IsReached config files m) (q : ℕ) (free : (tale_at (conn m q)).touched ≡ false)

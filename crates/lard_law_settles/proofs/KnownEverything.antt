@@ -24,11 +24,11 @@ use Rattle.lard_law_settles.proofs.KnownCalm.{free-tale, its-tale}
 use Rattle.lard_law_settles.proofs.KnownEventsGiven.{config-of}
 use Rattle.lard_law_settles.proofs.KnownNodesGiven.{node-given}
 use Rattle.lard_law_settles.proofs.KnownRuns.{each-known, written_on}
-use Rattle.lard_law_settles.proofs.ProgressAnswersClientGiven.{ClientGiven}
-use Rattle.lard_law_settles.proofs.ProgressAnswersFrontGiven.{AtSeat, IsTalking}
-use Rattle.lard_law_settles.proofs.ProgressAnswersNodeGiven.{HasIt, NodeGiven}
-use Rattle.lard_law_settles.proofs.ProgressGiven.{Given, Known}
-use Rattle.lard_law_settles.proofs.ProgressLeading.{AllGiven}
+use Rattle.lard_law_progress.proofs.AnswersClientGiven.{ClientGiven}
+use Rattle.lard_law_progress.proofs.AnswersFrontGiven.{AtSeat, IsTalking}
+use Rattle.lard_law_progress.proofs.AnswersNodeGiven.{HasIt, NodeGiven}
+use Rattle.lard_law_progress.proofs.Given.{Given, Known}
+use Rattle.lard_law_progress.proofs.Leading.{AllGiven}
 use Rattle.lard_rules.specs.declared.places.Station.{Station}
 
 -- ---- settings

@@ -18,8 +18,8 @@ use Rattle.lard_law_view.specs.Truthful.{Talk}
 use Rattle.lard_law_view.proofs.Acked.{WordMay, taken_by}
 use Rattle.lard_message.specs.declared.message.Body.TheVariants as body
 use Rattle.lard_message.specs.declared.message.Message.{Message}
-use Rattle.lard_law_settles.proofs.ProgressAnswersNodeGiven.{IsForwarded}
-use Rattle.lard_law_settles.proofs.ProgressData.{heard}
+use Rattle.lard_law_progress.proofs.AnswersNodeGiven.{IsForwarded}
+use Rattle.lard_law_progress.proofs.Data.{heard}
 use Rattle.lard_request.specs.declared.verdict.Verdict.{Verdict}
 use Rattle.lard_rules.specs.declared.places.Station.{Station}
 use Rattle.lard_segment.specs.declared.segment.Dir.TheVariants.{ToCluster}

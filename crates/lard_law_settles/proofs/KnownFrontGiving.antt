@@ -23,8 +23,8 @@ use Rattle.lard_handoff_front.specs.declared.row.FrontConn.{FrontConn}
 use Rattle.lard_handoff_front.specs.declared.row.FrontConn.TheVariants as stage
 use Rattle.lard_handoff_front.specs.declared.row.FrontRow.{FrontRow}
 use Rattle.lard_rules.specs.Node.{NodePart}
-use Rattle.lard_law_settles.proofs.ProgressAnswersFrontGiven.{AtSeat, FrontGiven, HasTag, IsStage, IsWord}
-use Rattle.lard_law_settles.proofs.ProgressAnswersFrontSpots.{away-cases, seat-row}
+use Rattle.lard_law_progress.proofs.AnswersFrontGiven.{AtSeat, FrontGiven, HasTag, IsStage, IsWord}
+use Rattle.lard_law_progress.proofs.AnswersFrontSpots.{away-cases, seat-row}
 use Rattle.lard_rules.specs.declared.places.Station.{Station}
 use Rattle.lard_segment.specs.declared.segment.Dir.TheVariants.{ToCluster}
 use Rattle.lard_segment.specs.Segment.{Said, decoded}

@@ -31,8 +31,8 @@ use Rattle.lard_law_settles.proofs.KnownFrontGiving.{front-given}
 use Rattle.lard_law_settles.proofs.KnownFrontWords.{word, word-there}
 use Rattle.lard_rules.specs.Front.{rest_of}
 use Rattle.lard_message.specs.declared.message.Body.TheVariants as body
-use Rattle.lard_law_settles.proofs.ProgressAnswersFrontGiven.{AtSeat, FrontGiven, IsWord}
-use Rattle.lard_law_settles.proofs.ProgressAnswersNodeGiven.{HasIt, IsForwarded}
+use Rattle.lard_law_progress.proofs.AnswersFrontGiven.{AtSeat, FrontGiven, IsWord}
+use Rattle.lard_law_progress.proofs.AnswersNodeGiven.{HasIt, IsForwarded}
 use Rattle.lard_rules.specs.declared.places.Station.{Station}
 use Rattle.lard_segment.specs.declared.segment.Dir.TheVariants.{ToCluster}
 use Rattle.lard_segment.specs.Segment.{Said, decoded}

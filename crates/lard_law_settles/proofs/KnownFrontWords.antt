@@ -27,10 +27,10 @@ use Rattle.lard_law_view.specs.Truthful.{Talk}
 use Rattle.lard_law_view.proofs.Acked.{Acks, WordMay, taken_by}
 use Rattle.lard_message.specs.declared.message.Body.TheVariants as body
 use Rattle.lard_rules.specs.Node.{NodePart}
-use Rattle.lard_law_settles.proofs.ProgressAnswersFrontGiven.{IsWord, WasAwaited}
-use Rattle.lard_law_settles.proofs.ProgressAnswersFrontSpots.{away-cases, seat-row}
-use Rattle.lard_law_settles.proofs.ProgressAnswersNodeGiven.{HasIt, IsForwarded}
-use Rattle.lard_law_settles.proofs.ProgressData.{heard}
+use Rattle.lard_law_progress.proofs.AnswersFrontGiven.{IsWord, WasAwaited}
+use Rattle.lard_law_progress.proofs.AnswersFrontSpots.{away-cases, seat-row}
+use Rattle.lard_law_progress.proofs.AnswersNodeGiven.{HasIt, IsForwarded}
+use Rattle.lard_law_progress.proofs.Data.{heard}
 use Rattle.lard_request.specs.declared.verdict.Verdict.{Verdict}
 use Rattle.lard_rules.specs.declared.places.Station.{Station}
 use Rattle.lard_segment.specs.declared.segment.Dir.TheVariants.{ToCluster}

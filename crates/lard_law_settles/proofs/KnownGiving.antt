@@ -34,7 +34,7 @@ use Rattle.lard_law_view.specs.Truthful.{Talk}
 use Rattle.lard_message.specs.declared.message.Body.TheVariants as body
 use Rattle.lard_message.specs.Message.{spelled_message}
 use Rattle.lard_message.specs.Reading.{decoded_message}
-use Rattle.lard_law_settles.proofs.ProgressGiven.{IsNewOffer, Known}
+use Rattle.lard_law_progress.proofs.Given.{IsNewOffer, Known}
 use Rattle.lard_request.specs.declared.verdict.Verdict.{Verdict}
 use Rattle.lard_resend.specs.declared.kept.Kept.{Kept}
 use Rattle.lard_rules.specs.declared.places.Station.{Station}

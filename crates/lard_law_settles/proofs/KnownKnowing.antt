@@ -25,9 +25,9 @@ use Rattle.lard_law_view.specs.Truthful.{Talk}
 use Rattle.lard_law_view.proofs.Acked.{taken_by}
 use Rattle.lard_rules.specs.declared.stay.Stay.{Stay}
 use Rattle.lard_rules.specs.Node.{NodePart}
-use Rattle.lard_law_settles.proofs.ProgressGiven.{SeatKnown}
-use Rattle.lard_law_settles.proofs.ProgressPlacing.{freeze-open}
-use Rattle.lard_law_settles.proofs.ProgressSeating.{seat-at, seat-none}
+use Rattle.lard_law_progress.proofs.Given.{SeatKnown}
+use Rattle.lard_law_progress.proofs.Placing.{freeze-open}
+use Rattle.lard_law_progress.proofs.Seating.{seat-at, seat-none}
 use Rattle.lard_request.specs.declared.verdict.Verdict.{Verdict}
 use Rattle.lard_rules.specs.declared.places.Station.{Station}
 

@@ -15,8 +15,8 @@ use Rattle.lard_law_settles.proofs.KnownSeating.{SeatHas, seat-has}
 use Rattle.lard_handoff_back.specs.declared.row.BackConn.TheVariants as back
 use Rattle.lard_handoff_back.specs.declared.row.BackRow.{BackRow}
 use Rattle.lard_history.specs.Own.{Letter}
-use Rattle.lard_law_settles.proofs.ProgressAnswersClientGiven.{IsCluster}
-use Rattle.lard_law_settles.proofs.ProgressAnswersNodeGiven.{HasIt}
+use Rattle.lard_law_progress.proofs.AnswersClientGiven.{IsCluster}
+use Rattle.lard_law_progress.proofs.AnswersNodeGiven.{HasIt}
 use Rattle.lard_rules.specs.declared.places.Station.{Station}
 use Rattle.lard_segment.specs.declared.segment.Dir.TheVariants.{ToClient}
 use Rattle.lard_segment.specs.Segment.{Said, decoded}

@@ -21,10 +21,10 @@ use Rattle.lard_rules.specs.declared.stay.Progress.{Progress}
 use Rattle.lard_rules.specs.declared.stay.Progress.TheVariants as progress
 use Rattle.lard_rules.specs.declared.stay.Stay.{Stay}
 use Rattle.lard_rules.specs.Node.{NodePart}
-use Rattle.lard_law_settles.proofs.ProgressAway.{tells}
-use Rattle.lard_law_settles.proofs.ProgressGiven.{SeatKnown}
-use Rattle.lard_law_settles.proofs.ProgressMost.{IsModest, IsModestStay}
-use Rattle.lard_law_settles.proofs.ProgressSeating.{seat-at, seat-none}
+use Rattle.lard_law_progress.proofs.Away.{tells}
+use Rattle.lard_law_progress.proofs.Given.{SeatKnown}
+use Rattle.lard_law_progress.proofs.Most.{IsModest, IsModestStay}
+use Rattle.lard_law_progress.proofs.Seating.{seat-at, seat-none}
 use Rattle.lard_resend.specs.declared.kept.Kept.{Kept}
 use Rattle.lard_rules.specs.declared.places.Station.{Station}
 

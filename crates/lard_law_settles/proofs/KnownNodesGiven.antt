@@ -56,10 +56,10 @@ use Rattle.lard_message.specs.declared.message.Body.TheVariants as body
 use Rattle.lard_net.specs.Net.{Packet}
 use Rattle.lard_rules.specs.declared.stay.Stay.{Stay}
 use Rattle.lard_rules.specs.Node.{NodePart}
-use Rattle.lard_law_settles.proofs.ProgressAnswersFrontGiven.{IsTalking}
-use Rattle.lard_law_settles.proofs.ProgressAnswersNodeGiven.{HasIt, IsForwarded, NodeGiven}
-use Rattle.lard_law_settles.proofs.ProgressGiven.{SeatKnown}
-use Rattle.lard_law_settles.proofs.ProgressSeating.{seat-at, seat-none}
+use Rattle.lard_law_progress.proofs.AnswersFrontGiven.{IsTalking}
+use Rattle.lard_law_progress.proofs.AnswersNodeGiven.{HasIt, IsForwarded, NodeGiven}
+use Rattle.lard_law_progress.proofs.Given.{SeatKnown}
+use Rattle.lard_law_progress.proofs.Seating.{seat-at, seat-none}
 use Rattle.lard_request.specs.declared.verdict.Verdict.{Verdict}
 use Rattle.lard_rules.specs.declared.places.Station.{Station}
 use Rattle.lard_segment.specs.declared.segment.Dir.TheVariants.{ToCluster}

@@ -16,9 +16,9 @@ use Rattle.lard_history.specs.Own.{Letter}
 use Rattle.lard_law_view.specs.Agreement as agreement
 use Rattle.lard_law_view.specs.Truthful.{Talk}
 use Rattle.lard_law_view.proofs.Acked.{ReplyMay}
-use Rattle.lard_law_settles.proofs.ProgressAnswersClientGiven.{IsReply, Matters}
-use Rattle.lard_law_settles.proofs.ProgressAnswersClientHears.{took-taken}
-use Rattle.lard_law_settles.proofs.ProgressAnswersClientGiven.{IsCluster}
+use Rattle.lard_law_progress.proofs.AnswersClientGiven.{IsReply, Matters}
+use Rattle.lard_law_progress.proofs.AnswersClientHears.{took-taken}
+use Rattle.lard_law_progress.proofs.AnswersClientGiven.{IsCluster}
 use Rattle.lard_request.specs.declared.verdict.Verdict.{Verdict}
 use Rattle.lard_rules.specs.declared.places.Station.{Station}
 use Rattle.lard_segment.specs.declared.segment.Dir.TheVariants.{ToClient}

@@ -28,8 +28,8 @@ use Rattle.lard_law_settles.proofs.KnownGiving.{known}
 use Rattle.lard_law_settles.proofs.KnownModest.{modest}
 use Rattle.lard_law_settles.proofs.KnownSmall.{each-small}
 use Rattle.lard_rules.specs.declared.node.NodeState.{NodeState}
-use Rattle.lard_law_settles.proofs.ProgressGiven.{Known}
-use Rattle.lard_law_settles.proofs.ProgressMost.{IsModest}
+use Rattle.lard_law_progress.proofs.Given.{Known}
+use Rattle.lard_law_progress.proofs.Most.{IsModest}
 use Rattle.lard_rules.specs.declared.places.Station.{Station}
 
 -- ---- only nodes that are there keep something

@@ -28,11 +28,11 @@ use Rattle.lard_handoff_front.specs.declared.row.FrontConn.TheVariants as stage
 use Rattle.lard_handoff_front.specs.declared.row.FrontRow.{FrontRow}
 use Rattle.lard_law_view.specs.Truthful.{Talk}
 use Rattle.lard_rules.specs.declared.stay.Stay.{Stay}
-use Rattle.lard_law_settles.proofs.ProgressAnswersFrontGiven.{AtSeat, IsTalking}
-use Rattle.lard_law_settles.proofs.ProgressAnswersFrontSpots.{seat-row}
-use Rattle.lard_law_settles.proofs.ProgressAnswersNodeGiven.{HasIt}
-use Rattle.lard_law_settles.proofs.ProgressAway.{IsWith}
-use Rattle.lard_law_settles.proofs.ProgressGiven.{IsAt, Known, SeatKnown}
+use Rattle.lard_law_progress.proofs.AnswersFrontGiven.{AtSeat, IsTalking}
+use Rattle.lard_law_progress.proofs.AnswersFrontSpots.{seat-row}
+use Rattle.lard_law_progress.proofs.AnswersNodeGiven.{HasIt}
+use Rattle.lard_law_progress.proofs.Away.{IsWith}
+use Rattle.lard_law_progress.proofs.Given.{IsAt, Known, SeatKnown}
 use Rattle.lard_rules.specs.declared.places.Ending.TheVariants as ending
 use Rattle.lard_rules.specs.declared.places.Station.{Station}
 

@@ -18,8 +18,8 @@ use Rattle.lard_handoff_front.specs.declared.row.FrontConn.{FrontConn}
 use Rattle.lard_handoff_front.specs.declared.row.FrontConn.TheVariants as stage
 use Rattle.lard_handoff_front.specs.declared.row.FrontRow.{FrontRow}
 use Rattle.lard_rules.specs.Node.{NodePart}
-use Rattle.lard_law_settles.proofs.ProgressGiven.{IsAt, IsFresh, IsGone, IsWithin}
-use Rattle.lard_law_settles.proofs.ProgressSeating.{seat-at}
+use Rattle.lard_law_progress.proofs.Given.{IsAt, IsFresh, IsGone, IsWithin}
+use Rattle.lard_law_progress.proofs.Seating.{seat-at}
 
 -- ---- epochs
 

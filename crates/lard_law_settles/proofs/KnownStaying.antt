@@ -22,8 +22,8 @@ use Rattle.lard_handoff_front.specs.declared.row.FrontConn.TheVariants as stage
 use Rattle.lard_handoff_front.specs.declared.row.FrontRow.{FrontRow}
 use Rattle.lard_rules.specs.declared.stay.Stay.{Stay}
 use Rattle.lard_rules.specs.Node.{NodePart}
-use Rattle.lard_law_settles.proofs.ProgressAnswersFrontGiven.{IsAsked}
-use Rattle.lard_law_settles.proofs.ProgressAnswersFrontSpots.{away-cases, seat-row}
+use Rattle.lard_law_progress.proofs.AnswersFrontGiven.{IsAsked}
+use Rattle.lard_law_progress.proofs.AnswersFrontSpots.{away-cases, seat-row}
 use Rattle.lard_resend.specs.Kept.{is_under}
 
 -- ---- at a node

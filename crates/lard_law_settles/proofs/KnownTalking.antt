@@ -15,8 +15,8 @@ use Rattle.lard_endpoint.specs.Leaving.{emitted}
 use Rattle.lard_endpoint.specs.Moving.{may_end}
 use Rattle.lard_law_view.specs.Truthful.{Talk}
 use Rattle.lard_law_view.proofs.Acked.{heard_by, taken_by}
-use Rattle.lard_law_settles.proofs.ProgressAnswersFrontGiven.{IsTalking}
-use Rattle.lard_law_settles.proofs.ProgressData.{heard}
+use Rattle.lard_law_progress.proofs.AnswersFrontGiven.{IsTalking}
+use Rattle.lard_law_progress.proofs.Data.{heard}
 use Rattle.lard_request.specs.declared.verdict.Verdict.{Verdict}
 use Rattle.lard_rules.specs.declared.places.Ending.TheVariants as ending
 use Rattle.lard_rules.specs.declared.places.Station.{Station}

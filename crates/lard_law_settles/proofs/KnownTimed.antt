@@ -23,8 +23,8 @@ use Rattle.lard_law_settles.proofs.KnownCounting.{one-most, taken-same}
 use Rattle.lard_law_view.specs.Truthful.{Talk}
 use Rattle.lard_rules.specs.declared.stay.Stay.{Stay}
 use Rattle.lard_rules.specs.Node.{NodePart}
-use Rattle.lard_law_settles.proofs.ProgressGiven.{SeatKnown}
-use Rattle.lard_law_settles.proofs.ProgressSeating.{seat-at, seat-none}
+use Rattle.lard_law_progress.proofs.Given.{SeatKnown}
+use Rattle.lard_law_progress.proofs.Seating.{seat-at, seat-none}
 use Rattle.lard_request.specs.declared.verdict.Verdict.{Verdict}
 use Rattle.lard_rules.specs.declared.places.Station.{Station}
 use Rattle.lard_send.specs.Send.{Sending, is_clear}

@@ -8,7 +8,7 @@ use Rattle.lard_rules.specs.Machine.{IsReached}
 use Rattle.lard_law_view.specs.Carry.{tale_at}
 use Rattle.lard_law_view.specs.View.{conn}
 use Rattle.lard_files.specs.Files.{file_at}
-use Rattle.lard_law_settles.proofs.ProgressGiven.{Known}
+use Rattle.lard_law_progress.proofs.Given.{Known}
 use Rattle.lard_rules.specs.declared.places.Station.{Station}
 
 -- It is by what the client wrote so far, which it does not go on with within a settle.

@@ -8,7 +8,6 @@ pub mod DoneSame
 pub mod Done
 pub mod DoneLaws
 pub use Rattle.lard_law_settles.specs.Rounds
-pub mod ProgressLaws
 pub mod KnownLaws
 pub mod Course
 pub mod CourseGame

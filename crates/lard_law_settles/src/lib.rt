@@ -3,7 +3,7 @@
 //!
 //! For the last the machine within a settle is one that goes on by rounds (`lard_rounds`): what is left to do, counted in units
 //! (`lard_bound`), goes down within a few rounds, and while there is no unit that goes, what is on its way comes nearer to one
-//! (`Progress`). What the rules rest on there is `Known` of each connection that the schedule did not touch, and what a step does to all
+//! (`lard_law_progress`). What the rules rest on there is `Known` of each connection that the schedule did not touch, and what a step does to all
 //! connections is their `Course`; both together are `Enough`. It has no code.
 #![tactic(auto)]
 
@@ -11,7 +11,6 @@ ghost use Rattle.lard_law_settles.specs.CourseLaws.{ClusterComesToRest};
 ghost use Rattle.lard_law_settles.specs.DoneLaws.{SettledRunsAreDone, WrittenOutTellsTheSame};
 ghost use Rattle.lard_law_settles.specs.EnoughLaws.{RunsSettle, SettlesEndQuiet, SettlesRest};
 ghost use Rattle.lard_law_settles.specs.KnownLaws.{EachConnectionIsKnown};
-ghost use Rattle.lard_law_settles.specs.ProgressLaws.{ClientsLeaveNoMore};
 ghost use Rattle.lard_law_settles.specs.RoundsLaws.{RunsTakeRounds};
 ghost use Rattle.lard_law_settles.specs.SettlesFew.{FewAreLeft};
 ghost use Rattle.lard_law_settles.specs.SettlesOrder.{RunsSettleInOrder};
@@ -62,11 +61,6 @@ pub fn written_out_tells_the_same()
 /// the schedule touched it.
 pub fn settled_runs_are_done()
     ensures done { SettledRunsAreDone }
-{}
-
-/// Whatever segment comes to a client, and where its timer fires, no more is left to be done on its connection than before.
-pub fn clients_leave_no_more()
-    ensures { ClientsLeaveNoMore }
 {}
 
 /// In every run of the cluster's machine, of each connection that the schedule did not touch and whose client opened: no more is

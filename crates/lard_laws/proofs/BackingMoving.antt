@@ -5,7 +5,7 @@ use Rattle.lard_base.specs.declared.place.Place.{Place}
 use Rattle.lard_base.specs.declared.place.Place.TheVariants.{Client, Front, Node}
 use Rattle.lard_laws.specs.BackingState.{BodyFor, FetchesFor, LetterFor, SaysFor}
 use Rattle.lard_laws.proofs.BackingRows.{Backs, IsBackedMove, backed-move}
-use Rattle.lard_law_connections.specs.BytesLaw.{Helps}
+use Rattle.lard_law_connections.proofs.BytesLaw.{Helps}
 use Rattle.lard_law_connections.proofs.BytesClientMoves.{has-fair}
 use Rattle.lard_law_connections.proofs.PlacesHeads.{kinds-same}
 use Rattle.lard_law_view.specs.View.{AreSent, Conn, Move, letter, named}

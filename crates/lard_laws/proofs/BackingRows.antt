@@ -7,7 +7,7 @@ use Rattle.lard_base.specs.declared.place.Place.{Place}
 use Rattle.lard_base.specs.declared.place.Place.TheVariants.{Client, Front, Node}
 use Rattle.lard_laws.specs.BackingRequests.{IsFor}
 use Rattle.lard_laws.specs.BackingState.{BodyFor, FetchesFor, LetterFor, MayBack, SaysFor}
-use Rattle.lard_law_connections.specs.BytesLaw.{IsHead}
+use Rattle.lard_law_connections.proofs.BytesLaw.{IsHead}
 use Rattle.lard_law_view.specs.Carry.{TellsBy, tale_at}
 use Rattle.lard_law_view.specs.View.{Conn, Move, grown, letter, letters_of, seen_in, sending, timer_rows}
 use Rattle.lard_law_view.proofs.Fine.{IsItsOwn}

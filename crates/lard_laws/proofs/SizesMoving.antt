@@ -4,7 +4,7 @@ use Rattle.std.specs.List.{fold}
 use Rattle.lard_answers.specs.Answers.{FilesAt}
 use Rattle.lard_base.specs.declared.place.Place.{Place}
 use Rattle.lard_base.specs.declared.place.Place.TheVariants.{Client, Front, Node}
-use Rattle.lard_law_connections.specs.BytesLaw.{IsHead}
+use Rattle.lard_law_connections.proofs.BytesLaw.{IsHead}
 use Rattle.lard_law_connections.specs.BytesTurning.{IsNoteOf}
 use Rattle.lard_law_connections.proofs.BytesTold.{Bytes, bytes_of, move-bytes, place-notes}
 use Rattle.lard_law_connections.specs.Line.{said_of}

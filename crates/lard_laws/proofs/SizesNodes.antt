@@ -10,7 +10,7 @@ use Rattle.lard_base.specs.declared.place.Place.TheVariants.{Front, Node}
 use Rattle.lard_base.specs.declared.place.TimerKind.TheVariants as timer
 use Rattle.lard_rules.specs.Bounds.{IsNumber}
 use Rattle.lard_law_connections.specs.BytesAgreement.{HoldsIt, IsFair, IsOpen, IsTruthful}
-use Rattle.lard_law_connections.specs.BytesLaw.{IsHead}
+use Rattle.lard_law_connections.proofs.BytesLaw.{IsHead}
 use Rattle.lard_law_connections.specs.BytesTurning.{IsNoteOf}
 use Rattle.lard_law_connections.proofs.BytesClientMoves.{has-fair, open-at}
 use Rattle.lard_law_connections.proofs.BytesFrontMessages.{opened-at}

@@ -5,7 +5,7 @@ use Rattle.std.proofs.lemmas.Bool.{ltb-false, ltb-true}
 use Rattle.lard_answers.specs.Answers.{FilesAt}
 use Rattle.lard_base.specs.declared.place.Place.{Place}
 use Rattle.lard_base.specs.declared.place.Place.TheVariants.{Front, Node}
-use Rattle.lard_law_connections.specs.BytesLaw.{Helps}
+use Rattle.lard_law_connections.proofs.BytesLaw.{Helps}
 use Rattle.lard_law_connections.proofs.BytesFrontMessages.{past-undecided}
 use Rattle.lard_law_connections.proofs.BytesNodeMoves.{IsAt}
 use Rattle.lard_law_connections.specs.Places.{IsDecided, IsPast}

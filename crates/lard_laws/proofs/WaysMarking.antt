@@ -5,7 +5,7 @@ use Rattle.std.proofs.lemmas.List.Sums.{fold-append}
 use Rattle.lard_answers.specs.Answers.{FilesAt}
 use Rattle.lard_base.specs.declared.place.Place.{Place}
 use Rattle.lard_base.specs.declared.place.Place.TheVariants.{Client, Front, Node}
-use Rattle.lard_law_connections.specs.BytesLaw.{IsHead}
+use Rattle.lard_law_connections.proofs.BytesLaw.{IsHead}
 use Rattle.lard_law_view.specs.Carry.{TellsBy, tale_at}
 use Rattle.lard_law_view.specs.View.{Conn, Move, grown, seen_in, sending, timer_rows}
 use Rattle.lard_law_view.proofs.Fine.{IsItsOwn}

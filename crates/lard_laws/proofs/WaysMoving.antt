@@ -3,7 +3,7 @@ use Rattle.std.proofs.Common.{◌≡◌, ℕ, List, [], ◌∷◌, ◌++◌, map
 use Rattle.lard_answers.specs.Answers.{FilesAt, IsPrefix}
 use Rattle.lard_base.specs.declared.place.Place.{Place}
 use Rattle.lard_base.specs.declared.place.Place.TheVariants.{Client, Front, Node}
-use Rattle.lard_law_connections.specs.BytesLaw.{Helps}
+use Rattle.lard_law_connections.proofs.BytesLaw.{Helps}
 use Rattle.lard_law_connections.proofs.BytesClientMoves.{has-fair}
 use Rattle.lard_law_connections.proofs.PlacesGrowing.{grows-still}
 use Rattle.lard_law_view.specs.View.{AreSent, Conn, Move, Part, Said, grown, letter, letters_of, seen_in, stands}

@@ -1,0 +1,228 @@
+-- What comes of a Tag, of a content, and of the acknowledgement of an end: where no unit goes they did not count, and were not near.
+use Rattle.std.proofs.Common.{◌≡◌, ◌==◌, ◌&&◌, ℕ, suc, Bool, true, false, cond, List, [], length, is_some, Option, Some, None, refl, sym, ap, ◌∙◌, subst, arith}
+use Rattle.std.specs.List.{find}
+use Rattle.std.proofs.lemmas.Bool.Decides.{nat_tests}
+use Rattle.lard_answers.specs.Answers.{FilesAt}
+use Rattle.lard_base.specs.declared.place.Place.TheVariants.{Front, Node}
+use Rattle.lard_base.specs.declared.place.TimerKind.TheVariants as kind
+use Rattle.lard_bound.specs.Nears.{IsAwaited, IsWanted, Near, NearAsk, NearAside, NearTold, OfMessage}
+use Rattle.lard_bound.specs.Seats.{Gone, Held, Here, Offered, Over, Seat, Unborn, Waiting, seat_of, stay_of, staying_of, telling, tells_end}
+use Rattle.lard_bound.specs.Spots.{Spot, awaits_of, post_of, spot_of}
+use Rattle.lard_bound.specs.Units.{Whole}
+use Rattle.lard_law_view.specs.View.{Conn, IsNodeEnv, Part, Setting, Spells, Was, node_put, with_node}
+use Rattle.lard_endpoint.specs.Control.{ControlBlock}
+use Rattle.lard_handoff_back.specs.declared.row.BackConn.{BackConn}
+use Rattle.lard_handoff_back.specs.declared.row.BackConn.TheVariants as back
+use Rattle.lard_handoff_back.specs.declared.row.BackRow.{BackRow}
+use Rattle.lard_handoff_back.specs.Back.{awaits_ack}
+use Rattle.lard_handoff_back.specs.Row.{is_ended}
+use Rattle.lard_lateral.specs.Lateral.{is_from}
+use Rattle.lard_message.specs.declared.message.Body.TheVariants as body
+use Rattle.lard_message.specs.declared.message.Message.{Message}
+use Rattle.lard_rules.specs.declared.stay.Stay.{Stay}
+use Rattle.lard_rules.specs.Node.{NodePart, gone, here, is_awaited, node_acknowledged, node_content, node_tagged, come_by, rests, saying, tagged_by, with_work, work_of}
+use Rattle.lard_rules.specs.Node as node
+use Rattle.lard_rules.specs.Stay.{NodeEnv, came_for, come_progress, goes_on, named_paths, tagged}
+use Rattle.lard_law_progress.proofs.AnswersNodeDeeds.{OwesBy, does-owes, drops-owes, is-here}
+use Rattle.lard_law_progress.proofs.AnswersNodeGiven.{NodeGiven}
+use Rattle.lard_law_progress.proofs.AnswersNodeSeats.{IsHere, Sits, both-here, here-both, seat-sits}
+use Rattle.lard_law_progress.proofs.AnswersNodeStill.{Still, content-falls, post-is, still, tag-falls}
+use Rattle.lard_law_progress.proofs.Away.{put-there}
+use Rattle.lard_resend.specs.declared.kept.Kept.{Kept}
+use Rattle.lard_resend.specs.Kept.{is_under, without}
+use Rattle.lard_rules.specs.declared.places.Station.{Station}
+
+-- ---- what is near, a node awaits
+
+-- node n has the connection in epoch e, and what it awaits is so
+abbrev pub AwaitsAt : Part → ℕ → ℕ → (NodePart → Type 0) → Type 0
+AwaitsAt p n e P = (told : Bool) × (b : ControlBlock) × IsHere p told n e b × P (p.nodes n)
+
+at-same : (p : Part) (told : Bool) (n m e f : ℕ) (b : ControlBlock) → m ≡ n → f ≡ e → IsHere p told m f b → IsHere p told n e b
+at-same p told n m e f b same_n same_e h = subst (λ (i : ℕ). IsHere p told i e b) same_n (subst (λ (j : ℕ). IsHere p told m j b) same_e h)
+
+module _ (files : FilesAt) (p : Part) (st : Station) (n e : ℕ) where
+  pub ask-awaits : (least number count : ℕ) → NearAsk least n e number count (spot_of files p st).post → AwaitsAt p n e (λ q. IsAwaited number count (awaits_of files (staying_of q)))
+  ask-awaits least number count near = go (seat_of p) (seat-sits p) (subst (NearAsk least n e number count) (post-is files p st) near) where
+    go : (z : Seat) → Sits p z → NearAsk least n e number count (post_of files st.client z) → AwaitsAt p n e (λ q. IsAwaited number count (awaits_of files (staying_of q)))
+    go (Here told m f b s) sits h =
+        let a : IsAwaited number count (awaits_of files (staying_of (p.nodes m))) = subst (λ z. IsAwaited number count (awaits_of files z)) sits.1 h.2 in
+        (told, b, at-same p told n m e f b h.0 h.1 sits.0, subst (λ (i : ℕ). IsAwaited number count (awaits_of files (staying_of (p.nodes i)))) h.0 a)
+    go Unborn sits h = absurd h
+    go (Held b count) sits h = absurd h
+    go (Waiting b count) sits h = absurd h
+    go (Offered m f count) sits h = absurd h
+    go (Gone told m f) sits h = absurd h
+    go (Over last) sits h = absurd h
+
+  abbrev Wants : ℕ → ℕ → NodePart → Type 0
+  Wants from r q = is_from from e (find (is_under kind.Fetch r) q.fetches) ≡ true
+
+  pub content-awaits : (from r : ℕ) → IsWanted n e from r (spot_of files p st).post → AwaitsAt p n e (Wants from r)
+  content-awaits from r near = go (seat_of p) (seat-sits p) (subst (IsWanted n e from r) (post-is files p st) near) where
+    go : (z : Seat) → Sits p z → IsWanted n e from r (post_of files st.client z) → AwaitsAt p n e (Wants from r)
+    go (Here told m f b s) sits h =
+        let a : Wants from r (p.nodes m) = subst (λ z. is_from from e (find (is_under kind.Fetch r) (awaits_of files z).fetches) ≡ true) sits.1 h.2 in
+        (told, b, at-same p told n m e f b h.0 h.1 sits.0, subst (λ (i : ℕ). Wants from r (p.nodes i)) h.0 a)
+    go Unborn sits h = absurd h
+    go (Held b count) sits h = absurd h
+    go (Waiting b count) sits h = absurd h
+    go (Offered m f count) sits h = absurd h
+    go (Gone told m f) sits h = absurd h
+    go (Over last) sits h = absurd h
+
+-- ---- the rules
+
+all-three : (a : Bool) (i j n m : ℕ) → a ≡ true → i ≡ j → n ≡ m → (a && (i == j && n == m)) ≡ true
+all-three true i j n m e f g = grind (arith, nat_tests, f, g)
+all-three false i j n m e f g = absurd (let bad : false ≡ true = e in cc)
+
+first-of : (a b : Bool) → (a && b) ≡ true → a ≡ true
+first-of true b e = refl
+first-of false b e = absurd (let bad : false ≡ true = e in cc)
+
+module _ (k : Setting) (w : Whole) (x : Conn) (n epoch : ℕ) (env : NodeEnv) (of : IsNodeEnv k x.c n epoch env) where
+  abbrev q : NodePart
+  q = x.part.nodes n
+
+  -- a node that has the connection keeps its stay
+  has-both : NodeGiven k w x → (told : Bool) (b : ControlBlock) → IsHere x.part told n epoch b → (s : Stay) × (here env.epoch q ≡ Some (b, s)) × (q.stay ≡ Some s)
+  has-both given told b h =
+      let s = given.stays n epoch b h.there in
+      (s.0, ap (λ (e : ℕ). here e q) of.epoch_is ∙ here-both q epoch b s.0 h.there s.1, s.1)
+
+  -- ---- a Tag
+
+  module _ (number : ℕ) (nodes bytes : List ℕ) (spells : Spells x.c epoch (body.Tag number nodes) bytes) (was : Was x Front (Node n) bytes) where
+    abbrev Tags : node.Deed → Type 0
+    Tags deed = OwesBy k w x n Front bytes was deed
+
+    tag-near : (st : Station) (d : ℕ) → Near k.files (spot_of k.files x.part st) x.c (suc d) (record { from = Front; to = Node n; bytes = bytes })
+        → AwaitsAt x.part n epoch (λ q. IsAwaited number (length nodes) (awaits_of k.files (staying_of q)))
+    tag-near st d near =
+        let t = spot_of k.files x.part st in
+        let h : NearTold t x.c (suc d) n epoch (body.Tag number nodes) = subst (OfMessage (λ (m : Message). NearTold t x.c (suc d) n m.epoch.0 m.body)) spells near in
+        ask-awaits k.files x.part st n epoch 1 number (length nodes) h.0
+
+    counts : NodeGiven k w x → (st : Station) (d : ℕ) → Near k.files (spot_of k.files x.part st) x.c (suc d) (record { from = Front; to = Node n; bytes = bytes })
+        → (b : ControlBlock) × (s : Stay) × (here env.epoch q ≡ Some (b, s)) × (is_awaited env number nodes q s ≡ true)
+    counts given st d near =
+        let h = tag-near st d near in
+        let s = has-both given h.0 h.1 h.2 in
+        let a : IsAwaited number (length nodes) (awaits_of k.files (staying_of q)) = h.3 in
+        let asks : number ≡ s.0.asks = a.1 ∙ ap (λ (o : Option Stay). (stay_of o).asks) s.2 in
+        let named : length nodes ≡ length (named_paths env.serve.files s.0.batch) =
+        a.2 ∙ ap (λ (o : Option Stay). length (named_paths k.files (stay_of o).batch)) s.2 ∙ ap (λ (f : FilesAt). length (named_paths f s.0.batch)) (sym of.files) in
+        (h.1, s.0, s.1, all-three (is_some (find (is_under kind.Ask 0) q.kept)) s.0.asks number (length nodes) (length (named_paths env.serve.files s.0.batch)) a.0 (sym asks) named)
+
+    tag-test : (b : ControlBlock) (s : Stay) → here env.epoch q ≡ Some (b, s) → (t : Bool) → is_awaited env number nodes q s ≡ t
+        → Tags (cond t (with_work env (record q { kept = without kind.Ask 0 q.kept }) [] (goes_on env (tagged env nodes (work_of b s)))) node.Drops)
+    tag-test b s is true e = does-owes k w x n Front bytes was (λ given. given.opened n bytes was) (rests env (record q { kept = without kind.Ask 0 q.kept }) [] (goes_on env (tagged env nodes (work_of b s))))
+        (λ given after warm late st st_is c_is up same.
+        let both = both-here q env.epoch b s is in
+        let at = is-here k w x given n env.epoch b both.0 in
+        let pp : NodePart = record q { kept = without kind.Ask 0 q.kept } in
+        let rest : Still k.files x.part st at.0 n b env at.1 pp [] (goes_on env (tagged env nodes (work_of b s))) = still k.files x.part st at.0 n b env at.1 pp [] (goes_on env (tagged env nodes (work_of b s))) same in
+        absurd (tag-falls k.files x.part st at.0 n b env at.1 s nodes both.1 (first-of (is_some (find (is_under kind.Ask 0) q.kept)) _ e) rest))
+    tag-test b s is false e = drops-owes k w x n Front bytes was (λ given st st_is d near.
+        let h = counts given st d near in
+        let pair : ◌≡◌ {A = Option (ControlBlock × Stay)} (Some (b, s)) (Some (h.0, h.1)) = sym is ∙ h.2 in
+        let same : s ≡ h.1 = ap (λ (o : Option (ControlBlock × Stay)). elim o [ None ↦ s | Some z ↦ z.1 ]) pair in
+        let bad : true ≡ false = sym h.3 ∙ sym (ap (is_awaited env number nodes q) same) ∙ e in cc)
+
+    pub tagged-owes : Tags (node_tagged env q number nodes)
+    tagged-owes = go (here env.epoch q) refl where
+      go : (o : Option (ControlBlock × Stay)) → here env.epoch q ≡ o → Tags (tagged_by env number nodes q o)
+      go None is = drops-owes k w x n Front bytes was (λ given st st_is d near.
+          let h = counts given st d near in
+          let bad : ◌≡◌ {A = Option (ControlBlock × Stay)} None (Some (h.0, h.1)) = sym is ∙ h.2 in cc)
+      go (Some z) is = tag-test z.0 z.1 is (is_awaited env number nodes q z.1) refl
+
+  -- ---- a content
+
+  module _ (from r : ℕ) (file bytes : List ℕ) (spells : Spells x.c epoch (body.Content r file) bytes) (was : Was x (Node from) (Node n) bytes) where
+    abbrev Brings : node.Deed → Type 0
+    Brings deed = OwesBy k w x n (Node from) bytes was deed
+
+    abbrev is_wanted : Bool
+    is_wanted = is_from from env.epoch (find (is_under kind.Fetch r) q.fetches)
+
+    wanted : NodeGiven k w x → (st : Station) (d : ℕ) → Near k.files (spot_of k.files x.part st) x.c (suc d) (record { from = Node from; to = Node n; bytes = bytes })
+        → (b : ControlBlock) × (s : Stay) × (here env.epoch q ≡ Some (b, s)) × (is_wanted ≡ true)
+    wanted given st d near =
+        let t = spot_of k.files x.part st in
+        let m : NearAside k.files t (suc d) from n epoch (body.Content r file) = subst (OfMessage (λ (m : Message). NearAside k.files t (suc d) from n m.epoch.0 m.body)) spells near in
+        let h = content-awaits k.files x.part st n epoch from r m.0 in
+        let s = has-both given h.0 h.1 h.2 in
+        (h.1, s.0, s.1, ap (λ (e : ℕ). is_from from e (find (is_under kind.Fetch r) q.fetches)) of.epoch_is ∙ h.3)
+
+    some-kept : (o : Option Kept) → is_from from env.epoch o ≡ true → is_some o ≡ true
+    some-kept None e = absurd (let bad : false ≡ true = e in cc)
+    some-kept (Some kept) e = refl
+
+    come-test : (b : ControlBlock) (s : Stay) → here env.epoch q ≡ Some (b, s) → (t : Bool) → is_wanted ≡ t
+        → Brings (cond t (with_work env (record q { fetches = without kind.Fetch r q.fetches }) [] (goes_on env (came_for (come_progress from) r (work_of b s)))) node.Drops)
+    come-test b s is true e = does-owes k w x n (Node from) bytes was (λ given. given.held n env.epoch b (both-here q env.epoch b s is).0) (rests env (record q { fetches = without kind.Fetch r q.fetches }) [] (goes_on env (came_for (come_progress from) r (work_of b s))))
+        (λ given after warm late st st_is c_is up same.
+        let both = both-here q env.epoch b s is in
+        let at = is-here k w x given n env.epoch b both.0 in
+        let pp : NodePart = record q { fetches = without kind.Fetch r q.fetches } in
+        let rest : Still k.files x.part st at.0 n b env at.1 pp [] (goes_on env (came_for (come_progress from) r (work_of b s))) = still k.files x.part st at.0 n b env at.1 pp [] (goes_on env (came_for (come_progress from) r (work_of b s))) same in
+        absurd (content-falls k.files x.part st at.0 n b env at.1 s from r (some-kept (find (is_under kind.Fetch r) q.fetches) e) rest))
+    come-test b s is false e = drops-owes k w x n (Node from) bytes was (λ given st st_is d near.
+        let h = wanted given st d near in
+        let bad : true ≡ false = sym h.3 ∙ e in cc)
+
+    pub content-owes : Brings (node_content env q from r)
+    content-owes = go (here env.epoch q) refl where
+      go : (o : Option (ControlBlock × Stay)) → here env.epoch q ≡ o → Brings (come_by env from r q o)
+      go None is = drops-owes k w x n (Node from) bytes was (λ given st st_is d near.
+          let h = wanted given st d near in
+          let bad : ◌≡◌ {A = Option (ControlBlock × Stay)} None (Some (h.0, h.1)) = sym is ∙ h.2 in cc)
+      go (Some z) is = come-test z.0 z.1 is is_wanted refl
+
+  -- ---- the acknowledgement of an end
+
+  module _ (bytes : List ℕ) (spells : Spells x.c epoch body.EndedAck bytes) (was : Was x Front (Node n) bytes) where
+    abbrev Acks : node.Deed → Type 0
+    Acks deed = OwesBy k w x n Front bytes was deed
+
+    ack-near : (st : Station) (d : ℕ) → Near k.files (spot_of k.files x.part st) x.c (suc d) (record { from = Front; to = Node n; bytes = bytes }) → tells_end q.row ≡ Some epoch
+    unfolding spot_of
+    ack-near st d near =
+        let t = spot_of k.files x.part st in
+        let h : NearTold t x.c (suc d) n epoch body.EndedAck = subst (OfMessage (λ (m : Message). NearTold t x.c (suc d) n m.epoch.0 m.body)) spells near in h.0
+
+    told-end : (o : Option BackRow) (e : ℕ) → tells_end o ≡ Some e → awaits_ack e o ≡ true
+    told-end None e is = absurd (let bad : None ≡ Some e = is in cc)
+    told-end (Some row) e is = go row.stage is where
+      go : (z : BackConn) → telling z row.epoch.0 ≡ Some e → ((row.epoch.0 == e) && is_ended z) ≡ true
+      go (back.Here b) f = absurd (let bad : None ≡ Some e = f in cc)
+      go back.Out f = absurd (let bad : None ≡ Some e = f in cc)
+      go back.Gone f = absurd (let bad : None ≡ Some e = f in cc)
+      go back.Ended f = let same : row.epoch.0 ≡ e = cc in first row.epoch.0 e same where
+        first : (a b : ℕ) → a ≡ b → ((a == b) && true) ≡ true
+        first a b s = grind (arith, nat_tests, s)
+
+    -- behind it the node tells no end
+    gone-tells : (o : Option BackRow) → tells_end (gone o) ≡ None
+    gone-tells None = refl
+    gone-tells (Some row) = refl
+
+    after-tells : (st : Station) (kept : List Kept) → spot_of k.files (with_node x.part n (record q { row = gone q.row; kept = kept })) st ≡ spot_of k.files x.part st → None ≡ tells_end q.row
+    unfolding spot_of
+    after-tells st kept same =
+        let r : NodePart = record q { row = gone q.row; kept = kept } in
+        let t : tells_end (node_put x.part.nodes n r n).row ≡ tells_end q.row = ap (λ (s : Spot). s.telling n) same in
+        sym (ap (λ (z : NodePart). tells_end z.row) (put-there x.part.nodes n r) ∙ gone-tells q.row) ∙ t
+
+    pub acknowledged-owes : Acks (node_acknowledged env q)
+    acknowledged-owes = go (awaits_ack env.epoch q.row) refl where
+      go : (t : Bool) → awaits_ack env.epoch q.row ≡ t → Acks (cond t (node.Does (record q { row = gone q.row; kept = without kind.Ended 0 q.kept }, saying [])) node.Drops)
+      go true is = does-owes k w x n Front bytes was (λ given. given.opened n bytes was) (record q { row = gone q.row; kept = without kind.Ended 0 q.kept }, saying []) (λ given after warm late st st_is c_is up same. record {
+        shorter = tt;
+        leads = λ d near. absurd (let bad : None ≡ Some epoch = after-tells st (without kind.Ended 0 q.kept) same ∙ ack-near st d near in cc);
+      })
+      go false is = drops-owes k w x n Front bytes was (λ given st st_is d near.
+          let yes : awaits_ack env.epoch q.row ≡ true = ap (λ (e : ℕ). awaits_ack e q.row) of.epoch_is ∙ told-end q.row epoch (ack-near st d near) in
+          let bad : true ≡ false = sym yes ∙ is in cc)

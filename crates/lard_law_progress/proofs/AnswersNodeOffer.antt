@@ -1,0 +1,184 @@
+-- What comes of an Offer: one that is new is a unit, and one that was decided is answered by Taken again.
+use Rattle.std.proofs.Common.{◌≡◌, ◌≤◌, ◌==◌, ◌⊎◌, nat_lt, ◌&&◌, ℕ, suc, Bool, true, false, cond, List, Option, Some, None, inl, inr, refl, sym, ap, ◌∙◌, subst, arith}
+use Rattle.std.proofs.lemmas.Bool.{cond-true}
+use Rattle.std.proofs.lemmas.Bool.Decides.{nat_tests}
+use Rattle.lard_answers.specs.Answers.{FilesAt}
+use Rattle.lard_base.specs.declared.parts.EndpointParts.{EndpointParts}
+use Rattle.lard_base.specs.declared.place.Place.{Place}
+use Rattle.lard_base.specs.declared.place.Place.TheVariants.{Front, Node}
+use Rattle.lard_bound.specs.Chains.{chain, front_chain, of_message}
+use Rattle.lard_bound.specs.Nears.{IsUnaware, Near, NearOffer, NearTaken, NearTold, OfMessage}
+use Rattle.lard_bound.specs.Progress.{IsFetch}
+use Rattle.lard_bound.specs.Seats.{Gone, Held, Here, Offered, Over, Seat, Unborn, Waiting, seat_decided, seat_of}
+use Rattle.lard_bound.specs.Spots.{AtNode, Left, OnOffer, Post, Spot, awaits_of, ends_of, post_of, spot_of}
+use Rattle.lard_bound.specs.Seats as seats
+use Rattle.lard_bound.specs.Units.{Whole}
+use Rattle.lard_law_view.specs.View.{Conn, IsNodeEnv, Part, Setting, Spells, Was, with_node}
+use Rattle.lard_endpoint.specs.Control.{ControlBlock}
+use Rattle.lard_rules.specs.Front.{rest_of}
+use Rattle.lard_handoff_back.specs.declared.row.BackConn.TheVariants as back
+use Rattle.lard_handoff_back.specs.declared.row.BackRow.{BackRow}
+use Rattle.lard_handoff_back.specs.declared.table.Adopt.{Adopt}
+use Rattle.lard_handoff_back.specs.declared.table.Adopt.TheVariants as adopt
+use Rattle.lard_handoff_back.specs.Back.{offer_answer}
+use Rattle.lard_handoff_back.specs.Row.{is_gone}
+use Rattle.lard_handoff_front.specs.declared.row.FrontConn.TheVariants as stage
+use Rattle.lard_handoff_front.specs.declared.row.FrontRow.{FrontRow}
+use Rattle.lard_history.specs.Own.{Letter}
+use Rattle.lard_message.specs.declared.message.Body.TheVariants as body
+use Rattle.lard_message.specs.declared.message.Message.{Message}
+use Rattle.lard_message.specs.Message.{IsMessage}
+use Rattle.lard_message.proofs.Whole.{spelled_so}
+use Rattle.lard_rules.specs.Node.{NodePart, kept_after, message, node_offered, offered_by, rests, taken_sent}
+use Rattle.lard_rules.specs.Node as node
+use Rattle.lard_rules.specs.Stay.{NodeEnv, Work}
+use Rattle.lard_law_progress.proofs.AnswersMessages.{of_conn, taken-chain, taken-may, taken-near, taken_letter}
+use Rattle.lard_law_progress.proofs.AnswersNodeDeeds.{OwesBy, does-owes, drops-owes, says-owes}
+use Rattle.lard_law_progress.proofs.AnswersNodeGiven.{NodeGiven}
+use Rattle.lard_law_progress.proofs.AnswersNodeSeats.{Sits, seat-sits}
+use Rattle.lard_law_progress.proofs.AnswersNodeStill.{post-is}
+use Rattle.lard_law_progress.proofs.Away.{IsWith, away-ended, away-here, by-ending, seat-put, seat-with}
+use Rattle.lard_law_progress.proofs.NodeRules.{taking}
+use Rattle.lard_rules.specs.declared.places.Ending.{Ending}
+use Rattle.lard_rules.specs.declared.places.Ending.TheVariants as ending
+use Rattle.lard_rules.specs.declared.places.Station.{Station}
+use Rattle.lard_rules.specs.Serving.{settled}
+use Rattle.lard_rules.specs.Speaking.{speaks}
+
+-- ---- what an Offer that is near is answered by
+
+known-answer : (e : ℕ) (row : BackRow) → row.epoch.0 ≡ e → offer_answer e (Some row) ≡ adopt.Again
+known-answer e row is = cond-true (row.epoch.0 == e) adopt.Again (cond (nat_lt row.epoch.0 e && is_gone row.stage) adopt.New adopt.Stale) (same row.epoch.0 e is) where
+  same : (a b : ℕ) → a ≡ b → (a == b) ≡ true
+  same a b s = grind (arith, nat_tests, s)
+
+-- It is new, or it was decided and a Taken is near.
+abbrev pub IsMet : Part → ℕ → ℕ → ℕ → Post → Type 0
+IsMet p d n e z = (offer_answer e (p.nodes n).row ≡ adopt.New) ⊎ ((offer_answer e (p.nodes n).row ≡ adopt.Again) × NearTaken d e z)
+
+module _ (files : FilesAt) (p : Part) (st : Station) (n e : ℕ) (fresh : (n e count : ℕ) → seat_of p ≡ Offered n e count → (p.nodes n).row ≡ None) where
+  unaware : (told : Bool) (d : ℕ) → IsUnaware told (suc d) → (told ≡ false) × (1 ≤ d)
+  unaware true d h = absurd h
+  unaware false d h = let two : 2 ≤ suc d = h in (refl, omega (arith, two))
+
+  at-node : (told : Bool) (m f d : ℕ) (b : ControlBlock) (s : seats.Staying) (row : BackRow) → (p.nodes m).row ≡ Some row → row.epoch.0 ≡ f → m ≡ n → f ≡ e → IsUnaware told (suc d)
+      → IsMet p d n e (post_of files st.client (Here told m f b s))
+  at-node told m f d b s row there epoch same_n same_e h =
+      let u = unaware told d h in
+      let row_is : (p.nodes n).row ≡ Some row = subst (λ (i : ℕ). (p.nodes i).row ≡ Some row) same_n there in
+      inr (ap (offer_answer e) row_is ∙ known-answer e row (epoch ∙ same_e), subst (λ (t : Bool). NearTaken d e (post_of files st.client (Here t m f b s))) (sym u.0) (same_e, u.1))
+
+  away : (told : Bool) (m f d : ℕ) (row : BackRow) → (p.nodes m).row ≡ Some row → row.epoch.0 ≡ f → m ≡ n → f ≡ e → IsUnaware told (suc d) → IsMet p d n e (Left told m f)
+  away told m f d row there epoch same_n same_e h =
+      let u = unaware told d h in
+      let row_is : (p.nodes n).row ≡ Some row = subst (λ (i : ℕ). (p.nodes i).row ≡ Some row) same_n there in
+      inr (ap (offer_answer e) row_is ∙ known-answer e row (epoch ∙ same_e), subst (λ (t : Bool). NearTaken d e (Left t m f)) (sym u.0) (same_e, u.1))
+
+  pub offer-met : (d : ℕ) → NearOffer (suc d) n e (spot_of files p st).post → IsMet p d n e (spot_of files p st).post
+  offer-met d near = subst (IsMet p d n e) (sym (post-is files p st)) (go (seat_of p) refl (seat-sits p) (subst (NearOffer (suc d) n e) (post-is files p st) near)) where
+    go : (z : Seat) → seat_of p ≡ z → Sits p z → NearOffer (suc d) n e (post_of files st.client z) → IsMet p d n e (post_of files st.client z)
+    go (Here told m f b s) is sits h = at-node told m f d b s (record { stage = back.Here b; epoch = record { 0 = f } }) sits.0.there refl h.0 h.1 h.2
+    go (Gone told m f) is sits h = away told m f d sits.row sits.there sits.epoch h.0 h.1 h.2
+    go (Offered m f count) is sits h =
+        let none : (p.nodes n).row ≡ None = subst (λ (i : ℕ). (p.nodes i).row ≡ None) h.0 (fresh m f count is) in
+        inl (ap (offer_answer e) none)
+    go Unborn is sits h = absurd h
+    go (Held b count) is sits h = absurd h
+    go (Waiting b count) is sits h = absurd h
+    go (Over last) is sits h = absurd h
+
+-- ---- one that is new
+
+new-open : (told : Bool) (n e count : ℕ) (q : NodePart) (o : Option BackRow) → offer_answer e o ≡ adopt.New → seat_decided told n e count q o ≡ Offered n e count
+new-open told n e count q None is = refl
+new-open told n e count q (Some row) is = go (row.epoch.0 == e) is where
+  go : (t : Bool) → cond t adopt.Again (cond (nat_lt row.epoch.0 e && is_gone row.stage) adopt.New adopt.Stale) ≡ adopt.New → cond t (seats.seat_there told n e count q row.stage) (Offered n e count) ≡ Offered n e count
+  go true f = absurd (let bad : adopt.Again ≡ adopt.New = f in cc)
+  go false f = refl
+
+module _ (files : FilesAt) (p : Part) (st : Station) (n : ℕ) (env : NodeEnv) (row : FrontRow) (front : p.front.row ≡ Some row) (with_ : IsWith false n env.epoch row.stage)
+    (is_new : offer_answer env.epoch (p.nodes n).row ≡ adopt.New) (before : List (Place × List ℕ)) (w : Work) where
+  abbrev q : NodePart
+  q = p.nodes n
+
+  abbrev at : ℕ
+  at = (rest_of p.front.rest).count
+
+  abbrev put : Ending → Part
+  put o = with_node p n (kept_after env q w o)
+
+  was : post_of files st.client (seat_of p) ≡ OnOffer n env.epoch
+  was = ap (post_of files st.client) (seat-with p n env.epoch false row front with_ ∙ new-open false n env.epoch at q q.row is_new)
+
+  -- then it is somewhere else
+  pub new-moves : spot_of files (with_node p n (rests env q before w).0) st ≡ spot_of files p st → ⊥
+  new-moves same = by-ending env.serve w.service (λ o. post_of files st.client (seat_of (put o)) ≡ OnOffer n env.epoch → ⊥)
+      (λ none post.
+      let d = (speaks env.serve.c w.service.block).1 in
+      let after = kept_after env q w (ending.Here d w.service.count) in
+      let now = ap (post_of files st.client) (seat-put p n env.epoch false row after front with_ ∙ away-here false n env.epoch at after d refl) in
+      let bad : AtNode false n env.epoch (ends_of st.client d) (awaits_of files (seats.staying_of after)) ≡ OnOffer n env.epoch = sym now ∙ post in cc)
+      (λ last post.
+      let after = kept_after env q w (ending.Over last) in
+      let now = ap (post_of files st.client) (seat-put p n env.epoch false row after front with_ ∙ away-ended false n env.epoch at after refl) in
+      let bad : Left false n env.epoch ≡ OnOffer n env.epoch = sym now ∙ post in cc)
+      (sym (post-is files (put (settled env.serve w.service).0) st) ∙ ap (λ (s : Spot). s.post) same ∙ post-is files p st ∙ was)
+
+-- ---- the rule
+
+module _ (k : Setting) (w : Whole) (x : Conn) (n epoch : ℕ) (env : NodeEnv) (of : IsNodeEnv k x.c n epoch env) (parts : EndpointParts) (bytes : List ℕ)
+    (spells : Spells x.c epoch (body.Offer parts) bytes) (was_sent : Was x Front (Node n) bytes) where
+  abbrev qq : NodePart
+  qq = x.part.nodes n
+
+  abbrev Offers : node.Deed → Type 0
+  Offers deed = OwesBy k w x n Front bytes was_sent deed
+
+  abbrev offer_letter : Letter
+  offer_letter = record { from = Front; to = Node n; bytes = bytes }
+
+  met : NodeGiven k w x → (st : Station) (d : ℕ) → Near k.files (spot_of k.files x.part st) x.c (suc d) offer_letter → IsMet x.part d n epoch (spot_of k.files x.part st).post
+  met given st d near =
+      let t = spot_of k.files x.part st in
+      let h : NearTold t x.c (suc d) n epoch (body.Offer parts) = subst (OfMessage (λ (m : Message). NearTold t x.c (suc d) n m.epoch.0 m.body)) spells near in
+      offer-met k.files x.part st n epoch given.fresh d h
+
+  answer-is : offer_answer epoch qq.row ≡ offer_answer env.epoch qq.row
+  answer-is = ap (λ (e : ℕ). offer_answer e qq.row) (sym of.epoch_is)
+
+  may : NodeGiven k w x → IsMessage (of_conn x.c epoch body.Taken)
+  may given = taken-may x.c epoch parts (spelled_so bytes (of_conn x.c epoch (body.Offer parts)) (given.bytes offer_letter was_sent) spells).0
+
+  -- Taken again
+  abbrev sent : Letter
+  sent = record { from = Node n; to = Front; bytes = message env.serve.c env.epoch body.Taken }
+
+  sent-is : sent ≡ taken_letter n x.c epoch
+  sent-is = λ i. record { from = Node n; to = Front; bytes = message (of.number i) (of.epoch_is i) body.Taken }
+
+  again-owes : offer_answer env.epoch qq.row ≡ adopt.Again → Offers (node.Says (taken_sent env))
+  again-owes is = says-owes k w x n Front bytes was_sent (λ given. given.opened n bytes was_sent) (taken_sent env) (λ given st st_is.
+      let t = spot_of k.files x.part st in
+      let none : chain t x.c sent ≡ 0 = ap (chain t x.c) sent-is ∙ taken-chain k.files t x.c epoch n (may given) in
+      let one : chain t x.c offer_letter ≡ 1 = ap (of_message (λ (m : Message). front_chain t x.c m.body)) spells in
+      record {
+        shorter = (omega (arith, none, one), tt);
+        leads = λ d near. go t d given (met given st d near);
+      })
+    where
+      go : (t : Spot) (d : ℕ) → NodeGiven k w x → IsMet x.part d n epoch t.post → (Near k.files t x.c d sent ⊎ ⊥) ⊎ IsFetch offer_letter
+      go t d given (inl new) = absurd (let bad : adopt.New ≡ adopt.Again = sym new ∙ answer-is ∙ is in cc)
+      go t d given (inr (again, near)) = inl (inl (subst (Near k.files t x.c d) (sym sent-is) (taken-near k.files t x.c epoch n (may given) d near)))
+
+  pub offered-owes : Offers (node_offered env qq parts)
+  offered-owes = go (offer_answer env.epoch qq.row) refl where
+    go : (a : Adopt) → offer_answer env.epoch qq.row ≡ a → Offers (offered_by env parts qq a)
+    go adopt.New is = does-owes k w x n Front bytes was_sent (λ given. given.opened n bytes was_sent) (rests env qq (taken_sent env) (taking env parts)) (λ given after warm late st st_is c_is up same.
+        let h = given.news n epoch parts bytes spells was_sent (answer-is ∙ is) in
+        let stage_is : IsWith false n env.epoch h.0.stage = h.2 ∙ ap (λ (e : ℕ). stage.Offering n (record { 0 = e })) (sym of.epoch_is) in
+        absurd (new-moves k.files x.part st n env h.0 h.1 stage_is is (taken_sent env) (taking env parts) same))
+    go adopt.Again is = again-owes is
+    go adopt.Stale is = drops-owes k w x n Front bytes was_sent (λ given st st_is d near. stale d (spot_of k.files x.part st).post (met given st d near) is) where
+      stale : (d : ℕ) (z : Post) → IsMet x.part d n epoch z → offer_answer env.epoch qq.row ≡ adopt.Stale → ⊥
+      stale d z (inl new) is = let bad : adopt.New ≡ adopt.Stale = sym new ∙ answer-is ∙ is in cc
+      stale d z (inr (again, near)) is = let bad : adopt.Again ≡ adopt.Stale = sym again ∙ answer-is ∙ is in cc

@@ -1,0 +1,116 @@
+-- Where the spot says that a node has the connection, or decided about its Offer, by what the front end and the node keep.
+use Rattle.std.proofs.Common.{◌≡◌, ◌==◌, ◌⊎◌, ℕ, Bool, true, false, cond, Option, Some, None, inl, inr, refl, sym, ap, ◌∙◌, subst, arith}
+use Rattle.std.proofs.lemmas.Bool.{cond-true, eqb-true}
+use Rattle.std.proofs.lemmas.Bool.Decides.{nat_tests}
+use Rattle.lard_bound.specs.Seats.{Gone, Here, Offered, Seat, seat_by, seat_decided, seat_in, seat_of, seat_there, staying_of}
+use Rattle.lard_law_view.specs.View.{Part}
+use Rattle.lard_endpoint.specs.Control.{ControlBlock}
+use Rattle.lard_rules.specs.Front.{rest_of}
+use Rattle.lard_handoff_back.specs.declared.row.BackConn.{BackConn}
+use Rattle.lard_handoff_back.specs.declared.row.BackConn.TheVariants as back
+use Rattle.lard_handoff_back.specs.declared.row.BackRow.{BackRow}
+use Rattle.lard_handoff_back.specs.Back.{staying}
+use Rattle.lard_handoff_back.specs.Row.{held_in}
+use Rattle.lard_handoff_front.specs.declared.row.FrontConn.{FrontConn}
+use Rattle.lard_handoff_front.specs.declared.row.FrontConn.TheVariants as stage
+use Rattle.lard_handoff_front.specs.declared.row.FrontRow.{FrontRow}
+use Rattle.lard_rules.specs.declared.stay.Stay.{Stay}
+use Rattle.lard_rules.specs.Node.{NodePart, both_of, here}
+use Rattle.lard_law_progress.proofs.Away.{IsWith, away-here, seat-with}
+
+-- node n has the connection in epoch e, and the front end is with it
+pub record IsHere (p : Part) (told : Bool) (n e : ℕ) (b : ControlBlock) : Type 0 where
+  pub front : FrontRow
+  pub row : p.front.row ≡ Some front
+  pub with_ : IsWith told n e front.stage
+  pub there : (p.nodes n).row ≡ Some (record { stage = back.Here b; epoch = record { 0 = e } })
+
+-- node n decided about the Offer of epoch e
+pub record IsDone (p : Part) (n e : ℕ) : Type 0 where
+  pub row : BackRow
+  pub there : (p.nodes n).row ≡ Some row
+  pub epoch : row.epoch.0 ≡ e
+
+-- it did not
+abbrev pub IsOpen : ℕ → Option BackRow → Type 0
+IsOpen e None = Unit {0}
+IsOpen e (Some row) = ((row.epoch.0 == e) ≡ false) ⊎ (row.stage ≡ back.Out)
+
+-- what a seat tells of the places
+abbrev pub Sits : Part → Seat → Type 0
+Sits p (Here told n e b s) = IsHere p told n e b × (s ≡ staying_of (p.nodes n))
+Sits p (Gone told n e) = IsDone p n e
+Sits p (Offered n e count) = IsOpen e (p.nodes n).row
+Sits p _ = Unit {0}
+
+module _ (p : Part) (front : FrontRow) (row : p.front.row ≡ Some front) (told : Bool) (n e count : ℕ) (with_ : IsWith told n e front.stage) where
+  there-sits : (r : BackRow) (s : BackConn) → (p.nodes n).row ≡ Some r → r.stage ≡ s → (r.epoch.0 == e) ≡ true → Sits p (seat_there told n e count (p.nodes n) s)
+  there-sits r (back.Here b) is stage_is same =
+      let e_is : r.epoch.0 ≡ e = eqb-true r.epoch.0 e same in
+      (record { front = front; row = row; with_ = with_; there = is ∙ λ i. Some (record { stage = stage_is i; epoch = record { 0 = e_is i } }) }, refl)
+  there-sits r back.Out is stage_is same = subst (IsOpen e) (sym is) (inr stage_is)
+  there-sits r back.Ended is stage_is same = record { row = r; there = is; epoch = eqb-true r.epoch.0 e same }
+  there-sits r back.Gone is stage_is same = record { row = r; there = is; epoch = eqb-true r.epoch.0 e same }
+
+  decided-sits : (o : Option BackRow) → (p.nodes n).row ≡ o → Sits p (seat_decided told n e count (p.nodes n) o)
+  decided-sits None is = subst (IsOpen e) (sym is) tt
+  decided-sits (Some r) is = go (r.epoch.0 == e) refl where
+    go : (b : Bool) → (r.epoch.0 == e) ≡ b → Sits p (cond b (seat_there told n e count (p.nodes n) r.stage) (Offered n e count))
+    go true same = there-sits r r.stage is refl same
+    go false other = subst (IsOpen e) (sym is) (inl other)
+
+pub seat-sits : (p : Part) → Sits p (seat_of p)
+unfolding seat_of
+seat-sits p = by-row p.front.row refl where
+  by-stage : (front : FrontRow) → p.front.row ≡ Some front → (s : FrontConn) → front.stage ≡ s → Sits p (seat_in p.front p.nodes s)
+  by-stage front row (stage.Held b) is = tt
+  by-stage front row (stage.Waiting b) is = tt
+  by-stage front row stage.Lent is = tt
+  by-stage front row (stage.Offering n e) is = decided-sits p front row false n e.0 (rest_of p.front.rest).count is (p.nodes n).row refl
+  by-stage front row (stage.Moved n e) is = decided-sits p front row true n e.0 (rest_of p.front.rest).count is (p.nodes n).row refl
+  by-stage front row (stage.Closed last) is = tt
+
+  by-row : (o : Option FrontRow) → p.front.row ≡ o → Sits p (seat_by p.front p.nodes o)
+  by-row None is = tt
+  by-row (Some front) is = by-stage front is front.stage refl
+
+-- ---- a connection that a node has
+
+pub here-seat : (p : Part) (told : Bool) (n e : ℕ) (b : ControlBlock) → IsHere p told n e b → seat_of p ≡ Here told n e b (staying_of (p.nodes n))
+here-seat p told n e b h = seat-with p n e told h.front h.row h.with_ ∙ away-here told n e (rest_of p.front.rest).count (p.nodes n) b h.there
+
+self : (n : ℕ) → (n == n) ≡ true
+self n = grind (arith, nat_tests)
+
+-- what the rules of its stay are over
+pub here-both : (q : NodePart) (e : ℕ) (b : ControlBlock) (s : Stay) → q.row ≡ Some (record { stage = back.Here b; epoch = record { 0 = e } }) → q.stay ≡ Some s → here e q ≡ Some (b, s)
+here-both q e b s row stay =
+    let one : staying e q.row ≡ Some b = ap (staying e) row ∙ cond-true (e == e) (Some b) None (self e) in
+    ap (λ (o : Option ControlBlock). both_of o q.stay) one ∙ ap (both_of (Some b)) stay
+
+-- and the other way round
+abbrev pub Both : NodePart → ℕ → ControlBlock → Stay → Type 0
+Both q e b s = (q.row ≡ Some (record { stage = back.Here b; epoch = record { 0 = e } })) × (q.stay ≡ Some s)
+
+pub both-here : (q : NodePart) (e : ℕ) (b : ControlBlock) (s : Stay) → here e q ≡ Some (b, s) → Both q e b s
+both-here q e b s is = by-row q.row refl is where
+  by-stay : (row : BackRow) (d : ControlBlock) → q.row ≡ Some row → row.epoch.0 ≡ e → row.stage ≡ back.Here d → (o : Option Stay) → q.stay ≡ o → both_of (Some d) o ≡ Some (b, s) → Both q e b s
+  by-stay row d r same g None h f = absurd (let bad : None ≡ Some (b, s) = f in cc)
+  by-stay row d r same g (Some u) h f =
+      let one : d ≡ b = ap (λ (o : Option (ControlBlock × Stay)). elim o [ None ↦ d | Some z ↦ z.0 ]) f in
+      let two : u ≡ s = ap (λ (o : Option (ControlBlock × Stay)). elim o [ None ↦ u | Some z ↦ z.1 ]) f in
+      (r ∙ (λ i. Some (record { stage = (g ∙ ap back.Here one) i; epoch = record { 0 = same i } })), h ∙ ap (λ (z : Stay). Some z) two)
+
+  by-stage : (row : BackRow) → q.row ≡ Some row → row.epoch.0 ≡ e → (z : BackConn) → row.stage ≡ z → both_of (held_in z) q.stay ≡ Some (b, s) → Both q e b s
+  by-stage row r same (back.Here d) g f = by-stay row d r same g q.stay refl f
+  by-stage row r same back.Out g f = absurd (let bad : None ≡ Some (b, s) = f in cc)
+  by-stage row r same back.Ended g f = absurd (let bad : None ≡ Some (b, s) = f in cc)
+  by-stage row r same back.Gone g f = absurd (let bad : None ≡ Some (b, s) = f in cc)
+
+  by-epoch : (row : BackRow) → q.row ≡ Some row → (t : Bool) → (row.epoch.0 == e) ≡ t → both_of (cond t (held_in row.stage) None) q.stay ≡ Some (b, s) → Both q e b s
+  by-epoch row r true same f = by-stage row r (eqb-true row.epoch.0 e same) row.stage refl f
+  by-epoch row r false same f = absurd (let bad : None ≡ Some (b, s) = f in cc)
+
+  by-row : (o : Option BackRow) → q.row ≡ o → both_of (staying e o) q.stay ≡ Some (b, s) → Both q e b s
+  by-row None r f = absurd (let bad : None ≡ Some (b, s) = f in cc)
+  by-row (Some row) r f = by-epoch row r (row.epoch.0 == e) refl f

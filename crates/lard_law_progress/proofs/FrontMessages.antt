@@ -1,0 +1,103 @@
+-- The front end hears a message of a node: nothing that is left to do comes back.
+use Rattle.std.proofs.Common.{◌≡◌, ◌+◌, ◌==◌, ◌&&◌, nat_lt, ℕ, Bool, true, false, cond, Option, Some, None, refl, sym, ap, ◌∙◌}
+use Rattle.std.proofs.lemmas.Bool.{cond_both, eqb-true}
+use Rattle.lard_answers.specs.Answers.{FilesAt}
+use Rattle.lard_base.specs.declared.ids.Epoch.{Epoch}
+use Rattle.lard_base.specs.declared.place.TimerKind.TheVariants as kind
+use Rattle.lard_bound.specs.Seats.{Offered, seat_away, seat_decided, seat_of, seat_there, staying_of}
+use Rattle.lard_bound.specs.Units.{Whole}
+use Rattle.lard_law_view.specs.View.{Part, with_front}
+use Rattle.lard_dispatch.specs.declared.dispatch.Ask.{Ask}
+use Rattle.lard_endpoint.specs.declared.control.moving.Final.{Final}
+use Rattle.lard_rules.specs.declared.front.FrontRest.{FrontRest}
+use Rattle.lard_rules.specs.Front as front
+use Rattle.lard_rules.specs.Front.{Does, Drops, FrontEnv, FrontPart, Says, asked_by, assigns, ended_by, ends, front_asked, front_ended, front_taken, is_at, rest_of, saying, tag_sent, taken_by}
+use Rattle.lard_handoff_back.specs.declared.row.BackConn.{BackConn}
+use Rattle.lard_handoff_back.specs.declared.row.BackConn.TheVariants as back
+use Rattle.lard_handoff_back.specs.declared.row.BackRow.{BackRow}
+use Rattle.lard_handoff_front.specs.declared.row.FrontConn.{FrontConn}
+use Rattle.lard_handoff_front.specs.declared.row.FrontConn.TheVariants as stage
+use Rattle.lard_handoff_front.specs.declared.row.FrontRow.{FrontRow}
+use Rattle.lard_handoff_front.specs.declared.table.OnEnded.{OnEnded}
+use Rattle.lard_handoff_front.specs.declared.table.OnEnded.TheVariants.{Again, New, Stale}
+use Rattle.lard_handoff_front.specs.Front.{asked_node, end_answer, ended_row, ended_with, next_epoch}
+use Rattle.lard_handoff_front.specs.Row.{is_away, offered_to}
+use Rattle.lard_rules.specs.Node.{NodePart}
+use Rattle.lard_law_progress.proofs.Given.{IsGone}
+use Rattle.lard_law_progress.proofs.Handing.{ended-over, taken-gone, taken-here}
+use Rattle.lard_law_progress.proofs.Less.{Lasting}
+use Rattle.lard_law_progress.proofs.Seating.{FrontLasts, front-stays, seat-at, seat-counts}
+use Rattle.lard_resend.specs.Kept.{without}
+use Rattle.lard_rules.specs.declared.places.Station.{Station}
+
+module _ (w : Whole) (K : ℕ) (files : FilesAt) (p : Part) (st : Station) where
+  abbrev Owes : front.Deed → Type 0
+  Owes d = FrontLasts w K files p st d
+
+  abbrev To : FrontPart → Type 0
+  To f = Lasting w K files p st (with_front p f) st
+
+  -- ---- its node took it: that goes, where the node decided; else it is where it was
+
+  flips-there : (f : FrontPart) (n e count : ℕ) (q : NodePart) (s : BackConn) → seat_of p ≡ seat_there false n e count q s → seat_of (with_front p f) ≡ seat_there true n e count q s → To f
+  flips-there f n e count q (back.Here b) was now = taken-here w K files p st f n e b (staying_of q) was now
+  flips-there f n e count q back.Out was now = front-stays w K files p st f (now ∙ sym was)
+  flips-there f n e count q back.Ended was now = taken-gone w K files p st f n e was now
+  flips-there f n e count q back.Gone was now = taken-gone w K files p st f n e was now
+
+  flips-by : (f : FrontPart) (n e count : ℕ) (q : NodePart) (s : BackConn) (b : Bool) → seat_of p ≡ cond b (seat_there false n e count q s) (Offered n e count)
+      → seat_of (with_front p f) ≡ cond b (seat_there true n e count q s) (Offered n e count) → To f
+  flips-by f n e count q s true was now = flips-there f n e count q s was now
+  flips-by f n e count q s false was now = front-stays w K files p st f (now ∙ sym was)
+
+  flips : (f : FrontPart) (n e count : ℕ) (q : NodePart) (o : Option BackRow) → seat_of p ≡ seat_decided false n e count q o → seat_of (with_front p f) ≡ seat_decided true n e count q o → To f
+  flips f n e count q None was now = front-stays w K files p st f (now ∙ sym was)
+  flips f n e count q (Some r) was now = flips-by f n e count q r.stage (r.epoch.0 == e) was now
+
+  taken-at : (row : FrontRow) (n : ℕ) (d : Epoch) (epoch : ℕ) → p.front.row ≡ Some row → row.stage ≡ stage.Offering n d → d.0 ≡ epoch → Owes (taken_by p.front epoch (Some row) (Some n))
+  taken-at row n d epoch at is same known =
+      let r : FrontRow = record row { stage = stage.Moved n (record { 0 = epoch }) } in
+      let f : FrontPart = record p.front { row = Some r; kept = without kind.Offer 0 p.front.kept } in
+      let count = (rest_of p.front.rest).count in
+      let was : seat_of p ≡ seat_away false n epoch count (p.nodes n) = seat-at p row (stage.Offering n d) at is ∙ ap (λ e. seat_away false n e count (p.nodes n)) same in
+      let now : seat_of (with_front p f) ≡ seat_away true n epoch count (p.nodes n) = seat-at (with_front p f) r (stage.Moved n (record { 0 = epoch })) refl refl in
+      flips f n epoch count (p.nodes n) (p.nodes n).row was now
+
+  taken-by : (epoch : ℕ) (row : FrontRow) → p.front.row ≡ Some row → (s : FrontConn) → row.stage ≡ s → Owes (taken_by p.front epoch (Some row) (offered_to epoch s))
+  taken-by epoch row at (stage.Offering n d) is =
+      cond_both (d.0 == epoch) (Some n) None (λ (o : Option ℕ). Owes (taken_by p.front epoch (Some row) o)) (λ t. taken-at row n d epoch at is (eqb-true d.0 epoch t)) (λ t. tt)
+  taken-by epoch row at _ is = tt
+
+  pub taken-lasts : (epoch : ℕ) → Owes (front_taken p.front epoch)
+  taken-lasts epoch = go p.front.row refl where
+    go : (o : Option FrontRow) → p.front.row ≡ o → Owes (taken_by p.front epoch o (asked_node epoch o))
+    go None at = tt
+    go (Some row) at = taken-by epoch row at row.stage refl
+
+  -- ---- its node asks: the answer is kept, and it is where it was
+
+  asks-by : (env : FrontEnv) (from epoch : ℕ) (ask : Ask) (o : Option FrontRest) → p.front.rest ≡ o → Owes (asked_by env p.front from epoch ask o)
+  asks-by env from epoch ask None at = tt
+  asks-by env from epoch ask (Some rest) at =
+      let again = cond (ask.number == rest.asks && nat_lt 0 rest.asks) (Says (saying (tag_sent env from epoch rest.asks rest.tag))) Drops in
+      cond_both (ask.number == rest.asks + 1) (Does (assigns env p.front rest from epoch ask (env.later ask))) again Owes
+      (λ t known. let f = (assigns env p.front rest from epoch ask (env.later ask)).part in
+      front-stays w K files p st f (seat-counts w K files p st f (sym (ap (λ (o : Option FrontRest). (rest_of o).count) at)) refl))
+      (λ t. cond_both (ask.number == rest.asks && nat_lt 0 rest.asks) (Says (saying (tag_sent env from epoch rest.asks rest.tag))) Drops Owes (λ t. tt) (λ t. tt))
+
+  pub asked-lasts : (env : FrontEnv) (from epoch : ℕ) (ask : Ask) → Owes (front_asked env p.front from epoch ask)
+  asked-lasts env from epoch ask = cond_both (is_at from epoch p.front.row) (asked_by env p.front from epoch ask p.front.rest) Drops Owes (λ t. asks-by env from epoch ask p.front.rest refl) (λ t. tt)
+
+  -- ---- it ended at its node
+
+  pub ended-lasts : (env : FrontEnv) (from epoch : ℕ) (last : Final) → ((row : FrontRow) → p.front.row ≡ Some row → is_away epoch row.stage ≡ true → IsGone (seat_of p)) → Owes (front_ended env p.front from epoch last)
+  ended-lasts env from epoch last gone = go p.front.row refl where
+    go : (o : Option FrontRow) → p.front.row ≡ o → Owes (ended_by env p.front from epoch last o (end_answer epoch o))
+    go None at = tt
+    go (Some row) at =
+        let P : OnEnded → Type 0 = λ g. Owes (ended_by env p.front from epoch last (Some row) g) in
+        cond_both (is_away epoch row.stage) (New (next_epoch row)) (cond (ended_with epoch row.ended_by) Again Stale) P
+        (λ t known. let g = gone row at t in
+        let f = (ends env p.front from epoch last row (next_epoch row)).part in
+        ended-over w K files p st f g.told g.n g.e last g.is (seat-at (with_front p f) (ended_row (record { 0 = epoch }) last row) (stage.Closed last) refl refl))
+        (λ t. cond_both (ended_with epoch row.ended_by) Again Stale P (λ t. tt) (λ t. tt))

@@ -1,0 +1,119 @@
+-- What is known of a connection between two steps of a settle's rounds, so that no unit comes back in the next one.
+use Rattle.std.proofs.Common.{◌≡◌, ◌≤◌, ◌+◌, ℕ, Bool, true, false, List, [], Option, Some, None}
+use Rattle.lard_base.specs.declared.event.Event.{Event}
+use Rattle.lard_base.specs.declared.event.Event.TheVariants as event
+use Rattle.lard_base.specs.declared.parts.EndpointParts.{EndpointParts}
+use Rattle.lard_base.specs.declared.place.Place.TheVariants.{Front, Node}
+use Rattle.lard_base.specs.declared.place.Reason.{Reason}
+use Rattle.lard_bound.specs.Progress.{IfCame, IsWarm, Lasts, came_in}
+use Rattle.lard_bound.specs.Seats.{Gone, Held, Here, Offered, Over, Seat, Unborn, Waiting, seat_of}
+use Rattle.lard_bound.specs.Units.{Whole, taken}
+use Rattle.lard_client.specs.Control.{ClientBlock}
+use Rattle.lard_client.specs.declared.phase.Phase.TheVariants as phase
+use Rattle.lard_law_view.specs.Carry.{MayMove}
+use Rattle.lard_law_view.specs.View.{Conn, Move, Part, Setting, Spells, Was, grown}
+use Rattle.lard_endpoint.specs.Control.{ControlBlock}
+use Rattle.lard_rules.specs.Front.{FrontPart, rest_of}
+use Rattle.lard_handoff_back.specs.Back.{offer_answer}
+use Rattle.lard_handoff_back.specs.declared.row.BackConn.TheVariants as back
+use Rattle.lard_handoff_back.specs.declared.row.BackRow.{BackRow}
+use Rattle.lard_handoff_back.specs.declared.table.Adopt.TheVariants.{New}
+use Rattle.lard_handoff_front.specs.Row.{is_away}
+use Rattle.lard_handoff_front.specs.declared.row.FrontConn.TheVariants as stage
+use Rattle.lard_handoff_front.specs.declared.row.FrontRow.{FrontRow}
+use Rattle.lard_history.specs.Own.{Came, Row, Seen}
+use Rattle.lard_history.proofs.Each.{Each}
+use Rattle.lard_journal.specs.declared.rec.Rec.TheVariants as rec
+use Rattle.lard_message.specs.declared.message.Body.TheVariants as body
+use Rattle.lard_rules.specs.Node.{NodePart}
+use Rattle.lard_law_progress.proofs.Away.{IsWith}
+use Rattle.lard_law_progress.proofs.Turns.{read_in}
+use Rattle.lard_rules.specs.declared.places.Station.{Station}
+
+-- ---- by where it is
+
+-- What is acknowledged was taken, no more requests were read than there are, and a client that was reset is nobody's any more. Before
+-- it begins, a client took nothing; one that waits or is offered has a request.
+abbrev pub SeatKnown : Whole → ClientBlock → Seat → Type 0
+SeatKnown w x Unborn = taken x ≡ 0
+SeatKnown w x (Held b count) = (b.send.una ≤ taken x) × (count ≤ w.requests) × (x.phase ≡ phase.Reset → ⊥)
+SeatKnown w x (Waiting b count) = (b.send.una ≤ taken x) × (1 ≤ w.requests) × (b.send.finished ≡ false)
+SeatKnown w x (Offered n e count) = 1 ≤ w.requests
+SeatKnown w x (Here told n e b s) = (b.send.una ≤ taken x) × (read_in s ≤ w.requests) × (x.phase ≡ phase.Reset → ⊥)
+SeatKnown w x (Gone told n e) = Unit {0}
+SeatKnown w x (Over last) = Unit {0}
+
+-- a node decided of no later epoch than this
+abbrev pub IsWithin : ℕ → Option BackRow → Type 0
+IsWithin e None = Unit {0}
+IsWithin e (Some row) = row.epoch.0 ≤ e
+
+abbrev pub IsFresh : (ℕ → NodePart) → Option FrontRow → Type 0
+IsFresh nodes None = Unit {0}
+IsFresh nodes (Some row) = (n : ℕ) → IsWithin row.epoch.0 (nodes n).row
+
+-- the front end offered it to node n in epoch e, and may know that it was taken
+pub record IsAt (f : FrontPart) (n e : ℕ) : Type 0 where
+  pub told : Bool
+  pub row : FrontRow
+  pub front : f.row ≡ Some row
+  pub with_ : IsWith told n e row.stage
+
+-- ---- by what comes
+
+-- An Offer that is new to its node: the front end awaits its answer, the node keeps nothing of the connection, and the endpoint is the one
+-- that was frozen, to which all was acknowledged that the client took.
+pub record IsNewOffer (p : Part) (x : ClientBlock) (n e : ℕ) (parts : EndpointParts) : Type 0 where
+  pub row : FrontRow
+  pub front : p.front.row ≡ Some row
+  pub with_ : row.stage ≡ stage.Offering n (record { 0 = e })
+  pub kept : (p.nodes n).kept ≡ []
+  pub fetches : (p.nodes n).fetches ≡ []
+  pub served : parts.served ≡ (rest_of p.front.rest).count
+  pub una : taken x ≤ parts.una
+
+-- its stay is over, and the front end does not know so
+pub record IsGone (z : Seat) : Type 0 where
+  pub told : Bool
+  pub n : ℕ
+  pub e : ℕ
+  pub is : z ≡ Gone told n e
+
+-- ---- all of it
+
+-- Of a connection whose client opened, in a cluster of so many nodes.
+pub record Known (nodes : ℕ) (w : Whole) (x : Conn) (st : Station) : Type 0 where
+  pub said : st.client.send.una ≤ w.written + 2
+  pub heard : taken st.client ≤ w.answers + 2
+  pub seat : SeatKnown w st.client (seat_of x.part)
+  pub fresh : IsFresh x.part.nodes x.part.front.row
+  pub homes : (n e : ℕ) (b : ControlBlock) → (x.part.nodes n).row ≡ Some (record { stage = back.Here b; epoch = record { 0 = e } }) → IsAt x.part.front n e
+  pub there : (n : ℕ) (row : BackRow) → (x.part.nodes n).row ≡ Some row → (1 ≤ n) × (n ≤ nodes)
+  pub offers : (n e : ℕ) (parts : EndpointParts) (bytes : List ℕ) → Spells x.c e (body.Offer parts) bytes → Was x Front (Node n) bytes → offer_answer e (x.part.nodes n).row ≡ New
+      → IsNewOffer x.part st.client n e parts
+  pub ends : (n e : ℕ) (why : Reason) (snd rcv count : ℕ) (bytes : List ℕ) → Spells x.c e (body.Ended why snd rcv count) bytes → Was x (Node n) Front bytes
+      → (row : FrontRow) → x.part.front.row ≡ Some row → is_away e row.stage ≡ true → IsGone (seat_of x.part)
+
+abbrev pub Given : Setting → (ℕ → Whole) → Conn → Type 0
+Given k all x = (st : Station) → x.part.station ≡ Some st → Known k.nodes (all x.c) x st
+
+-- ---- what a move owes
+
+-- the events of which a settle's rounds are made
+abbrev pub IsInner : Event → Type 0
+IsInner (event.Deliver k) = Unit {0}
+IsInner (event.Disk n j) = Unit {0}
+IsInner (event.Timer p c) = Unit {0}
+IsInner _ = ⊥
+
+abbrev pub IsInnerSeen : Seen → Type 0
+IsInnerSeen (Row (rec.Event i e)) = IsInner e
+IsInnerSeen (Row r) = Unit {0}
+IsInnerSeen (Came l) = Unit {0}
+
+abbrev pub AreInner : List Seen → Type 0
+AreInner ss = Each IsInnerSeen ss
+
+-- Of each inner step, with which comes a packet that was sent behind the first rounds, if any.
+abbrev pub Owed : Setting → (ℕ → Whole) → Conn → Move → Type 0
+Owed k all x v = MayMove (Given k all) x → Given k all (grown x v) → AreInner v.heads → IfCame (IsWarm x) (came_in v.heads) → Lasts k (all x.c) x v

@@ -1,0 +1,190 @@
+-- A connection begins, waits, goes to a node, and comes back: in each of these steps a unit goes.
+use Rattle.std.proofs.Common.{◌≡◌, ◌<◌, ◌≤◌, ◌+◌, ◌*◌, ◌==◌, ℕ, zero, suc, Bool, true, false, cond, List, [], Some, None, refl, sym, ap, ◌∙◌, subst, arith}
+use Rattle.std.proofs.lemmas.Bool.{eqb-true}
+use Rattle.std.proofs.lemmas.Bool.Decides.{nat_tests}
+use Rattle.lard_answers.specs.Answers.{FilesAt}
+use Rattle.lard_base.specs.declared.place.Place.{Place}
+use Rattle.lard_bound.specs.Seats.{Gone, Held, Here, Offered, Over, Seat, Staying, Unborn, Waiting, seat_of, staying_of, tells_end}
+use Rattle.lard_bound.specs.Spots.{post_of, spot_of}
+use Rattle.lard_bound.specs.Units.{Whole, block_left, ended_left, is_stale, left_with, one_if_not, taken, tellers, untaken}
+use Rattle.lard_client.specs.Control.{ClientBlock}
+use Rattle.lard_client.specs.declared.phase.Phase.{Phase}
+use Rattle.lard_client.specs.declared.phase.Phase.TheVariants as phase
+use Rattle.lard_law_view.specs.View.{Part, node_put, with_front, with_node}
+use Rattle.lard_endpoint.specs.Control.{ControlBlock}
+use Rattle.lard_endpoint.specs.declared.control.moving.Final.{Final}
+use Rattle.lard_rules.specs.Front.{FrontPart, rest_of}
+use Rattle.lard_handoff_back.specs.declared.row.BackConn.TheVariants as back
+use Rattle.lard_handoff_front.specs.declared.row.FrontRow.{FrontRow}
+use Rattle.lard_rules.specs.Node.{NodePart, asked_kept, kept_after, rests, wants_kept}
+use Rattle.lard_rules.specs.Stay.{NodeEnv, Work}
+use Rattle.lard_law_progress.proofs.Away.{IsWith, away-ended, away-here, by-ending, not-less, seat-put, stay-less, tellers-put, tellers-same, tells, tells-one}
+use Rattle.lard_law_progress.proofs.Ends.{IsSaid, speaks-said}
+use Rattle.lard_law_progress.proofs.Less.{Lasting, falls, left_by}
+use Rattle.lard_law_progress.proofs.Stays.{cost, read_of}
+use Rattle.lard_resend.specs.declared.kept.Kept.{Kept}
+use Rattle.lard_rules.specs.declared.places.Ending.{Ending}
+use Rattle.lard_rules.specs.declared.places.Ending.TheVariants as ending
+use Rattle.lard_rules.specs.declared.places.Station.{Station}
+use Rattle.lard_rules.specs.Speaking.{speaks}
+use Rattle.lard_send.specs.Send.{symbols}
+
+pub stale-one : (x : ClientBlock) (b : ControlBlock) → is_stale x b ≤ 1
+stale-one x b = go (b.send.wnd == x.wnd) where
+  go : (t : Bool) → one_if_not t ≤ 1
+  go true = omega arith
+  go false = omega arith
+
+pub flag-one : (t : Bool) → one_if_not t ≤ 1
+flag-one true = omega arith
+flag-one false = omega arith
+
+module _ (k : Whole) (K : ℕ) (files : FilesAt) (p : Part) (st : Station) where
+  abbrev x : ClientBlock
+  x = st.client
+
+  abbrev To : Part → Type 0
+  To p' = Lasting k K files p st p' st
+
+  ended-untaken : (ph : Phase) → ended_left k x ph ≤ untaken k x
+  ended-untaken phase.Open = omega arith
+  ended-untaken phase.Aborted = omega arith
+  ended-untaken phase.Reset = omega arith
+
+  ended-block : (b : ControlBlock) → b.send.una ≤ taken x → (ph : Phase) → ended_left k x ph ≤ block_left k x b
+  ended-block b una phase.Open = omega (arith, una)
+  ended-block b una phase.Aborted = omega (arith, una)
+  ended-block b una phase.Reset = omega arith
+
+  -- ---- a SYN comes: the front end has an endpoint of which nothing is acknowledged
+  pub begins-less : (f : FrontPart) (d : ControlBlock) → seat_of p ≡ Unborn → seat_of (with_front p f) ≡ Held d 0 → taken x ≤ d.send.una → To (with_front p f)
+  begins-less f d was now una =
+      let s = stale-one x d in let g = flag-one d.send.finished in
+      falls k K files p (with_front p f) st Unborn (Held d 0) was now (omega (arith, una, s, g))
+
+  pub begins-over : (f : FrontPart) (last : Final) → seat_of p ≡ Unborn → seat_of (with_front p f) ≡ Over last → To (with_front p f)
+  begins-over f last was now = let e = ended-untaken x.phase in falls k K files p (with_front p f) st Unborn (Over last) was now (omega (arith, e))
+
+  -- ---- the line
+
+  pub waits-on : (f : FrontPart) (b d : ControlBlock) (count : ℕ) → seat_of p ≡ Waiting b count → seat_of (with_front p f) ≡ Waiting d count → b.send.una ≤ d.send.una → (b.send.finished ≡ true → d.send.finished ≡ true) → To (with_front p f)
+  unfolding spot_of
+  waits-on f b d count was now una shut =
+      let w : left_with k K p st ≡ left_by k st (Waiting b count) (tellers p.nodes K) = ap (λ (s : Seat). left_by k st s (tellers p.nodes K)) was in
+      let n : left_with k K (with_front p f) st ≡ left_by k st (Waiting d count) (tellers p.nodes K) = ap (λ (s : Seat). left_by k st s (tellers p.nodes K)) now in
+      let s = not-less b.send.finished d.send.finished shut in record {
+        less = omega (arith, w, n, una, s);
+        steady = λ up.
+            let post : post_of files x (seat_of (with_front p f)) ≡ post_of files x (seat_of p) = ap (post_of files x) now ∙ sym (ap (post_of files x) was) in
+            λ i. record { phase = x.phase; isn = x.send.iss; iss = st.iss; una = x.send.una; last = symbols x.send; post = post i; telling = λ z. tells_end (p.nodes z).row };
+      }
+
+  pub waits-over : (f : FrontPart) (b : ControlBlock) (count : ℕ) (last : Final) → seat_of p ≡ Waiting b count → seat_of (with_front p f) ≡ Over last → b.send.una ≤ taken x → To (with_front p f)
+  waits-over f b count last was now una = let e = ended-block b una x.phase in falls k K files p (with_front p f) st (Waiting b count) (Over last) was now (omega (arith, e))
+
+  -- it is admitted to a node
+  pub admitted-less : (f : FrontPart) (b : ControlBlock) (count n e : ℕ) → seat_of p ≡ Waiting b count → seat_of (with_front p f) ≡ Offered n e count → b.send.una ≤ taken x → b.send.finished ≡ false → To (with_front p f)
+  admitted-less f b count n e was now una open_ =
+      let o : one_if_not b.send.finished ≡ 1 = ap one_if_not open_ in
+      falls k K files p (with_front p f) st (Waiting b count) (Offered n e count) was now (omega (arith, una, o))
+
+  -- ---- a node takes it
+
+  module _ (n : ℕ) (row : FrontRow) (env : NodeEnv) (front : p.front.row ≡ Some row) (with_ : IsWith false n env.epoch row.stage)
+      (offered : seat_of p ≡ Offered n env.epoch (rest_of p.front.rest).count) (quiet : tells (p.nodes n) ≡ 0) where
+    abbrev count : ℕ
+    count = (rest_of p.front.rest).count
+
+    pub over-there : (q : NodePart) → q.row ≡ Some (record { stage = back.Ended; epoch = record { 0 = env.epoch } }) → To (with_node p n q)
+    over-there q is =
+        let seat : seat_of (with_node p n q) ≡ Gone false n env.epoch = seat-put p n env.epoch false row q front with_ ∙ away-ended false n env.epoch count q is in
+        let e = ended-untaken x.phase in let more = tellers-put p.nodes n q K in let one = tells-one q in
+        falls k K files p (with_node p n q) st (Offered n env.epoch count) (Gone false n env.epoch) offered seat (omega (arith, e, more, one))
+
+    -- what the endpoint that it adopted, and its work behind that, are
+    pub record Adopts (w : Work) : Type 0 where
+      pub una : taken x ≤ w.service.block.send.una
+      pub more : count ≤ read_of w
+      pub cheap : cost env [] [] w + 4 * count ≤ 4 * read_of w
+      pub few : w.service.over ≡ None → read_of w ≤ k.requests
+
+    here-less : (w : Work) (d : ControlBlock) → Adopts w → IsSaid w.service.block d → w.service.over ≡ None → To (with_node p n (record {
+      row = Some (record { stage = back.Here d; epoch = record { 0 = env.epoch } });
+      stay = Some (record { served = w.service.count; batch = w.batch; asks = w.asks });
+      kept = asked_kept env w.asked [];
+      fetches = wants_kept env w.wants [];
+    }))
+    here-less w d a said none =
+        let q : NodePart = record {
+          row = Some (record { stage = back.Here d; epoch = record { 0 = env.epoch } });
+          stay = Some (record { served = w.service.count; batch = w.batch; asks = w.asks });
+          kept = asked_kept env w.asked [];
+          fetches = wants_kept env w.wants [];
+        } in
+        let seat : seat_of (with_node p n q) ≡ Here false n env.epoch d (staying_of q) = seat-put p n env.epoch false row q front with_ ∙ away-here false n env.epoch count q d refl in
+        let same : tellers (node_put p.nodes n q) K ≡ tellers p.nodes K = tellers-same p.nodes n q (sym quiet) K in
+        let u : d.send.una ≡ w.service.block.send.una = said.una in
+        let t : taken x ≤ w.service.block.send.una = a.una in
+        let s = stale-one x d in let g = flag-one d.send.finished in
+        let c0 : cost env [] [] w + 4 * count ≤ 4 * read_of w = a.cheap in
+        let c : cost env [] [] w + 4 * count ≤ 0 + 4 * read_of w = omega (arith, c0) in
+        let r = stay-less k count (read_of w) 0 (cost env [] [] w) a.more (a.few none) c in
+        falls k K files p (with_node p n q) st (Offered n env.epoch count) (Here false n env.epoch d (staying_of q)) offered seat (omega (arith, same, u, t, s, g, r))
+
+    pub adopted-less : (before : List (Place × List ℕ)) (pp : NodePart) (w : Work) → pp.kept ≡ [] → pp.fetches ≡ [] → Adopts w → To (with_node p n (rests env pp before w).0)
+    adopted-less before pp w ks fs a =
+        by-ending env.serve w.service (λ (o : Ending). To (with_node p n (kept_after env pp w o)))
+        (λ none. let d = (speaks env.serve.c w.service.block).1 in subst (λ (ks' : List Kept). To (with_node p n (record {
+          row = Some (record { stage = back.Here d; epoch = record { 0 = env.epoch } });
+          stay = Some (record { served = w.service.count; batch = w.batch; asks = w.asks });
+          kept = asked_kept env w.asked ks';
+          fetches = wants_kept env w.wants pp.fetches;
+        }))) (sym ks) (subst (λ (fs' : List Kept). To (with_node p n (record {
+          row = Some (record { stage = back.Here d; epoch = record { 0 = env.epoch } });
+          stay = Some (record { served = w.service.count; batch = w.batch; asks = w.asks });
+          kept = asked_kept env w.asked [];
+          fetches = wants_kept env w.wants fs';
+        }))) (sym fs) (here-less w d a (speaks-said env.serve.c w.service.block) none)))
+        (λ last. over-there (kept_after env pp w (ending.Over last)) refl)
+
+  -- ---- the front end hears that it was taken
+
+  pub taken-here : (f : FrontPart) (n e : ℕ) (b : ControlBlock) (s : Staying) → seat_of p ≡ Here false n e b s → seat_of (with_front p f) ≡ Here true n e b s → To (with_front p f)
+  taken-here f n e b s was now = falls k K files p (with_front p f) st (Here false n e b s) (Here true n e b s) was now (omega arith)
+
+  pub taken-gone : (f : FrontPart) (n e : ℕ) → seat_of p ≡ Gone false n e → seat_of (with_front p f) ≡ Gone true n e → To (with_front p f)
+  taken-gone f n e was now = falls k K files p (with_front p f) st (Gone false n e) (Gone true n e) was now (omega arith)
+
+  -- and that it ended
+  pub ended-over : (f : FrontPart) (told : Bool) (n e : ℕ) (last : Final) → seat_of p ≡ Gone told n e → seat_of (with_front p f) ≡ Over last → To (with_front p f)
+  ended-over f told n e last was now = falls k K files p (with_front p f) st (Gone told n e) (Over last) was now (omega arith)
+
+  -- ---- the node hears that its end is known
+
+  pub acknowledged-less : (n : ℕ) (q : NodePart) (z : Seat) → seat_of p ≡ z → seat_of (with_node p n q) ≡ z → 1 ≤ n → n ≤ K → tells (p.nodes n) ≡ 1 → tells q ≡ 0 → To (with_node p n q)
+  acknowledged-less n q z was now some within told quiet =
+      let f = fewer p.nodes n q some told quiet K within in
+      falls k K files p (with_node p n q) st z z was now (omega (arith, f))
+    where
+      above : (nodes : ℕ → NodePart) (n : ℕ) (q : NodePart) (m : ℕ) → m < n → tellers (node_put nodes n q) m ≡ tellers nodes m
+      above nodes n q zero low = refl
+      above nodes n q (suc m) low =
+          let other : (suc m == n) ≡ false = apart (suc m) n low in
+          let rest = above nodes n q m (omega (arith, low)) in
+          let one : tells (cond (suc m == n) q (nodes (suc m))) ≡ tells (nodes (suc m)) = ap (λ (b : Bool). tells (cond b q (nodes (suc m)))) other in
+          omega (arith, rest, one)
+        where
+          apart : (a b : ℕ) → a < b → (a == b) ≡ false
+          apart a b l = grind (arith, nat_tests, l)
+
+      fewer : (nodes : ℕ → NodePart) (n : ℕ) (q : NodePart) → 1 ≤ n → tells (nodes n) ≡ 1 → tells q ≡ 0 → (m : ℕ) → n ≤ m → tellers (node_put nodes n q) m + 1 ≤ tellers nodes m
+      fewer nodes n q some told quiet zero in_ = absurd (omega (arith, some, in_))
+      fewer nodes n q some told quiet (suc m) in_ = go (suc m == n) refl (λ i. fewer nodes n q some told quiet m i) where
+        go : (b : Bool) → (suc m == n) ≡ b → (n ≤ m → tellers (node_put nodes n q) m + 1 ≤ tellers nodes m) → tells (cond b q (nodes (suc m))) + tellers (node_put nodes n q) m + 1 ≤ tells (nodes (suc m)) + tellers nodes m
+        go true is later =
+            let n' : suc m ≡ n = eqb-true (suc m) n is in
+            let one : tells (nodes (suc m)) ≡ 1 = ap (λ z. tells (nodes z)) n' ∙ told in
+            let same = above nodes n q m (omega (arith, n')) in omega (arith, one, same, quiet)
+        go false is later = let d : n < suc m = differ (suc m) n is in_ in let h = later (omega (arith, d)) in omega (arith, h) where
+          differ : (a b : ℕ) → (a == b) ≡ false → b ≤ a → b < a
+          differ a b e l = grind (arith, nat_tests, e, l)

@@ -1,0 +1,101 @@
+-- Each rule of a node, of a connection that it has or takes: nothing that is left to do comes back.
+use Rattle.std.proofs.Common.{◌≡◌, ◌≤◌, ◌+◌, ◌*◌, ℕ, Bool, true, false, List, [], is_some, Some, None, refl, arith}
+use Rattle.std.specs.List.{find}
+use Rattle.lard_answers.specs.Answers.{FilesAt}
+use Rattle.lard_base.specs.declared.parts.EndpointParts.{EndpointParts}
+use Rattle.lard_base.specs.declared.place.Place.{Place}
+use Rattle.lard_base.specs.declared.place.TimerKind.TheVariants as kind
+use Rattle.lard_bound.specs.Progress.{IsWarmWord}
+use Rattle.lard_bound.specs.Seats.{Offered, Staying, seat_of, staying_of}
+use Rattle.lard_bound.specs.Units.{Whole, taken}
+use Rattle.lard_client.specs.declared.phase.Phase.TheVariants as phase
+use Rattle.lard_law_view.specs.View.{Part, with_node}
+use Rattle.lard_endpoint.specs.Arriving.{on_segment}
+use Rattle.lard_endpoint.specs.Control.{ControlBlock}
+use Rattle.lard_endpoint.specs.Leaving.{after_timer}
+use Rattle.lard_rules.specs.Front.{rest_of}
+use Rattle.lard_handoff_back.specs.declared.row.BackConn.TheVariants as back
+use Rattle.lard_handoff_front.specs.declared.row.FrontRow.{FrontRow}
+use Rattle.lard_rules.specs.Node.{NodePart, begins, rests, taken_sent, work_of}
+use Rattle.lard_rules.specs.Stay.{NodeEnv, Work, came_for, come_progress, goes_on, read_progress, reads_batch, tagged}
+use Rattle.lard_law_progress.proofs.Away.{Fits, IsWith, tells, turn-less}
+use Rattle.lard_law_progress.proofs.Handing.{adopted-less}
+use Rattle.lard_law_progress.proofs.Less.{Lasting}
+use Rattle.lard_law_progress.proofs.Stays.{Onward, cost, first-batch, goes-onward, onward-then, read_of}
+use Rattle.lard_law_progress.proofs.Turns.{Works, content-works, forwarded-works, read-works, tagged-works, timer-works}
+use Rattle.lard_resend.specs.declared.kept.Kept.{Kept}
+use Rattle.lard_resend.specs.Kept.{is_under, without}
+use Rattle.lard_rules.specs.declared.places.Ending.TheVariants as ending
+use Rattle.lard_rules.specs.declared.places.Station.{Station}
+use Rattle.lard_rules.specs.Loop.{state_of}
+use Rattle.lard_rules.specs.Serving.{settled}
+use Rattle.lard_segment.specs.Segment.{Said}
+
+-- A connection that is at node n: the front end's row, the node's, and no more is acknowledged than the client took.
+module _ (k : Whole) (K : ℕ) (files : FilesAt) (p : Part) (st : Station) (n : ℕ) (told : Bool) (row : FrontRow) (b : ControlBlock) (env : NodeEnv)
+    (front : p.front.row ≡ Some row) (with_ : IsWith told n env.epoch row.stage) (here : (p.nodes n).row ≡ Some (record { stage = back.Here b; epoch = record { 0 = env.epoch } }))
+    (una : b.send.una ≤ taken st.client) where
+  abbrev q : NodePart
+  q = p.nodes n
+
+  abbrev s : Staying
+  s = staying_of q
+
+  -- what holds of it behind the turn, if it is still there then
+  abbrev pub Then : Work → Type 0
+  Then w = (d : ControlBlock) (count : ℕ) → (settled env.serve w.service).0 ≡ ending.Here d count → Fits k K files p st n told row b env front with_ here una d w
+
+  abbrev pub To : List (Place × List ℕ) → NodePart → Work → Type 0
+  To before pp w = Lasting k K files p st (with_node p n (rests env pp before w).0) st
+
+  done : (kept fetches : List Kept) (w : Work) → Works st.client env b s kept fetches w → (before : List (Place × List ℕ)) (pp : NodePart) → pp.kept ≡ kept → pp.fetches ≡ fetches → Then w → To before pp w
+  done kept fetches w works before pp ks fs fits = turn-less k K files p st n told row b env front with_ here una kept fetches w works before pp ks fs fits
+
+  pub forwarded-lasts : (said : Said) → IsWarmWord st.client said st.client.phase → (st.client.phase ≡ phase.Reset → ⊥) → Then (goes_on env (work_of (on_segment b said).1 s.stay))
+      → To [] q (goes_on env (work_of (on_segment b said).1 s.stay))
+  forwarded-lasts said warm open_ fits = done s.kept s.fetches (goes_on env (work_of (on_segment b said).1 s.stay)) (forwarded-works st.client env b s said warm open_) [] q refl refl fits
+
+  pub tagged-lasts : (nodes : List ℕ) → is_some (find (is_under kind.Ask 0) q.kept) ≡ true → Then (goes_on env (tagged env nodes (work_of b s.stay)))
+      → To [] (record q { kept = without kind.Ask 0 q.kept }) (goes_on env (tagged env nodes (work_of b s.stay)))
+  tagged-lasts nodes asked fits =
+      done (without kind.Ask 0 q.kept) q.fetches (goes_on env (tagged env nodes (work_of b s.stay))) (tagged-works st.client env b s nodes asked) [] (record q { kept = without kind.Ask 0 q.kept }) refl refl fits
+
+  pub content-lasts : (from r : ℕ) → is_some (find (is_under kind.Fetch r) q.fetches) ≡ true → Then (goes_on env (came_for (come_progress from) r (work_of b s.stay)))
+      → To [] (record q { fetches = without kind.Fetch r q.fetches }) (goes_on env (came_for (come_progress from) r (work_of b s.stay)))
+  content-lasts from r wanted fits =
+      done q.kept (without kind.Fetch r q.fetches) (goes_on env (came_for (come_progress from) r (work_of b s.stay))) (content-works st.client env b s from r wanted) []
+      (record q { fetches = without kind.Fetch r q.fetches }) refl refl fits
+
+  pub read-lasts : (r : ℕ) → Then (goes_on env (came_for read_progress r (work_of b s.stay))) → To [] q (goes_on env (came_for read_progress r (work_of b s.stay)))
+  read-lasts r fits = done s.kept s.fetches (goes_on env (came_for read_progress r (work_of b s.stay))) (read-works st.client env b s r) [] q refl refl fits
+
+  -- its timer, with whatever is told again
+  pub timer-lasts : (before : List (Place × List ℕ)) → Then (work_of (after_timer b) s.stay) → To before q (work_of (after_timer b) s.stay)
+  timer-lasts before fits = done s.kept s.fetches (work_of (after_timer b) s.stay) (timer-works st.client env b s) before q refl refl fits
+
+-- ---- an Offer that is new
+
+-- A node takes a connection, and reads its first batch.
+abbrev pub taking : NodeEnv → EndpointParts → Work
+taking env parts = goes_on env (state_of (reads_batch env true (begins env parts)))
+
+takes-on : (env : NodeEnv) (parts : EndpointParts) → Onward env [] [] (begins env parts) (taking env parts)
+takes-on env parts =
+    let a = begins env parts in
+    let c = state_of (reads_batch env true a) in
+    onward-then env [] [] a c (goes_on env c) (first-batch env [] [] a refl refl) (goes-onward env [] [] c)
+
+module _ (k : Whole) (K : ℕ) (files : FilesAt) (p : Part) (st : Station) (n : ℕ) (row : FrontRow) (env : NodeEnv) (front : p.front.row ≡ Some row) (with_ : IsWith false n env.epoch row.stage)
+    (offered : seat_of p ≡ Offered n env.epoch (rest_of p.front.rest).count) (quiet : tells (p.nodes n) ≡ 0) where
+  -- Nothing was kept there of it. The Offer has the endpoint as the front end counts, and what the client took was acknowledged to it.
+  pub offered-lasts : (parts : EndpointParts) → (p.nodes n).kept ≡ [] → (p.nodes n).fetches ≡ [] → parts.served ≡ (rest_of p.front.rest).count → taken st.client ≤ parts.una
+      → ((taking env parts).service.over ≡ None → read_of (taking env parts) ≤ k.requests)
+      → Lasting k K files p st (with_node p n (rests env (p.nodes n) (taken_sent env) (taking env parts)).0) st
+  offered-lasts parts ks fs served una few =
+      let o = takes-on env parts in
+      let w = taking env parts in
+      let u : w.service.block.send.una ≡ parts.una = o.una in
+      let m : parts.served + 0 ≤ read_of w = o.more in
+      let c : cost env [] [] w + 4 * (parts.served + 0) ≤ (0 + 0 + 0) + 4 * read_of w = o.cheap in
+      adopted-less k K files p st n row env front with_ offered quiet (taken_sent env) (p.nodes n) w ks fs
+      (record { una = omega (arith, u, una); more = omega (arith, m, served); cheap = omega (arith, c, served); few = few })
