@@ -12,6 +12,8 @@ mod generating;
 mod happening;
 mod replay;
 mod status;
+#[cfg(test)]
+mod tests;
 mod words;
 
 pub use commands::run;
