@@ -1,0 +1,3 @@
+mod Entries
+pub mod Kept
+pub mod Soundness
