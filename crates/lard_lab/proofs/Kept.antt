@@ -39,7 +39,7 @@ pub kept-added : (nodes now : ℕ) (targets : List (List ℕ × Target)) (path :
 kept-added nodes now targets path size all = λ q. one-added (IsKept nodes now) targets path (fresh size) q (kept-fresh nodes now size) (all q)
 
 -- and where it is written in its place
-one-written : (P : Target → Type 0) (targets : List (List ℕ × Target)) (path : List ℕ) (t : Target) (q : List ℕ) → P t → IfSome (target_at targets q) P → IfSome (target_at (with_target targets path t) q) P
+pub one-written : (P : Target → Type 0) (targets : List (List ℕ × Target)) (path : List ℕ) (t : Target) (q : List ℕ) → P t → IfSome (target_at targets q) P → IfSome (target_at (with_target targets path t) q) P
 one-written P [] path t q new all = tt
 one-written P (e ∷ es) path t q new all = go (one-written P es path t q new) (bytes_eq path e.0) where
   inner : (IfSome (target_at es q) P → IfSome (target_at (with_target es path t) q) P) → (b : Bool) → IfSome (cond {A = Option Target} b (Some e.1) (target_at es q)) P

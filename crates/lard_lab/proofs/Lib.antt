@@ -1,3 +1,12 @@
+mod Beginning
+mod Chosen
 mod Entries
-pub mod Kept
-pub mod Soundness
+mod Following
+mod Kept
+mod Choosing
+mod Loads
+mod Reported
+mod Rooms
+mod Sizes
+mod Soundness
+mod Subtraces

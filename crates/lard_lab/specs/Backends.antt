@@ -1,5 +1,5 @@
 -- What each node keeps in its cache, and what is counted of it.
-use Rattle.std.specs.Prelude.{ℕ, ◌+◌, ◌-◌, ◌≤◌, Bool, false, max, List, [], ◌∷◌, Option, Some, None, replicate, slice_get, slice_set, refl, if◌then◌else◌}
+use Rattle.std.specs.Prelude.{ℕ, ◌+◌, ◌-◌, ◌≤◌, Bool, false, max, List, [], Option, Some, None, replicate, slice_get, slice_set, refl, if◌then◌else◌}
 use Rattle.std.specs.Coded.{Coded, code_by, coded×, coded_ℕ, coded_list}
 use Rattle.lard_cache.specs.Recency.{Recency, after_hit, after_put, has}
 use Rattle.lard_lab.specs.contracts.backends.Backend as backend

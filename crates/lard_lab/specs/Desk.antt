@@ -17,7 +17,7 @@ use Rattle.lard_lab.specs.declared.policy.Policy.TheVariants.{Rr, Hash, Lard, La
 use Rattle.lard_lab.specs.contracts.targets.Target as target
 use Rattle.lard_lab.specs.declared.targets.Target.{Target}
 use Rattle.lard_lab.specs.Policy.{hash_of}
-use Rattle.lard_lab.specs.Targets.{target_at, with_target}
+use Rattle.lard_lab.specs.Targets.{with_target}
 
 -- What the choices rest on. A request counts as a connection of its number as long as it is open.
 pub record Desk : Type 0 where

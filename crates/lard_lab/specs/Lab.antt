@@ -1,5 +1,5 @@
 -- What each event does in a lab, and what the report gains by it.
-use Rattle.std.specs.Prelude.{◌≡◌, ℕ, ◌+◌, ◌-◌, ◌*◌, ◌/◌, ◌<◌, ◌≤◌, ◌^◌, Bool, not, nat_le, List, [], ◌∷◌, ◌++◌, length, Option, Some, None, Result, Ok, Err, refl, if◌then◌else◌}
+use Rattle.std.specs.Prelude.{◌≡◌, ℕ, ◌+◌, ◌-◌, ◌/◌, ◌<◌, ◌≤◌, ◌^◌, Bool, nat_le, List, [], ◌∷◌, ◌++◌, length, Option, Some, None, Result, Ok, Err, refl, if◌then◌else◌}
 use Rattle.std.specs.Coded.{Coded, code_by, coded×}
 use Rattle.lard_base.specs.declared.config.Config.{Config}
 use Rattle.lard_loads.specs.declared.loads.TheConstants.{WHOLE}
@@ -13,7 +13,7 @@ use Rattle.lard_lab.specs.declared.event.LabFault.TheVariants.{NoFile, NotOpen, 
 use Rattle.lard_lab.specs.declared.policy.Policy.{Policy}
 use Rattle.lard_lab.specs.declared.targets.Target.{Target}
 use Rattle.lard_lab.specs.Backends.{Stores, coded_stores, is_hit, served, untouched}
-use Rattle.lard_lab.specs.Desk.{Desk, answer_at, assigned, begun, choice_at, coded_desk, done_with, is_full, is_open, later_by, passed_over}
+use Rattle.lard_lab.specs.Desk.{Desk, answer_at, assigned, begun, coded_desk, done_with, is_open, later_by, passed_over}
 use Rattle.lard_lab.specs.Targets.{fresh, target_at}
 use Rattle.lard_lab.specs.Text.{node_lines, request_line, totals_line}
 

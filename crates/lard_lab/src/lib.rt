@@ -9,8 +9,11 @@ mod assigner;
 mod backends;
 mod event;
 mod lab;
+pub mod laws;
 mod policy;
 mod targets;
+#[cfg(test)]
+mod tests;
 mod text;
 
 pub use assigner::{Assigner, MAX_REQUESTS};

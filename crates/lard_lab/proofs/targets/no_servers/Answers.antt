@@ -1,6 +1,5 @@
 -- No members are no flags.
 use Rattle.std.proofs.Common.{ℕ, ap}
-use Rattle.lard_sets.specs.declared.sets.ServerSet.{ServerSet}
 use Rattle.lard_sets.proofs.Flags.{no_flags}
 use Rattle.lard_lab.proofs.targets.no_servers.Goals as goal
 

@@ -1,5 +1,4 @@
 -- The time moves on.
-use Rattle.std.proofs.Common.{ap}
 use Rattle.lard_lab.specs.Desk.{Desk}
 use Rattle.lard_lab.proofs.Soundness.{later-sound}
 use Rattle.lard_lab.proofs.assigner.Assigner.advance.Goals as goal

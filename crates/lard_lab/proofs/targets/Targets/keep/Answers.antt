@@ -1,5 +1,5 @@
 -- The new entry goes last, and its size is added to the sum.
-use Rattle.std.proofs.Common.{◌≡◌, ◌+◌, ◌++◌, ◌∷◌, [], ◌∙◌, sym, ap, arith}
+use Rattle.std.proofs.Common.{◌≡◌, ◌+◌, ◌++◌, ◌∷◌, [], ◌∙◌, ap, arith}
 use Rattle.lard_lab.specs.Targets.{fresh, shown, total}
 use Rattle.lard_lab.proofs.Entries.{allowed, shown-added, total-added}
 use Rattle.lard_lab.proofs.targets.Targets.keep.Goals as goal

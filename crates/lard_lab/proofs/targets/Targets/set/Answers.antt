@@ -1,5 +1,5 @@
 -- What is written to the target that was found is written among the pairs, and the sizes stay; where none was found, nothing was written.
-use Rattle.std.proofs.Common.{◌≡◌, ◌∙◌, sym, ap, subst, List, ℕ, Option, Some, IfSome, arith}
+use Rattle.std.proofs.Common.{◌≡◌, ◌∙◌, sym, ap, subst, Option, Some, IfSome, arith}
 use Rattle.lard_lab.specs.declared.targets.Target.{Target}
 use Rattle.lard_lab.specs.Targets.{shown, target_at, total, with_target}
 use Rattle.lard_lab.proofs.Entries.{lookup-shown, none_written, shown-set_value, total_same}
