@@ -3,16 +3,24 @@
 ghost use Rattle.std.specs.Prelude.{◌≡◌, ◌≤◌, IfSome};
 ghost use Rattle.std.specs.List.{list_all};
 ghost use Rattle.lard_schedule.specs.Events.{bytes_of, client_alone, client_and_word, disk_of, event_after, event_of, get_of, inject_of, is_path, is_visible, may_keep, number_alone, open_of, place_of, settle_of, some_bytes_of, timer_of, write_of};
-ghost use Rattle.lard_schedule.specs.Words.{Finds, Judges, left_of, seen_pair};
+ghost use Rattle.lard_schedule.specs.Words.{Finds, Judges, left_of, seen_pair, words_of};
 
 use crate::item::LineFault;
 use crate::numbers::{client, client_in, conn, count, node_in, number};
 use crate::verbs::{Verb, verb_in};
-use crate::words::{Words, end, is, next};
+use crate::words::{Words, end, is, next, words_of};
 use hex::FromHexError;
 use lard_base::limits::{MAX_PATH_BYTES, MAX_SEGMENT_BYTES, MAX_SEGMENT_DATA};
 use lard_base::{Bytes, ConnId, Event, Path, Place};
 use std::alloc::Global;
+
+/// The event that a line stands for behind `go`, the line given without its line feed: `Syntax` exactly where it is no line
+/// of an event.
+pub fn read_event(alloc: Global, line: &[u8]) -> Result<Event, LineFault>
+    ensures { Judges result (event_of (words_of line.now)) }
+{
+    event(alloc, words_of(line))
+}
 
 /// The event that these words stand for.
 #[tactic(auto, unfolding(crate::specs::Events::event_of))]
@@ -48,7 +56,7 @@ fn event_after(alloc: Global, verb: Verb, words: Words<'_>) -> Result<Event, Lin
 
 /// A client, and nothing more.
 #[tactic(auto, unfolding(crate::specs::Events::client_alone))]
-fn client_alone(words: Words<'_>) -> Option<ConnId>
+pub fn client_alone(words: Words<'_>) -> Option<ConnId>
     ensures { result ≡ client_alone (left_of words.entry) }
 {
     let (c, words) = client(words)?;
@@ -58,7 +66,7 @@ fn client_alone(words: Words<'_>) -> Option<ConnId>
 
 /// A number below 2^32, and nothing more.
 #[tactic(auto, unfolding(crate::specs::Events::number_alone))]
-fn number_alone(words: Words<'_>) -> Option<u32>
+pub fn number_alone(words: Words<'_>) -> Option<u32>
     ensures { result ≡ number_alone (left_of words.entry) }
 {
     let (n, words) = number(words)?;
@@ -68,7 +76,7 @@ fn number_alone(words: Words<'_>) -> Option<u32>
 
 /// A client and one word.
 #[tactic(auto, unfolding(crate::specs::Events::client_and_word))]
-fn client_and_word(words: Words<'_>) -> Option<(u32, &[u8])>
+pub fn client_and_word(words: Words<'_>) -> Option<(u32, &[u8])>
     ensures found { Finds seen_pair result (client_and_word (left_of words.entry)) }
     ensures within { IfSome result (λ found. (1 ≤ found.0) × (found.0 ≤ ConnId.MAX)) }
 {
@@ -193,7 +201,7 @@ fn bytes_in(alloc: Global, word: &[u8]) -> Result<Bytes, LineFault>
 
 /// A place: `front`, `n1` to `n64`, `c1` to `c16384`.
 #[tactic(auto, unfolding(crate::specs::Events::place_of))]
-fn place_in(word: &[u8]) -> Option<Place>
+pub fn place_in(word: &[u8]) -> Option<Place>
     ensures { result ≡ place_of word.now }
 {
     if is(word, "front") {

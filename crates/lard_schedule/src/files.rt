@@ -86,7 +86,7 @@ fn run(words: Words<'_>) -> Option<(u64, u8)>
 
 /// The path of a file, as the next word: no query may stand in it.
 #[tactic(auto, unfolding(crate::specs::Files::path_then))]
-fn path_next(words: Words<'_>) -> Option<(&[u8], Words<'_>)>
+pub fn path_next(words: Words<'_>) -> Option<(&[u8], Words<'_>)>
     ensures { Finds seen_word result (path_then (left_of words.entry)) }
 {
     let (word, rest) = next(words)?;

@@ -4,18 +4,19 @@
 //! feeds it the input line by line; nothing of what a line does is known here.
 #![tactic(auto)]
 
-mod events;
-mod files;
+pub mod events;
+pub mod files;
 mod item;
 mod keys;
 pub mod laws;
-mod numbers;
+pub mod numbers;
 mod reader;
 #[cfg(test)]
 mod tests;
 mod verbs;
-mod words;
+pub mod words;
 
+pub use events::read_event;
 pub use item::{Item, LineFault};
 pub use keys::{Keys, key_word};
 pub use reader::{Reader, Stage};

@@ -1,6 +1,6 @@
 //! Each form of line once, and each way to be none once.
 
-use crate::{Item, Keys, LineFault, Reader, Stage, first_word};
+use crate::{Item, Keys, LineFault, Reader, Stage, first_word, read_event};
 use std::alloc::{AllocError, Global};
 use std::test::Fail;
 
@@ -173,4 +173,17 @@ fn the_first_word_ends_at_a_space(rt: HostRuntime) {
     for (line, word) in [("disk 1 2", "disk"), ("go", "go"), (" go", ""), ("", "")] {
         assert_eq!(rt; first_word(line.as_bytes()), word.as_bytes());
     }
+}
+
+#[test]
+fn an_event_is_read_by_itself(rt: HostRuntime) -> Result<(), Fail> {
+    let alloc = rt.alloc();
+    let event = read_event(alloc, b"write 1 0aFf")?;
+    let want = "Write { c: ConnId { number: 1 }, bytes: Bytes { items: [10, 255] } }";
+    assert_eq!(rt; format!(in alloc; "{event:?}")?.as_str(), want);
+    for line in ["", "lard 1", "go", "shut 1 ", "write 1 0aF"] {
+        let answer = read_event(alloc, line.as_bytes());
+        assert!(rt; matches!(&answer, Err(LineFault::Syntax)), "{line}");
+    }
+    Ok(())
 }
