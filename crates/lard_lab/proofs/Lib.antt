@@ -1,0 +1,12 @@
+mod Beginning
+mod Chosen
+mod Entries
+mod Following
+mod Kept
+mod Choosing
+mod Loads
+mod Reported
+mod Rooms
+mod Sizes
+mod Soundness
+mod Subtraces

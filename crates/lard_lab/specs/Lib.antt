@@ -1,0 +1,10 @@
+pub use Rattle.lard_files.specs.Files
+pub mod Backends
+pub mod Desk
+pub mod Lab
+pub mod Laws
+pub mod Policy
+pub mod Report
+pub mod Sound
+pub mod Targets
+pub mod Text
