@@ -8,6 +8,7 @@ use Rattle.lard_laws.specs.Records.{IsFile, IsGiven}
 use Rattle.lard_generate.specs.Generated.{generated}
 use Rattle.lard_generate.specs.Laws.{IsSpelled, IsSpelledFile}
 use Rattle.lard_generate.proofs.Spelled.{events_spelled, files_spelled}
+use Rattle.lard_generate_answers.proofs.Runs.{runs-answer-all}
 use Rattle.lard_history.proofs.Each.{Each, Each-weaker}
 use Rattle.lard_law_view.proofs.ByteLists.{all-each, each-all}
 use Rattle.lard_schedule.specs.Events.{IsInRange}
@@ -54,6 +55,7 @@ module _ (seed clients : ℕ) where
   unfolding run_of
   says few status old new printed =
       let f : Front first_line (begins (generated seed clients)) (generated seed clients).events = front first_line (begins (generated seed clients)) (generated seed clients).events (come few) in
+      let whole = played-done first_line (begins (generated seed clients)) (generated seed clients).events (come few) in
       record {
         events = f.done;
         rest = f.rest;
@@ -62,8 +64,11 @@ module _ (seed clients : ℕ) where
         journal = (run_of seed clients).0.journal;
         is = refl;
         happened = happened large (generated seed clients).files refl (omega arith) files f.done (run_of seed clients).0 (front-given f.done f.rest f.are) f.leads;
-        settles = λ done. ends-settled seed clients files (given few) (run_of seed clients).0 (played-done first_line (begins (generated seed clients)) (generated seed clients).events (come few) done);
+        settles = λ done. ends-settled seed clients files (given few) (run_of seed clients).0 (whole done);
         printed = printed;
+        answers = λ done.
+            let last = ends-settled seed clients files (given few) (run_of seed clients).0 (whole done) in
+            runs-answer-all seed clients large (run_of seed clients).0 last.0 last.1 few refl (omega (arith, few)) (omega arith) (whole done) last.2;
         causes = λ other. caused first_line (begins (generated seed clients)) (generated seed clients).events (come few) fit (are-timely seed clients fit) other;
       } where
         front-given : (done rest : List Event) → (generated seed clients).events ≡ done ++ rest → Each IsGiven done

@@ -10,8 +10,10 @@ use Rattle.lard_rules.specs.Machine.{start}
 use Rattle.lard_rules.specs.declared.fault.StepFault.{StepFault}
 use Rattle.lard_rules.specs.declared.fault.StepFault.TheVariants as fault
 use Rattle.lard_rules.specs.declared.machine.Machine.{Machine}
+use Rattle.lard_files.specs.Files.{file_at}
 use Rattle.lard_generate.specs.Generated.{generated}
 use Rattle.lard_generate.specs.declared.schedule.Schedule.{Schedule}
+use Rattle.lard_generate_answers.specs.Counted.{CountsAllAnswers}
 use Rattle.lard_journal.specs.declared.rec.Rec.{Rec}
 use Rattle.lard_journal.specs.declared.rec.Rec.TheVariants as rec
 use Rattle.lard_settling.specs.Events.{Goes, event_step}
@@ -101,8 +103,10 @@ pub record Generated (seed clients : ℕ) (status : Status) (old new : Option (L
   pub happened : Happened large (generated seed clients).files events journal
   -- where the run is done, the settle of the schedule ended with nothing left to do
   pub settles : (run_of seed clients).1 ≡ Done → EndsSettled journal
-  -- the four lines say what is counted of this journal
+  -- the four lines say what is counted of this journal: R requests and B bytes among others
   pub printed : Prints (run_of seed clients).1 status (summary seed clients journal) old new
+  -- where the run is done, R is how many responses there are to all that its clients are to write, and B how many bytes these have
+  pub answers : (run_of seed clients).1 ≡ Done → CountsAllAnswers (file_at (generated seed clients).files) (generated seed clients).events clients journal
   -- the run ends with a status exactly where an event, or that none is left, gives its cause
   pub causes : (other : Status) → ((run_of seed clients).1 ≡ other) ↔ EndsPlay (begins (generated seed clients)) first_line (generated seed clients).events other
 

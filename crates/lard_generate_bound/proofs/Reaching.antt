@@ -6,6 +6,7 @@ use Rattle.std.proofs.lemmas.List.Elements.{All-append, All-head, All-tail}
 use Rattle.std.proofs.lemmas.List.Sums.{fold-append}
 use Rattle.rand_pcg.specs.Lcg.{Lcg}
 use Rattle.lard_answers.specs.Answers.{answer_bytes}
+use Rattle.lard_base.specs.declared.config.Config.{Config}
 use Rattle.lard_base.specs.declared.event.Event.{Event}
 use Rattle.lard_base.specs.declared.event.Event.TheVariants as event
 use Rattle.lard_block.specs.Blocks.{blocks}
@@ -28,7 +29,7 @@ use Rattle.lard_history.specs.Laws.{Follows}
 use Rattle.lard_journal.specs.declared.rec.Rec.{Rec}
 use Rattle.lard_settling.specs.Events.{Goes, MayCome, event_step, stepped_from}
 use Rattle.lard_settling.specs.Settling.{Stop}
-use Rattle.lard_generate_bound.specs.Laws.{RoundsReachTheBound, SettlesLast}
+use Rattle.lard_generate_bound.specs.Laws.{RoundsReachTheBound, SettlesLast, before_settle}
 use Rattle.lard_generate_bound.specs.Shares.{Wrote, numbers, share}
 use Rattle.lard_generate_bound.proofs.Cut.{heads-answered, heads-blocks, heads-length}
 use Rattle.lard_generate_bound.proofs.Leaving.{IsPlain, acts-are, fates-are, opener-still, opens-are, touched-still, unopening, untouched, unwritten, wrote-still}
@@ -59,7 +60,7 @@ module _ (clients : ℕ) (f g h : Lcg) (sizes : List ℕ) (J : List Rec)
   inner = parts opens (map event_of actions) 1 outer.front outer.first
 
   -- the clients that opened are 1 to n
-  openers-are : openers J ≡ numbers clients
+  pub openers-are : openers J ≡ numbers clients
   openers-are =
       ap (fold opener_step []) outer.is ∙ fold-append opener_step [] outer.front outer.back
       ∙ all-leave opener_step opener-still fates outer.next outer.back (fold opener_step [] outer.front)
@@ -153,7 +154,7 @@ stepped m k (Ok n) is = let same : n ≡ k = cc in ap (λ (x : Machine). Ok x) s
 stepped m k (Err fault) is = cc
 
 -- an event that is no settle does a step
-plain-step : (m k : Machine) (e : Event) → IsPlain e → event_step m e ≡ Ok k → machine_step m e ≡ Ok k
+pub plain-step : (m k : Machine) (e : Event) → IsPlain e → event_step m e ≡ Ok k → machine_step m e ≡ Ok k
 unfolding event_step
 plain-step m k (event.Open c isn iss wnd mss) plain is = stepped m k (machine_step m (event.Open c isn iss wnd mss)) is
 plain-step m k (event.Write c bytes) plain is = stepped m k (machine_step m (event.Write c bytes)) is
@@ -163,7 +164,7 @@ plain-step m k (event.Lose p) plain is = stepped m k (machine_step m (event.Lose
 plain-step m k _ plain is = absurd plain
 
 -- one that may come and is no settle has a rule
-plain-rule : (e : Event) → IsPlain e → MayCome e → HasRule e
+pub plain-rule : (e : Event) → IsPlain e → MayCome e → HasRule e
 plain-rule (event.Settle rounds) plain may = absurd plain
 plain-rule _ plain may = may
 
@@ -180,18 +181,30 @@ pub settles-last : SettlesLast
 unfolding generated
 settles-last seed clients = refl
 
+module _ (seed clients : ℕ) where
+  -- none of the events before its settle is one
+  pub before-plain : All IsPlain (before_settle seed clients)
+  before-plain =
+      let sizes = each drawn_size 256 (seeded seed) in
+      let opens = each drawn_open clients sizes.1 in
+      let actions = each drawn_actions clients opens.1 in
+      let fates = each drawn_fate clients actions.1 in
+      All-append IsPlain (opens.0 ++ map event_of actions.0) fates.0
+      (All-append IsPlain opens.0 (map event_of actions.0)
+      (opens-are IsPlain (λ c isn iss. tt) clients sizes.1) (acts-are IsPlain (λ c bytes. tt) (λ c. tt) actions.0))
+      (fates-are IsPlain (λ k. tt) (λ k. tt) clients actions.1)
+
+  -- the journal follows them
+  pub before-follows : (config : Config) (m : Machine) → Goes (start config (generated seed clients).files) (before_settle seed clients) m → Follows 1 (before_settle seed clients) m.journal
+  before-follows config m goes =
+      let files = (generated seed clients).files in
+      follows config files (before_settle seed clients) m (plain-passes (before_settle seed clients) (start config files) m before-plain goes)
+
 pub reach-the-bound : RoundsReachTheBound
 unfolding generated
 reach-the-bound seed clients config m goes =
     let sizes = each drawn_size 256 (seeded seed) in
     let opens = each drawn_open clients sizes.1 in
     let actions = each drawn_actions clients opens.1 in
-    let fates = each drawn_fate clients actions.1 in
-    let es : List Event = opens.0 ++ map event_of actions.0 ++ fates.0 in
-    let plain : All IsPlain es =
-    All-append IsPlain (opens.0 ++ map event_of actions.0) fates.0
-    (All-append IsPlain opens.0 (map event_of actions.0)
-    (opens-are IsPlain (λ c isn iss. tt) clients sizes.1) (acts-are IsPlain (λ c bytes. tt) (λ c. tt) actions.0))
-    (fates-are IsPlain (λ k. tt) (λ k. tt) clients actions.1) in
-    let told : Follows 1 es m.journal = follows config (files_of sizes.0) es m (plain-passes es (start config (files_of sizes.0)) m plain goes) in
+    let told = before-follows seed clients config m goes in
     (reaches clients sizes.1 opens.1 actions.1 sizes.0 m.journal told, ordinary clients sizes.1 opens.1 actions.1 sizes.0 m.journal told)

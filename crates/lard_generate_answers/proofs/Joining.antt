@@ -1,0 +1,151 @@
+-- A journal whose settle left nothing counts all answers, where only clients 1 to n wrote and none of them is in the line, reset or touched.
+use Rattle.std.proofs.Common.{◌≡◌, ◌≤◌, ◌<◌, ◌⊎◌, inl, inr, ℕ, Bool, true, false, List, [], ◌∷◌, ◌++◌, length, map, refl, sym, ap, ◌∙◌, subst, append-nil, length-append, ⊎_elim, arith}
+use Rattle.std.proofs.lemmas.Bool.Decides.{nat_tests}
+use Rattle.std.proofs.lemmas.List.{length-map}
+use Rattle.std.proofs.lemmas.List.Sums.{fold-append}
+use Rattle.std.specs.List.{concat, fold}
+use Rattle.std.specs.Prelude.{nat_le}
+use Rattle.lard_answers.specs.Answers.{FilesAt, IsPrefix, answer_bytes, answers, goods, goods_from}
+use Rattle.lard_answers.proofs.Growing.{answers-nothing, verdicts-nothing}
+use Rattle.lard_base.specs.Config.{room_of}
+use Rattle.lard_base.specs.declared.config.Config.{Config}
+use Rattle.lard_base.specs.declared.event.Event.{Event}
+use Rattle.lard_bound.specs.Bound.{openers, opener_step}
+use Rattle.lard_laws.proofs.BackingMarks.{each-at}
+use Rattle.lard_laws.specs.Lawful.{IsLawful}
+use Rattle.lard_counts.specs.Ledger.{Ledger, admitted, blank, ledger, ledger_step}
+use Rattle.lard_laws.specs.Quiet.{IsInLine}
+use Rattle.lard_generate_bound.specs.Shares.{numbers}
+use Rattle.lard_history.specs.Journal.{accepted, accepted_step, assigned, is_touched, reset_step, served, served_step, touched_step, was_reset, wrote, wrote_step}
+use Rattle.lard_history.specs.Laws.{EachMay}
+use Rattle.lard_journal.specs.declared.rec.Rec.{Rec}
+use Rattle.lard_journal.specs.declared.rec.Rec.TheVariants as rec
+use Rattle.lard_law_view.specs.Quiet.{IsComplete, aborted_step, has_aborted}
+use Rattle.lard_law_settles.specs.Done.{IsDoneWith, MaySettle}
+use Rattle.lard_law_settles.specs.DoneSame.{TellsTheSame}
+use Rattle.lard_generate_answers.specs.Counted.{CountsAllAnswers, writes}
+use Rattle.lard_generate_answers.proofs.Admitting.{admitted-few}
+use Rattle.lard_generate_answers.proofs.Counting.{bytes-together, requests-together}
+use Rattle.lard_generate_answers.proofs.Serving.{Fits, answers-fit}
+use Rattle.lard_generate_answers.proofs.Starting.{opened}
+use Rattle.lard_generate_answers.proofs.Sums.{IsTo, sum-same}
+
+-- a number is from 1 to n, or not
+to-or-not : (n c : ℕ) → IsTo n c ⊎ (IsTo n c → ⊥)
+to-or-not n c = go (nat_le 1 c) (nat_le c n) refl refl where
+  go : (a b : Bool) → nat_le 1 c ≡ a → nat_le c n ≡ b → IsTo n c ⊎ (IsTo n c → ⊥)
+  go true true e f = inl (grind (arith, nat_tests, e), grind (arith, nat_tests, f))
+  go false b e f = inr (λ to. let low = to.0 in grind (arith, nat_tests, e, low))
+  go true false e f = inr (λ to. let high = to.1 in grind (arith, nat_tests, f, high))
+
+-- ---- nothing written, nothing answered
+
+size-nothing : (files : FilesAt) → length (answer_bytes files []) ≡ 0
+size-nothing files = ap (λ (all : List (List ℕ)). length (concat all)) (answers-nothing files)
+
+goods-nothing : (files : FilesAt) → goods files [] ≡ []
+unfolding goods
+goods-nothing files = ap (goods_from files 1) verdicts-nothing
+
+-- a front of nothing is nothing
+front-nothing : {A : Type 0} (xs ys : List A) → IsPrefix xs ys → length ys ≡ 0 → length xs ≡ 0
+front-nothing xs ys p none = let all = ap (λ l. length l) p.1 in let both = length-append xs p.0 in omega (arith, all, both, none)
+
+-- What is known of a journal of which clients 1 to n are all.
+pub record IsTheirs (files : FilesAt) (stream n : ℕ) (J : List Rec) : Type 0 where
+  pub opened_are : openers J ≡ numbers n
+  pub alone : (c : ℕ) → (IsTo n c → ⊥) → wrote J c ≡ []
+  pub untouched : (c : ℕ) → is_touched J c ≡ false
+  pub unaborted : (c : ℕ) → has_aborted J c ≡ false
+  pub small : (c : ℕ) → IsTo n c → length (answer_bytes files (wrote J c)) ≤ stream
+
+module _ (config : Config) (files : FilesAt) (n : ℕ) (J K : List Rec) (theirs : IsTheirs files config.stream n J) (laws : IsLawful config files K) (same : TellsTheSame config files J K) where
+  -- ---- what was served and reset
+
+  untouched-too : (c : ℕ) → is_touched K c ≡ false
+  untouched-too c = same.clients.touched c ∙ theirs.untouched c
+
+  within : (c : ℕ) → IsTo n c ⊎ (IsTo n c → ⊥) → length (answer_bytes files (wrote K c)) ≤ config.stream
+  within c (inl to) = let w = theirs.small c to in subst (λ (q : List ℕ). length (answer_bytes files q) ≤ config.stream) (sym (same.clients.written c)) w
+  within c (inr none) =
+      let nothing : length (answer_bytes files (wrote K c)) ≡ 0 = ap (λ (q : List ℕ). length (answer_bytes files q)) (same.clients.written c ∙ theirs.alone c none) ∙ size-nothing files in
+      omega (arith, nothing)
+
+  fits : (c : ℕ) → Fits files config.stream c K
+  fits c = answers-fit files config.stream c K laws.service laws.resets (untouched-too c) (within c (to-or-not n c))
+
+  not-reset : (c : ℕ) → was_reset J c ≡ false
+  not-reset c = sym (same.resets c) ∙ (fits c).2
+
+  -- ---- other clients
+
+  unwritten : (c : ℕ) → (IsTo n c → ⊥) → wrote K c ≡ []
+  unwritten c none = same.clients.written c ∙ theirs.alone c none
+
+  served-none : (c : ℕ) → (IsTo n c → ⊥) → served J c ≡ 0
+  served-none c none =
+      let most = (fits c).1 in
+      let nothing : length (answers files (wrote K c)) ≡ 0 = ap (λ (q : List ℕ). length (answers files q)) (unwritten c none) ∙ ap (λ (all : List (List ℕ)). length all) (answers-nothing files) in
+      let is = same.responses c in
+      omega (arith, most, nothing, is)
+
+  accepted-none : (c : ℕ) → (IsTo n c → ⊥) → length (accepted J c) ≡ 0
+  accepted-none c none =
+      ap (λ (q : List ℕ). length q) (sym (same.clients.taken c))
+      ∙ front-nothing (accepted K c) (answer_bytes files (wrote K c)) (laws.prefix K [] c (sym (append-nil K)) (untouched-too c)) (ap (λ (q : List ℕ). length (answer_bytes files q)) (unwritten c none) ∙ size-nothing files)
+
+  assigned-none : (c : ℕ) → (IsTo n c → ⊥) → length (assigned K c) ≡ 0
+  assigned-none c none =
+      let paths = front-nothing (map (λ (a : List ℕ × ℕ). a.0) (assigned K c)) (map (λ (g : ℕ × List ℕ). g.1) (goods files (wrote K c))) (laws.paths K [] c (sym (append-nil K)) (untouched-too c))
+      (length-map (goods files (wrote K c)) (λ g. g.1) ∙ ap (λ (l : List (ℕ × List ℕ)). length l) (ap (goods files) (unwritten c none) ∙ goods-nothing files)) in
+      sym (length-map (assigned K c) (λ a. a.0)) ∙ paths
+
+  -- ---- the line
+
+  few : admitted (ledger config J) ≤ n
+  few = subst (λ (l : Ledger). admitted l ≤ n) same.counted (admitted-few config n K laws.admission laws.nodes (λ c. one c (to-or-not n c))) where
+    one : (c : ℕ) → IsTo n c ⊎ (IsTo n c → ⊥) → IsTo n c ⊎ (length (assigned K c) ≡ 0)
+    one c (inl to) = inl to
+    one c (inr none) = inr (assigned-none c none)
+
+  -- ---- each of them
+
+  module _ (es : List Event) (all : (c : ℕ) → wrote J c ≡ writes c es) (room : n < room_of config) (before : List Rec) (done : ℕ) (is : J ≡ before ++ rec.Settled done ∷ []) (settles : EachMay (MaySettle config files) [] J) where
+    -- the closing record changes no fold
+    before-same : {A : Type 0} (step : A → Rec → A) (a : A) → ((b : A) → step b (rec.Settled done) ≡ b) → fold step a before ≡ fold step a J
+    before-same step a still = sym (ap (fold step a) is ∙ fold-append step a before (rec.Settled done ∷ []) ∙ still (fold step a before))
+
+    not-in-line : (c : ℕ) → IsInLine config before c → ⊥
+    not-in-line c h =
+        let full = h.1 in
+        let counted : admitted (ledger config before) ≡ admitted (ledger config J) = ap admitted (before-same ledger_step (blank config) (λ l. refl)) in
+        omega (arith, full, counted, few, room)
+
+    complete : (c : ℕ) → IsTo n c → IsComplete files before c
+    complete c to =
+        let there = opened n c before (before-same opener_step [] (λ b. refl) ∙ theirs.opened_are) to in
+        let law : IsDoneWith config files before c = each-at (MaySettle config files) J before [] (rec.Settled done) is settles c there in
+        ⊎_elim (λ (h : IsComplete files before c). h) (λ (h : IsInLine config before c). absurd (not-in-line c h))
+        (law.ends (before-same (touched_step c) false (λ b. refl) ∙ theirs.untouched c) (before-same (aborted_step c) false (λ b. refl) ∙ theirs.unaborted c) (before-same (reset_step c) false (λ b. refl) ∙ not-reset c))
+
+    written-by : (c : ℕ) → wrote before c ≡ writes c es
+    written-by c = before-same (wrote_step c) [] (λ b. refl) ∙ all c
+
+    pub counts : CountsAllAnswers files es n J
+    counts = record {
+      requests_are = requests-together n J (λ c. served-else c (to-or-not n c)) ∙ sum-same (served J) (λ c. length (answers files (writes c es))) n responses;
+      accepted_are = bytes-together n J (λ c. accepted-else c (to-or-not n c)) ∙ sum-same (λ c. length (accepted J c)) (λ c. length (answer_bytes files (writes c es))) n bytes;
+    } where
+      served-else : (c : ℕ) → IsTo n c ⊎ (IsTo n c → ⊥) → IsTo n c ⊎ (served J c ≡ 0)
+      served-else c (inl to) = inl to
+      served-else c (inr none) = inr (served-none c none)
+
+      accepted-else : (c : ℕ) → IsTo n c ⊎ (IsTo n c → ⊥) → IsTo n c ⊎ (length (accepted J c) ≡ 0)
+      accepted-else c (inl to) = inl to
+      accepted-else c (inr none) = inr (accepted-none c none)
+
+      responses : (c : ℕ) → IsTo n c → served J c ≡ length (answers files (writes c es))
+      responses c to = sym (before-same (served_step c) 0 (λ b. refl)) ∙ (complete c to).responses ∙ ap (λ (q : List ℕ). length (answers files q)) (written-by c)
+
+      bytes : (c : ℕ) → IsTo n c → length (accepted J c) ≡ length (answer_bytes files (writes c es))
+      bytes c to = ap (λ (q : List ℕ). length q) (sym (before-same (accepted_step c) [] (λ b. refl)) ∙ (complete c to).all ∙ ap (answer_bytes files) (written-by c))
