@@ -1,6 +1,6 @@
 -- A settle with as many rounds as its journal's bound leaves nothing, where the schedule put no packet on the way in a client's name and each
 -- client wrote little.
-use Rattle.std.proofs.Common.{◌≡◌, ◌≤◌, ℕ, List, Ok, ap}
+use Rattle.std.proofs.Common.{◌≡◌, ◌≤◌, ℕ, List, Ok, ap, ◌∙◌}
 use Rattle.std.specs.Prelude.{All}
 use Rattle.lard_base.specs.Config.{config_check}
 use Rattle.lard_base.proofs.Usable.{usable}
@@ -16,6 +16,7 @@ use Rattle.lard_law_view.specs.View.{conn}
 use Rattle.lard_law_settles.proofs.CourseUniting.{Known}
 use Rattle.lard_files.specs.Files.{file_at}
 use Rattle.lard_history.proofs.Each.{Each}
+use Rattle.lard_law_settles.proofs.KnownEverything.{IsSet, is-set}
 use Rattle.lard_law_settles.proofs.EnoughBeside.{Is}
 use Rattle.lard_law_settles.proofs.EnoughGivens.{rules-given}
 use Rattle.lard_law_settles.proofs.EnoughGranted.{IsGone, goes-gone, settle-gone, start-gone}
@@ -57,3 +58,9 @@ module _ (config : Config) (files : List (List ℕ × List ℕ)) (checked : conf
         let given-all = events config files checked are m in
         let here = goes-gone config files given-all es (start config files) m (start-gone config files given-all) given goes in
         settle-gone config files given-all m n rounds here (ap settled_to is)
+
+    pub kept-numbers : IsSet config files n
+    kept-numbers =
+        let w = gone.is in
+        let plain = is-set config files w.plain w.reached in
+        record { config_is = ap (λ (k : Machine). k.config) w.same ∙ plain.config_is; files_are = ap (λ (k : Machine). k.files) w.same ∙ plain.files_are }

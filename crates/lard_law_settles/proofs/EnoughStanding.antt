@@ -21,6 +21,7 @@ use Rattle.lard_history.specs.Journal.{is_touched, touched_step, wrote, wrote_st
 use Rattle.lard_history.specs.Laws.{EachMay}
 use Rattle.lard_journal.specs.declared.rec.Rec.{Rec}
 use Rattle.lard_journal.specs.declared.rec.Rec.TheVariants as rec
+use Rattle.lard_law_settles.proofs.EnoughAgendas.{closing-quiet}
 use Rattle.lard_law_settles.proofs.EnoughBeside.{Is, err-ok, inner-plain, ok-same}
 use Rattle.lard_law_settles.proofs.EnoughSettled.{EndsQuiet}
 use Rattle.lard_law_settles.proofs.EnoughTelling.{PassesOver, inner-over, openers-over, touched-over, wrote-over}
@@ -29,14 +30,14 @@ use Rattle.lard_law_settles.specs.Enough.{MayLeave}
 use Rattle.lard_law_settles.proofs.SettlesEvents.{begun-is, either-kind, plain-done, plain-rule}
 use Rattle.lard_law_settles.proofs.SettlesFiring.{IsInner, deliver-inner, disk-inner, firings-inner, inner-rule, take-inner}
 use Rattle.lard_law_settles.proofs.SettlesGiven.{InnerRows, StepRows, inner-rows, step-rows}
-use Rattle.lard_law_settles.proofs.SettlesInside.{InnerKept, IsClosed, SettleEnds, settle-ends}
+use Rattle.lard_law_settles.proofs.SettlesInside.{InnerKept, IsClosed, SettleEnds, quiet-left, settle-ends}
 use Rattle.lard_settling.proofs.Folds.{TakesSteps, fold-written}
 use Rattle.lard_settling.proofs.Plain.{AreUnmarked, is_mark}
 use Rattle.lard_settling.proofs.Written.{written}
 use Rattle.lard_settling.specs.declared.settled.Settled.{Settled}
 use Rattle.lard_settling.specs.declared.settled.Settled.TheVariants.{Quiet}
 use Rattle.lard_settling.specs.Events.{Goes, LeadsTo, MayCome, event_step, settled_to}
-use Rattle.lard_settling.specs.Settling.{Stop, all_inner, answer, closed_by, left, rounds_from, settled, settled_from, takes}
+use Rattle.lard_settling.specs.Settling.{Stop, all_inner, answer, closed_by, is_quiet, left, rounds_from, settled, settled_from, takes}
 use Rattle.lard_settling.specs.Steps.{closing, inner_step, settle_begun, settle_closed}
 use Rattle.lard_settling.specs.Written.{is_settle}
 
@@ -116,6 +117,13 @@ settled-closing m rounds n s = go (settle_begun m rounds) where
   go : (x : Result Machine StepFault) → (elim x as (λ r. Result (Machine × Settled) Stop) [ Err fault ↦ Err (m, fault) | Ok k ↦ settled_from k rounds ]) ≡ Ok (n, s) → Closing n s
   go (Err fault) is = absurd (err-ok (m, fault) (n, s) is)
   go (Ok k) is = from-closing k rounds n s is
+
+-- where nothing is left behind it, it says so
+pub says-quiet : (m : Machine) (rounds : ℕ) (n : Machine) (s : Settled) → settled m rounds ≡ Ok (n, s) → is_quiet n ≡ true → (done : ℕ) × (s ≡ Quiet done)
+says-quiet m rounds n s is quiet =
+    let c : Closing n s = settled-closing m rounds n s is in
+    let before : is_quiet c.at ≡ true = sym (closing-quiet c.at c.done (left c.at)) ∙ sym (ap is_quiet c.is) ∙ quiet in
+    (c.done, c.says ∙ ap (answer c.done) (quiet-left c.at before))
 
 -- an event that is a settle is done where the settle is
 event-settled : (m : Machine) (rounds : ℕ) (n : Machine) → event_step m (event.Settle rounds) ≡ Ok n → (s : Settled) × (settled m rounds ≡ Ok (n, s))

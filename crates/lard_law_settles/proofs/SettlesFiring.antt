@@ -1,13 +1,13 @@
 -- The events of inner steps. Of timers those fire that an agenda keeps, at places that have them.
-use Rattle.std.proofs.Common.{◌≡◌, ℕ, zero, suc, List, [], ◌∷◌, map, replicate, Bool, true, false, cond, Some, None, refl, sym, ap, ◌∙◌, subst, arith}
+use Rattle.std.proofs.Common.{◌≡◌, ℕ, zero, suc, List, [], ◌∷◌, ◌++◌, map, replicate, Bool, true, false, cond, not, Some, None, refl, sym, ap, ◌∙◌, subst, arith}
 use Rattle.std.proofs.lemmas.Bool.{and_parts}
 use Rattle.std.proofs.lemmas.Bool.Decides.{nat_tests}
-use Rattle.std.specs.FinMap.{FinMap, entries, entries_sorted, get, get-empty, get-entries}
+use Rattle.std.specs.FinMap.{FinMap, entries, entries_sorted, get, get-empty, get-entries, values}
 use Rattle.std.specs.FinMap.Entries.{below_all, find, is_sorted}
 use Rattle.std.specs.List.{fold}
 use Rattle.std.specs.Ordering.{eq_by_cmp, is_lt, nat_cmp}
 use Rattle.std.specs.Prelude.{T, filter}
-use Rattle.lard_agenda.specs.Agenda.{agenda_of, due, entry, noted_by, nothing, running_step, seat, timer_set}
+use Rattle.lard_agenda.specs.Agenda.{agenda_of, due, entry, free_of, is_stalled, noted_by, nothing, running_step, seat, timer_set}
 use Rattle.lard_agenda.specs.Kinds.{is_none, kinds_of, with_kind}
 use Rattle.lard_agenda.specs.declared.agenda.Agenda.{Agenda}
 use Rattle.lard_agenda.specs.declared.kinds.Kinds.{Kinds}
@@ -100,6 +100,11 @@ module _ {X : Type 0} (P : ℕ → X → Type 0) where
       go true t = refl
       go false t = absurd t
 
+-- of two lists, one behind the other
+pub each-parts : {A : Type 0} (P : A → Type 0) (xs ys : List A) → Each P (xs ++ ys) → Each P xs × Each P ys
+each-parts P [] ys h = (tt, h)
+each-parts P (x ∷ xs) ys h = let more = each-parts P xs ys h.1 in ((h.0, more.0), more.1)
+
 -- of what is made of each
 pub each-map : {A B : Type 0} (P : A → Type 0) (Q : B → Type 0) (f : A → B) → ((x : A) → P x → Q (f x)) → (xs : List A) → Each P xs → Each Q (map f xs)
 each-map P Q f w [] h = tt
@@ -112,6 +117,18 @@ each-filter P p (x ∷ xs) h = go (p x) (each-filter P p xs h.1) where
   go : (b : Bool) → Each P (filter p xs) → Each P (cond b (x ∷ filter p xs) (filter p xs))
   go true more = (h.0, more)
   go false more = more
+
+-- what holds of each timer that runs holds of each that fires
+module _ (Q : Place → ℕ → Type 0) (R : Event → Type 0) (w : (p : Place) (c : ℕ) → Q p c → R (event.Timer p c)) where
+  pub firings-each : (m : Machine) → Each (OfTimer Q) m.journal → Each R (firings m)
+  firings-each m all =
+      let running : FinMap nat_cmp Running = (agenda_of m.journal).running in
+      let kept = entries-each (λ at r. IsTimed Q r) running (agenda-timed Q m.journal all) in
+      let each : Each (IsTimed Q) (values running) = each-map (λ (e : ℕ × Running). IsTimed Q e.1) (IsTimed Q) (λ (e : ℕ × Running). e.1) (λ e h. h) (entries running) kept in
+      let free : Each (IsTimed Q) (free_of m.front.dispatch (values running)) = each-filter (IsTimed Q) (λ r. not (is_stalled m.front.dispatch r)) (values running) each in
+      each-map (λ (s : Place × ℕ). Q s.0 s.1) R (λ (s : Place × ℕ). event.Timer s.0 s.1) (λ s h. w s.0 s.1 h) (filter is_own (due m.front.dispatch (agenda_of m.journal)))
+      (each-filter (λ (s : Place × ℕ). Q s.0 s.1) is_own (due m.front.dispatch (agenda_of m.journal))
+      (each-map (IsTimed Q) (λ (s : Place × ℕ). Q s.0 s.1) (λ (r : Running). (r.place, r.c)) (λ r h. h) (free_of m.front.dispatch (values running)) free))
 
 -- ---- the events of inner steps
 

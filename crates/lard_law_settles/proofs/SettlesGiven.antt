@@ -1,18 +1,19 @@
 -- What steps are recorded with: the record that begins them, and behind it others that begin no step and close no settle.
-use Rattle.std.proofs.Common.{◌≡◌, ◌<◌, ℕ, ◌+◌, List, ◌∷◌, ◌++◌, length, Result, Ok, Err, refl, ap, ◌∙◌, subst}
+use Rattle.std.proofs.Common.{◌≡◌, ◌<◌, ℕ, ◌+◌, List, [], ◌∷◌, ◌++◌, length, Result, Ok, Err, refl, ap, ◌∙◌, subst}
 use Rattle.lard_base.specs.declared.config.Config.{Config}
 use Rattle.lard_base.specs.declared.event.Event.{Event}
+use Rattle.lard_base.specs.declared.event.Event.TheVariants as event
 use Rattle.lard_base.specs.declared.limits.TheConstants.{MAX_RECORDS}
 use Rattle.lard_rules.specs.Bounds.{HasRule}
 use Rattle.lard_rules.specs.declared.fault.StepFault.{StepFault}
 use Rattle.lard_rules.specs.declared.machine.Machine.{Machine}
-use Rattle.lard_rules.specs.Machine.{happens, limit_reached, machine_step}
+use Rattle.lard_rules.specs.Machine.{happens, limit_reached, machine_step, passed}
 use Rattle.lard_journal.specs.Inner.{turned_at}
 use Rattle.lard_journal.specs.declared.rec.Rec.{Rec}
 use Rattle.lard_journal.specs.declared.rec.Rec.TheVariants as rec
 use Rattle.lard_journal.proofs.Turned.{turned_behind}
 use Rattle.lard_net.specs.Net.{bytes_in}
-use Rattle.lard_settling.specs.Steps.{as_inner, inner_given, inner_step}
+use Rattle.lard_settling.specs.Steps.{as_inner, inner_given, inner_step, settle_begun}
 use Rattle.lard_settling.specs.Written.{IsWrittenOut}
 use Rattle.lard_settling.proofs.Plain.{AreUnmarked}
 use Rattle.lard_settling.proofs.Written.{Leads, few-records, step-leads, unless-ok}
@@ -59,3 +60,8 @@ module _ (config : Config) (files : List (List ℕ × List ℕ)) where
           unmarked = on.unmarked;
           events = refl;
         })
+
+-- few records stand before a settle that has begun
+pub begun-few : (m n : Machine) (rounds : ℕ) → settle_begun m rounds ≡ Ok n → length m.journal < MAX_RECORDS
+unfolding settle_begun
+begun-few m n rounds is = few-records (length m.net) (bytes_in m.net) (length m.journal) m.answered (unless-ok (limit_reached m) (Ok (passed m (event.Settle rounds) [])) n is).0
