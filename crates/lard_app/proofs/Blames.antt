@@ -33,11 +33,35 @@ ReachesBefore m e w = HasReached m.journal w ⊎ (IsWithinLimits m.journal × (w
 -- of an event that is no settle
 plain-reaches : (m : Machine) (e : Event) (w : What) → is_settle e ≡ false → (Reaches m e w → ReachesBefore m e w) × (ReachesBefore m e w → Reaches m e w)
 plain-reaches m (event.Settle rounds) w h = cc
-plain-reaches m _ w h = (λ r. r, λ r. r)
+plain-reaches m (event.Open c isn iss wnd mss) w h = (λ r. r, λ r. r)
+plain-reaches m (event.Get c path) w h = (λ r. r, λ r. r)
+plain-reaches m (event.Write c bytes) w h = (λ r. r, λ r. r)
+plain-reaches m (event.Shut c) w h = (λ r. r, λ r. r)
+plain-reaches m (event.Abort c) w h = (λ r. r, λ r. r)
+plain-reaches m (event.Hold c) w h = (λ r. r, λ r. r)
+plain-reaches m (event.Take c) w h = (λ r. r, λ r. r)
+plain-reaches m (event.Deliver j) w h = (λ r. r, λ r. r)
+plain-reaches m (event.Lose j) w h = (λ r. r, λ r. r)
+plain-reaches m (event.Timer p c) w h = (λ r. r, λ r. r)
+plain-reaches m (event.Disk n j) w h = (λ r. r, λ r. r)
+plain-reaches m (event.Clock ms) w h = (λ r. r, λ r. r)
+plain-reaches m (event.Inject c bytes) w h = (λ r. r, λ r. r)
 
 plain-untimely : (m : Machine) (e : Event) (cause : Why) → is_settle e ≡ false → (MayNotCome m e cause → IsWithinLimits m.journal × IsUntimely m e cause) × (IsWithinLimits m.journal × IsUntimely m e cause → MayNotCome m e cause)
 plain-untimely m (event.Settle rounds) cause h = cc
-plain-untimely m _ cause h = (λ r. r, λ r. r)
+plain-untimely m (event.Open c isn iss wnd mss) cause h = (λ r. r, λ r. r)
+plain-untimely m (event.Get c path) cause h = (λ r. r, λ r. r)
+plain-untimely m (event.Write c bytes) cause h = (λ r. r, λ r. r)
+plain-untimely m (event.Shut c) cause h = (λ r. r, λ r. r)
+plain-untimely m (event.Abort c) cause h = (λ r. r, λ r. r)
+plain-untimely m (event.Hold c) cause h = (λ r. r, λ r. r)
+plain-untimely m (event.Take c) cause h = (λ r. r, λ r. r)
+plain-untimely m (event.Deliver j) cause h = (λ r. r, λ r. r)
+plain-untimely m (event.Lose j) cause h = (λ r. r, λ r. r)
+plain-untimely m (event.Timer p c) cause h = (λ r. r, λ r. r)
+plain-untimely m (event.Disk n j) cause h = (λ r. r, λ r. r)
+plain-untimely m (event.Clock ms) cause h = (λ r. r, λ r. r)
+plain-untimely m (event.Inject c bytes) cause h = (λ r. r, λ r. r)
 
 -- what keeps faults as they are, and is done where its part is, has the fault of its part
 fault-kept : {A B C : Type 0} (g : Result A C → Result B C) → ((a : A) → (b : B) × (g (Ok a) ≡ Ok b)) → ((c : C) → g (Err c) ≡ Err c) → (y : Result A C) (c : C) → g y ≡ Err c → y ≡ Err c

@@ -61,7 +61,11 @@ module _ (n bytes : ℕ) (s : Progress) (k : Knows n bytes s) (line : List ℕ) 
 
     limited : (w : What) (e : Event) → Tries s line e → Reaches s.machine e w → EndsLine s n bytes line (Limit (s.lines + 1) w)
     limited what.Input e t r = absurd (unreached s.machine e r)
-    limited _ e t r = (next_number, short, (e, t, r))
+    limited what.Packets e t r = (next_number, short, (e, t, r))
+    limited what.PacketBytes e t r = (next_number, short, (e, t, r))
+    limited what.Records e t r = (next_number, short, (e, t, r))
+    limited what.Answers e t r = (next_number, short, (e, t, r))
+    limited what.Stream e t r = (next_number, short, (e, t, r))
 
     limited_here : (w : What) (e : Event) → Tries s line e → Reaches s.machine e w → ◌≡◌ {A = Result Progress Status} (Err (Limit (s.lines + 1) w)) (Err status) → EndsLine s n bytes line status
     limited_here w e t r h = subst (EndsLine s n bytes line) (err_status (Limit (s.lines + 1) w) status h) (limited w e t r)
@@ -133,9 +137,11 @@ module _ (n bytes : ℕ) (s : Progress) (k : Knows n bytes s) (line : List ℕ) 
     stopped_by e stop t is = stands_by (item.Event e) t ∙ ap (moved (followed (counted s line) (item.Event e))) is
 
     unfit-refused : (x : Item) (fault : ConfigFault) → Stands s line x → IsUnfit s.config x fault → passed s line ≡ Err (Refused (s.lines + 1) (why.Config fault))
+    unfit-refused item.Header fault t u = absurd u
     unfit-refused (item.Set key value) fault t u = stands_by (item.Set key value) t ∙ ap (config_set (followed (counted s line) (item.Set key value)) key value) (fault-range key value u.1) ∙ ap (λ f. Err (Refused (s.lines + 1) (why.Config f))) (sym u.0)
+    unfit-refused (item.File path bytes) fault t u = absurd u
     unfit-refused item.Go fault t u = stands_by item.Go t ∙ ap (begun (followed (counted s line) item.Go)) (fault-check s.config k.keeps.fits fault u)
-    unfit-refused _ fault t u = absurd u
+    unfit-refused (item.Event e) fault t u = absurd u
 
     file-refused : (f : FileFault) → AddsNone s line f → passed s line ≡ Err (file_ends (s.lines + 1) f)
     file-refused f u = stands_by (item.File u.0 u.1) u.2 ∙ ap (filed (followed (counted s line) (item.File u.0 u.1)) u.0 u.1) (fault-file (file_at s.files u.0) (length s.files) (total s.files) (length u.1) f u.3)
@@ -172,4 +178,8 @@ module _ (n bytes : ℕ) (s : Progress) (k : Knows n bytes s) (line : List ℕ) 
   ends-line (Limit number what.Answers) u = numbered (λ m. Limit m what.Answers) number u.0 (reached u.1 what.Answers u.2.0 u.2.1 u.2.2)
   ends-line (Limit number what.Stream) u = numbered (λ m. Limit m what.Stream) number u.0 (reached u.1 what.Stream u.2.0 u.2.1 u.2.2)
   ends-line (Refused number cause) u = numbered (λ m. Refused m cause) number u.0 (refused u.1 cause u.2)
-  ends-line _ u = absurd u
+  ends-line Done u = absurd u
+  ends-line Usage u = absurd u
+  ends-line ReadFault u = absurd u
+  ends-line WriteFault u = absurd u
+  ends-line NoMemory u = absurd u

@@ -22,9 +22,17 @@ pub plays-stopped : {X : Type 0} (given : Machine × Status) (n : Machine) (part
 plays-stopped given n part NoMemory h = tt
 plays-stopped given n part (Limit line what) h = ap (λ (p : Machine × Status). p.1) h
 plays-stopped given n part (Refused line why) h = ap (λ (p : Machine × Status). p.1) h
-plays-stopped given n part _ h = h
+plays-stopped given n part Done h = h
+plays-stopped given n part Usage h = h
+plays-stopped given n part ReadFault h = h
+plays-stopped given n part WriteFault h = h
 
 -- what was not given of one part is not of another
 pub gives-no-other : {X Y : Type 0} (given : Machine × Status) (part : Machine → X) (other : Machine → Y) (status : Status) → Gives given part (Err status) → Gives given other (Err status)
 gives-no-other given part other NoMemory h = tt
-gives-no-other given part other _ h = h
+gives-no-other given part other (Limit line what) h = h
+gives-no-other given part other (Refused line why) h = h
+gives-no-other given part other Done h = h
+gives-no-other given part other Usage h = h
+gives-no-other given part other ReadFault h = h
+gives-no-other given part other WriteFault h = h

@@ -55,7 +55,10 @@ before_agrees Running s f b a = absurd b
 
 -- a line that is counted changes nothing of it
 counted_agrees : (stage : Stage) (s : Progress) (f : Found) (line : List ℕ) → Agrees stage s f → Agrees stage (counted s line) f
-counted_agrees _ s f line a = a
+counted_agrees Start s f line a = a
+counted_agrees Settings s f line a = a
+counted_agrees Files s f line a = a
+counted_agrees Running s f line a = a
 
 -- the reader is behind the item, and what was found with it agrees
 abbrev Follows : Progress → Item → Found → Progress → Type 0

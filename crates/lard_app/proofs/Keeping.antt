@@ -86,20 +86,36 @@ pub record Keeps (s : Progress) (es : List Event) : Type 0 where
 
 -- each number that no line set is in its range
 standard_fits : IsConfigRanged standard
-standard_fits _ = refl
+standard_fits Nodes = refl
+standard_fits Low = refl
+standard_fits High = refl
+standard_fits Age = refl
+standard_fits Idle = refl
+standard_fits Over = refl
+standard_fits Miss = refl
+standard_fits Cache = refl
+standard_fits Stream = refl
 
 -- one that was set is, too, and the others are as they were
 set_fits : (c : Config) (key : Key) (value : ℕ) → IsConfigRanged c → is_in_range key value ≡ true → IsConfigRanged (set_key c key value)
 set_fits c Nodes value h e Nodes = e
+set_fits c Nodes value h e other = h other
 set_fits c Low value h e Low = e
+set_fits c Low value h e other = h other
 set_fits c High value h e High = e
+set_fits c High value h e other = h other
 set_fits c Age value h e Age = e
+set_fits c Age value h e other = h other
 set_fits c Idle value h e Idle = e
+set_fits c Idle value h e other = h other
 set_fits c Over value h e Over = e
+set_fits c Over value h e other = h other
 set_fits c Miss value h e Miss = e
+set_fits c Miss value h e other = h other
 set_fits c Cache value h e Cache = e
+set_fits c Cache value h e other = h other
 set_fits c Stream value h e Stream = e
-set_fits c _ value h e other = h other
+set_fits c Stream value h e other = h other
 
 -- a number that the check lets through is in its range
 range_passed : (key : Key) (value : ℕ) → range_check key value ≡ Ok tt → is_in_range key value ≡ true

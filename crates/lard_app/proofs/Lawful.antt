@@ -78,7 +78,9 @@ alike m n told Running Running u v e = told e
 alike m n told Running Start u v e = absurd (some_report m.config (sizes m.files) m.journal e)
 alike m n told Running Settings u v e = absurd (some_report m.config (sizes m.files) m.journal e)
 alike m n told Running Files u v e = absurd (some_report m.config (sizes m.files) m.journal e)
-alike m n told _ other u v e = both_unseen m n other u v e
+alike m n told Start other u v e = both_unseen m n other u v e
+alike m n told Settings other u v e = both_unseen m n other u v e
+alike m n told Files other u v e = both_unseen m n other u v e
 
 -- equal reports are of the same run
 pub tells_all : ReportsTellAll → (text also : List ℕ) → report_of (whole text).0 ≡ report_of (whole also).0

@@ -20,7 +20,14 @@ use Rattle.lard_app.proofs.Timely.{AreTimely, IsTimely}
 
 -- a fault is no good end
 not-done : (line : ℕ) (f : StepFault) → ¬ (ended_by line f ≡ Done)
-not-done line _ e = cc
+not-done line (fault.NotSent k sent) e = cc
+not-done line (fault.WasLost k) e = cc
+not-done line (fault.NoClient c) e = cc
+not-done line (fault.Used c) e = cc
+not-done line (fault.NoNode n nodes) e = cc
+not-done line (fault.NoJob n j len) e = cc
+not-done line (fault.Limit what) e = cc
+not-done line fault.NoMemory e = cc
 
 -- an event that is done leads on, and one that is not is the last
 played-goes : (line : ℕ) (m n : Machine) (e : Event) (es : List Event) → event_step m e ≡ Ok n → played line m (e ∷ es) ≡ played (line + 1) n es
@@ -125,7 +132,12 @@ Stops m line e status = (stop : Stop) × (event_step m e ≡ Err stop) × (ended
 
 event-stops : (m : Machine) → IsFit m → (line : ℕ) (e : Event) (status : Status) → EndsEvent m line e status → Stops m line e status
 event-stops m fit line e (Limit number v) u = let r = reaches-stop m fit.written e v u.1 in ((r.0, fault.Limit v), r.1, ap (λ l. Limit l v) (sym u.0))
-event-stops m fit line e _ u = absurd u
+event-stops m fit line e (Refused number cause) u = absurd u
+event-stops m fit line e Done u = absurd u
+event-stops m fit line e Usage u = absurd u
+event-stops m fit line e ReadFault u = absurd u
+event-stops m fit line e WriteFault u = absurd u
+event-stops m fit line e NoMemory u = absurd u
 
 pub ends-play : (line : ℕ) (m : Machine) (events : List Event) (status : Status) → Each MayCome events → IsFit m → AreTimely m events → (played line m events).1 ≡ status → EndsPlay m line events status
 ends-play line m [] status may fit timely h = record { before = []; rest = []; are = refl; state = m; goes = refl; ends = sym h }

@@ -96,10 +96,18 @@ reads-nothing left old = record {
 -- no line ends a run by a fault of reading, nor does the text's end
 pub stop_no_read : (given : Result Progress Status) (text : List ℕ) (old new : Option (List ℕ)) (t : Progress) (status : Status) → Passes given text old new t (Err status) → ¬ (status ≡ ReadFault)
 stop_no_read given text old new t ReadFault h e = h
-stop_no_read given text old new t _ h e = cc
+stop_no_read given text old new t Done h e = cc
+stop_no_read given text old new t Usage h e = cc
+stop_no_read given text old new t (Refused line why) h e = cc
+stop_no_read given text old new t (Limit line what) h e = cc
+stop_no_read given text old new t WriteFault h e = cc
+stop_no_read given text old new t NoMemory h e = cc
 
 end_no_read : (s : Progress) (stage : Stage) → ¬ (ended_at s.lines stage ≡ ReadFault)
-end_no_read s _ e = cc
+end_no_read s Start e = cc
+end_no_read s Settings e = cc
+end_no_read s Files e = cc
+end_no_read s Running e = cc
 
 pub ending_no_read : (s : Progress) (rest : List ℕ) → ¬ (ending s rest ≡ ReadFault)
 ending_no_read s [] e = end_no_read s s.reader.stage e

@@ -30,7 +30,19 @@ use Rattle.lard_app.proofs.Steps.{Grows, event-grows, grows-longer, step-grows}
 pub settles-as : (m : Machine) (e : Event) (rounds : ℕ) → rounds_of e ≡ Some rounds → event_step m e ≡ settled_to (settled m rounds)
 unfolding event_step
 settles-as m (event.Settle r) rounds is = let same : r ≡ rounds = cc in ap (λ n. settled_to (settled m n)) same
-settles-as m _ rounds is = cc
+settles-as m (event.Open c isn iss wnd mss) rounds is = cc
+settles-as m (event.Get c path) rounds is = cc
+settles-as m (event.Write c bytes) rounds is = cc
+settles-as m (event.Shut c) rounds is = cc
+settles-as m (event.Abort c) rounds is = cc
+settles-as m (event.Hold c) rounds is = cc
+settles-as m (event.Take c) rounds is = cc
+settles-as m (event.Deliver k) rounds is = cc
+settles-as m (event.Lose k) rounds is = cc
+settles-as m (event.Timer p c) rounds is = cc
+settles-as m (event.Disk n j) rounds is = cc
+settles-as m (event.Clock ms) rounds is = cc
+settles-as m (event.Inject c bytes) rounds is = cc
 
 pub steps-as : (m : Machine) (e : Event) → rounds_of e ≡ None → event_step m e ≡ stepped_from m (machine_step m e)
 steps-as m (event.Settle r) is = cc
@@ -97,12 +109,24 @@ step-agenda a m n e (Err f) on is h = tt
 -- a settle
 pub settles-happens : (given : Result (Machine × Settled) Stop) (n : Machine) (f : StepFault) → Settles given n (Err f) → Happens (settled_to given) n (Err f)
 settles-happens given n fault.NoMemory h = tt
-settles-happens given n _ h = ap settled_to h
+settles-happens given n (fault.NotSent k sent) h = ap settled_to h
+settles-happens given n (fault.WasLost k) h = ap settled_to h
+settles-happens given n (fault.NoClient c) h = ap settled_to h
+settles-happens given n (fault.Used c) h = ap settled_to h
+settles-happens given n (fault.NoNode k nodes) h = ap settled_to h
+settles-happens given n (fault.NoJob k j len) h = ap settled_to h
+settles-happens given n (fault.Limit what) h = ap settled_to h
 
 -- where it was not done, and not for want of memory, so far it came
 pub event-stopped : (given : Result Machine Stop) (n : Machine) (f : StepFault) → f ≢ fault.NoMemory → Happens given n (Err f) → given ≡ Err (n, f)
 event-stopped given n fault.NoMemory some h = absurd (some refl)
-event-stopped given n _ some h = h
+event-stopped given n (fault.NotSent k sent) some h = h
+event-stopped given n (fault.WasLost k) some h = h
+event-stopped given n (fault.NoClient c) some h = h
+event-stopped given n (fault.Used c) some h = h
+event-stopped given n (fault.NoNode k nodes) some h = h
+event-stopped given n (fault.NoJob k j len) some h = h
+event-stopped given n (fault.Limit what) some h = h
 
 -- what was written then
 pub stops-does : (s t : Progress) (n : Machine) (given : Result Machine Stop) (old new : Option (List ℕ)) (f : StepFault) (status : Status) (from : ℕ) → from ≡ length s.machine.journal

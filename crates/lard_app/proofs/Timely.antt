@@ -343,7 +343,9 @@ open-timely m c isn iss wnd mss fit none (why.WasLost k) may = may.1.0
 open-timely m c isn iss wnd mss fit none (why.NoClient d) may = may.1.0
 open-timely m c isn iss wnd mss fit none (why.NoNode k nodes) may = may.1.0
 open-timely m c isn iss wnd mss fit none (why.NoJob k j len) may = may.1.0
-open-timely m c isn iss wnd mss fit none _ may = may.1
+open-timely m c isn iss wnd mss fit none why.Syntax may = may.1
+open-timely m c isn iss wnd mss fit none (why.Config f) may = may.1
+open-timely m c isn iss wnd mss fit none (why.File f) may = may.1
 
 -- an event of a client that opened
 client-known : (m : Machine) (c d : ℕ) → IsFit m → IsOpen m c → c ≡ d → ¬ (numbers_of m.journal d ≡ None)
@@ -359,7 +361,9 @@ write-timely m c bytes fit open_ (why.NotSent k sent) may = may.1.0
 write-timely m c bytes fit open_ (why.WasLost k) may = may.1.0
 write-timely m c bytes fit open_ (why.NoNode k nodes) may = may.1.0
 write-timely m c bytes fit open_ (why.NoJob k j len) may = may.1.0
-write-timely m c bytes fit open_ _ may = may.1
+write-timely m c bytes fit open_ why.Syntax may = may.1
+write-timely m c bytes fit open_ (why.Config f) may = may.1
+write-timely m c bytes fit open_ (why.File f) may = may.1
 
 shut-timely : (m : Machine) (c : ℕ) → IsFit m → IsOpen m c → IsTimely m (event.Shut c)
 shut-timely m c fit open_ (why.NoClient d) may = client-known m c d fit open_ may.1.0 may.1.1
@@ -368,7 +372,9 @@ shut-timely m c fit open_ (why.NotSent k sent) may = may.1.0
 shut-timely m c fit open_ (why.WasLost k) may = may.1.0
 shut-timely m c fit open_ (why.NoNode k nodes) may = may.1.0
 shut-timely m c fit open_ (why.NoJob k j len) may = may.1.0
-shut-timely m c fit open_ _ may = may.1
+shut-timely m c fit open_ why.Syntax may = may.1
+shut-timely m c fit open_ (why.Config f) may = may.1
+shut-timely m c fit open_ (why.File f) may = may.1
 
 -- packet c + 1 was sent, and not lost
 sent-known : (m : Machine) (c k sent : ℕ) → IsFit m → c + 1 ≤ length m.net → c + 1 ≡ k → sent ≡ sent_count m.journal → ¬ ((k ≡ 0) ⊎ (sent < k))
@@ -390,7 +396,9 @@ deliver-timely m c fit there kept (why.NoClient d) may = may.1.0
 deliver-timely m c fit there kept (why.Used d) may = may.1.0
 deliver-timely m c fit there kept (why.NoNode k nodes) may = may.1.0
 deliver-timely m c fit there kept (why.NoJob k j len) may = may.1.0
-deliver-timely m c fit there kept _ may = may.1
+deliver-timely m c fit there kept why.Syntax may = may.1
+deliver-timely m c fit there kept (why.Config f) may = may.1
+deliver-timely m c fit there kept (why.File f) may = may.1
 
 lose-timely : (m : Machine) (c : ℕ) → IsFit m → c + 1 ≤ length m.net → AreKept c m.net → IsTimely m (event.Lose (c + 1))
 lose-timely m c fit there kept (why.NotSent k sent) may = sent-known m c k sent fit there may.1.0 may.1.1 may.1.2
@@ -399,7 +407,9 @@ lose-timely m c fit there kept (why.NoClient d) may = may.1.0
 lose-timely m c fit there kept (why.Used d) may = may.1.0
 lose-timely m c fit there kept (why.NoNode k nodes) may = may.1.0
 lose-timely m c fit there kept (why.NoJob k j len) may = may.1.0
-lose-timely m c fit there kept _ may = may.1
+lose-timely m c fit there kept why.Syntax may = may.1
+lose-timely m c fit there kept (why.Config f) may = may.1
+lose-timely m c fit there kept (why.File f) may = may.1
 
 -- ---- the parts of the schedule
 
