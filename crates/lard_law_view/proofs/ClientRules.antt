@@ -1,4 +1,4 @@
--- All rules together.
+-- All rules of a client together.
 use Rattle.lard_law_view.proofs.Acked.{RulesAct}
 use Rattle.lard_law_view.proofs.ClientActs.{aborts-acts, gets-acts, holds-acts, opens-acts, shuts-acts, shuts-finish, takes-acts, timer-acts, writes-acts}
 

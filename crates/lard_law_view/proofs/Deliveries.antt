@@ -1,4 +1,4 @@
--- The connection that moves in a step, and the step's records with the numbers that they have.
+-- What is seen first in a step: its event, and the packet that the event delivers.
 use Rattle.std.proofs.Common.{◌≡◌, ℕ, List, Some}
 use Rattle.lard_base.specs.declared.event.Event.{Event}
 use Rattle.lard_base.specs.declared.event.Event.TheVariants as event

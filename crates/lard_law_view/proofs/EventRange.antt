@@ -1,4 +1,4 @@
--- Every record of every run is in range.
+-- Before a step there are few packets and few records.
 use Rattle.std.proofs.Common.{◌≡◌, ℕ, ◌<◌, ◌^◌, Bool, true, false, cond, nat_le, Option, Some, None, refl, arith}
 use Rattle.std.proofs.lemmas.Bool.Decides.{nat_tests}
 use Rattle.lard_rules.specs.declared.fault.What.{What}

@@ -1,4 +1,4 @@
--- What holds of one connection and of all its packets, and what a move owes to keep it.
+-- What holds of the two ends of one connection.
 use Rattle.std.proofs.Common.{◌≡◌, ℕ, ◌≤◌, true, sym, ap, ◌∙◌, arith}
 use Rattle.lard_client.specs.Control.{is_open}
 use Rattle.lard_law_view.proofs.Acked.{Acks, ClientHolds, FrontHolds, heard_of, taken_by}

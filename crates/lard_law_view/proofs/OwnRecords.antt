@@ -1,5 +1,4 @@
--- The shapes of a step: an event names a place, which acts; a packet comes to a place, which acts, or to nobody; a packet is
--- lost. The forms of a step are told by their shapes here and nowhere else, so what speaks of whole steps has four cases.
+-- What stands directly behind an event, of whatever connection.
 use Rattle.std.proofs.Common.{◌≡◌, ℕ, ◌-◌, List, [], ◌∷◌}
 use Rattle.lard_base.specs.declared.event.Event.{Event}
 use Rattle.lard_base.specs.declared.event.Event.TheVariants as event

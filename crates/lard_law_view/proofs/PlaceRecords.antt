@@ -1,4 +1,4 @@
--- The steps of the machine by their shapes: what a record says of a place, the place that acts says.
+-- The records of segments that are sent: whose they are, that they leave who acts, and how many packets there are.
 use Rattle.std.proofs.Common.{◌≡◌, ℕ, ◌+◌, ◌-◌, ◌≤◌, ◌<◌, List, [], ◌∷◌, length, Bool, true, false, cond, Some, None, inr, refl, arith, nat_eq}
 use Rattle.std.proofs.lemmas.Bool.Decides.{nat_tests}
 use Rattle.std.proofs.lemmas.Option.{slice_get_within}

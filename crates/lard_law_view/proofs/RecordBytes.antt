@@ -1,4 +1,4 @@
--- What holds of a connection holds in every state that events lead to, and its records give the laws of the journal.
+-- What nobody is told and nobody accepts: records of no connection may stand anywhere.
 use Rattle.std.proofs.Common.{◌≡◌, ℕ, List, Some, None}
 use Rattle.lard_answers.specs.Answers.{FilesAt}
 use Rattle.lard_base.specs.declared.place.Place.{Place}

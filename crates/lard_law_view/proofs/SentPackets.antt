@@ -1,4 +1,4 @@
--- What a step in which a place acts does to the connection that moves, and to all others.
+-- What the journal tells of packets goes on as the network does.
 use Rattle.std.proofs.Common.{◌≡◌, ℕ, ◌+◌, List, [], ◌∷◌, ◌++◌, false, sym, ◌∙◌, append_assoc, append-nil}
 use Rattle.std.specs.List.{fold}
 use Rattle.lard_base.specs.declared.place.Place.{Place}

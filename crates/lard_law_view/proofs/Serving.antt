@@ -1,4 +1,4 @@
--- The front end's notes of the responses that it queues, and of a reset, may stand where they do.
+-- The next answer, where a verdict comes next on what was written.
 use Rattle.std.proofs.Common.{◌≡◌, ℕ, ◌+◌, List, [], ◌∷◌, ◌++◌, length, Some, refl, ap, ◌∙◌}
 use Rattle.std.proofs.lemmas.Option.{slice_get-map}
 use Rattle.std.specs.List.{slice_get}

@@ -1,4 +1,4 @@
--- What holds of each connection in every state: what its client and the front end keep fits what is told of it.
+-- What a tale says of a client and of packets, and that it fits what is kept.
 use Rattle.std.specs.Prelude.{◌≡◌, ℕ, Bool, true, false, List, [], length, Option, Some, None}
 use Rattle.lard_base.specs.declared.place.Place.{Place}
 use Rattle.lard_client.specs.Control.{is_writing}

@@ -1,4 +1,4 @@
--- What the front end keeps of one connection, and the seat: where the connection's endpoint is.
+-- The seat: where a connection's endpoint is.
 use Rattle.std.specs.Prelude.{ℕ, Bool, false}
 use Rattle.lard_endpoint.specs.declared.control.moving.Final.{Final}
 use Rattle.lard_endpoint.specs.Control.{ControlBlock}

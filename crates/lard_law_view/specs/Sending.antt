@@ -1,5 +1,4 @@
--- The machine seen from one connection: its part of the state, its packets, and what it sees of the journal; and what one
--- move makes of them.
+-- The record of a segment that is sent, as its connection sees it: without its number.
 use Rattle.std.specs.Prelude.{ℕ, List}
 use Rattle.lard_base.specs.declared.place.Place.{Place}
 use Rattle.lard_journal.specs.declared.rec.Rec.{Rec}

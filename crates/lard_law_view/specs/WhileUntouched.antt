@@ -1,4 +1,4 @@
--- What a law of one connection owes, to be a law of every run.
+-- A record of a connection that the schedule did not touch, and records that each may stand by what is told before them.
 use Rattle.std.specs.Prelude.{◌≡◌, ℕ, false, List, [], ◌∷◌}
 use Rattle.lard_history.specs.Journal.{Tale, tale_step}
 use Rattle.lard_history.specs.Own.{Seen, tale_of}
