@@ -20,3 +20,4 @@ pub mod FrontWaiting
 pub mod FrontEnded
 pub mod FrontStepping
 pub mod StayFalling
+pub mod StayKeeping

@@ -46,12 +46,19 @@ entered e w = record w { batch = w.batch ++ e ∷ [] }
 -- ---- a request is started where it is assigned
 
 -- At this node: what the cache has can be served at once, and goes to its front; else a job of the disk reads it.
+abbrev pub hit_here : NodeEnv → List ℕ → Verdict → Work → Work
+hit_here env path v w = entered (record { verdict = v; progress = Ready via.Cache }) (record w { service = noted (rec.Hit env.n path ∷ []) w.service })
+
+abbrev pub own_job : NodeEnv → ℕ → List ℕ → Job
+own_job env r path = record { origin = env.n; c = env.serve.c; epoch = record { 0 = env.epoch }; r = r; path = path }
+
+abbrev pub queued_here : NodeEnv → ℕ → List ℕ → Verdict → Work → Work
+queued_here env r path v w =
+    entered (record { verdict = v; progress = Reading })
+    (record w { service = noted (rec.Queued env.n env.n env.serve.c r path ∷ []) w.service; jobs = w.jobs ++ own_job env r path ∷ [] })
+
 abbrev pub started_here : NodeEnv → ℕ → List ℕ → Verdict → Work → Work
-started_here env r path v w =
-    if env.cached path
-    then entered (record { verdict = v; progress = Ready via.Cache }) (record w { service = noted (rec.Hit env.n path ∷ []) w.service })
-    else entered (record { verdict = v; progress = Reading })
-    (record w { service = noted (rec.Queued env.n env.n env.serve.c r path ∷ []) w.service; jobs = w.jobs ++ record { origin = env.n; c = env.serve.c; epoch = record { 0 = env.epoch }; r = r; path = path } ∷ [] })
+started_here env r path v w = if env.cached path then hit_here env path v w else queued_here env r path v w
 
 -- At another node: its content is to be fetched from there.
 abbrev pub started_there : ℕ → ℕ → List ℕ → Verdict → Work → Work
