@@ -264,7 +264,7 @@ module _ (k : Setting) (x : Conn) (at_place : IsPlaced x) (h : IsLimited k.strea
         let start : IsServing env.serve w (begins env parts).service = record { told = (tt, tt); counts = subst (λ (m : ℕ). Counts m w (parts.una - 1)) (sym is.stream) counts } in
         let first : Work = state_of (reads_batch env true (begins env parts)) in
         let kept : KeptByServing env.serve (IsServing env.serve w) = stay-counts env.serve w in
-        works-limited it ours (taken_sent env) (goes_on env first) (goes-so env (IsServing env.serve w) kept first (batch-state env (IsServing env.serve w) kept true (begins env parts) start))
+        works-limited it ours (taken_sent env) (goes_on env first) (goes-so env (IsServing env.serve w) kept first (batch-state env (IsServing env.serve w) kept true (begins env parts) refl start))
 
     offered-here : (o : Option FrontRow) → x.part.front.row ≡ o → IsOffered n env.epoch o → IsHere n env.epoch
     offered-here None found offered = absurd offered

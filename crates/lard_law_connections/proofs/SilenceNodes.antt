@@ -117,7 +117,7 @@ module _ (env : NodeEnv) (P R Q : ControlBlock → Type 0) (Word : Said → Type
   -- ---- an Offer that is new to it
 
   offered-by : (p : NodePart) (parts : EndpointParts) (a : Adopt) → (a ≡ New → P (adopted parts)) → Goes (offered_by env parts p a)
-  offered-by p parts New adopts = goes-has p (taken_sent env) (state_of (reads_batch env true (begins env parts))) (batch-state env Works k.serves true (begins env parts) (adopts refl))
+  offered-by p parts New adopts = goes-has p (taken_sent env) (state_of (reads_batch env true (begins env parts))) (batch-state env Works k.serves true (begins env parts) refl (adopts refl))
   offered-by p parts Again adopts = tt
   offered-by p parts Stale adopts = tt
 

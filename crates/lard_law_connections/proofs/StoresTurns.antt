@@ -7,7 +7,7 @@ use Rattle.lard_base.specs.declared.place.Place.{Place}
 use Rattle.lard_base.specs.declared.place.TimerKind.TheVariants as kind
 use Rattle.lard_law_connections.proofs.StoresAsides.{IsAside}
 use Rattle.lard_law_connections.proofs.StoresNotes.{Tells}
-use Rattle.lard_law_connections.proofs.StoresWorks.{IsAtWork, batch-works, came-works, goes-works, settled-told, tagged-works}
+use Rattle.lard_law_connections.proofs.StoresWorks.{IsAtWork, Told, by_told, settled-told}
 use Rattle.lard_endpoint.specs.Arriving.{on_segment}
 use Rattle.lard_endpoint.specs.Control.{ControlBlock}
 use Rattle.lard_handoff_back.specs.declared.table.Adopt.{Adopt}
@@ -24,6 +24,7 @@ use Rattle.lard_rules.specs.declared.places.Ending.{Ending}
 use Rattle.lard_rules.specs.declared.places.Ending.TheVariants.{Here, Over}
 use Rattle.lard_rules.specs.Loop.{state_of}
 use Rattle.lard_rules.specs.Serving.{settled}
+use Rattle.lard_rules.proofs.StayKeeping.{batch-works, came-works, goes-works, tagged-works}
 use Rattle.lard_segment.specs.declared.fault.SegFault.{SegFault}
 use Rattle.lard_segment.specs.Segment.{Said}
 
@@ -59,7 +60,7 @@ module _ (env : NodeEnv) where
     heard-deed : (given : Result Said SegFault) (x : Option (ControlBlock × Stay)) → IsDeed (heard_by env p given x)
     heard-deed (Err fault) x = tt
     heard-deed (Ok s) None = tt
-    heard-deed (Ok s) (Some x) = let w : Work = work_of (on_segment x.0 s).1 x.1 in works-deed p [] (goes_on env w) (goes-works env w (fresh (on_segment x.0 s).1 x.1))
+    heard-deed (Ok s) (Some x) = let w : Work = work_of (on_segment x.0 s).1 x.1 in works-deed p [] (goes_on env w) (goes-works env (Told env) (by_told env) w (fresh (on_segment x.0 s).1 x.1))
 
     pub forwarded-deed : (given : Result Said SegFault) → IsDeed (node_forwarded env p given)
     forwarded-deed given = heard-deed given (here env.epoch p)
@@ -70,7 +71,7 @@ module _ (env : NodeEnv) where
         let q : NodePart = record p { kept = without kind.Ask 0 p.kept } in
         let w : Work = tagged env nodes (work_of x.0 x.1) in
         cond_both (is_awaited env n nodes p x.1) (with_work env q [] (goes_on env w)) Drops IsDeed
-        (λ t. works-deed q [] (goes_on env w) (goes-works env w (tagged-works env nodes (work_of x.0 x.1) (fresh x.0 x.1))))
+        (λ t. works-deed q [] (goes_on env w) (goes-works env (Told env) (by_told env) w (tagged-works env (Told env) (by_told env) nodes (work_of x.0 x.1) (fresh x.0 x.1))))
         (λ t. tt)
 
     pub tagged-deed : (n : ℕ) (nodes : List ℕ) → IsDeed (node_tagged env p n nodes)
@@ -82,7 +83,7 @@ module _ (env : NodeEnv) where
         let q : NodePart = record p { fetches = without kind.Fetch r p.fetches } in
         let w : Work = came_for (come_progress from) r (work_of x.0 x.1) in
         cond_both (is_from from env.epoch (find (is_under kind.Fetch r) p.fetches)) (with_work env q [] (goes_on env w)) Drops IsDeed
-        (λ t. works-deed q [] (goes_on env w) (goes-works env w (came-works env (come_progress from) r (work_of x.0 x.1) (fresh x.0 x.1))))
+        (λ t. works-deed q [] (goes_on env w) (goes-works env (Told env) (by_told env) w (came-works env (Told env) (by_told env) (come_progress from) r (work_of x.0 x.1) (fresh x.0 x.1))))
         (λ t. tt)
 
     pub content-deed : (from r : ℕ) → IsDeed (node_content env p from r)
@@ -92,7 +93,7 @@ module _ (env : NodeEnv) where
     read_by-deed r None = tt
     read_by-deed r (Some x) =
         let w : Work = came_for read_progress r (work_of x.0 x.1) in
-        works-deed p [] (goes_on env w) (goes-works env w (came-works env read_progress r (work_of x.0 x.1) (fresh x.0 x.1)))
+        works-deed p [] (goes_on env w) (goes-works env (Told env) (by_told env) w (came-works env (Told env) (by_told env) read_progress r (work_of x.0 x.1) (fresh x.0 x.1)))
 
     pub read-deed : (r : ℕ) → IsDeed (node_read env p r)
     read-deed r = read_by-deed r (here env.epoch p)
@@ -100,7 +101,7 @@ module _ (env : NodeEnv) where
     offered_by-deed : (parts : EndpointParts) (a : Adopt) → IsDeed (offered_by env parts p a)
     offered_by-deed parts New =
         let w : Work = state_of (reads_batch env true (begins env parts)) in
-        works-deed p (taken_sent env) (goes_on env w) (goes-works env w (batch-works env true (begins env parts) (record { told = refl; each = (tt, tt) })))
+        works-deed p (taken_sent env) (goes_on env w) (goes-works env (Told env) (by_told env) w (batch-works env (Told env) (by_told env) true (begins env parts) refl (record { told = refl; each = (tt, tt) })))
     offered_by-deed parts Again = tt
     offered_by-deed parts Stale = tt
 

@@ -10,7 +10,9 @@ use Rattle.lard_rules.specs.Bounds.{IsNumber}
 use Rattle.lard_law_view.specs.View.{AreNumbered, GoesBetween, IsMachine}
 use Rattle.lard_law_view.proofs.Saying.{AreMessages, GaveAt}
 use Rattle.lard_law_view.proofs.Turned.{AreHeld, HeldBy, IsSaid, all-has, all-weaker, as-held, node-segments, spelled}
-use Rattle.lard_law_view.proofs.Works.{IsAtWork, N, batch-works, came-works, goes-works, noting, tagged-works}
+use Rattle.lard_law_view.proofs.Works.{AreTold, IsAtWork, N, by_told, noting}
+use Rattle.lard_rules.proofs.StayKeeping.{KeptByNotes, batch-works, came-works, goes-works, tagged-works}
+use Rattle.lard_disk.specs.declared.disk.Job.{Job}
 use Rattle.lard_endpoint.specs.Arriving.{on_segment}
 use Rattle.lard_endpoint.specs.Control.{ControlBlock}
 use Rattle.lard_endpoint.specs.Leaving as leaving
@@ -64,6 +66,12 @@ module _ (env : NodeEnv) (own : env.serve.place ≡ Node env.n) (number : IsNumb
 
   abbrev IsOfNode : NodeTurn → Type 0
   IsOfNode t = IsNodeTurn env.n env.serve.c t
+
+  abbrev Told : Service → List Job → Type 0
+  Told s jobs = AreTold env own number s jobs
+
+  told : KeptByNotes env Told
+  told = by_told env own number
 
   abbrev Works : Work → Type 0
   Works w = IsAtWork env own number w
@@ -168,7 +176,7 @@ module _ (env : NodeEnv) (own : env.serve.place ≡ Node env.n) (number : IsNumb
     heard-deed (Err fault) x = tt
     heard-deed (Ok s) None = tt
     heard-deed (Ok s) (Some x) =
-        let w : Work = work_of (on_segment x.0 s).1 x.1 in works-deed p [] (goes_on env w) same tt (goes-works env own number w (fresh (on_segment x.0 s).1 x.1))
+        let w : Work = work_of (on_segment x.0 s).1 x.1 in works-deed p [] (goes_on env w) same tt (goes-works env Told told w (fresh (on_segment x.0 s).1 x.1))
 
     pub forwarded-deed : (given : Result Said SegFault) → IsDeed (node_forwarded env p given)
     forwarded-deed given = heard-deed given (here env.epoch p)
@@ -180,7 +188,7 @@ module _ (env : NodeEnv) (own : env.serve.place ≡ Node env.n) (number : IsNumb
         let w : Work = tagged env nodes (work_of x.0 x.1) in
         cond_both (is_awaited env n nodes p x.1) (with_work env q [] (goes_on env w)) Drops IsDeed
         (λ t. works-deed q [] (goes_on env w) (drop_all (λ k. Has k p.kept) kind.Ask 0 p.kept same.0, same.1) tt
-        (goes-works env own number w (tagged-works env own number nodes (work_of x.0 x.1) (fresh x.0 x.1))))
+        (goes-works env Told told w (tagged-works env Told told nodes (work_of x.0 x.1) (fresh x.0 x.1))))
         (λ t. tt)
 
     pub tagged-deed : (n : ℕ) (nodes : List ℕ) → IsDeed (node_tagged env p n nodes)
@@ -193,7 +201,7 @@ module _ (env : NodeEnv) (own : env.serve.place ≡ Node env.n) (number : IsNumb
         let w : Work = came_for (come_progress from) r (work_of x.0 x.1) in
         cond_both (is_from from env.epoch (find (is_under kind.Fetch r) p.fetches)) (with_work env q [] (goes_on env w)) Drops IsDeed
         (λ t. works-deed q [] (goes_on env w) (same.0, drop_all (λ k. Has k p.fetches) kind.Fetch r p.fetches same.1) tt
-        (goes-works env own number w (came-works env own number (come_progress from) r (work_of x.0 x.1) (fresh x.0 x.1))))
+        (goes-works env Told told w (came-works env Told told (come_progress from) r (work_of x.0 x.1) (fresh x.0 x.1))))
         (λ t. tt)
 
     pub content-deed : (from r : ℕ) → IsDeed (node_content env p from r)
@@ -203,7 +211,7 @@ module _ (env : NodeEnv) (own : env.serve.place ≡ Node env.n) (number : IsNumb
     read_by-deed r None = tt
     read_by-deed r (Some x) =
         let w : Work = came_for read_progress r (work_of x.0 x.1) in
-        works-deed p [] (goes_on env w) same tt (goes-works env own number w (came-works env own number read_progress r (work_of x.0 x.1) (fresh x.0 x.1)))
+        works-deed p [] (goes_on env w) same tt (goes-works env Told told w (came-works env Told told read_progress r (work_of x.0 x.1) (fresh x.0 x.1)))
 
     pub read-deed : (r : ℕ) → IsDeed (node_read env p r)
     read-deed r = read_by-deed r (here env.epoch p)
@@ -217,7 +225,7 @@ module _ (env : NodeEnv) (own : env.serve.place ≡ Node env.n) (number : IsNumb
     offered_by-deed parts New =
         let w : Work = state_of (reads_batch env true (begins env parts)) in
         works-deed p (taken_sent env) (goes_on env w) same takes
-        (goes-works env own number w (batch-works env own number true (begins env parts) ((((refl, refl), tt), λ n. omega arith), tt)))
+        (goes-works env Told told w (batch-works env Told told true (begins env parts) refl ((((refl, refl), tt), λ n. omega arith), tt)))
     offered_by-deed parts Again = takes
     offered_by-deed parts Stale = tt
 

@@ -473,7 +473,7 @@ module _ (k : Setting) (small : k.stream ≤ 2 ^ 30) (x : Conn) (number : IsNumb
             let b : ControlBlock = adopted parts in
             let goes : GoesOver b = ((let same = act.heard in omega arith), (l.out, o.begins, between), (act.acknowledged, λ e. absurd cc)) in
             let first : Work = state_of (reads_batch env true (begins env parts)) in
-            let from : From b first.service = batch-state env (From b) (keeps b) true (begins env parts) ((refl, refl, refl, refl), goes.1) in
+            let from : From b first.service = batch-state env (From b) (keeps b) true (begins env parts) refl ((refl, refl, refl, refl), goes.1) in
             works-act it ours (taken_sent env) (goes_on env first) (reads-act b (goes_on env first).service goes (goes-so env (From b) (keeps b) first from)) taken-tells
 
         -- where the node has not decided
