@@ -3,6 +3,7 @@ use Rattle.std.proofs.Common.{◌≡◌, ◌⊎◌, ℕ, false, Option, Some, Re
 use Rattle.lard_base.specs.Config.{config_check}
 use Rattle.lard_base.specs.declared.event.Event.{Event}
 use Rattle.lard_base.specs.declared.event.Event.TheVariants as event
+use Rattle.lard_rules.specs.declared.fault.Refusal.{Refusal}
 use Rattle.lard_rules.specs.declared.fault.StepFault.{StepFault}
 use Rattle.lard_rules.specs.declared.fault.StepFault.TheVariants as fault
 use Rattle.lard_rules.specs.declared.machine.Machine.{Machine}
@@ -14,8 +15,6 @@ use Rattle.lard_settling.specs.Settling.{Stop, settled}
 use Rattle.lard_law_settles.proofs.Whole.{settles-stop}
 use Rattle.lard_settling.specs.Steps.{settle_begun}
 use Rattle.lard_settling.specs.Written.{IsWrittenOut, is_settle}
-use Rattle.lard_app.specs.declared.status.Why.{Why}
-use Rattle.lard_app.specs.declared.status.Why.TheVariants as why
 use Rattle.lard_app.specs.Causes.{HasReached, IsUntimely, IsWithinLimits, MayNotCome, Reaches, WritesTooMuch}
 use Rattle.lard_law_settles.proofs.Events.{either-kind, plain-step}
 use Rattle.lard_app.proofs.Events.{begun-not, plain-stopped}
@@ -47,21 +46,21 @@ plain-reaches m (event.Disk n j) w h = (λ r. r, λ r. r)
 plain-reaches m (event.Clock ms) w h = (λ r. r, λ r. r)
 plain-reaches m (event.Inject c bytes) w h = (λ r. r, λ r. r)
 
-plain-untimely : (m : Machine) (e : Event) (cause : Why) → is_settle e ≡ false → (MayNotCome m e cause → IsWithinLimits m.journal × IsUntimely m e cause) × (IsWithinLimits m.journal × IsUntimely m e cause → MayNotCome m e cause)
-plain-untimely m (event.Settle rounds) cause h = cc
-plain-untimely m (event.Open c isn iss wnd mss) cause h = (λ r. r, λ r. r)
-plain-untimely m (event.Get c path) cause h = (λ r. r, λ r. r)
-plain-untimely m (event.Write c bytes) cause h = (λ r. r, λ r. r)
-plain-untimely m (event.Shut c) cause h = (λ r. r, λ r. r)
-plain-untimely m (event.Abort c) cause h = (λ r. r, λ r. r)
-plain-untimely m (event.Hold c) cause h = (λ r. r, λ r. r)
-plain-untimely m (event.Take c) cause h = (λ r. r, λ r. r)
-plain-untimely m (event.Deliver j) cause h = (λ r. r, λ r. r)
-plain-untimely m (event.Lose j) cause h = (λ r. r, λ r. r)
-plain-untimely m (event.Timer p c) cause h = (λ r. r, λ r. r)
-plain-untimely m (event.Disk n j) cause h = (λ r. r, λ r. r)
-plain-untimely m (event.Clock ms) cause h = (λ r. r, λ r. r)
-plain-untimely m (event.Inject c bytes) cause h = (λ r. r, λ r. r)
+plain-untimely : (m : Machine) (e : Event) (reason : Refusal) → is_settle e ≡ false → (MayNotCome m e reason → IsWithinLimits m.journal × IsUntimely m e reason) × (IsWithinLimits m.journal × IsUntimely m e reason → MayNotCome m e reason)
+plain-untimely m (event.Settle rounds) reason h = cc
+plain-untimely m (event.Open c isn iss wnd mss) reason h = (λ r. r, λ r. r)
+plain-untimely m (event.Get c path) reason h = (λ r. r, λ r. r)
+plain-untimely m (event.Write c bytes) reason h = (λ r. r, λ r. r)
+plain-untimely m (event.Shut c) reason h = (λ r. r, λ r. r)
+plain-untimely m (event.Abort c) reason h = (λ r. r, λ r. r)
+plain-untimely m (event.Hold c) reason h = (λ r. r, λ r. r)
+plain-untimely m (event.Take c) reason h = (λ r. r, λ r. r)
+plain-untimely m (event.Deliver j) reason h = (λ r. r, λ r. r)
+plain-untimely m (event.Lose j) reason h = (λ r. r, λ r. r)
+plain-untimely m (event.Timer p c) reason h = (λ r. r, λ r. r)
+plain-untimely m (event.Disk n j) reason h = (λ r. r, λ r. r)
+plain-untimely m (event.Clock ms) reason h = (λ r. r, λ r. r)
+plain-untimely m (event.Inject c bytes) reason h = (λ r. r, λ r. r)
 
 -- what keeps faults as they are, and is done where its part is, has the fault of its part
 fault-kept : {A B C : Type 0} (g : Result A C → Result B C) → ((a : A) → (b : B) × (g (Ok a) ≡ Ok b)) → ((c : C) → g (Err c) ≡ Err c) → (y : Result A C) (c : C) → g y ≡ Err c → y ≡ Err c
@@ -94,17 +93,6 @@ inner-writes m _ h w = absurd h
 
 -- ---- faults and their causes
 
--- the cause that a fault is told as
-abbrev pub IsUntimelyBy : StepFault → Why → Type 0
-IsUntimelyBy (fault.NotSent j sent) cause = cause ≡ why.NotSent j sent
-IsUntimelyBy (fault.WasLost j) cause = cause ≡ why.WasLost j
-IsUntimelyBy (fault.NoClient c) cause = cause ≡ why.NoClient c
-IsUntimelyBy (fault.Used c) cause = cause ≡ why.Used c
-IsUntimelyBy (fault.NoNode i nodes) cause = cause ≡ why.NoNode i nodes
-IsUntimelyBy (fault.NoJob i j len) cause = cause ≡ why.NoJob i j len
-IsUntimelyBy (fault.Limit w) cause = ⊥
-IsUntimelyBy fault.NoMemory cause = ⊥
-
 -- what is known of a step that was not done
 abbrev pub IsBlamed : Machine → Event → StepFault → Type 0
 IsBlamed m e f = ((w : What) × HasReached m.journal w × (fault.Limit w ≡ f)) ⊎ (IsWithinLimits m.journal × IsFault m e f)
@@ -115,22 +103,12 @@ err_fault f g e = cc
 limit_same : (v w : What) → fault.Limit v ≡ fault.Limit w → v ≡ w
 limit_same v w e = cc
 
-no-untimely-limit : (w : What) (f : StepFault) (cause : Why) → fault.Limit w ≡ f → IsUntimelyBy f cause → ⊥
-no-untimely-limit w f cause e by = subst (λ g. IsUntimelyBy g cause) (sym e) by
+no-untimely-limit : (w : What) (f : StepFault) (reason : Refusal) → fault.Limit w ≡ f → f ≡ fault.Refused reason → ⊥
+no-untimely-limit w f reason e by = let both : fault.Limit w ≡ fault.Refused reason = e ∙ by in cc
 
-fault-untimely : (m : Machine) (e : Event) (f : StepFault) (cause : Why) → IsFault m e f → IsUntimelyBy f cause → IsUntimely m e cause
-fault-untimely m e (fault.NotSent j sent) cause h by = subst (IsUntimely m e) (sym by) h
-fault-untimely m e (fault.WasLost j) cause h by = subst (IsUntimely m e) (sym by) h
-fault-untimely m e (fault.NoClient c) cause h by = subst (IsUntimely m e) (sym by) h
-fault-untimely m e (fault.Used c) cause h by = subst (IsUntimely m e) (sym by) h
-fault-untimely m e (fault.NoNode i nodes) cause h by = subst (IsUntimely m e) (sym by) h
-fault-untimely m e (fault.NoJob i j len) cause h by = subst (IsUntimely m e) (sym by) h
-fault-untimely m e (fault.Limit w) cause h by = absurd by
-fault-untimely m e fault.NoMemory cause h by = absurd by
-
-blamed-untimely : (m : Machine) (e : Event) (f : StepFault) (cause : Why) → IsBlamed m e f → IsUntimelyBy f cause → IsWithinLimits m.journal × IsUntimely m e cause
-blamed-untimely m e f cause (inl l) by = absurd (no-untimely-limit l.0 f cause l.2 by)
-blamed-untimely m e f cause (inr l) by = (l.0, fault-untimely m e f cause l.1 by)
+blamed-untimely : (m : Machine) (e : Event) (f : StepFault) (reason : Refusal) → IsBlamed m e f → f ≡ fault.Refused reason → IsWithinLimits m.journal × IsUntimely m e reason
+blamed-untimely m e f reason (inl l) by = absurd (no-untimely-limit l.0 f reason l.2 by)
+blamed-untimely m e f reason (inr l) by = (l.0, subst (IsFault m e) by l.1)
 
 blamed-reaches : (m : Machine) (e : Event) (f : StepFault) (w : What) → IsBlamed m e f → f ≡ fault.Limit w → ReachesBefore m e w
 blamed-reaches m e f w (inl l) by = inl (subst (HasReached m.journal) (limit_same l.0 w (l.2 ∙ by)) l.1)
@@ -157,21 +135,10 @@ begun-limit m t rounds f w is here =
 
 -- its fault has a cause: the event may not come, or a limit was reached
 abbrev pub Blames : Machine → Event → StepFault → Type 0
-Blames m e f = ((cause : Why) → IsUntimelyBy f cause → MayNotCome m e cause) × ((w : What) → f ≡ fault.Limit w → Reaches m e w) × ¬ (f ≡ fault.NoMemory)
+Blames m e f = ((reason : Refusal) → f ≡ fault.Refused reason → MayNotCome m e reason) × ((w : What) → f ≡ fault.Limit w → Reaches m e w) × ¬ (f ≡ fault.NoMemory)
 
 limit-some : (w : What) (f : StepFault) → fault.Limit w ≡ f → ¬ (f ≡ fault.NoMemory)
 limit-some w f e none = let both : fault.Limit w ≡ fault.NoMemory = e ∙ none in cc
-
--- a cause of this kind is that fault of the step
-untimely-fault : (m : Machine) (e : Event) (cause : Why) (f : StepFault) → IsUntimelyBy f cause → IsUntimely m e cause → IsFault m e f
-untimely-fault m e cause (fault.NotSent j sent) by u = subst (IsUntimely m e) by u
-untimely-fault m e cause (fault.WasLost j) by u = subst (IsUntimely m e) by u
-untimely-fault m e cause (fault.NoClient c) by u = subst (IsUntimely m e) by u
-untimely-fault m e cause (fault.Used c) by u = subst (IsUntimely m e) by u
-untimely-fault m e cause (fault.NoNode i nodes) by u = subst (IsUntimely m e) by u
-untimely-fault m e cause (fault.NoJob i j len) by u = subst (IsUntimely m e) by u
-untimely-fault m e cause (fault.Limit w) by u = absurd by
-untimely-fault m e cause fault.NoMemory by u = absurd by
 
 module _ (m : Machine) (w : IsWrittenOut m.config m.files m) where
   told : Told m
@@ -181,7 +148,7 @@ module _ (m : Machine) (w : IsWrittenOut m.config m.files m) where
   plain-blames : (e : Event) (stop : Stop) → is_settle e ≡ false → event_step m e ≡ Err stop → Blames m e stop.1
   plain-blames e stop nots is =
       let blamed = step-fault m told e stop.1 (plain-stopped m e stop nots is).1 in (
-        λ cause by. (plain-untimely m e cause nots).1 (blamed-untimely m e stop.1 cause blamed by),
+        λ reason by. (plain-untimely m e reason nots).1 (blamed-untimely m e stop.1 reason blamed by),
         λ v by. (plain-reaches m e v nots).1 (blamed-reaches m e stop.1 v blamed by),
         blamed-some m e stop.1 blamed,
       )
@@ -192,7 +159,7 @@ module _ (m : Machine) (w : IsWrittenOut m.config m.files m) where
     go (inl b) =
         let l = begun-not m rounds stop.1 b.1 in
         let there : HasReached stop.0.journal l.0 = subst (λ (n : Machine). HasReached n.journal l.0) (sym b.0) (limit_found m told l.0 l.1) in (
-          λ cause by. absurd (no-untimely-limit l.0 stop.1 cause l.2 by),
+          λ reason by. absurd (no-untimely-limit l.0 stop.1 reason l.2 by),
           λ v by. (stop.0, stop.1, is, subst (HasReached stop.0.journal) (limit_same l.0 v (l.2 ∙ by)) there),
           limit-some l.0 stop.1 l.2,
         )
@@ -200,7 +167,7 @@ module _ (m : Machine) (w : IsWrittenOut m.config m.files m) where
         let d : Event = b.1.0 in
         let blamed = step-fault stop.0 (written-told m.config m.files stop.0 b.0) d stop.1 (inner-fault stop.0 d stop.1 b.1.2) in
         let limit = settles-stop m.config m.files m stop.0 rounds stop.1 checked w (settled-stop m rounds stop is) in (
-          λ cause by. absurd (no-untimely-limit limit.0 stop.1 cause (sym limit.1) by),
+          λ reason by. absurd (no-untimely-limit limit.0 stop.1 reason (sym limit.1) by),
           λ v by. (stop.0, stop.1, is, reached-only stop.0 d v b.1.1 (blamed-reaches stop.0 d stop.1 v blamed by)),
           blamed-some stop.0 d stop.1 blamed,
         )
@@ -216,11 +183,11 @@ module _ (m : Machine) (w : IsWrittenOut m.config m.files m) where
   not-done : (e : Event) (f : StepFault) → is_settle e ≡ false → machine_step m e ≡ Err f → event_step m e ≡ Err (m, f)
   not-done e f nots is = plain-step m e nots ∙ ap (stepped_from m) is
 
-  pub untimely-stops : (e : Event) (cause : Why) (f : StepFault) → IsUntimelyBy f cause → MayNotCome m e cause → event_step m e ≡ Err (m, f)
-  untimely-stops e cause f by u = go (either-kind e) where
-    go : (is_settle e ≡ false) ⊎ ((rounds : ℕ) × (e ≡ event.Settle rounds)) → event_step m e ≡ Err (m, f)
-    go (inl nots) = let v : IsWithinLimits m.journal × IsUntimely m e cause = (plain-untimely m e cause nots).0 u in not-done e f nots (fault-step m told e f v.0 (untimely-fault m e cause f by v.1))
-    go (inr r) = absurd (subst (λ (d : Event). MayNotCome m d cause) r.1 u)
+  pub untimely-stops : (e : Event) (reason : Refusal) → MayNotCome m e reason → event_step m e ≡ Err (m, fault.Refused reason)
+  untimely-stops e reason u = go (either-kind e) where
+    go : (is_settle e ≡ false) ⊎ ((rounds : ℕ) × (e ≡ event.Settle rounds)) → event_step m e ≡ Err (m, fault.Refused reason)
+    go (inl nots) = let v : IsWithinLimits m.journal × IsUntimely m e reason = (plain-untimely m e reason nots).0 u in not-done e (fault.Refused reason) nots (fault-step m told e (fault.Refused reason) v.0 v.1)
+    go (inr r) = absurd (subst (λ (d : Event). MayNotCome m d reason) r.1 u)
 
   -- it stops there, by that limit
   abbrev pub StopsBy : Event → What → Type 0

@@ -7,6 +7,7 @@ use Rattle.lard_base.specs.Config.{config_check, range_check}
 use Rattle.lard_base.specs.declared.config.ConfigFault.{ConfigFault}
 use Rattle.lard_base.specs.declared.config.Key.{Key}
 use Rattle.lard_base.specs.declared.event.Event.{Event}
+use Rattle.lard_rules.specs.declared.fault.Refusal.{Refusal}
 use Rattle.lard_rules.specs.declared.fault.StepFault.{StepFault}
 use Rattle.lard_rules.specs.declared.fault.StepFault.TheVariants as fault
 use Rattle.lard_rules.specs.declared.machine.Machine.{Machine}
@@ -27,7 +28,7 @@ use Rattle.lard_app.specs.declared.status.Why.{Why}
 use Rattle.lard_app.specs.declared.status.Why.TheVariants as why
 use Rattle.lard_app.specs.Causes.{AddsNone, EndsLine, IsUnfit, MayNotAdd, MayNotCome, Reaches, Refuses, Stands, Tries}
 use Rattle.lard_app.specs.Replay.{Progress, begun, config_set, counted, ended_by, file_ends, filed, followed, found, is_past, item_taken, moved, passed, taken}
-use Rattle.lard_app.proofs.Blames.{Blames, IsUntimelyBy, event-blames, reaches-stop, unreached, untimely-stops}
+use Rattle.lard_app.proofs.Blames.{Blames, event-blames, reaches-stop, unreached, untimely-stops}
 use Rattle.lard_app.proofs.Knows.{Knows}
 use Rattle.lard_app.proofs.Numbers.{check-fault, fault-check, fault-file, fault-range, file-fault, range-fault}
 use Rattle.lard_app.proofs.Passing.{judged_by, never, passed_by}
@@ -61,22 +62,13 @@ module _ (n bytes : ℕ) (s : Progress) (k : Knows n bytes s) (line : List ℕ) 
 
     limited : (w : What) (e : Event) → Tries s line e → Reaches s.machine e w → EndsLine s n bytes line (Limit (s.lines + 1) w)
     limited what.Input e t r = absurd (unreached s.machine e r)
-    limited what.Packets e t r = (next_number, short, (e, t, r))
-    limited what.PacketBytes e t r = (next_number, short, (e, t, r))
-    limited what.Records e t r = (next_number, short, (e, t, r))
-    limited what.Answers e t r = (next_number, short, (e, t, r))
-    limited what.Stream e t r = (next_number, short, (e, t, r))
+    limited _ e t r = (next_number, short, (e, t, r))
 
     limited_here : (w : What) (e : Event) → Tries s line e → Reaches s.machine e w → ◌≡◌ {A = Result Progress Status} (Err (Limit (s.lines + 1) w)) (Err status) → EndsLine s n bytes line status
     limited_here w e t r h = subst (EndsLine s n bytes line) (err_status (Limit (s.lines + 1) w) status h) (limited w e t r)
 
     fault-ends : (e : Event) (f : StepFault) → Tries s line e → Blames s.machine e f → ◌≡◌ {A = Result Progress Status} (Err (ended_by (s.lines + 1) f)) (Err status) → EndsLine s n bytes line status
-    fault-ends e (fault.NotSent j sent) t l is = refused_here (why.NotSent j sent) (e, t, l.0 (why.NotSent j sent) refl) is
-    fault-ends e (fault.WasLost j) t l is = refused_here (why.WasLost j) (e, t, l.0 (why.WasLost j) refl) is
-    fault-ends e (fault.NoClient c) t l is = refused_here (why.NoClient c) (e, t, l.0 (why.NoClient c) refl) is
-    fault-ends e (fault.Used c) t l is = refused_here (why.Used c) (e, t, l.0 (why.Used c) refl) is
-    fault-ends e (fault.NoNode i nodes) t l is = refused_here (why.NoNode i nodes) (e, t, l.0 (why.NoNode i nodes) refl) is
-    fault-ends e (fault.NoJob i j len) t l is = refused_here (why.NoJob i j len) (e, t, l.0 (why.NoJob i j len) refl) is
+    fault-ends e (fault.Refused reason) t l is = refused_here (why.Untimely reason) (e, t, l.0 reason refl) is
     fault-ends e (fault.Limit w) t l is = limited_here w e t (l.1 w refl) is
     fault-ends e fault.NoMemory t l is = absurd (l.2 refl)
 
@@ -146,9 +138,6 @@ module _ (n bytes : ℕ) (s : Progress) (k : Knows n bytes s) (line : List ℕ) 
     file-refused : (f : FileFault) → AddsNone s line f → passed s line ≡ Err (file_ends (s.lines + 1) f)
     file-refused f u = stands_by (item.File u.0 u.1) u.2 ∙ ap (filed (followed (counted s line) (item.File u.0 u.1)) u.0 u.1) (fault-file (file_at s.files u.0) (length s.files) (total s.files) (length u.1) f u.3)
 
-    untimely : (e : Event) (cause : Why) (f : StepFault) → IsUntimelyBy f cause → Tries s line e → MayNotCome s.machine e cause → passed s line ≡ Err (ended_by (s.lines + 1) f)
-    untimely e cause f by t u = stopped_by e (s.machine, f) t (untimely-stops s.machine k.keeps.written e cause f by u)
-
     refused : (cause : Why) → Refuses s line cause → passed s line ≡ Err (Refused (s.lines + 1) cause)
     refused why.Syntax u = read_by None ((none_is s.reader line).1 u)
     refused (why.Config fault) u = unfit-refused u.0 fault u.1 u.2
@@ -157,12 +146,7 @@ module _ (n bytes : ℕ) (s : Progress) (k : Knows n bytes s) (line : List ℕ) 
     refused (why.File (file_fault.TooMany m)) u = file-refused (file_fault.TooMany m) u
     refused (why.File (file_fault.TooMuch m)) u = file-refused (file_fault.TooMuch m) u
     refused (why.File file_fault.NoMemory) u = absurd u.3
-    refused (why.NotSent j sent) u = untimely u.0 (why.NotSent j sent) (fault.NotSent j sent) refl u.1 u.2
-    refused (why.WasLost j) u = untimely u.0 (why.WasLost j) (fault.WasLost j) refl u.1 u.2
-    refused (why.NoClient c) u = untimely u.0 (why.NoClient c) (fault.NoClient c) refl u.1 u.2
-    refused (why.Used c) u = untimely u.0 (why.Used c) (fault.Used c) refl u.1 u.2
-    refused (why.NoNode i nodes) u = untimely u.0 (why.NoNode i nodes) (fault.NoNode i nodes) refl u.1 u.2
-    refused (why.NoJob i j len) u = untimely u.0 (why.NoJob i j len) (fault.NoJob i j len) refl u.1 u.2
+    refused (why.Untimely reason) u = stopped_by u.0 (s.machine, fault.Refused reason) u.1 (untimely-stops s.machine k.keeps.written u.0 reason u.2)
 
     reached : (w : What) (e : Event) → Tries s line e → Reaches s.machine e w → passed s line ≡ Err (Limit (s.lines + 1) w)
     reached w e t r = let stop = reaches-stop s.machine k.keeps.written e w r in stopped_by e (stop.0, fault.Limit w) t stop.1
@@ -176,6 +160,7 @@ module _ (n bytes : ℕ) (s : Progress) (k : Knows n bytes s) (line : List ℕ) 
   ends-line (Limit number what.PacketBytes) u = numbered (λ m. Limit m what.PacketBytes) number u.0 (reached u.1 what.PacketBytes u.2.0 u.2.1 u.2.2)
   ends-line (Limit number what.Records) u = numbered (λ m. Limit m what.Records) number u.0 (reached u.1 what.Records u.2.0 u.2.1 u.2.2)
   ends-line (Limit number what.Answers) u = numbered (λ m. Limit m what.Answers) number u.0 (reached u.1 what.Answers u.2.0 u.2.1 u.2.2)
+  ends-line (Limit number what.Requests) u = numbered (λ m. Limit m what.Requests) number u.0 (reached u.1 what.Requests u.2.0 u.2.1 u.2.2)
   ends-line (Limit number what.Stream) u = numbered (λ m. Limit m what.Stream) number u.0 (reached u.1 what.Stream u.2.0 u.2.1 u.2.2)
   ends-line (Refused number cause) u = numbered (λ m. Refused m cause) number u.0 (refused u.1 cause u.2)
   ends-line Done u = absurd u

@@ -4,13 +4,13 @@ use Rattle.std.proofs.lemmas.Bool.Decides.{nat_tests}
 use Rattle.std.specs.Prelude.{nat_lt}
 use Rattle.lard_base.specs.declared.limits.TheConstants.{MAX_INPUT_BYTES}
 use Rattle.lard_lines.specs.Lines.{is_feed, lines_of}
-use Rattle.lard_rules.specs.declared.fault.What.TheVariants.{Input, Packets, PacketBytes, Records, Answers, Stream}
+use Rattle.lard_rules.specs.declared.fault.What.TheVariants.{Input, Packets, PacketBytes, Records, Answers, Requests, Stream}
 use Rattle.lard_schedule.specs.declared.reader.Stage.{Stage}
 use Rattle.lard_schedule.specs.declared.reader.Stage.TheVariants as stage
 use Rattle.lard_schedule.proofs.Cuts.{first_part}
 use Rattle.lard_app.specs.declared.status.Status.{Status}
 use Rattle.lard_app.specs.declared.status.Status.TheVariants.{Done, Usage, Refused, ReadFault, WriteFault, NoMemory, Limit}
-use Rattle.lard_app.specs.declared.status.Why.TheVariants.{Syntax, Config, File, NotSent, WasLost, NoClient, Used, NoNode, NoJob}
+use Rattle.lard_app.specs.declared.status.Why.TheVariants.{Syntax, Config, File, Untimely}
 use Rattle.lard_app.specs.Causes.{Ends, EndsRest, EndsText, Leads, bytes_in}
 use Rattle.lard_app.specs.Replay.{Progress, begin, ended_at, ending, halted, passed, replayed, whole}
 use Rattle.lard_app.proofs.Causes.{ends-line, line-ends, next_number}
@@ -70,15 +70,11 @@ module _ (n bytes : ℕ) (s : Progress) (k : Knows n bytes s) where
   ends-text last (Limit line PacketBytes) u = absurd u
   ends-text last (Limit line Records) u = absurd u
   ends-text last (Limit line Answers) u = absurd u
+  ends-text last (Limit line Requests) u = absurd u
   ends-text last (Limit line Stream) u = absurd u
   ends-text last (Refused line (Config fault)) u = absurd u
   ends-text last (Refused line (File fault)) u = absurd u
-  ends-text last (Refused line (NotSent j m)) u = absurd u
-  ends-text last (Refused line (WasLost j)) u = absurd u
-  ends-text last (Refused line (NoClient c)) u = absurd u
-  ends-text last (Refused line (Used c)) u = absurd u
-  ends-text last (Refused line (NoNode i nodes)) u = absurd u
-  ends-text last (Refused line (NoJob i j len)) u = absurd u
+  ends-text last (Refused line (Untimely reason)) u = absurd u
   ends-text last Usage u = absurd u
   ends-text last ReadFault u = absurd u
   ends-text last WriteFault u = absurd u

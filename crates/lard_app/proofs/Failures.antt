@@ -11,6 +11,7 @@ use Rattle.lard_base.specs.declared.place.Place.TheVariants.{Front, Node, Client
 use Rattle.lard_client.specs.Control.{ClientBlock, written_len}
 use Rattle.lard_laws.proofs.ClientsTables.{client_at}
 use Rattle.lard_rules.specs.Machine.{client_does, client_goes_on, completes, delivered, disk_at, happens, is_no_job, is_no_node, limit_reached, lost, machine_step, node_acts, node_at, node_gave, node_setting, opened, passed, timer, to_place, unless_limit, wrote}
+use Rattle.lard_rules.specs.declared.fault.Refusal.TheVariants as refusal
 use Rattle.lard_rules.specs.declared.fault.StepFault.{StepFault}
 use Rattle.lard_rules.specs.declared.fault.StepFault.TheVariants as fault
 use Rattle.lard_rules.specs.declared.machine.Machine.{Machine}
@@ -27,7 +28,6 @@ use Rattle.lard_rules.specs.NodePlace.{node_step}
 use Rattle.lard_rules.specs.declared.places.Station.{Station}
 use Rattle.lard_rules.specs.declared.places.Turn.{Turn}
 use Rattle.lard_net.specs.Net.{Packet, bytes_in, lose_at, packet_at}
-use Rattle.lard_app.specs.declared.status.Why.TheVariants as why
 use Rattle.lard_app.specs.Causes.{HasReached, IsOfClient, IsOfDisk, IsOfNode, IsOfPacket, IsUntimely, IsWithinLimits, Opens, WouldPass, WritesTooMuch}
 use Rattle.lard_app.proofs.Numbers.{found_limit, limit-reached, none-reached, reached-limit, within-none}
 use Rattle.lard_app.proofs.Reached.{Told}
@@ -87,12 +87,7 @@ not_past n (suc i) first last = grind (arith, nat_tests, last)
 
 -- no limit was reached, and the step is not done
 abbrev pub IsFault : Machine → Event → StepFault → Type 0
-IsFault m e (fault.NotSent k sent) = IsUntimely m e (why.NotSent k sent)
-IsFault m e (fault.WasLost k) = IsUntimely m e (why.WasLost k)
-IsFault m e (fault.NoClient c) = IsUntimely m e (why.NoClient c)
-IsFault m e (fault.Used c) = IsUntimely m e (why.Used c)
-IsFault m e (fault.NoNode n nodes) = IsUntimely m e (why.NoNode n nodes)
-IsFault m e (fault.NoJob n j len) = IsUntimely m e (why.NoJob n j len)
+IsFault m e (fault.Refused reason) = IsUntimely m e reason
 IsFault m e (fault.Limit w) = (w ≡ Stream) × WritesTooMuch m.config.stream m.journal e
 IsFault m e fault.NoMemory = ⊥
 
@@ -120,21 +115,21 @@ module _ (m : Machine) (t : Told m) where
   fault_is : (e : Event) (known f : StepFault) → IsFault m e known → ◌≡◌ {A = Result Machine StepFault} (Err known) (Err f) → IsFault m e f
   fault_is e known f h is = subst (IsFault m e) (err_is known f is) h
 
-  no_client : (e : Event) (c : ℕ) (f : StepFault) → IsOfClient e c → table.get m.clients c ≡ None → ◌≡◌ {A = Result Machine StepFault} (Err (fault.NoClient c)) (Err f) → IsFault m e f
-  no_client e c f of none is = fault_is e (fault.NoClient c) f (of, t.unopened c none) is
+  no_client : (e : Event) (c : ℕ) (f : StepFault) → IsOfClient e c → table.get m.clients c ≡ None → ◌≡◌ {A = Result Machine StepFault} (Err (fault.Refused (refusal.NoClient c))) (Err f) → IsFault m e f
+  no_client e c f of none is = fault_is e (fault.Refused (refusal.NoClient c)) f (of, t.unopened c none) is
 
-  not_sent : (e : Event) (k : ℕ) (f : StepFault) → IsOfPacket e k → packet_at m.net k ≡ None → ◌≡◌ {A = Result Machine StepFault} (Err (fault.NotSent k (length m.net))) (Err f) → IsFault m e f
-  not_sent e k f of none is = fault_is e (fault.NotSent k (length m.net)) f (of, sym t.sent, not_there m.net k none) is
+  not_sent : (e : Event) (k : ℕ) (f : StepFault) → IsOfPacket e k → packet_at m.net k ≡ None → ◌≡◌ {A = Result Machine StepFault} (Err (fault.Refused (refusal.NotSent k (length m.net)))) (Err f) → IsFault m e f
+  not_sent e k f of none is = fault_is e (fault.Refused (refusal.NotSent k (length m.net))) f (of, sym t.sent, not_there m.net k none) is
 
-  was_lost : (e : Event) (k : ℕ) (f : StepFault) (p : Packet) → IsOfPacket e k → packet_at m.net k ≡ Some p → p.lost ≡ true → ◌≡◌ {A = Result Machine StepFault} (Err (fault.WasLost k)) (Err f) → IsFault m e f
+  was_lost : (e : Event) (k : ℕ) (f : StepFault) (p : Packet) → IsOfPacket e k → packet_at m.net k ≡ Some p → p.lost ≡ true → ◌≡◌ {A = Result Machine StepFault} (Err (fault.Refused (refusal.WasLost k))) (Err f) → IsFault m e f
   was_lost e k f p of at gone is =
       let there = is_there m.net k p at in
-      fault_is e (fault.WasLost k) f (of, there.0, subst (λ n. k ≤ n) (sym t.sent) there.1, t.lost k p at ∙ gone) is
+      fault_is e (fault.Refused (refusal.WasLost k)) f (of, there.0, subst (λ n. k ≤ n) (sym t.sent) there.1, t.lost k p at ∙ gone) is
 
   opened-fault : (c isn iss wnd mss : ℕ) (f : StepFault) (o : Option Station) → table.get m.clients c ≡ o → opened m c isn iss wnd mss o ≡ Err f → IsFault m (event.Open c isn iss wnd mss) f
   unfolding opened
   opened-fault c isn iss wnd mss f None at is = cc
-  opened-fault c isn iss wnd mss f (Some x) at is = fault_is (event.Open c isn iss wnd mss) (fault.Used c) f (refl, t.opened c x at) is
+  opened-fault c isn iss wnd mss f (Some x) at is = fault_is (event.Open c isn iss wnd mss) (fault.Refused (refusal.Used c)) f (refl, t.opened c x at) is
 
   wrote-fault : (e : Event) (c : ℕ) (bytes : List ℕ) (f : StepFault) (o : Option Station) → IsOfClient e c → (WouldPass m.config.stream m.journal c bytes → WritesTooMuch m.config.stream m.journal e)
       → table.get m.clients c ≡ o → wrote m e c bytes o ≡ Err f → IsFault m e f
@@ -151,8 +146,8 @@ module _ (m : Machine) (t : Told m) where
   does-fault e own c rule f (Some x) of at is = cc
 
   -- of a node that is not there
-  no_node : (e : Event) (n : ℕ) (f : StepFault) → IsOfNode m.journal e n → is_no_node m.config.nodes n ≡ true → ◌≡◌ {A = Result Machine StepFault} (Err (fault.NoNode n m.config.nodes)) (Err f) → IsFault m e f
-  no_node e n f of none is = fault_is e (fault.NoNode n m.config.nodes) f (of, refl, beyond m.config.nodes n none) is
+  no_node : (e : Event) (n : ℕ) (f : StepFault) → IsOfNode m.journal e n → is_no_node m.config.nodes n ≡ true → ◌≡◌ {A = Result Machine StepFault} (Err (fault.Refused (refusal.NoNode n m.config.nodes))) (Err f) → IsFault m e f
+  no_node e n f of none is = fault_is e (fault.Refused (refusal.NoNode n m.config.nodes)) f (of, refl, beyond m.config.nodes n none) is
 
   timer-fault : (p : Place) (c : ℕ) (f : StepFault) (o : Option Station) → table.get m.clients c ≡ o → timer m p c o ≡ Err f → IsFault m (event.Timer p c) f
   unfolding timer
@@ -161,7 +156,7 @@ module _ (m : Machine) (t : Told m) where
   timer-fault (Client d) c f (Some x) at is = cc
   timer-fault (Node n) c f (Some x) at is = go (is_no_node m.config.nodes n) refl is where
     go : (b : Bool) → is_no_node m.config.nodes n ≡ b
-        → cond {A = Result Machine StepFault} b (Err (fault.NoNode n m.config.nodes)) (Ok (node_acts m (event.Timer (Node n) c) [] n (back.Timer c) (node_at m.nodes n))) ≡ Err f → IsFault m (event.Timer (Node n) c) f
+        → cond {A = Result Machine StepFault} b (Err (fault.Refused (refusal.NoNode n m.config.nodes))) (Ok (node_acts m (event.Timer (Node n) c) [] n (back.Timer c) (node_at m.nodes n))) ≡ Err f → IsFault m (event.Timer (Node n) c) f
     go true none h = no_node (event.Timer (Node n) c) n f (refl, t.opened c x at) none h
     go false none h = cc
 
@@ -170,14 +165,14 @@ module _ (m : Machine) (t : Told m) where
   disk-fault n j f None there at is = absurd (no_such_node m t n there at)
   disk-fault n j f (Some s) there at is = go (is_no_job s j) refl is where
     go : (b : Bool) → is_no_job s j ≡ b
-        → cond {A = Result Machine StepFault} b (Err (fault.NoJob n j (length s.disk))) (Ok (node_gave m (event.Disk n j) [] n (node_step (node_setting m n) s (back.Disk j)))) ≡ Err f → IsFault m (event.Disk n j) f
-    go true none h = fault_is (event.Disk n j) (fault.NoJob n j (length s.disk)) f ((refl, refl, (is_there_node m.config.nodes n there).0, (is_there_node m.config.nodes n there).1, sym (t.jobs n s at)), beyond (length s.disk) j none) h
+        → cond {A = Result Machine StepFault} b (Err (fault.Refused (refusal.NoJob n j (length s.disk)))) (Ok (node_gave m (event.Disk n j) [] n (node_step (node_setting m n) s (back.Disk j)))) ≡ Err f → IsFault m (event.Disk n j) f
+    go true none h = fault_is (event.Disk n j) (fault.Refused (refusal.NoJob n j (length s.disk))) f ((refl, refl, (is_there_node m.config.nodes n there).0, (is_there_node m.config.nodes n there).1, sym (t.jobs n s at)), beyond (length s.disk) j none) h
     go false none h = cc
 
   completes-fault : (n j : ℕ) (f : StepFault) → completes m n j ≡ Err f → IsFault m (event.Disk n j) f
   unfolding completes
   completes-fault n j f is = go (is_no_node m.config.nodes n) refl is where
-    go : (b : Bool) → is_no_node m.config.nodes n ≡ b → cond {A = Result Machine StepFault} b (Err (fault.NoNode n m.config.nodes)) (disk_at m n j (node_at m.nodes n)) ≡ Err f → IsFault m (event.Disk n j) f
+    go : (b : Bool) → is_no_node m.config.nodes n ≡ b → cond {A = Result Machine StepFault} b (Err (fault.Refused (refusal.NoNode n m.config.nodes))) (disk_at m n j (node_at m.nodes n)) ≡ Err f → IsFault m (event.Disk n j) f
     go true none h = no_node (event.Disk n j) n f refl none h
     go false there h = disk-fault n j f (node_at m.nodes n) there refl h
 
@@ -185,7 +180,7 @@ module _ (m : Machine) (t : Told m) where
   unfolding delivered
   delivered-fault k f None at is = not_sent (event.Deliver k) k f refl at is
   delivered-fault k f (Some p) at is = go p.lost refl is where
-    go : (b : Bool) → p.lost ≡ b → cond {A = Result Machine StepFault} b (Err (fault.WasLost k)) (Ok (to_place m k p p.to)) ≡ Err f → IsFault m (event.Deliver k) f
+    go : (b : Bool) → p.lost ≡ b → cond {A = Result Machine StepFault} b (Err (fault.Refused (refusal.WasLost k))) (Ok (to_place m k p p.to)) ≡ Err f → IsFault m (event.Deliver k) f
     go true l h = was_lost (event.Deliver k) k f p refl at l h
     go false l h = cc
 
@@ -193,7 +188,7 @@ module _ (m : Machine) (t : Told m) where
   unfolding lost
   lost-fault k f None at is = not_sent (event.Lose k) k f refl at is
   lost-fault k f (Some p) at is = go p.lost refl is where
-    go : (b : Bool) → p.lost ≡ b → cond {A = Result Machine StepFault} b (Err (fault.WasLost k)) (Ok (passed (record m { net = lose_at (k - 1) m.net }) (event.Lose k) (rec.Lost k ∷ []))) ≡ Err f → IsFault m (event.Lose k) f
+    go : (b : Bool) → p.lost ≡ b → cond {A = Result Machine StepFault} b (Err (fault.Refused (refusal.WasLost k))) (Ok (passed (record m { net = lose_at (k - 1) m.net }) (event.Lose k) (rec.Lost k ∷ []))) ≡ Err f → IsFault m (event.Lose k) f
     go true l h = was_lost (event.Lose k) k f p refl at l h
     go false l h = cc
 
@@ -215,35 +210,35 @@ module _ (m : Machine) (t : Told m) where
 
   -- ---- and back
 
-  fault-unsent : (e : Event) (k : ℕ) → IsOfPacket e k → packet_at m.net k ≡ None → happens m e ≡ Err (fault.NotSent k (length m.net))
+  fault-unsent : (e : Event) (k : ℕ) → IsOfPacket e k → packet_at m.net k ≡ None → happens m e ≡ Err (fault.Refused (refusal.NotSent k (length m.net)))
   unfolding delivered lost
-  fault-unsent (event.Deliver j) k same none = subst (λ i. happens m (event.Deliver i) ≡ Err (fault.NotSent k (length m.net))) (sym same) (ap (delivered m k) none)
-  fault-unsent (event.Lose j) k same none = subst (λ i. happens m (event.Lose i) ≡ Err (fault.NotSent k (length m.net))) (sym same) (ap (lost m k) none)
+  fault-unsent (event.Deliver j) k same none = subst (λ i. happens m (event.Deliver i) ≡ Err (fault.Refused (refusal.NotSent k (length m.net)))) (sym same) (ap (delivered m k) none)
+  fault-unsent (event.Lose j) k same none = subst (λ i. happens m (event.Lose i) ≡ Err (fault.Refused (refusal.NotSent k (length m.net)))) (sym same) (ap (lost m k) none)
   fault-unsent _ k same none = absurd same
 
-  fault-lost : (e : Event) (k : ℕ) (p : Packet) → IsOfPacket e k → packet_at m.net k ≡ Some p → p.lost ≡ true → happens m e ≡ Err (fault.WasLost k)
+  fault-lost : (e : Event) (k : ℕ) (p : Packet) → IsOfPacket e k → packet_at m.net k ≡ Some p → p.lost ≡ true → happens m e ≡ Err (fault.Refused (refusal.WasLost k))
   unfolding delivered lost
-  fault-lost (event.Deliver j) k p same at gone = subst (λ i. happens m (event.Deliver i) ≡ Err (fault.WasLost k)) (sym same)
-      (ap (delivered m k) at ∙ ap (λ b. cond {A = Result Machine StepFault} b (Err (fault.WasLost k)) (Ok (to_place m k p p.to))) gone)
-  fault-lost (event.Lose j) k p same at gone = subst (λ i. happens m (event.Lose i) ≡ Err (fault.WasLost k)) (sym same)
-      (ap (lost m k) at ∙ ap (λ b. cond {A = Result Machine StepFault} b (Err (fault.WasLost k)) (Ok (passed (record m { net = lose_at (k - 1) m.net }) (event.Lose k) (rec.Lost k ∷ [])))) gone)
+  fault-lost (event.Deliver j) k p same at gone = subst (λ i. happens m (event.Deliver i) ≡ Err (fault.Refused (refusal.WasLost k))) (sym same)
+      (ap (delivered m k) at ∙ ap (λ b. cond {A = Result Machine StepFault} b (Err (fault.Refused (refusal.WasLost k))) (Ok (to_place m k p p.to))) gone)
+  fault-lost (event.Lose j) k p same at gone = subst (λ i. happens m (event.Lose i) ≡ Err (fault.Refused (refusal.WasLost k))) (sym same)
+      (ap (lost m k) at ∙ ap (λ b. cond {A = Result Machine StepFault} b (Err (fault.Refused (refusal.WasLost k))) (Ok (passed (record m { net = lose_at (k - 1) m.net }) (event.Lose k) (rec.Lost k ∷ [])))) gone)
   fault-lost _ k p same at gone = absurd same
 
-  fault-client : (e : Event) (c : ℕ) → IsOfClient e c → table.get m.clients c ≡ None → happens m e ≡ Err (fault.NoClient c)
+  fault-client : (e : Event) (c : ℕ) → IsOfClient e c → table.get m.clients c ≡ None → happens m e ≡ Err (fault.Refused (refusal.NoClient c))
   unfolding wrote client_does timer
-  fault-client (event.Get d path) c same none = subst (λ i. happens m (event.Get i path) ≡ Err (fault.NoClient c)) (sym same) (ap (wrote m (event.Get c path) c (request path)) none)
-  fault-client (event.Write d bytes) c same none = subst (λ i. happens m (event.Write i bytes) ≡ Err (fault.NoClient c)) (sym same) (ap (wrote m (event.Write c bytes) c bytes) none)
-  fault-client (event.Shut d) c same none = subst (λ i. happens m (event.Shut i) ≡ Err (fault.NoClient c)) (sym same) (ap (client_does m (event.Shut c) [] c client_shuts) none)
-  fault-client (event.Abort d) c same none = subst (λ i. happens m (event.Abort i) ≡ Err (fault.NoClient c)) (sym same) (ap (client_does m (event.Abort c) [] c client_aborts) none)
-  fault-client (event.Hold d) c same none = subst (λ i. happens m (event.Hold i) ≡ Err (fault.NoClient c)) (sym same) (ap (client_does m (event.Hold c) [] c client_holds) none)
-  fault-client (event.Inject d bytes) c same none = subst (λ i. happens m (event.Inject i bytes) ≡ Err (fault.NoClient c)) (sym same) (ap (client_does m (event.Inject c bytes) (rec.Injected c ∷ []) c (λ x. client_injects x bytes)) none)
-  fault-client (event.Take d) c same none = subst (λ i. happens m (event.Take i) ≡ Err (fault.NoClient c)) (sym same) (ap (client_does m (event.Take c) [] c client_takes) none)
-  fault-client (event.Timer p d) c same none = subst (λ i. happens m (event.Timer p i) ≡ Err (fault.NoClient c)) (sym same) (ap (timer m p c) none)
+  fault-client (event.Get d path) c same none = subst (λ i. happens m (event.Get i path) ≡ Err (fault.Refused (refusal.NoClient c))) (sym same) (ap (wrote m (event.Get c path) c (request path)) none)
+  fault-client (event.Write d bytes) c same none = subst (λ i. happens m (event.Write i bytes) ≡ Err (fault.Refused (refusal.NoClient c))) (sym same) (ap (wrote m (event.Write c bytes) c bytes) none)
+  fault-client (event.Shut d) c same none = subst (λ i. happens m (event.Shut i) ≡ Err (fault.Refused (refusal.NoClient c))) (sym same) (ap (client_does m (event.Shut c) [] c client_shuts) none)
+  fault-client (event.Abort d) c same none = subst (λ i. happens m (event.Abort i) ≡ Err (fault.Refused (refusal.NoClient c))) (sym same) (ap (client_does m (event.Abort c) [] c client_aborts) none)
+  fault-client (event.Hold d) c same none = subst (λ i. happens m (event.Hold i) ≡ Err (fault.Refused (refusal.NoClient c))) (sym same) (ap (client_does m (event.Hold c) [] c client_holds) none)
+  fault-client (event.Inject d bytes) c same none = subst (λ i. happens m (event.Inject i bytes) ≡ Err (fault.Refused (refusal.NoClient c))) (sym same) (ap (client_does m (event.Inject c bytes) (rec.Injected c ∷ []) c (λ x. client_injects x bytes)) none)
+  fault-client (event.Take d) c same none = subst (λ i. happens m (event.Take i) ≡ Err (fault.Refused (refusal.NoClient c))) (sym same) (ap (client_does m (event.Take c) [] c client_takes) none)
+  fault-client (event.Timer p d) c same none = subst (λ i. happens m (event.Timer p i) ≡ Err (fault.Refused (refusal.NoClient c))) (sym same) (ap (timer m p c) none)
   fault-client _ c same none = absurd same
 
-  fault-used : (e : Event) (c : ℕ) (x : Station) → Opens e c → table.get m.clients c ≡ Some x → happens m e ≡ Err (fault.Used c)
+  fault-used : (e : Event) (c : ℕ) (x : Station) → Opens e c → table.get m.clients c ≡ Some x → happens m e ≡ Err (fault.Refused (refusal.Used c))
   unfolding opened
-  fault-used (event.Open d isn iss wnd mss) c x same at = subst (λ i. happens m (event.Open i isn iss wnd mss) ≡ Err (fault.Used c)) (sym same) (ap (opened m c isn iss wnd mss) at)
+  fault-used (event.Open d isn iss wnd mss) c x same at = subst (λ i. happens m (event.Open i isn iss wnd mss) ≡ Err (fault.Refused (refusal.Used c))) (sym same) (ap (opened m c isn iss wnd mss) at)
   fault-used _ c x same at = absurd same
 
   -- a client that the journal tells of
@@ -259,14 +254,14 @@ module _ (m : Machine) (t : Told m) where
     go None e = refl
     go (Some x) e = absurd (let both = subst (λ n. IsSome n) none (t.opened c x e) in cc)
 
-  fault-node : (e : Event) (n : ℕ) → IsOfNode m.journal e n → is_no_node m.config.nodes n ≡ true → happens m e ≡ Err (fault.NoNode n m.config.nodes)
+  fault-node : (e : Event) (n : ℕ) → IsOfNode m.journal e n → is_no_node m.config.nodes n ≡ true → happens m e ≡ Err (fault.Refused (refusal.NoNode n m.config.nodes))
   unfolding timer completes
   fault-node (event.Timer (Node k) c) n of none =
       let x = client_there c of.1 in
-      subst (λ i. happens m (event.Timer (Node i) c) ≡ Err (fault.NoNode n m.config.nodes)) (sym of.0) (ap (timer m (Node n) c) x.1
-      ∙ ap (λ b. cond {A = Result Machine StepFault} b (Err (fault.NoNode n m.config.nodes)) (Ok (node_acts m (event.Timer (Node n) c) [] n (back.Timer c) (node_at m.nodes n)))) none)
-  fault-node (event.Disk k j) n of none = subst (λ i. happens m (event.Disk i j) ≡ Err (fault.NoNode n m.config.nodes)) (sym of)
-      (ap (λ b. cond {A = Result Machine StepFault} b (Err (fault.NoNode n m.config.nodes)) (disk_at m n j (node_at m.nodes n))) none)
+      subst (λ i. happens m (event.Timer (Node i) c) ≡ Err (fault.Refused (refusal.NoNode n m.config.nodes))) (sym of.0) (ap (timer m (Node n) c) x.1
+      ∙ ap (λ b. cond {A = Result Machine StepFault} b (Err (fault.Refused (refusal.NoNode n m.config.nodes))) (Ok (node_acts m (event.Timer (Node n) c) [] n (back.Timer c) (node_at m.nodes n)))) none)
+  fault-node (event.Disk k j) n of none = subst (λ i. happens m (event.Disk i j) ≡ Err (fault.Refused (refusal.NoNode n m.config.nodes))) (sym of)
+      (ap (λ b. cond {A = Result Machine StepFault} b (Err (fault.Refused (refusal.NoNode n m.config.nodes))) (disk_at m n j (node_at m.nodes n))) none)
   fault-node (event.Timer Front c) n of none = absurd of.0
   fault-node (event.Timer (Client d) c) n of none = absurd of.0
   fault-node _ n of none = absurd of
@@ -278,19 +273,19 @@ module _ (m : Machine) (t : Told m) where
     go (Some s) at = (s, refl)
     go None at = absurd (no_such_node m t n there at)
 
-  fault-job : (e : Event) (n j len : ℕ) → IsOfDisk m.config.nodes m.journal e n j len → (j ≡ 0) ⊎ (len < j) → happens m e ≡ Err (fault.NoJob n j len)
+  fault-job : (e : Event) (n j len : ℕ) → IsOfDisk m.config.nodes m.journal e n j len → (j ≡ 0) ⊎ (len < j) → happens m e ≡ Err (fault.Refused (refusal.NoJob n j len))
   unfolding completes
   fault-job (event.Disk k i) n j len of beyond_ =
       let there : is_no_node m.config.nodes n ≡ false = not_past m.config.nodes n of.2 of.3 in
       let found = some_node n there in
       let s : NodeState = found.0 in
       let same : len ≡ length s.disk = of.4 ∙ t.jobs n s found.1 in
-      subst (λ d. happens m (event.Disk d i) ≡ Err (fault.NoJob n j len)) (sym of.0) (subst (λ d. happens m (event.Disk n d) ≡ Err (fault.NoJob n j len)) (sym of.1)
-      (ap (λ b. cond {A = Result Machine StepFault} b (Err (fault.NoNode n m.config.nodes)) (disk_at m n j (node_at m.nodes n))) there
+      subst (λ d. happens m (event.Disk d i) ≡ Err (fault.Refused (refusal.NoJob n j len))) (sym of.0) (subst (λ d. happens m (event.Disk n d) ≡ Err (fault.Refused (refusal.NoJob n j len))) (sym of.1)
+      (ap (λ b. cond {A = Result Machine StepFault} b (Err (fault.Refused (refusal.NoNode n m.config.nodes))) (disk_at m n j (node_at m.nodes n))) there
       ∙ ap (disk_at m n j) found.1
-      ∙ ap (λ b. cond {A = Result Machine StepFault} b (Err (fault.NoJob n j (length s.disk))) (Ok (node_gave m (event.Disk n j) [] n (node_step (node_setting m n) s (back.Disk j)))))
+      ∙ ap (λ b. cond {A = Result Machine StepFault} b (Err (fault.Refused (refusal.NoJob n j (length s.disk)))) (Ok (node_gave m (event.Disk n j) [] n (node_step (node_setting m n) s (back.Disk j)))))
       (not_beyond (length s.disk) j (subst (λ l. (j ≡ 0) ⊎ (l < j)) same beyond_))
-      ∙ ap (λ l. Err (fault.NoJob n j l)) (sym same)))
+      ∙ ap (λ l. Err (fault.Refused (refusal.NoJob n j l))) (sym same)))
   fault-job _ n j len of beyond_ = absurd of
 
   wrote-much : (e : Event) (c : ℕ) (bytes : List ℕ) (x : Station) → table.get m.clients c ≡ Some x → m.config.stream < written_len x.client bytes → wrote m e c bytes (table.get m.clients c) ≡ Err (fault.Limit Stream)
@@ -314,21 +309,21 @@ module _ (m : Machine) (t : Told m) where
   fault-stream (event.Write c bytes) h = wrote-past (event.Write c bytes) c bytes h
   fault-stream _ h = absurd h
 
-  ap_node : (e : Event) (n nodes : ℕ) → IsUntimely m e (why.NoNode n nodes) → happens m e ≡ Err (fault.NoNode n nodes)
+  ap_node : (e : Event) (n nodes : ℕ) → IsUntimely m e (refusal.NoNode n nodes) → happens m e ≡ Err (fault.Refused (refusal.NoNode n nodes))
   ap_node e n nodes h =
-      fault-node e n h.0 (not_beyond m.config.nodes n (subst (λ k. (n ≡ 0) ⊎ (k < n)) h.1 h.2)) ∙ ap (λ k. Err (fault.NoNode n k)) (sym h.1)
+      fault-node e n h.0 (not_beyond m.config.nodes n (subst (λ k. (n ≡ 0) ⊎ (k < n)) h.1 h.2)) ∙ ap (λ k. Err (fault.Refused (refusal.NoNode n k))) (sym h.1)
 
   fault-happens : (e : Event) (f : StepFault) → IsFault m e f → happens m e ≡ Err f
-  fault-happens e (fault.NotSent k n) h =
+  fault-happens e (fault.Refused (refusal.NotSent k n)) h =
       let there : n ≡ length m.net = h.1 ∙ t.sent in
-      subst (λ i. happens m e ≡ Err (fault.NotSent k i)) (sym there) (fault-unsent e k h.0 (none_there m.net k (⊎_elim (λ z. inl z) (λ l. inr (subst (λ i. i < k) there l)) h.2)))
-  fault-happens e (fault.WasLost k) h =
+      subst (λ i. happens m e ≡ Err (fault.Refused (refusal.NotSent k i))) (sym there) (fault-unsent e k h.0 (none_there m.net k (⊎_elim (λ z. inl z) (λ l. inr (subst (λ i. i < k) there l)) h.2)))
+  fault-happens e (fault.Refused (refusal.WasLost k)) h =
       let p = some_there m.net k h.1 (subst (λ n. k ≤ n) t.sent h.2) in
       fault-lost e k p.0 h.0 p.1 (sym (t.lost k p.0 p.1) ∙ h.3)
-  fault-happens e (fault.NoClient c) h = fault-client e c h.0 (client_none c h.1)
-  fault-happens e (fault.Used c) h = let x = client_there c h.1 in fault-used e c x.0 h.0 x.1
-  fault-happens e (fault.NoNode n nodes) h = ap_node e n nodes h
-  fault-happens e (fault.NoJob n j len) h = fault-job e n j len h.0 h.1
+  fault-happens e (fault.Refused (refusal.NoClient c)) h = fault-client e c h.0 (client_none c h.1)
+  fault-happens e (fault.Refused (refusal.Used c)) h = let x = client_there c h.1 in fault-used e c x.0 h.0 x.1
+  fault-happens e (fault.Refused (refusal.NoNode n nodes)) h = ap_node e n nodes h
+  fault-happens e (fault.Refused (refusal.NoJob n j len)) h = fault-job e n j len h.0 h.1
   fault-happens e (fault.Limit w) h = subst (λ v. happens m e ≡ Err (fault.Limit v)) (sym h.0) (fault-stream e h.1)
   fault-happens e fault.NoMemory h = absurd h
 

@@ -15,7 +15,7 @@ use Rattle.lard_history.specs.Journal.{answered_bytes, packet_bytes, sent_count}
 use Rattle.lard_journal.specs.declared.rec.Rec.{Rec}
 use Rattle.lard_rules.specs.Limits.{limit_of}
 use Rattle.lard_rules.specs.declared.fault.What.{What}
-use Rattle.lard_rules.specs.declared.fault.What.TheVariants.{Input, Packets, PacketBytes, Records, Answers, Stream}
+use Rattle.lard_rules.specs.declared.fault.What.TheVariants.{Input, Packets, PacketBytes, Records, Answers, Requests, Stream}
 use Rattle.lard_app.specs.Causes.{DisagreesBy, HasReached, IsFit, IsWithinLimits, MayNotAdd}
 
 -- ---- tests of numbers
@@ -168,6 +168,7 @@ module _ (J : List Rec) where
   reached-limit Records h = limit_tests false false true (nat_le (2 ^ 29) (answered_bytes J)) (more 1000000 (sent_count J) h.0) (more (2 ^ 29) (packet_bytes J) h.1) (at_most 4000000 (length J) h.2) refl
   reached-limit Answers h = limit_tests false false false true (more 1000000 (sent_count J) h.0) (more (2 ^ 29) (packet_bytes J) h.1) (more 4000000 (length J) h.2) (at_most (2 ^ 29) (answered_bytes J) h.3)
   reached-limit Input h = absurd h
+  reached-limit Requests h = absurd h
   reached-limit Stream h = absurd h
 
 -- ---- files

@@ -10,7 +10,6 @@ use Rattle.lard_settling.specs.Events.{Goes, LeadsTo, MayCome, event_step}
 use Rattle.lard_settling.specs.Settling.{Stop}
 use Rattle.lard_app.specs.declared.status.Status.{Status}
 use Rattle.lard_app.specs.declared.status.Status.TheVariants.{Done, Usage, Refused, ReadFault, WriteFault, NoMemory, Limit}
-use Rattle.lard_app.specs.declared.status.Why.TheVariants as why
 use Rattle.lard_app.specs.Generate.{EndsEvent, EndsLeft, EndsPlay, Happens, Plays, played}
 use Rattle.lard_app.specs.Replay.{ended_by}
 use Rattle.lard_app.proofs.Blames.{Blames, event-blames, reaches-stop}
@@ -20,12 +19,7 @@ use Rattle.lard_app.proofs.Timely.{AreTimely, IsTimely}
 
 -- a fault is no good end
 not-done : (line : ℕ) (f : StepFault) → ¬ (ended_by line f ≡ Done)
-not-done line (fault.NotSent k sent) e = cc
-not-done line (fault.WasLost k) e = cc
-not-done line (fault.NoClient c) e = cc
-not-done line (fault.Used c) e = cc
-not-done line (fault.NoNode n nodes) e = cc
-not-done line (fault.NoJob n j len) e = cc
+not-done line (fault.Refused reason) e = cc
 not-done line (fault.Limit what) e = cc
 not-done line fault.NoMemory e = cc
 
@@ -117,12 +111,7 @@ played-done line m (e ∷ es) may h = go (event_step m e) refl (λ n. played-don
 
 -- a fault of an event that may come is a limit
 fault-ends : (m : Machine) (line : ℕ) (e : Event) (f : StepFault) → IsTimely m e → Blames m e f → EndsEvent m line e (ended_by line f)
-fault-ends m line e (fault.NotSent j sent) t b = absurd (t (why.NotSent j sent) (b.0 (why.NotSent j sent) refl))
-fault-ends m line e (fault.WasLost j) t b = absurd (t (why.WasLost j) (b.0 (why.WasLost j) refl))
-fault-ends m line e (fault.NoClient c) t b = absurd (t (why.NoClient c) (b.0 (why.NoClient c) refl))
-fault-ends m line e (fault.Used c) t b = absurd (t (why.Used c) (b.0 (why.Used c) refl))
-fault-ends m line e (fault.NoNode i nodes) t b = absurd (t (why.NoNode i nodes) (b.0 (why.NoNode i nodes) refl))
-fault-ends m line e (fault.NoJob i j len) t b = absurd (t (why.NoJob i j len) (b.0 (why.NoJob i j len) refl))
+fault-ends m line e (fault.Refused reason) t b = absurd (t reason (b.0 reason refl))
 fault-ends m line e (fault.Limit w) t b = (refl, b.1 w refl)
 fault-ends m line e fault.NoMemory t b = absurd (b.2 refl)
 
@@ -197,10 +186,5 @@ played-stopped line m n e es all given f h are g = go f h where
 
   go : (k : StepFault) → Happens (event_step m e) n (Err k) → Plays given n (Err (ended_by line k))
   go fault.NoMemory i = tt
-  go (fault.NotSent k sent) i = stops (fault.NotSent k sent) i
-  go (fault.WasLost k) i = stops (fault.WasLost k) i
-  go (fault.NoClient c) i = stops (fault.NoClient c) i
-  go (fault.Used c) i = stops (fault.Used c) i
-  go (fault.NoNode k nodes) i = stops (fault.NoNode k nodes) i
-  go (fault.NoJob k j len) i = stops (fault.NoJob k j len) i
+  go (fault.Refused reason) i = stops (fault.Refused reason) i
   go (fault.Limit what) i = stops (fault.Limit what) i

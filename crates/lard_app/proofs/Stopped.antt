@@ -93,12 +93,7 @@ steps-happens given old new (Err f) h = go f h where
 
   go : (g : StepFault) → Steps given old new (Err g) → Happens (stepped_from old given) new (Err g)
   go fault.NoMemory d = tt
-  go (fault.NotSent k sent) d = same (fault.NotSent k sent) d.0 d.1
-  go (fault.WasLost k) d = same (fault.WasLost k) d.0 d.1
-  go (fault.NoClient c) d = same (fault.NoClient c) d.0 d.1
-  go (fault.Used c) d = same (fault.Used c) d.0 d.1
-  go (fault.NoNode k nodes) d = same (fault.NoNode k nodes) d.0 d.1
-  go (fault.NoJob k j len) d = same (fault.NoJob k j len) d.0 d.1
+  go (fault.Refused reason) d = same (fault.Refused reason) d.0 d.1
   go (fault.Limit what) d = same (fault.Limit what) d.0 d.1
 
 -- an agenda of the journal is one of it still
@@ -109,23 +104,13 @@ step-agenda a m n e (Err f) on is h = tt
 -- a settle
 pub settles-happens : (given : Result (Machine × Settled) Stop) (n : Machine) (f : StepFault) → Settles given n (Err f) → Happens (settled_to given) n (Err f)
 settles-happens given n fault.NoMemory h = tt
-settles-happens given n (fault.NotSent k sent) h = ap settled_to h
-settles-happens given n (fault.WasLost k) h = ap settled_to h
-settles-happens given n (fault.NoClient c) h = ap settled_to h
-settles-happens given n (fault.Used c) h = ap settled_to h
-settles-happens given n (fault.NoNode k nodes) h = ap settled_to h
-settles-happens given n (fault.NoJob k j len) h = ap settled_to h
+settles-happens given n (fault.Refused reason) h = ap settled_to h
 settles-happens given n (fault.Limit what) h = ap settled_to h
 
 -- where it was not done, and not for want of memory, so far it came
 pub event-stopped : (given : Result Machine Stop) (n : Machine) (f : StepFault) → f ≢ fault.NoMemory → Happens given n (Err f) → given ≡ Err (n, f)
 event-stopped given n fault.NoMemory some h = absurd (some refl)
-event-stopped given n (fault.NotSent k sent) some h = h
-event-stopped given n (fault.WasLost k) some h = h
-event-stopped given n (fault.NoClient c) some h = h
-event-stopped given n (fault.Used c) some h = h
-event-stopped given n (fault.NoNode k nodes) some h = h
-event-stopped given n (fault.NoJob k j len) some h = h
+event-stopped given n (fault.Refused reason) some h = h
 event-stopped given n (fault.Limit what) some h = h
 
 -- what was written then
@@ -138,23 +123,13 @@ stops-does s t n given old new f status from at done stops = go f done stops whe
 
   go : (g : StepFault) → Happens given n (Err g) → Stops g s.lines (flat_map rec_line (drop from n.journal)) old new status → Does given s old new t (Err status)
   go fault.NoMemory d h = subst (λ (x : Status). Does given s old new t (Err x)) (sym h.0) (subst (λ (b : Option (List ℕ)). WrotePrefix old b (event_gain s.machine (came given))) (sym h.1) (record { front = []; rest = _; is = refl; written = Appends-nil old }))
-  go (fault.NotSent k sent) d h = same (fault.NotSent k sent) d h
-  go (fault.WasLost k) d h = same (fault.WasLost k) d h
-  go (fault.NoClient c) d h = same (fault.NoClient c) d h
-  go (fault.Used c) d h = same (fault.Used c) d h
-  go (fault.NoNode k nodes) d h = same (fault.NoNode k nodes) d h
-  go (fault.NoJob k j len) d h = same (fault.NoJob k j len) d h
+  go (fault.Refused reason) d h = same (fault.Refused reason) d h
   go (fault.Limit what) d h = same (fault.Limit what) d h
 
 -- what `stop` does: with memory, all is written and the fault ends the run
 pub stop-writes : (f : StepFault) (line : ℕ) (text : List ℕ) (old new : Option (List ℕ)) (status : Status) → f ≢ fault.NoMemory → Writes text old new (Ok tt) → status ≡ ended_by line f → Stops f line text old new status
 stop-writes fault.NoMemory line text old new status some w is = absurd (some refl)
-stop-writes (fault.NotSent k sent) line text old new status some w is = λ t. subst (λ (x : Status). Passes (Err (ended_by line (fault.NotSent k sent))) text old new t (Err x)) (sym is) (refl, w)
-stop-writes (fault.WasLost k) line text old new status some w is = λ t. subst (λ (x : Status). Passes (Err (ended_by line (fault.WasLost k))) text old new t (Err x)) (sym is) (refl, w)
-stop-writes (fault.NoClient c) line text old new status some w is = λ t. subst (λ (x : Status). Passes (Err (ended_by line (fault.NoClient c))) text old new t (Err x)) (sym is) (refl, w)
-stop-writes (fault.Used c) line text old new status some w is = λ t. subst (λ (x : Status). Passes (Err (ended_by line (fault.Used c))) text old new t (Err x)) (sym is) (refl, w)
-stop-writes (fault.NoNode k nodes) line text old new status some w is = λ t. subst (λ (x : Status). Passes (Err (ended_by line (fault.NoNode k nodes))) text old new t (Err x)) (sym is) (refl, w)
-stop-writes (fault.NoJob k j len) line text old new status some w is = λ t. subst (λ (x : Status). Passes (Err (ended_by line (fault.NoJob k j len))) text old new t (Err x)) (sym is) (refl, w)
+stop-writes (fault.Refused reason) line text old new status some w is = λ t. subst (λ (x : Status). Passes (Err (ended_by line (fault.Refused reason))) text old new t (Err x)) (sym is) (refl, w)
 stop-writes (fault.Limit what) line text old new status some w is = λ t. subst (λ (x : Status). Passes (Err (ended_by line (fault.Limit what))) text old new t (Err x)) (sym is) (refl, w)
 
 -- the writing ended the run
@@ -173,12 +148,7 @@ stop-failed f line text old new status some w = go f some where
 
   go : (g : StepFault) → g ≢ fault.NoMemory → Stops g line text old new status
   go fault.NoMemory other = absurd (other refl)
-  go (fault.NotSent k sent) other = all (fault.NotSent k sent)
-  go (fault.WasLost k) other = all (fault.WasLost k)
-  go (fault.NoClient c) other = all (fault.NoClient c)
-  go (fault.Used c) other = all (fault.Used c)
-  go (fault.NoNode k nodes) other = all (fault.NoNode k nodes)
-  go (fault.NoJob k j len) other = all (fault.NoJob k j len)
+  go (fault.Refused reason) other = all (fault.Refused reason)
   go (fault.Limit what) other = all (fault.Limit what)
 
 -- ---- a journal that is no shorter

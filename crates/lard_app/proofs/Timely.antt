@@ -10,6 +10,8 @@ use Rattle.lard_base.specs.declared.event.Event.{Event}
 use Rattle.lard_base.specs.declared.event.Event.TheVariants as event
 use Rattle.lard_base.specs.declared.place.Place.{Place}
 use Rattle.lard_base.specs.declared.place.Place.TheVariants as place
+use Rattle.lard_rules.specs.declared.fault.Refusal.{Refusal}
+use Rattle.lard_rules.specs.declared.fault.Refusal.TheVariants as refusal
 use Rattle.lard_rules.specs.declared.fault.StepFault.{StepFault}
 use Rattle.lard_rules.specs.declared.fault.StepFault.TheVariants as fault
 use Rattle.lard_rules.specs.declared.machine.Machine.{Machine}
@@ -43,8 +45,6 @@ use Rattle.lard_generate.specs.Clients.{drawn_actions, drawn_ask, drawn_fate, dr
 use Rattle.lard_generate.specs.Draws.{behind, draw, each, seeded}
 use Rattle.lard_generate.specs.Files.{drawn_size}
 use Rattle.lard_generate.specs.Generated.{generated}
-use Rattle.lard_app.specs.declared.status.Why.{Why}
-use Rattle.lard_app.specs.declared.status.Why.TheVariants as why
 use Rattle.lard_app.specs.Causes.{MayNotCome}
 use Rattle.lard_app.specs.Generate.{begins, large}
 use Rattle.lard_law_settles.proofs.Events.{plain-done}
@@ -71,9 +71,9 @@ no-some {X = X} o none some = let both = subst (λ (p : Option X). IsSome p) non
 
 -- ---- events that are all timely
 
--- no cause refuses the event
+-- nothing refuses the event
 abbrev pub IsTimely : Machine → Event → Type 0
-IsTimely m e = (cause : Why) → ¬ (MayNotCome m e cause)
+IsTimely m e = (reason : Refusal) → ¬ (MayNotCome m e reason)
 
 -- none is refused, as far as those before it are done
 abbrev pub AreTimely : Machine → List Event → Type 0
@@ -301,7 +301,7 @@ delivered-sends : (m n : Machine) (k : ℕ) (o : Option Packet) → delivered m 
 unfolding delivered
 delivered-sends m n k None is = cc
 delivered-sends m n k (Some p) is = go p.lost is where
-  go : (b : Bool) → cond {A = Result Machine StepFault} b (Err (fault.WasLost k)) (Ok (to_place m k p p.to)) ≡ Ok n → Sends m n
+  go : (b : Bool) → cond {A = Result Machine StepFault} b (Err (fault.Refused (refusal.WasLost k))) (Ok (to_place m k p p.to)) ≡ Ok n → Sends m n
   go true h = cc
   go false h = subst (Sends m) (ok-same (to_place m k p p.to) n h) (place-sends m k p p.to)
 
@@ -311,7 +311,7 @@ lost-net : (m n : Machine) (k : ℕ) (o : Option Packet) → lost m k o ≡ Ok n
 unfolding lost
 lost-net m n k None is = cc
 lost-net m n k (Some p) is = go p.lost is where
-  go : (b : Bool) → cond {A = Result Machine StepFault} b (Err (fault.WasLost k)) (Ok (passed (record m { net = lose_at (k - 1) m.net }) (event.Lose k) (rec.Lost k ∷ []))) ≡ Ok n → n.net ≡ lose_at (k - 1) m.net
+  go : (b : Bool) → cond {A = Result Machine StepFault} b (Err (fault.Refused (refusal.WasLost k))) (Ok (passed (record m { net = lose_at (k - 1) m.net }) (event.Lose k) (rec.Lost k ∷ []))) ≡ Ok n → n.net ≡ lose_at (k - 1) m.net
   go true h = cc
   go false h = ap (λ (j : Machine). j.net) (sym (ok-same (passed (record m { net = lose_at (k - 1) m.net }) (event.Lose k) (rec.Lost k ∷ [])) n h))
 
@@ -337,15 +337,8 @@ told-of m fit = written-told m.config m.files m fit.written
 
 -- an open of a client that has not opened
 open-timely : (m : Machine) (c isn iss wnd mss : ℕ) → IsFit m → table.get m.clients c ≡ None → IsTimely m (event.Open c isn iss wnd mss)
-open-timely m c isn iss wnd mss fit none (why.Used d) may = no-some _ (subst (λ i. numbers_of m.journal i ≡ None) may.1.0 ((told-of m fit).unopened c none)) may.1.1
-open-timely m c isn iss wnd mss fit none (why.NotSent k sent) may = may.1.0
-open-timely m c isn iss wnd mss fit none (why.WasLost k) may = may.1.0
-open-timely m c isn iss wnd mss fit none (why.NoClient d) may = may.1.0
-open-timely m c isn iss wnd mss fit none (why.NoNode k nodes) may = may.1.0
-open-timely m c isn iss wnd mss fit none (why.NoJob k j len) may = may.1.0
-open-timely m c isn iss wnd mss fit none why.Syntax may = may.1
-open-timely m c isn iss wnd mss fit none (why.Config f) may = may.1
-open-timely m c isn iss wnd mss fit none (why.File f) may = may.1
+open-timely m c isn iss wnd mss fit none (refusal.Used d) may = no-some _ (subst (λ i. numbers_of m.journal i ≡ None) may.1.0 ((told-of m fit).unopened c none)) may.1.1
+open-timely m c isn iss wnd mss fit none _ may = may.1.0
 
 -- an event of a client that opened
 client-known : (m : Machine) (c d : ℕ) → IsFit m → IsOpen m c → c ≡ d → ¬ (numbers_of m.journal d ≡ None)
@@ -355,26 +348,12 @@ client-known m c d fit open_ same none = go (table.get m.clients c) refl where
   go (Some x) at = no-some _ (subst (λ i. numbers_of m.journal i ≡ None) (sym same) none) ((told-of m fit).opened c x at)
 
 write-timely : (m : Machine) (c : ℕ) (bytes : List ℕ) → IsFit m → IsOpen m c → IsTimely m (event.Write c bytes)
-write-timely m c bytes fit open_ (why.NoClient d) may = client-known m c d fit open_ may.1.0 may.1.1
-write-timely m c bytes fit open_ (why.Used d) may = may.1.0
-write-timely m c bytes fit open_ (why.NotSent k sent) may = may.1.0
-write-timely m c bytes fit open_ (why.WasLost k) may = may.1.0
-write-timely m c bytes fit open_ (why.NoNode k nodes) may = may.1.0
-write-timely m c bytes fit open_ (why.NoJob k j len) may = may.1.0
-write-timely m c bytes fit open_ why.Syntax may = may.1
-write-timely m c bytes fit open_ (why.Config f) may = may.1
-write-timely m c bytes fit open_ (why.File f) may = may.1
+write-timely m c bytes fit open_ (refusal.NoClient d) may = client-known m c d fit open_ may.1.0 may.1.1
+write-timely m c bytes fit open_ _ may = may.1.0
 
 shut-timely : (m : Machine) (c : ℕ) → IsFit m → IsOpen m c → IsTimely m (event.Shut c)
-shut-timely m c fit open_ (why.NoClient d) may = client-known m c d fit open_ may.1.0 may.1.1
-shut-timely m c fit open_ (why.Used d) may = may.1.0
-shut-timely m c fit open_ (why.NotSent k sent) may = may.1.0
-shut-timely m c fit open_ (why.WasLost k) may = may.1.0
-shut-timely m c fit open_ (why.NoNode k nodes) may = may.1.0
-shut-timely m c fit open_ (why.NoJob k j len) may = may.1.0
-shut-timely m c fit open_ why.Syntax may = may.1
-shut-timely m c fit open_ (why.Config f) may = may.1
-shut-timely m c fit open_ (why.File f) may = may.1
+shut-timely m c fit open_ (refusal.NoClient d) may = client-known m c d fit open_ may.1.0 may.1.1
+shut-timely m c fit open_ _ may = may.1.0
 
 -- packet c + 1 was sent, and not lost
 sent-known : (m : Machine) (c k sent : ℕ) → IsFit m → c + 1 ≤ length m.net → c + 1 ≡ k → sent ≡ sent_count m.journal → ¬ ((k ≡ 0) ⊎ (sent < k))
@@ -390,26 +369,14 @@ kept-known m c k fit there kept same gone =
     let both : false ≡ true = sym (kept c p.0 (omega arith) found) ∙ sym ((told-of m fit).lost (suc c) p.0 at) ∙ ap (is_lost m.journal) (omega (arith, same)) ∙ gone in cc
 
 deliver-timely : (m : Machine) (c : ℕ) → IsFit m → c + 1 ≤ length m.net → AreKept c m.net → IsTimely m (event.Deliver (c + 1))
-deliver-timely m c fit there kept (why.NotSent k sent) may = sent-known m c k sent fit there may.1.0 may.1.1 may.1.2
-deliver-timely m c fit there kept (why.WasLost k) may = kept-known m c k fit there kept may.1.0 may.1.3
-deliver-timely m c fit there kept (why.NoClient d) may = may.1.0
-deliver-timely m c fit there kept (why.Used d) may = may.1.0
-deliver-timely m c fit there kept (why.NoNode k nodes) may = may.1.0
-deliver-timely m c fit there kept (why.NoJob k j len) may = may.1.0
-deliver-timely m c fit there kept why.Syntax may = may.1
-deliver-timely m c fit there kept (why.Config f) may = may.1
-deliver-timely m c fit there kept (why.File f) may = may.1
+deliver-timely m c fit there kept (refusal.NotSent k sent) may = sent-known m c k sent fit there may.1.0 may.1.1 may.1.2
+deliver-timely m c fit there kept (refusal.WasLost k) may = kept-known m c k fit there kept may.1.0 may.1.3
+deliver-timely m c fit there kept _ may = may.1.0
 
 lose-timely : (m : Machine) (c : ℕ) → IsFit m → c + 1 ≤ length m.net → AreKept c m.net → IsTimely m (event.Lose (c + 1))
-lose-timely m c fit there kept (why.NotSent k sent) may = sent-known m c k sent fit there may.1.0 may.1.1 may.1.2
-lose-timely m c fit there kept (why.WasLost k) may = kept-known m c k fit there kept may.1.0 may.1.3
-lose-timely m c fit there kept (why.NoClient d) may = may.1.0
-lose-timely m c fit there kept (why.Used d) may = may.1.0
-lose-timely m c fit there kept (why.NoNode k nodes) may = may.1.0
-lose-timely m c fit there kept (why.NoJob k j len) may = may.1.0
-lose-timely m c fit there kept why.Syntax may = may.1
-lose-timely m c fit there kept (why.Config f) may = may.1
-lose-timely m c fit there kept (why.File f) may = may.1
+lose-timely m c fit there kept (refusal.NotSent k sent) may = sent-known m c k sent fit there may.1.0 may.1.1 may.1.2
+lose-timely m c fit there kept (refusal.WasLost k) may = kept-known m c k fit there kept may.1.0 may.1.3
+lose-timely m c fit there kept _ may = may.1.0
 
 -- ---- the parts of the schedule
 

@@ -21,6 +21,8 @@ use Rattle.lard_history.specs.Journal.{answered_bytes, is_lost, numbers_of, pack
 use Rattle.lard_history.specs.Own.{own}
 use Rattle.lard_journal.specs.declared.rec.Rec.{Rec}
 use Rattle.lard_law_view.specs.ClientRule.{client_of}
+use Rattle.lard_rules.specs.declared.fault.Refusal.{Refusal}
+use Rattle.lard_rules.specs.declared.fault.Refusal.TheVariants as refusal
 use Rattle.lard_rules.specs.declared.fault.What.{What}
 use Rattle.lard_rules.specs.declared.fault.What.TheVariants as what
 use Rattle.lard_schedule.specs.declared.item.Item.{Item}
@@ -92,6 +94,7 @@ HasReached J what.PacketBytes = (sent_count J < 1000000) × (2 ^ 29 ≤ packet_b
 HasReached J what.Records = (sent_count J < 1000000) × (packet_bytes J < 2 ^ 29) × (4000000 ≤ length J)
 HasReached J what.Answers = (sent_count J < 1000000) × (packet_bytes J < 2 ^ 29) × (length J < 4000000) × (2 ^ 29 ≤ answered_bytes J)
 HasReached J what.Input = ⊥
+HasReached J what.Requests = ⊥
 HasReached J what.Stream = ⊥
 
 -- an event of packet k
@@ -142,16 +145,13 @@ IsOfDisk nodes J (event.Disk k i) n j len = (k ≡ n) × (i ≡ j) × (1 ≤ n) 
 IsOfDisk nodes J _ n j len = ⊥
 
 -- the event is not one that may come now
-abbrev pub IsUntimely : Machine → Event → Why → Type 0
-IsUntimely m e (why.NotSent k sent) = IsOfPacket e k × (sent ≡ sent_count m.journal) × ((k ≡ 0) ⊎ (sent < k))
-IsUntimely m e (why.WasLost k) = IsOfPacket e k × (1 ≤ k) × (k ≤ sent_count m.journal) × (is_lost m.journal k ≡ true)
-IsUntimely m e (why.NoClient c) = IsOfClient e c × (numbers_of m.journal c ≡ None)
-IsUntimely m e (why.Used c) = Opens e c × IsSome (numbers_of m.journal c)
-IsUntimely m e (why.NoNode n nodes) = IsOfNode m.journal e n × (nodes ≡ m.config.nodes) × ((n ≡ 0) ⊎ (nodes < n))
-IsUntimely m e (why.NoJob n j len) = IsOfDisk m.config.nodes m.journal e n j len × ((j ≡ 0) ⊎ (len < j))
-IsUntimely m e why.Syntax = ⊥
-IsUntimely m e (why.Config fault) = ⊥
-IsUntimely m e (why.File fault) = ⊥
+abbrev pub IsUntimely : Machine → Event → Refusal → Type 0
+IsUntimely m e (refusal.NotSent k sent) = IsOfPacket e k × (sent ≡ sent_count m.journal) × ((k ≡ 0) ⊎ (sent < k))
+IsUntimely m e (refusal.WasLost k) = IsOfPacket e k × (1 ≤ k) × (k ≤ sent_count m.journal) × (is_lost m.journal k ≡ true)
+IsUntimely m e (refusal.NoClient c) = IsOfClient e c × (numbers_of m.journal c ≡ None)
+IsUntimely m e (refusal.Used c) = Opens e c × IsSome (numbers_of m.journal c)
+IsUntimely m e (refusal.NoNode n nodes) = IsOfNode m.journal e n × (nodes ≡ m.config.nodes) × ((n ≡ 0) ⊎ (nodes < n))
+IsUntimely m e (refusal.NoJob n j len) = IsOfDisk m.config.nodes m.journal e n j len × ((j ≡ 0) ⊎ (len < j))
 
 -- A settle ended the run in this state, by this fault: no step was done there.
 abbrev pub StopsIn : Machine → ℕ → Machine → StepFault → Type 0
@@ -164,9 +164,9 @@ Reaches m (event.Settle rounds) w = (n : Machine) × (f : StepFault) × StopsIn 
 Reaches m e w = HasReached m.journal w ⊎ (IsWithinLimits m.journal × (w ≡ what.Stream) × WritesTooMuch m.config.stream m.journal e)
 
 -- The event may not come now. A settle always may, and its inner steps are refused for no other cause than a limit.
-abbrev pub MayNotCome : Machine → Event → Why → Type 0
-MayNotCome m (event.Settle rounds) cause = ⊥
-MayNotCome m e cause = IsWithinLimits m.journal × IsUntimely m e cause
+abbrev pub MayNotCome : Machine → Event → Refusal → Type 0
+MayNotCome m (event.Settle rounds) reason = ⊥
+MayNotCome m e reason = IsWithinLimits m.journal × IsUntimely m e reason
 
 -- ---- files
 
@@ -190,7 +190,7 @@ abbrev pub Refuses : Progress → List ℕ → Why → Type 0
 Refuses s line why.Syntax = (x : Item) → ¬ (Stands s line x)
 Refuses s line (why.Config fault) = (x : Item) × Stands s line x × IsUnfit s.config x fault
 Refuses s line (why.File fault) = AddsNone s line fault
-Refuses s line cause = (e : Event) × Tries s line e × MayNotCome s.machine e cause
+Refuses s line (why.Untimely reason) = (e : Event) × Tries s line e × MayNotCome s.machine e reason
 
 -- how a line ends the run, after n lines of so many bytes: it holds the byte after the limit, or it is refused, or a
 -- limit is reached

@@ -76,12 +76,7 @@ begun s (Err fault) = Err (Refused s.lines (why.Config fault))
 
 -- how a fault of a step ends the run at a line
 abbrev pub ended_by : ℕ → StepFault → Status
-ended_by line (fault.NotSent k sent) = Refused line (why.NotSent k sent)
-ended_by line (fault.WasLost k) = Refused line (why.WasLost k)
-ended_by line (fault.NoClient c) = Refused line (why.NoClient c)
-ended_by line (fault.Used c) = Refused line (why.Used c)
-ended_by line (fault.NoNode n nodes) = Refused line (why.NoNode n nodes)
-ended_by line (fault.NoJob n j len) = Refused line (why.NoJob n j len)
+ended_by line (fault.Refused reason) = Refused line (why.Untimely reason)
 ended_by line (fault.Limit what) = Limit line what
 ended_by line fault.NoMemory = NoMemory
 

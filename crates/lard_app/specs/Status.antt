@@ -5,10 +5,12 @@ use Rattle.lard_base.specs.declared.config.ConfigFault.{ConfigFault}
 use Rattle.lard_base.specs.declared.config.ConfigFault.TheVariants.{Range, LowHigh, NoRoom}
 use Rattle.lard_files.specs.declared.fault.FileFault.{FileFault}
 use Rattle.lard_files.specs.declared.fault.FileFault.TheVariants as file_fault
+use Rattle.lard_rules.specs.declared.fault.Refusal.{Refusal}
+use Rattle.lard_rules.specs.declared.fault.Refusal.TheVariants.{NotSent, WasLost, NoClient, Used, NoNode, NoJob}
 use Rattle.lard_rules.specs.declared.fault.What.{What}
-use Rattle.lard_rules.specs.declared.fault.What.TheVariants.{Input, Packets, PacketBytes, Records, Answers, Stream}
+use Rattle.lard_rules.specs.declared.fault.What.TheVariants.{Input, Packets, PacketBytes, Records, Answers, Requests, Stream}
 use Rattle.lard_app.specs.declared.status.Why.{Why}
-use Rattle.lard_app.specs.declared.status.Why.TheVariants.{Syntax, Config, File, NotSent, WasLost, NoClient, Used, NoNode, NoJob}
+use Rattle.lard_app.specs.declared.status.Why.TheVariants.{Syntax, Config, File, Untimely}
 use Rattle.lard_app.specs.declared.status.Status.{Status}
 use Rattle.lard_app.specs.declared.status.Status.TheVariants.{Done, Usage, Refused, ReadFault, WriteFault, NoMemory, Limit}
 
@@ -39,16 +41,20 @@ with_file_fault text (file_fault.TooMany n) = text ++ codes "too many files: " +
 with_file_fault text (file_fault.TooMuch n) = text ++ codes "files too large: " ++ decimal n
 with_file_fault text file_fault.NoMemory = text ++ codes "no memory"
 
+-- why an event can't happen, behind a text
+abbrev pub with_refusal : List ℕ → Refusal → List ℕ
+with_refusal text (NotSent k sent) = text ++ codes "packet " ++ decimal k ++ codes " of " ++ decimal sent ++ codes " sent"
+with_refusal text (WasLost k) = text ++ codes "packet " ++ decimal k ++ codes " was lost"
+with_refusal text (NoClient c) = text ++ codes "client " ++ decimal c ++ codes " not opened"
+with_refusal text (Used c) = text ++ codes "client " ++ decimal c ++ codes " opened before"
+with_refusal text (NoNode n nodes) = text ++ codes "node " ++ decimal n ++ codes " above " ++ decimal nodes
+with_refusal text (NoJob n j len) = text ++ codes "job " ++ decimal j ++ codes " of " ++ decimal len ++ codes " at node " ++ decimal n
+
 abbrev pub why_text : ℕ → Why → List ℕ
 why_text line Syntax = line_prefix line ++ codes "not a line of the schedule"
 why_text line (Config fault) = with_fault (line_prefix line) fault
 why_text line (File fault) = with_file_fault (line_prefix line) fault
-why_text line (NotSent k sent) = line_prefix line ++ codes "packet " ++ decimal k ++ codes " of " ++ decimal sent ++ codes " sent"
-why_text line (WasLost k) = line_prefix line ++ codes "packet " ++ decimal k ++ codes " was lost"
-why_text line (NoClient c) = line_prefix line ++ codes "client " ++ decimal c ++ codes " not opened"
-why_text line (Used c) = line_prefix line ++ codes "client " ++ decimal c ++ codes " opened before"
-why_text line (NoNode n nodes) = line_prefix line ++ codes "node " ++ decimal n ++ codes " above " ++ decimal nodes
-why_text line (NoJob n j len) = line_prefix line ++ codes "job " ++ decimal j ++ codes " of " ++ decimal len ++ codes " at node " ++ decimal n
+why_text line (Untimely reason) = with_refusal (line_prefix line) reason
 
 abbrev pub what_word : What → List ℕ
 what_word Input = codes "input"
@@ -56,6 +62,7 @@ what_word Packets = codes "packets"
 what_word PacketBytes = codes "packet-bytes"
 what_word Records = codes "records"
 what_word Answers = codes "answers"
+what_word Requests = codes "requests"
 what_word Stream = codes "stream"
 
 -- what is printed to standard error, without the line feed

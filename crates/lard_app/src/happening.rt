@@ -89,12 +89,7 @@ pub fn ended_by(line: u64, fault: StepFault) -> Status
     ensures { result ≡ ended_by line fault }
 {
     match fault {
-        StepFault::NotSent { k, sent } => refused(line, Why::NotSent { k, sent }),
-        StepFault::WasLost(k) => refused(line, Why::WasLost(k)),
-        StepFault::NoClient(c) => refused(line, Why::NoClient(c)),
-        StepFault::Used(c) => refused(line, Why::Used(c)),
-        StepFault::NoNode { n, nodes } => refused(line, Why::NoNode { n, nodes }),
-        StepFault::NoJob { n, j, len } => refused(line, Why::NoJob { n, j, len }),
+        StepFault::Refused(reason) => refused(line, Why::Untimely(reason)),
         StepFault::Limit(what) => Status::Limit { line, what },
         StepFault::NoMemory => Status::NoMemory,
     }

@@ -19,5 +19,5 @@ mod words;
 pub use commands::run;
 pub use flush::flush_report;
 pub use lard_files::FileFault;
-pub use lard_rules::What;
+pub use lard_rules::{Refusal, What};
 pub use status::{Status, Why};

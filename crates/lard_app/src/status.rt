@@ -2,12 +2,12 @@
 
 ghost use Rattle.std.specs.Prelude.{◌≡◌, ◌++◌, IfOk, OnOk, codes, decimal};
 ghost use Rattle.std.specs.String.{string_bytes};
-ghost use Rattle.lard_app.specs.Status.{code_of, line_prefix, line_text, what_word, why_text, with_fault, with_file_fault};
+ghost use Rattle.lard_app.specs.Status.{code_of, line_prefix, line_text, what_word, why_text, with_fault, with_file_fault, with_refusal};
 
 use itoa::Buffer;
 use lard_base::{ConfigFault, Key, NoMemory};
 use lard_files::FileFault;
-use lard_rules::What;
+use lard_rules::{Refusal, What};
 use lard_schedule::key_word;
 use std::alloc::Global;
 
@@ -20,18 +20,8 @@ pub enum Why {
     Config(ConfigFault),
     /// It adds a file that may not be added, for another cause than running out of memory, which is `Status::NoMemory`.
     File(FileFault),
-    /// It delivers or loses packet `k` where only `sent` were sent.
-    NotSent { k: u32, sent: u32 },
-    /// It delivers or loses the packet with this number, which was lost.
-    WasLost(u32),
-    /// It is an event of the client with this number, which has not opened.
-    NoClient(u32),
-    /// It opens the client with this number, which opened before.
-    Used(u32),
-    /// It names node `n` where only `nodes` are there.
-    NoNode { n: u32, nodes: u8 },
-    /// It completes the `j`-th job of the disk of node `n`, where only `len` are queued.
-    NoJob { n: u8, j: u32, len: u32 },
+    /// It is an event that can't happen as things stand: it names what is not there, or what is there already.
+    Untimely(Refusal),
 }
 
 /// How a run ended. Lines are counted from 1.
@@ -110,12 +100,7 @@ fn refusal(alloc: Global, line: u64, why: Why) -> Result<String, NoMemory>
         Why::Syntax => return ended(text, "not a line of the schedule"),
         Why::Config(fault) => return faulty(text, fault),
         Why::File(fault) => return not_added(text, fault),
-        Why::NotSent { k, sent } => return not_sent(text, k, sent),
-        Why::WasLost(k) => return of_packet(text, k, " was lost"),
-        Why::NoClient(c) => return of_client(text, c, " not opened"),
-        Why::Used(c) => return of_client(text, c, " opened before"),
-        Why::NoNode { n, nodes } => return no_node(text, n, nodes),
-        Why::NoJob { n, j, len } => return no_job(text, n, j, len),
+        Why::Untimely(reason) => return untimely(text, reason),
     }
 }
 
@@ -163,6 +148,20 @@ fn not_added(text: String, fault: FileFault) -> Result<String, NoMemory>
         FileFault::TooMany(n) => return counted(text, "too many files: ", n),
         FileFault::TooMuch(n) => return counted(text, "files too large: ", n),
         FileFault::NoMemory => return ended(text, "no memory"),
+    }
+}
+
+/// A text, and then why an event can't happen.
+fn untimely(text: String, reason: Refusal) -> Result<String, NoMemory>
+    ensures { IfOk result (λ longer. string_bytes longer ≡ with_refusal (string_bytes text) reason) }
+{
+    match reason {
+        Refusal::NotSent { k, sent } => return not_sent(text, k, sent),
+        Refusal::WasLost(k) => return of_packet(text, k, " was lost"),
+        Refusal::NoClient(c) => return of_client(text, c, " not opened"),
+        Refusal::Used(c) => return of_client(text, c, " opened before"),
+        Refusal::NoNode { n, nodes } => return no_node(text, n, nodes),
+        Refusal::NoJob { n, j, len } => return no_job(text, n, j, len),
     }
 }
 
@@ -231,6 +230,7 @@ fn what_word(what: What) -> &'static str
         What::PacketBytes => "packet-bytes",
         What::Records => "records",
         What::Answers => "answers",
+        What::Requests => "requests",
         What::Stream => "stream",
     }
 }

@@ -1,6 +1,6 @@
 //! Each public call once: what `run` writes for the shortest schedule, and the code and the line of each status.
 
-use crate::{FileFault, Status, What, Why, flush_report, run};
+use crate::{FileFault, Refusal, Status, What, Why, flush_report, run};
 use lard_base::{Bytes, Calls, ConfigFault, Key, MemSink, MemSource, Sink, StdSink};
 use std::io::{self, Error, ErrorKind, Write};
 use std::test::Fail;
@@ -96,24 +96,32 @@ fn each_status_has_its_code_and_line(rt: HostRuntime) -> Result<(), Fail> {
             "line 4: files too large: 67108865",
         ),
         (
-            refused(Why::NotSent { k: 7, sent: 2 }),
+            refused(Why::Untimely(Refusal::NotSent { k: 7, sent: 2 })),
             2,
             "line 4: packet 7 of 2 sent",
         ),
-        (refused(Why::WasLost(7)), 2, "line 4: packet 7 was lost"),
         (
-            refused(Why::NoClient(16_384)),
+            refused(Why::Untimely(Refusal::WasLost(7))),
+            2,
+            "line 4: packet 7 was lost",
+        ),
+        (
+            refused(Why::Untimely(Refusal::NoClient(16_384))),
             2,
             "line 4: client 16384 not opened",
         ),
-        (refused(Why::Used(1)), 2, "line 4: client 1 opened before"),
         (
-            refused(Why::NoNode { n: 65, nodes: 64 }),
+            refused(Why::Untimely(Refusal::Used(1))),
+            2,
+            "line 4: client 1 opened before",
+        ),
+        (
+            refused(Why::Untimely(Refusal::NoNode { n: 65, nodes: 64 })),
             2,
             "line 4: node 65 above 64",
         ),
         (
-            refused(Why::NoJob { n: 3, j: 7, len: 2 }),
+            refused(Why::Untimely(Refusal::NoJob { n: 3, j: 7, len: 2 })),
             2,
             "line 4: job 7 of 2 at node 3",
         ),
@@ -125,6 +133,7 @@ fn each_status_has_its_code_and_line(rt: HostRuntime) -> Result<(), Fail> {
         (limit(What::PacketBytes), 6, "line 9: limit packet-bytes"),
         (limit(What::Records), 6, "line 9: limit records"),
         (limit(What::Answers), 6, "line 9: limit answers"),
+        (limit(What::Requests), 6, "line 9: limit requests"),
         (limit(What::Stream), 6, "line 9: limit stream"),
     ] {
         assert_eq!(rt; status.code(), code);

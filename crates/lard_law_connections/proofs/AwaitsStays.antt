@@ -16,22 +16,14 @@ use Rattle.lard_rules.specs.declared.stay.Progress.{Progress}
 use Rattle.lard_rules.specs.declared.stay.Progress.TheVariants as progress
 use Rattle.lard_rules.specs.declared.stay.Want.{Want}
 use Rattle.lard_rules.specs.Node.{anew, ask_kept, asked_kept, fetch_of, wants_kept}
-use Rattle.lard_rules.specs.Stay.{NodeEnv, Work, and_path, asks_for, entered, enters, enters_first, enters_one, goes_on, left, named_path, named_paths, next_by, next_in, path_in, progress_of, read_entry, reads_batch, reads_these, serves_by, serves_first, serves_with, started, started_here, started_there, starts_at, starts_named, starts_one, turn, turned}
+use Rattle.lard_rules.specs.Stay.{NodeEnv, Work, and_path, asks_for, entered, enters, enters_first, enters_one, goes_on, left, named_path, named_paths, next_in, path_in, progress_of, read_entry, reads_batch, reads_these, serves_by, serves_first, serves_with, started, started_here, started_there, starts_at, starts_named, starts_one, turn, turned}
 use Rattle.lard_reader.specs.Batches.{batch_of, bytes_used}
 use Rattle.lard_request.specs.declared.verdict.Verdict.{Verdict}
 use Rattle.lard_resend.specs.declared.kept.Kept.{Kept}
 use Rattle.lard_rules.specs.Loop.{Step, More, Done, state_of}
 use Rattle.lard_rules.specs.Serving.{Service, consumed, ended_at_fin, may_read, passed_over, queued}
 use Rattle.lard_rules.proofs.Runs.{runs_keep}
-
-pub empty-batch : (es : List Entry) → next_in es ≡ next.Read → es ≡ []
-empty-batch [] h = refl
-empty-batch (e ∷ es) h = absurd (go e.progress h) where
-  go : (p : Progress) → next_by p ≡ next.Read → ⊥
-  go (progress.Ready way) f = cc
-  go progress.Named f = cc
-  go progress.Reading f = cc
-  go (progress.Awaited node) f = cc
+use Rattle.lard_rules.proofs.StayFalling.{none-left}
 
 module _ (env : NodeEnv) (kept0 fetches0 : List Kept) where
   abbrev files : FilesAt
@@ -127,7 +119,7 @@ module _ (env : NodeEnv) (kept0 fetches0 : List Kept) where
 
   turned-comes : (k : Work) (n : Next) → next_in k.batch ≡ n → Comes k → StepComes (turned env k n)
   turned-comes k next.Serve e h = serves-come k k.batch h h
-  turned-comes k next.Read e h = batch-comes false k (empty-batch k.batch e)
+  turned-comes k next.Read e h = batch-comes false k (none-left k.batch e)
   turned-comes k next.Stop e h = h
 
   turn-comes : (k : Work) → Comes k → StepComes (turn env k)

@@ -7,7 +7,6 @@ use Rattle.lard_base.specs.declared.place.TimerKind.TheVariants as kind
 use Rattle.lard_base.specs.declared.place.Via.{Via}
 use Rattle.lard_base.specs.declared.place.Via.TheVariants as via
 use Rattle.lard_law_connections.proofs.AwaitsBatches.{wants-push}
-use Rattle.lard_law_connections.proofs.AwaitsStays.{empty-batch}
 use Rattle.lard_law_connections.specs.Kept.{AsksFor, IsFetch, awaited_in, awaits}
 use Rattle.lard_law_connections.proofs.KeptBatches.{AreFetches, anew-fetches, anew-more, awaited-push, named-awaits, named-file, named-push}
 use Rattle.lard_history.proofs.Each.{Each}
@@ -29,6 +28,7 @@ use Rattle.lard_resend.proofs.Held.{put_some}
 use Rattle.lard_rules.specs.Loop.{Step, More, Done, state_of}
 use Rattle.lard_rules.specs.Serving.{Service, answered, consumed, may_read}
 use Rattle.lard_rules.proofs.Runs.{runs_keep}
+use Rattle.lard_rules.proofs.StayFalling.{none-left}
 
 -- ---- a turn
 
@@ -182,7 +182,7 @@ module _ (N : ℕ → Type 0) (env : NodeEnv) (kept0 fetches0 : List Kept) (asks
 
   turned-awaits : (w : Work) (n : Next) → next_in w.batch ≡ n → Awaits w → StepAwaits (turned env w n)
   turned-awaits w next.Serve e h = first-awaits w w.batch refl h
-  turned-awaits w next.Read e h = batch-awaits false w (empty-batch w.batch e) h
+  turned-awaits w next.Read e h = batch-awaits false w (none-left w.batch e) h
   turned-awaits w next.Stop e h = h
 
   turn-awaits : (w : Work) → Awaits w → StepAwaits (turn env w)

@@ -38,7 +38,7 @@ use Rattle.lard_rules.specs.declared.stay.Progress.{Progress}
 use Rattle.lard_rules.specs.declared.stay.Progress.TheVariants as progress
 use Rattle.lard_rules.specs.declared.stay.Stay.{Stay}
 use Rattle.lard_rules.specs.Node.{Deed, Drops, Says, Does, NodePart, begins, both_of, come_by, fired_by, gone, heard_by, here, is_awaited, kept_after, node_acknowledged, node_content, node_forwarded, node_offered, node_read, node_tagged, node_timer, offered_by, read_by, saying, tagged_by, taken_sent, with_work, work_of}
-use Rattle.lard_rules.specs.Stay.{NodeEnv, Work, asking, asks_for, came_for, come_on, come_progress, entered, enters, enters_first, enters_one, goes_on, left, named_path, named_paths, next_by, next_in, read_progress, reads_batch, reads_these, serves_by, serves_first, started, started_here, started_there, starts_at, starts_named, starts_one, tagged, turn, turned}
+use Rattle.lard_rules.specs.Stay.{NodeEnv, Work, asking, asks_for, came_for, come_on, come_progress, entered, enters, enters_first, enters_one, goes_on, left, named_path, named_paths, next_in, read_progress, reads_batch, reads_these, serves_by, serves_first, started, started_here, started_there, starts_at, starts_named, starts_one, tagged, turn, turned}
 use Rattle.lard_reader.specs.Batches.{batch_of, bytes_used}
 use Rattle.lard_reader.proofs.Going.{batch-closed, batch-long, batch-open, used-suc}
 use Rattle.lard_recv.specs.Recv.{Received, awaited, begins_after, ends, fresh, taken}
@@ -72,15 +72,6 @@ none-read q none = go (cut_of q) refl where
   go (found.More s) e = ap (λ k. blocks (drop k q)) (used-suc 7 q (found.More s) e) ∙ none-behind q s e
   go (found.Block s l) e = absurd (by_close s l e (closes (verdict (take l (drop s q)))) refl)
   go (found.TooLong s) e = absurd (some (Fault FieldsTooLarge) [] (batch_of 8 q) (batch-long 7 q s e) none)
-
-empty-batch : (es : List Entry) → next_in es ≡ next.Read → es ≡ []
-empty-batch [] h = refl
-empty-batch (e ∷ es) h = absurd (go e.progress h) where
-  go : (p : Progress) → next_by p ≡ next.Read → ⊥
-  go (progress.Ready way) f = cc
-  go progress.Named f = cc
-  go progress.Reading f = cc
-  go (progress.Awaited node) f = cc
 
 awaited-batch : (es : List Entry) → next_in es ≡ next.Stop → IsAwaited es
 awaited-batch [] h = let no : next.Read ≡ next.Stop = h in absurd cc
@@ -225,7 +216,7 @@ module _ (env : NodeEnv) where
 
   turned-at : (k : Work) (n : Next) → next_in k.batch ≡ n → may_read k.service ≡ true → MayRest k → StepRests (turned env k n)
   turned-at k next.Serve e may h = serves-at k k.batch may h
-  turned-at k next.Read e may h = (batch-at false k (unfinished-there k.service may) (empty-batch k.batch e)).0
+  turned-at k next.Read e may h = (batch-at false k (unfinished-there k.service may) (none-left k.batch e)).0
   turned-at k next.Stop e may h = λ over calm. ((λ open_. inl (awaited-batch k.batch e)), h)
 
   turn-at : (k : Work) → MayRest k → StepRests (turn env k)

@@ -6,7 +6,8 @@ use Rattle.lard_base.specs.declared.event.Event.TheVariants as event
 use Rattle.lard_base.specs.declared.place.Place.{Place}
 use Rattle.lard_base.specs.declared.place.Place.TheVariants.{Client, Front, Node}
 use Rattle.lard_rules.specs.declared.fault.StepFault.{StepFault}
-use Rattle.lard_rules.specs.declared.fault.StepFault.TheVariants.{Limit, NoClient, NoJob, NoNode, WasLost}
+use Rattle.lard_rules.specs.declared.fault.Refusal.TheVariants.{NoClient, NoJob, NoNode, WasLost}
+use Rattle.lard_rules.specs.declared.fault.StepFault.TheVariants.{Limit, Refused}
 use Rattle.lard_rules.specs.declared.machine.Machine.{Machine}
 use Rattle.lard_rules.specs.Machine.{completes, delivered, disk_at, from_place, is_no_job, is_no_node, limit_reached, machine_step, node_acts, node_at, node_gave, node_setting, timer, timer_at, to_client, to_front, to_place, told, unless_limit}
 use Rattle.lard_disk.specs.declared.disk.Job.{Job}
@@ -56,8 +57,8 @@ module _ (m : Machine) (k : ℕ) (p : Packet) where
 pub deliver-goes : (m n : Machine) (k : ℕ) (p : Packet) → packet_at m.net k ≡ Some p → machine_step m (event.Deliver k) ≡ Ok n → GoesTo m n p
 unfolding machine_step delivered
 deliver-goes m n k p at is = limited (limit_reached m) is where
-  lost : (t : Bool) → cond {A = Result Machine StepFault} t (Err (WasLost k)) (Ok (to_place m k p p.to)) ≡ Ok n → GoesTo m n p
-  lost true e = absurd (err-ok (WasLost k) n e)
+  lost : (t : Bool) → cond {A = Result Machine StepFault} t (Err (Refused (WasLost k))) (Ok (to_place m k p p.to)) ≡ Ok n → GoesTo m n p
+  lost true e = absurd (err-ok (Refused (WasLost k)) n e)
   lost false e = place-goes m k p n p.to refl (ok-same (to_place m k p p.to) n e)
 
   limited : (o : Option What) → unless_limit o (delivered m k (packet_at m.net k)) ≡ Ok n → GoesTo m n p
@@ -75,8 +76,8 @@ timer-goes m n p c is = limited (limit_reached m) is where
   at-node i None at e = inl (ap (λ (x : Machine). x.nodes) (sym e))
   at-node i (Some s) at e = inr (i, s, at, sym e)
 
-  counted : (i : ℕ) (t : Bool) → cond {A = Result Machine StepFault} t (Err (NoNode i m.config.nodes)) (Ok (node_acts m (event.Timer (Node i) c) [] i (back.Timer c) (node_at m.nodes i))) ≡ Ok n → FiresTo m n (Node i) c
-  counted i true e = absurd (err-ok (NoNode i m.config.nodes) n e)
+  counted : (i : ℕ) (t : Bool) → cond {A = Result Machine StepFault} t (Err (Refused (NoNode i m.config.nodes))) (Ok (node_acts m (event.Timer (Node i) c) [] i (back.Timer c) (node_at m.nodes i))) ≡ Ok n → FiresTo m n (Node i) c
+  counted i true e = absurd (err-ok (Refused (NoNode i m.config.nodes)) n e)
   counted i false e = at-node i (node_at m.nodes i) refl (ok-same _ n e)
 
   by-place : (q : Place) (x : Station) → timer_at m q c x ≡ Ok n → FiresTo m n q c
@@ -85,7 +86,7 @@ timer-goes m n p c is = limited (limit_reached m) is where
   by-place (Node i) x e = counted i (is_no_node m.config.nodes i) e
 
   opened : (o : Option Station) → timer m p c o ≡ Ok n → FiresTo m n p c
-  opened None e = absurd (err-ok (NoClient c) n e)
+  opened None e = absurd (err-ok (Refused (NoClient c)) n e)
   opened (Some x) e = by-place p x e
 
   limited : (o : Option What) → unless_limit o (timer m p c (table.get m.clients c)) ≡ Ok n → FiresTo m n p c
@@ -107,19 +108,19 @@ disk-goes m n i is = limited (limit_reached m) is where
   no-job s none = ap (λ (js : List Job). 1 == 0 || nat_lt (length js) 1) none
 
   has-job : (s : NodeState) → node_at m.nodes i ≡ Some s → (js : List Job) → s.disk ≡ js
-      → cond {A = Result Machine StepFault} (is_no_job s 1) (Err (NoJob i 1 (length s.disk))) (Ok (node_gave m (event.Disk i 1) [] i (node_step (node_setting m i) s (back.Disk 1)))) ≡ Ok n → IsFirstJob m i
-  has-job s at [] none e = absurd (err-ok (NoJob i 1 (length s.disk)) n
-      (sym (ap (λ b. cond {A = Result Machine StepFault} b (Err (NoJob i 1 (length s.disk))) (Ok (node_gave m (event.Disk i 1) [] i (node_step (node_setting m i) s (back.Disk 1))))) (no-job s none)) ∙ e))
+      → cond {A = Result Machine StepFault} (is_no_job s 1) (Err (Refused (NoJob i 1 (length s.disk)))) (Ok (node_gave m (event.Disk i 1) [] i (node_step (node_setting m i) s (back.Disk 1)))) ≡ Ok n → IsFirstJob m i
+  has-job s at [] none e = absurd (err-ok (Refused (NoJob i 1 (length s.disk))) n
+      (sym (ap (λ b. cond {A = Result Machine StepFault} b (Err (Refused (NoJob i 1 (length s.disk)))) (Ok (node_gave m (event.Disk i 1) [] i (node_step (node_setting m i) s (back.Disk 1))))) (no-job s none)) ∙ e))
   has-job s at (job ∷ jobs) were e = record { state = s; at = at; job = job; jobs = jobs; were = were }
 
   at-node : (o : Option NodeState) → node_at m.nodes i ≡ o → disk_at m i 1 o ≡ Ok n → IsFirstJob m i
-  at-node None at e = absurd (err-ok (NoNode i m.config.nodes) n e)
+  at-node None at e = absurd (err-ok (Refused (NoNode i m.config.nodes)) n e)
   at-node (Some s) at e = has-job s at s.disk refl e
 
-  counted : (b : Bool) → cond {A = Result Machine StepFault} b (Err (NoNode i m.config.nodes)) (disk_at m i 1 (node_at m.nodes i)) ≡ Ok n → IsFirstJob m i
-  counted true e = absurd (err-ok (NoNode i m.config.nodes) n e)
+  counted : (b : Bool) → cond {A = Result Machine StepFault} b (Err (Refused (NoNode i m.config.nodes))) (disk_at m i 1 (node_at m.nodes i)) ≡ Ok n → IsFirstJob m i
+  counted true e = absurd (err-ok (Refused (NoNode i m.config.nodes)) n e)
   counted false e = at-node (node_at m.nodes i) refl e
 
-  limited : (o : Option What) → unless_limit o (cond {A = Result Machine StepFault} (is_no_node m.config.nodes i) (Err (NoNode i m.config.nodes)) (disk_at m i 1 (node_at m.nodes i))) ≡ Ok n → IsFirstJob m i
+  limited : (o : Option What) → unless_limit o (cond {A = Result Machine StepFault} (is_no_node m.config.nodes i) (Err (Refused (NoNode i m.config.nodes))) (disk_at m i 1 (node_at m.nodes i))) ≡ Ok n → IsFirstJob m i
   limited None e = counted (is_no_node m.config.nodes i) e
   limited (Some what) e = absurd (err-ok (Limit what) n e)

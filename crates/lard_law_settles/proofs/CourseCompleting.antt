@@ -7,7 +7,8 @@ use Rattle.lard_bound.specs.Progress.{chain_at, spot_at}
 use Rattle.lard_bound.specs.Spots.{Spot}
 use Rattle.lard_bound.specs.Units.{Whole, units_of}
 use Rattle.lard_rules.specs.declared.fault.StepFault.{StepFault}
-use Rattle.lard_rules.specs.declared.fault.StepFault.TheVariants.{Limit, NoJob, NoNode}
+use Rattle.lard_rules.specs.declared.fault.Refusal.TheVariants.{NoJob, NoNode}
+use Rattle.lard_rules.specs.declared.fault.StepFault.TheVariants.{Limit, Refused}
 use Rattle.lard_rules.specs.declared.machine.Machine.{Machine}
 use Rattle.lard_rules.specs.Bounds.{IsNumber}
 use Rattle.lard_rules.specs.Machine.{completes, disk_at, is_no_job, is_no_node, limit_reached, machine_step, node_at, node_gave, node_setting, unless_limit}
@@ -50,15 +51,15 @@ completed-at m n i s there is = limited (limit_reached m) is where
   ok-same : (x y : Machine) → ◌≡◌ {A = Result Machine StepFault} (Ok x) (Ok y) → x ≡ y
   ok-same x y e = cc
 
-  has-job : (b : Bool) → cond {A = Result Machine StepFault} b (Err (NoJob i 1 (length s.disk))) (Ok done) ≡ Ok n → n ≡ done
-  has-job true e = absurd (let no : ◌≡◌ {A = Result Machine StepFault} (Err (NoJob i 1 (length s.disk))) (Ok n) = e in cc)
+  has-job : (b : Bool) → cond {A = Result Machine StepFault} b (Err (Refused (NoJob i 1 (length s.disk)))) (Ok done) ≡ Ok n → n ≡ done
+  has-job true e = absurd (let no : ◌≡◌ {A = Result Machine StepFault} (Err (Refused (NoJob i 1 (length s.disk)))) (Ok n) = e in cc)
   has-job false e = sym (ok-same done n e)
 
-  counted : (b : Bool) → cond {A = Result Machine StepFault} b (Err (NoNode i m.config.nodes)) (disk_at m i 1 (node_at m.nodes i)) ≡ Ok n → n ≡ done
-  counted true e = absurd (let no : ◌≡◌ {A = Result Machine StepFault} (Err (NoNode i m.config.nodes)) (Ok n) = e in cc)
+  counted : (b : Bool) → cond {A = Result Machine StepFault} b (Err (Refused (NoNode i m.config.nodes))) (disk_at m i 1 (node_at m.nodes i)) ≡ Ok n → n ≡ done
+  counted true e = absurd (let no : ◌≡◌ {A = Result Machine StepFault} (Err (Refused (NoNode i m.config.nodes))) (Ok n) = e in cc)
   counted false e = has-job (is_no_job s 1) (sym (ap (disk_at m i 1) there) ∙ e)
 
-  limited : (o : Option What) → unless_limit o (cond {A = Result Machine StepFault} (is_no_node m.config.nodes i) (Err (NoNode i m.config.nodes)) (disk_at m i 1 (node_at m.nodes i))) ≡ Ok n → n ≡ done
+  limited : (o : Option What) → unless_limit o (cond {A = Result Machine StepFault} (is_no_node m.config.nodes i) (Err (Refused (NoNode i m.config.nodes))) (disk_at m i 1 (node_at m.nodes i))) ≡ Ok n → n ≡ done
   limited None e = counted (is_no_node m.config.nodes i) e
   limited (Some what) e = absurd (let no : ◌≡◌ {A = Result Machine StepFault} (Err (Limit what)) (Ok n) = e in cc)
 

@@ -17,7 +17,8 @@ use Rattle.lard_bound.specs.Units.{Whole}
 use Rattle.lard_cache.specs.Recency.{has}
 use Rattle.lard_client.specs.Control.{ClientBlock}
 use Rattle.lard_rules.specs.declared.fault.StepFault.{StepFault}
-use Rattle.lard_rules.specs.declared.fault.StepFault.TheVariants.{Limit, WasLost}
+use Rattle.lard_rules.specs.declared.fault.Refusal.TheVariants.{WasLost}
+use Rattle.lard_rules.specs.declared.fault.StepFault.TheVariants.{Limit, Refused}
 use Rattle.lard_rules.specs.declared.machine.Machine.{Machine}
 use Rattle.lard_rules.specs.Bounds.{IsNumber}
 use Rattle.lard_rules.specs.Machine.{delivered, limit_reached, machine_step, node_acts, node_at, node_gave, node_setting, to_place, told, unless_limit}
@@ -196,8 +197,8 @@ delivered-to m n k b p s at to there is = limited (limit_reached m) is where
   ok-same : (x y : Machine) → ◌≡◌ {A = Result Machine StepFault} (Ok x) (Ok y) → x ≡ y
   ok-same x y e = cc
 
-  lost : (t : Bool) → cond {A = Result Machine StepFault} t (Err (WasLost k)) (Ok (to_place m k p p.to)) ≡ Ok n → n ≡ gave
-  lost true e = absurd (let no : ◌≡◌ {A = Result Machine StepFault} (Err (WasLost k)) (Ok n) = e in cc)
+  lost : (t : Bool) → cond {A = Result Machine StepFault} t (Err (Refused (WasLost k))) (Ok (to_place m k p p.to)) ≡ Ok n → n ≡ gave
+  lost true e = absurd (let no : ◌≡◌ {A = Result Machine StepFault} (Err (Refused (WasLost k))) (Ok n) = e in cc)
   lost false e = sym (ok-same (to_place m k p p.to) n e) ∙ placed
 
   limited : (o : Option What) → unless_limit o (delivered m k (packet_at m.net k)) ≡ Ok n → n ≡ gave

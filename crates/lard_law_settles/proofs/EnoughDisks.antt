@@ -2,7 +2,8 @@
 use Rattle.std.proofs.Common.{◌≡◌, ◌≢◌, ℕ, ◌==◌, ◌||◌, nat_lt, Bool, true, false, cond, List, [], ◌∷◌, length, Option, Some, None, Result, Ok, Err, refl, sym, ap, ◌∙◌, subst}
 use Rattle.lard_base.specs.declared.event.Event.TheVariants as event
 use Rattle.lard_rules.specs.declared.fault.StepFault.{StepFault}
-use Rattle.lard_rules.specs.declared.fault.StepFault.TheVariants.{NoJob, NoNode}
+use Rattle.lard_rules.specs.declared.fault.Refusal.TheVariants.{NoJob, NoNode}
+use Rattle.lard_rules.specs.declared.fault.StepFault.TheVariants.{Refused}
 use Rattle.lard_rules.specs.declared.machine.Machine.{Machine}
 use Rattle.lard_rules.specs.Machine.{completes, disk_at, is_no_job, is_no_node, limit_reached, machine_step, node_at, node_gave, node_setting, told, unless_limit}
 use Rattle.lard_law_view.proofs.Parts.{node-others, node-set}
@@ -52,11 +53,11 @@ disk-done m q n is = limited (limit_reached m) is where
   same-machine : (k : Machine) → ◌≡◌ {A = Result Machine StepFault} (Ok k) (Ok q) → IsDone m n k → IsDone m n q
   same-machine k e h = let same : k ≡ q = cc in subst (IsDone m n) same h
 
-  has-job : (s : NodeState) → node_at m.nodes n ≡ Some s → (js : List Job) → s.disk ≡ js → cond {A = Result Machine StepFault} (is_no_job s 1) (Err (NoJob n 1 (length s.disk))) (Ok (step s)) ≡ Ok q → IsDone m n q
+  has-job : (s : NodeState) → node_at m.nodes n ≡ Some s → (js : List Job) → s.disk ≡ js → cond {A = Result Machine StepFault} (is_no_job s 1) (Err (Refused (NoJob n 1 (length s.disk)))) (Ok (step s)) ≡ Ok q → IsDone m n q
   has-job s at [] none e =
-      let no : ◌≡◌ {A = Result Machine StepFault} (Err (NoJob n 1 (length s.disk))) (Ok q) = sym (ap (λ b. cond {A = Result Machine StepFault} b (Err (NoJob n 1 (length s.disk))) (Ok (step s))) (no-job s none)) ∙ e in absurd cc
+      let no : ◌≡◌ {A = Result Machine StepFault} (Err (Refused (NoJob n 1 (length s.disk)))) (Ok q) = sym (ap (λ b. cond {A = Result Machine StepFault} b (Err (Refused (NoJob n 1 (length s.disk)))) (Ok (step s))) (no-job s none)) ∙ e in absurd cc
   has-job s at (job ∷ jobs) were e = go (is_no_job s 1) e where
-    go : (b : Bool) → cond {A = Result Machine StepFault} b (Err (NoJob n 1 (length s.disk))) (Ok (step s)) ≡ Ok q → IsDone m n q
+    go : (b : Bool) → cond {A = Result Machine StepFault} b (Err (Refused (NoJob n 1 (length s.disk)))) (Ok (step s)) ≡ Ok q → IsDone m n q
     go true e = absurd cc
     go false e = same-machine (step s) e (gave-done m n s job jobs at were)
 
@@ -64,10 +65,10 @@ disk-done m q n is = limited (limit_reached m) is where
   at-node None at e = absurd cc
   at-node (Some s) at e = has-job s at s.disk refl e
 
-  counted : (b : Bool) → cond {A = Result Machine StepFault} b (Err (NoNode n m.config.nodes)) (disk_at m n 1 (node_at m.nodes n)) ≡ Ok q → IsDone m n q
+  counted : (b : Bool) → cond {A = Result Machine StepFault} b (Err (Refused (NoNode n m.config.nodes))) (disk_at m n 1 (node_at m.nodes n)) ≡ Ok q → IsDone m n q
   counted true e = absurd cc
   counted false e = at-node (node_at m.nodes n) refl e
 
-  limited : (o : Option What) → unless_limit o (cond {A = Result Machine StepFault} (is_no_node m.config.nodes n) (Err (NoNode n m.config.nodes)) (disk_at m n 1 (node_at m.nodes n))) ≡ Ok q → IsDone m n q
+  limited : (o : Option What) → unless_limit o (cond {A = Result Machine StepFault} (is_no_node m.config.nodes n) (Err (Refused (NoNode n m.config.nodes))) (disk_at m n 1 (node_at m.nodes n))) ≡ Ok q → IsDone m n q
   limited None e = counted (is_no_node m.config.nodes n) e
   limited (Some what) e = absurd cc

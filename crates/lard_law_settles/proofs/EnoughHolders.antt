@@ -17,7 +17,8 @@ use Rattle.lard_base.specs.declared.place.Place.{Place}
 use Rattle.lard_base.specs.declared.place.Place.TheVariants.{Client, Front, Node}
 use Rattle.lard_client.specs.Control.{ClientBlock, aborted, is_established, is_holding, is_open, is_open_in, is_writing, opened, shut_down, written}
 use Rattle.lard_rules.specs.Bounds.{HasRule}
-use Rattle.lard_rules.specs.declared.fault.StepFault.TheVariants.{Limit, NoClient}
+use Rattle.lard_rules.specs.declared.fault.Refusal.TheVariants.{NoClient}
+use Rattle.lard_rules.specs.declared.fault.StepFault.TheVariants.{Limit, Refused}
 use Rattle.lard_rules.specs.declared.machine.Machine.{Machine}
 use Rattle.lard_rules.specs.Machine.{IsReached, Passes, client_does, limit_reached, machine_step, start, told, unless_limit}
 use Rattle.lard_law_view.specs.View.{ClientRules, Conn, IsMachine, IsViewed, Move, Part, Rules, Setting, conn, event_seen, grown, part_of, setting_of}
@@ -147,7 +148,7 @@ pub take-free : (m n : Machine) (d : ℕ) → machine_step m (event.Take d) ≡ 
 unfolding machine_step client_does told
 take-free m n d is = limited (limit_reached m) is where
   does : (o : Option Station) → client_does m (event.Take d) [] d client_takes o ≡ Ok n → is_holder n d ≡ false
-  does None e = absurd (err-ok (NoClient d) n e)
+  does None e = absurd (err-ok (Refused (NoClient d)) n e)
   does (Some x) e = subst (λ (k : Machine). is_holder k d ≡ false) (ok-same _ n e) (ap holds_there (get_inserted m.clients d (record { client = (client_takes x.client).0; iss = x.iss })) ∙ takes-free x.client)
 
   limited : (o : Option What) → unless_limit o (client_does m (event.Take d) [] d client_takes (table.get m.clients d)) ≡ Ok n → is_holder n d ≡ false

@@ -12,7 +12,8 @@ use Rattle.lard_base.specs.declared.event.Event.TheVariants as event
 use Rattle.lard_base.specs.declared.place.Place.{Place}
 use Rattle.lard_base.specs.declared.place.Place.TheVariants.{Client, Front, Node}
 use Rattle.lard_rules.specs.declared.fault.StepFault.{StepFault}
-use Rattle.lard_rules.specs.declared.fault.StepFault.TheVariants.{NoClient, NoNode, NotSent}
+use Rattle.lard_rules.specs.declared.fault.Refusal.TheVariants.{NoClient, NoNode, NotSent}
+use Rattle.lard_rules.specs.declared.fault.StepFault.TheVariants.{Refused}
 use Rattle.lard_rules.specs.declared.machine.Machine.{Machine}
 use Rattle.lard_rules.specs.Bounds as bounds
 use Rattle.lard_rules.specs.Bounds.{HasTimer}
@@ -58,29 +59,29 @@ module _ (m n : Machine) (view : IsViewed m) (nodes : IsNumber m.config.nodes) w
 
   takes : (c : ℕ) (e : Event) (o : Option Station) → table.get m.clients c ≡ o → client_does m e [] c client_takes o ≡ Ok n → IsNumber c
   unfolding client_does
-  takes c e None at is = never (NoClient c) n is
+  takes c e None at is = never (Refused (NoClient c)) n is
   takes c e (Some x) at is = client-number c x at
 
   delivers : (k : ℕ) (o : Option Packet) → packet_at m.net k ≡ o → length m.net < 1000000 → delivered m k o ≡ Ok n → IsNumber k
   unfolding delivered
-  delivers k None at few is = never (NotSent k (length m.net)) n is
+  delivers k None at few is = never (Refused (NotSent k (length m.net))) n is
   delivers k (Some p) at few is = let l = within-net m.net k p at in omega (arith, l, few)
 
   completed : (i j : ℕ) → completes m i j ≡ Ok n → IsNumber i
   unfolding completes
   completed i j is = go (is_no_node m.config.nodes i) refl is where
-    go : (b : Bool) → is_no_node m.config.nodes i ≡ b → cond b (Err (NoNode i m.config.nodes)) (disk_at m i j (node_at m.nodes i)) ≡ Ok n → IsNumber i
-    go true t h = never (NoNode i m.config.nodes) n h
+    go : (b : Bool) → is_no_node m.config.nodes i ≡ b → cond b (Err (Refused (NoNode i m.config.nodes))) (disk_at m i j (node_at m.nodes i)) ≡ Ok n → IsNumber i
+    go true t h = never (Refused (NoNode i m.config.nodes)) n h
     go false t h = node-number i t
 
   fires : (p : Place) (c : ℕ) → HasTimer p c → (o : Option Station) → table.get m.clients c ≡ o → timer m p c o ≡ Ok n → IsPlaceInRange p × IsNumber c
   unfolding timer
-  fires p c has None at is = never (NoClient c) n is
+  fires p c has None at is = never (Refused (NoClient c)) n is
   fires Front c has (Some x) at is = (tt, client-number c x at)
   fires (Client d) c has (Some x) at is = (subst IsNumber (sym has) (client-number c x at), client-number c x at)
   fires (Node i) c has (Some x) at is = (test (is_no_node m.config.nodes i) refl is, client-number c x at) where
-    test : (b : Bool) → is_no_node m.config.nodes i ≡ b → cond {A = Result Machine StepFault} b (Err (NoNode i m.config.nodes)) (Ok (node_acts m (event.Timer (Node i) c) [] i (back.Timer c) (node_at m.nodes i))) ≡ Ok n → IsNumber i
-    test true t h = never (NoNode i m.config.nodes) n h
+    test : (b : Bool) → is_no_node m.config.nodes i ≡ b → cond {A = Result Machine StepFault} b (Err (Refused (NoNode i m.config.nodes))) (Ok (node_acts m (event.Timer (Node i) c) [] i (back.Timer c) (node_at m.nodes i))) ≡ Ok n → IsNumber i
+    test true t h = never (Refused (NoNode i m.config.nodes)) n h
     test false t h = node-number i t
 
   pub event-given : (e : Event) → IsOfSettle e → machine_step m e ≡ Ok n → IsGiven e

@@ -4,7 +4,8 @@ use Rattle.std.proofs.lemmas.Bool.{cond_both}
 use Rattle.std.proofs.lemmas.Bool.Decides.{nat_tests}
 use Rattle.lard_base.specs.declared.event.Event.TheVariants as event
 use Rattle.lard_rules.specs.declared.fault.StepFault.{StepFault}
-use Rattle.lard_rules.specs.declared.fault.StepFault.TheVariants.{NoJob, NoNode}
+use Rattle.lard_rules.specs.declared.fault.Refusal.TheVariants.{NoJob, NoNode}
+use Rattle.lard_rules.specs.declared.fault.StepFault.TheVariants.{Refused}
 use Rattle.lard_rules.specs.declared.machine.Machine.{Machine}
 use Rattle.lard_rules.specs.Machine.{completes, disk_at, is_no_job, is_no_node, node_at, node_gave, node_setting, told}
 use Rattle.lard_law_view.proofs.Parts.{length-set, node-set}
@@ -79,8 +80,8 @@ completion-done m n left h =
     let some = j.2 in
     let job : is_no_job s 1 ≡ false = grind (arith, nat_tests, some) in
     let is : completes m n 1 ≡ Ok after =
-    ap (λ (b : Bool). cond {A = Result Machine StepFault} b (Err (NoNode n m.config.nodes)) (disk_at m n 1 (node_at m.nodes n))) counted
-    ∙ ap (disk_at m n 1) j.1 ∙ ap (λ (b : Bool). cond {A = Result Machine StepFault} b (Err (NoJob n 1 (length s.disk))) (Ok after)) job in
+    ap (λ (b : Bool). cond {A = Result Machine StepFault} b (Err (Refused (NoNode n m.config.nodes))) (disk_at m n 1 (node_at m.nodes n))) counted
+    ∙ ap (disk_at m n 1) j.1 ∙ ap (λ (b : Bool). cond {A = Result Machine StepFault} b (Err (Refused (NoJob n 1 (length s.disk)))) (Ok after)) job in
     inner-done (HasJobs n left) m after (event.Disk n 1) is (gave-jobs m n left s given h.0 j.1 (first-done (node_setting m n) s left some))
 
 pub completions-stop : (count n : ℕ) (m : Machine) → HasJobs n count m → StopsAtLimits (all_inner m (replicate count (event.Disk n 1)))

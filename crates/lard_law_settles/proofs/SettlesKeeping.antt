@@ -8,7 +8,8 @@ use Rattle.lard_base.specs.declared.place.Place.{Place}
 use Rattle.lard_base.specs.declared.place.Place.TheVariants as place
 use Rattle.lard_client.specs.Control.{ClientBlock, is_armed}
 use Rattle.lard_rules.specs.declared.fault.StepFault.{StepFault}
-use Rattle.lard_rules.specs.declared.fault.StepFault.TheVariants.{Limit, NoNode, WasLost}
+use Rattle.lard_rules.specs.declared.fault.Refusal.TheVariants.{NoNode, WasLost}
+use Rattle.lard_rules.specs.declared.fault.StepFault.TheVariants.{Limit, Refused}
 use Rattle.lard_rules.specs.declared.machine.Machine.{Machine}
 use Rattle.lard_rules.specs.Machine.{client_does, client_goes_on, client_put, delivered, from_place, front_acts, front_gave, front_setting, happens, is_no_node, limit_reached, machine_step, node_acts, node_at, node_gave, node_setting, passed, timer, timer_at, to_client, to_front, to_place, told, unless_limit}
 use Rattle.lard_rules.specs.declared.front.FrontState.{FrontState}
@@ -128,7 +129,7 @@ done-by m n x is keeps = (n, is, keeps)
 deliver-done : (m : Machine) (k : ℕ) → HasPacket m.net k → IsDone m (delivered m k (packet_at m.net k))
 unfolding delivered
 deliver-done m k h = let p : Packet = h.0 in done-by m (to_place m k p p.to) (delivered m k (packet_at m.net k))
-    (ap (delivered m k) h.1 ∙ ap (λ (b : Bool). cond {A = Result Machine StepFault} b (Err (WasLost k)) (Ok (to_place m k p p.to))) h.2) (place-keeps m k p p.to)
+    (ap (delivered m k) h.1 ∙ ap (λ (b : Bool). cond {A = Result Machine StepFault} b (Err (Refused (WasLost k))) (Ok (to_place m k p p.to))) h.2) (place-keeps m k p p.to)
 
 take-done : (m : Machine) (c : ℕ) → HasClient m c → IsDone m (client_does m (event.Take c) [] c client_takes (table.get m.clients c))
 unfolding client_does
@@ -139,7 +140,7 @@ fires-at m place.Front c x there = done-by m _ _ refl (front-keeps m (event.Time
 fires-at m (place.Client d) c x there = done-by m _ _ refl (client-keeps m (event.Timer (place.Client d) c) [] c x (client_timer x.client))
 fires-at m (place.Node n) c x there =
     let after : Machine = node_acts m (event.Timer (place.Node n) c) [] n (back.Timer c) (node_at m.nodes n) in
-    done-by m after _ (ap (λ (b : Bool). cond {A = Result Machine StepFault} b (Err (NoNode n m.config.nodes)) (Ok after)) there)
+    done-by m after _ (ap (λ (b : Bool). cond {A = Result Machine StepFault} b (Err (Refused (NoNode n m.config.nodes))) (Ok after)) there)
     (node-keeps m (event.Timer (place.Node n) c) [] n (back.Timer c) (node_at m.nodes n))
 
 fire-done : (m : Machine) (p : Place) (c : ℕ) → HasClient m c → IsThere m.config.nodes p → IsDone m (timer m p c (table.get m.clients c))

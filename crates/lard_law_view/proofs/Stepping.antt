@@ -7,7 +7,8 @@ use Rattle.lard_base.specs.declared.place.Place.{Place}
 use Rattle.lard_base.specs.declared.place.Place.TheVariants.{Front, Node, Client}
 use Rattle.lard_client.specs.Control.{ClientBlock, is_armed, written_len}
 use Rattle.lard_rules.specs.declared.fault.StepFault.{StepFault}
-use Rattle.lard_rules.specs.declared.fault.StepFault.TheVariants.{Limit, NoJob, NoNode, WasLost}
+use Rattle.lard_rules.specs.declared.fault.Refusal.TheVariants.{NoJob, NoNode, WasLost}
+use Rattle.lard_rules.specs.declared.fault.StepFault.TheVariants.{Limit, Refused}
 use Rattle.lard_rules.specs.declared.machine.Machine.{Machine}
 use Rattle.lard_rules.specs.Bounds.{HasRule}
 use Rattle.lard_rules.specs.Machine.{client_does, client_goes_on, completes, delivered, disk_at, from_place, happens, is_no_job, is_no_node, limit_reached, lost, machine_step, node_acts, node_at, node_gave, node_setting, opened, passed, timer, to_client, to_front, to_place, unless_limit, wrote}
@@ -91,7 +92,7 @@ module _ (m : Machine) (view : IsViewed m) (P : Conn → Move → Type 0) (R : R
     -- ---- timers
 
     node-timer-is : (i c : ℕ) (x : Station) → table.get m.clients c ≡ Some x → (b : Bool) → is_no_node m.config.nodes i ≡ b
-        → cond {A = Result Machine StepFault} b (Err (NoNode i m.config.nodes)) (Ok (node_acts m (event.Timer (Node i) c) [] i (back.Timer c) (node_at m.nodes i))) ≡ Ok n → Q (event.Timer (Node i) c) n
+        → cond {A = Result Machine StepFault} b (Err (Refused (NoNode i m.config.nodes))) (Ok (node_acts m (event.Timer (Node i) c) [] i (back.Timer c) (node_at m.nodes i))) ≡ Ok n → Q (event.Timer (Node i) c) n
     node-timer-is i c x at true t is = cc
     node-timer-is i c x at false t is =
         let e : Event = event.Timer (Node i) c in
@@ -181,7 +182,7 @@ module _ (m : Machine) (view : IsViewed m) (P : Conn → Move → Type 0) (R : R
     unfolding delivered
     delivered-is k None at is = cc
     delivered-is k (Some p) at is = go p.lost refl is where
-      go : (b : Bool) → p.lost ≡ b → cond {A = Result Machine StepFault} b (Err (WasLost k)) (Ok (to_place m k p p.to)) ≡ Ok n → Q (event.Deliver k) n
+      go : (b : Bool) → p.lost ≡ b → cond {A = Result Machine StepFault} b (Err (Refused (WasLost k))) (Ok (to_place m k p p.to)) ≡ Ok n → Q (event.Deliver k) n
       go true t i = cc
       go false t i = done _ _ (place-is k p at t p.to refl) i
 
@@ -190,7 +191,7 @@ module _ (m : Machine) (view : IsViewed m) (P : Conn → Move → Type 0) (R : R
     lost-is k None at is = cc
     lost-is k (Some p) at is = go p.lost refl is where
       go : (b : Bool) → p.lost ≡ b
-          → cond {A = Result Machine StepFault} b (Err (WasLost k)) (Ok (passed (record m { net = lose_at (k - 1) m.net }) (event.Lose k) (rec.Lost k ∷ []))) ≡ Ok n → Q (event.Lose k) n
+          → cond {A = Result Machine StepFault} b (Err (Refused (WasLost k))) (Ok (passed (record m { net = lose_at (k - 1) m.net }) (event.Lose k) (rec.Lost k ∷ []))) ≡ Ok n → Q (event.Lose k) n
       go true t i = cc
       go false t i = done _ _ (shapes.loses k p at t) i
 
@@ -200,14 +201,14 @@ module _ (m : Machine) (view : IsViewed m) (P : Conn → Move → Type 0) (R : R
     disk-is i j None here is = cc
     disk-is i j (Some s) here is = go (is_no_job s j) refl is where
       go : (b : Bool) → is_no_job s j ≡ b
-          → cond {A = Result Machine StepFault} b (Err (NoJob i j (length s.disk))) (Ok (node_gave m (event.Disk i j) [] i (node_step (node_setting m i) s (back.Disk j)))) ≡ Ok n → Q (event.Disk i j) n
+          → cond {A = Result Machine StepFault} b (Err (Refused (NoJob i j (length s.disk)))) (Ok (node_gave m (event.Disk i j) [] i (node_step (node_setting m i) s (back.Disk j)))) ≡ Ok n → Q (event.Disk i j) n
       go true t e = cc
       go false t e = done _ _ (disk-completes m view P R Q shapes i s here j t) e
 
     completes-is : (i j : ℕ) → completes m i j ≡ Ok n → Q (event.Disk i j) n
     unfolding completes
     completes-is i j is = go (is_no_node m.config.nodes i) is where
-      go : (b : Bool) → cond {A = Result Machine StepFault} b (Err (NoNode i m.config.nodes)) (disk_at m i j (node_at m.nodes i)) ≡ Ok n → Q (event.Disk i j) n
+      go : (b : Bool) → cond {A = Result Machine StepFault} b (Err (Refused (NoNode i m.config.nodes))) (disk_at m i j (node_at m.nodes i)) ≡ Ok n → Q (event.Disk i j) n
       go true e = cc
       go false e = disk-is i j (node_at m.nodes i) refl e
 

@@ -8,7 +8,8 @@ use Rattle.lard_base.specs.declared.event.Event.TheVariants as event
 use Rattle.lard_base.specs.declared.ids.Millis.{Millis}
 use Rattle.lard_base.specs.declared.place.Place.TheVariants.{Front, Node}
 use Rattle.lard_rules.specs.declared.fault.StepFault.{StepFault}
-use Rattle.lard_rules.specs.declared.fault.StepFault.TheVariants.{WasLost}
+use Rattle.lard_rules.specs.declared.fault.Refusal.TheVariants.{WasLost}
+use Rattle.lard_rules.specs.declared.fault.StepFault.TheVariants.{Refused}
 use Rattle.lard_rules.specs.declared.machine.Machine.{Machine}
 use Rattle.lard_rules.specs.Machine.{delivered, from_place, front_gave, front_setting, happens, limit_reached, machine_step, to_place, told, unless_limit}
 use Rattle.lard_laws.proofs.AsksComing.{Delivers, IsRow, step-comes}
@@ -51,7 +52,7 @@ module _ (m n : Machine) where
   unlimited None given e = e
   unlimited (Some what) given e = cc
 
-  unlost : (k : ℕ) (p : Packet) (b : Bool) → cond {A = Result Machine StepFault} b (Err (WasLost k)) (Ok (to_place m k p p.to)) ≡ Ok n → to_place m k p p.to ≡ n
+  unlost : (k : ℕ) (p : Packet) (b : Bool) → cond {A = Result Machine StepFault} b (Err (Refused (WasLost k))) (Ok (to_place m k p p.to)) ≡ Ok n → to_place m k p p.to ≡ n
   unlost k p true e = cc
   unlost k p false e = done (to_place m k p p.to) e
 

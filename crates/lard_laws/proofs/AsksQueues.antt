@@ -7,7 +7,8 @@ use Rattle.lard_base.specs.declared.event.Event.TheVariants as event
 use Rattle.lard_base.specs.declared.place.Place.{Place}
 use Rattle.lard_base.specs.declared.place.Place.TheVariants.{Client, Front, Node}
 use Rattle.lard_rules.specs.declared.fault.StepFault.{StepFault}
-use Rattle.lard_rules.specs.declared.fault.StepFault.TheVariants.{NoJob, NoNode}
+use Rattle.lard_rules.specs.declared.fault.Refusal.TheVariants.{NoJob, NoNode}
+use Rattle.lard_rules.specs.declared.fault.StepFault.TheVariants.{Refused}
 use Rattle.lard_rules.specs.declared.machine.Machine.{Machine}
 use Rattle.lard_rules.specs.Machine.{completes, disk_at, happens, is_no_job, is_no_node, limit_reached, machine_step, node_acts, node_at, node_gave, node_setting, passed, timer, to_place}
 use Rattle.lard_laws.specs.AsksSent.{AsksGoOn, IsNext, ask_by, is_ask, last_ask}
@@ -66,7 +67,7 @@ module _ (m n : Machine) (view : IsViewed m) (placed : (c : ℕ) → IsPlaced (c
 
     opened : (o : Option Station) → table.get m.clients c ≡ o → timer m (Node i) c o ≡ Ok n → Moved m (event.Timer (Node i) c) n i
     opened None open_ e = cc
-    opened (Some y) open_ e = at-node y open_ (node_at m.nodes i) refl (given-is (is_no_node m.config.nodes i) (NoNode i m.config.nodes) (node_acts m (event.Timer (Node i) c) [] i (back.Timer c) (node_at m.nodes i)) e)
+    opened (Some y) open_ e = at-node y open_ (node_at m.nodes i) refl (given-is (is_no_node m.config.nodes i) (Refused (NoNode i m.config.nodes)) (node_acts m (event.Timer (Node i) c) [] i (back.Timer c) (node_at m.nodes i)) e)
 
   disk-moved : (j : ℕ) → machine_step m (event.Disk i j) ≡ Ok n → Moved m (event.Disk i j) n i
   unfolding machine_step completes
@@ -75,9 +76,9 @@ module _ (m n : Machine) (view : IsViewed m) (placed : (c : ℕ) → IsPlaced (c
     at-node None there e = cc
     at-node (Some s) there e =
         let x : NodeState × Out = node_step (node_setting m i) s (back.Disk j) in
-        inl (s, x, there, disk-told m view placed known i s there j, given-is (is_no_job s j) (NoJob i j (length s.disk)) (node_gave m (event.Disk i j) [] i x) e)
+        inl (s, x, there, disk-told m view placed known i s there j, given-is (is_no_job s j) (Refused (NoJob i j (length s.disk))) (node_gave m (event.Disk i j) [] i x) e)
 
-    there-is : (b : Bool) → cond {A = Result Machine StepFault} b (Err (NoNode i m.config.nodes)) (disk_at m i j (node_at m.nodes i)) ≡ Ok n → Moved m (event.Disk i j) n i
+    there-is : (b : Bool) → cond {A = Result Machine StepFault} b (Err (Refused (NoNode i m.config.nodes))) (disk_at m i j (node_at m.nodes i)) ≡ Ok n → Moved m (event.Disk i j) n i
     there-is true e = cc
     there-is false e = at-node (node_at m.nodes i) refl e
 

@@ -16,7 +16,8 @@ use Rattle.lard_base.specs.declared.place.Place.TheVariants as place
 use Rattle.lard_client.specs.Control.{ClientBlock, is_armed, written_len}
 use Rattle.lard_rules.specs.Bounds.{HasRule}
 use Rattle.lard_rules.specs.declared.fault.StepFault.{StepFault}
-use Rattle.lard_rules.specs.declared.fault.StepFault.TheVariants.{Limit, NoJob, NoNode, WasLost}
+use Rattle.lard_rules.specs.declared.fault.Refusal.TheVariants.{NoJob, NoNode, WasLost}
+use Rattle.lard_rules.specs.declared.fault.StepFault.TheVariants.{Limit, Refused}
 use Rattle.lard_rules.specs.declared.machine.Machine.{Machine}
 use Rattle.lard_rules.specs.Machine.{IsReached, Passes, client_does, client_goes_on, clocked, completes, delivered, disk_at, from_place, happens, is_no_job, is_no_node, limit_reached, lost, machine_step, node_acts, node_at, node_gave, node_setting, opened, passed, start, timer, timer_at, to_client, to_front, to_place, unless_limit, wrote}
 use Rattle.lard_laws.specs.Records.{IsFile, IsGiven, RecordsAreInRange}
@@ -137,7 +138,7 @@ module _ (m : Machine) (view : IsViewed m) (small : m.config.stream ≤ 2 ^ 30) 
   timer_at-good place.Front c x there g rule = front-holds m small files holds room (event.Timer place.Front c) g [] tt (input.Timer c) (kept c x there).0
   timer_at-good (place.Client d) c x there g rule = goes c x there (event.Timer (place.Client d) c) [] (client_timer x.client) g tt (fires-fits x.client) (fires-sized x.client)
   timer_at-good (place.Node n) c x there g rule =
-      cond_both (is_no_node m.config.nodes n) (Err (NoNode n m.config.nodes)) (Ok (node_acts m (event.Timer (place.Node n) c) [] n (back.Timer c) (node_at m.nodes n))) Good (λ t. tt)
+      cond_both (is_no_node m.config.nodes n) (Err (Refused (NoNode n m.config.nodes))) (Ok (node_acts m (event.Timer (place.Node n) c) [] n (back.Timer c) (node_at m.nodes n))) Good (λ t. tt)
       (λ t. node-acts (event.Timer (place.Node n) c) [] n (back.Timer c) g tt (kept c x there).0 (node_at m.nodes n) refl)
 
   timer-good : (p : Place) (c : ℕ) → IsGiven (event.Timer p c) → HasRule (event.Timer p c) → (o : Option Station) → table.get m.clients c ≡ o → Good (timer m p c o)
@@ -178,13 +179,13 @@ module _ (m : Machine) (view : IsViewed m) (small : m.config.stream ≤ 2 ^ 30) 
     unfolding delivered
     delivered-good None there = tt
     delivered-good (Some p) there = let is : IsPacket p = packet-there k p there in
-        cond_both p.lost (Err (WasLost k)) (Ok (to_place m k p p.to)) Good (λ t. tt) (λ t. to-place p p.to is.0 is.1.1 is.1.2 is.1.3)
+        cond_both p.lost (Err (Refused (WasLost k))) (Ok (to_place m k p p.to)) Good (λ t. tt) (λ t. to-place p p.to is.0 is.1.1 is.1.2 is.1.3)
 
   lost-good : (k : ℕ) → IsGiven (event.Lose k) → (o : Option Packet) → Good (lost m k o)
   unfolding lost
   lost-good k g None = tt
   lost-good k g (Some p) =
-      cond_both p.lost (Err (WasLost k)) (Ok (passed (record m { net = lose_at (k - 1) m.net }) (event.Lose k) (rec.Lost k ∷ []))) Good (λ t. tt)
+      cond_both p.lost (Err (Refused (WasLost k))) (Ok (passed (record m { net = lose_at (k - 1) m.net }) (event.Lose k) (rec.Lost k ∷ []))) Good (λ t. tt)
       (λ t. passed-holds m (event.Lose k) g holds.past room (rec.Lost k ∷ []) (lose_at (k - 1) m.net) m.now (g.0, tt) (lost-packets (k - 1) m.net holds.past.packets) (lost-length (k - 1) m.net) (omega arith) holds.parts)
 
   -- ---- disks, and the clock
@@ -192,12 +193,12 @@ module _ (m : Machine) (view : IsViewed m) (small : m.config.stream ≤ 2 ^ 30) 
   disk_at-good : (n j : ℕ) → IsGiven (event.Disk n j) → (o : Option NodeState) → node_at m.nodes n ≡ o → Good (disk_at m n j o)
   disk_at-good n j g None here = tt
   disk_at-good n j g (Some s) here =
-      cond_both (is_no_job s j) (Err (NoJob n j (length s.disk))) (Ok (node_gave m (event.Disk n j) [] n (node_step (node_setting m n) s (back.Disk j)))) Good (λ t. tt)
+      cond_both (is_no_job s j) (Err (Refused (NoJob n j (length s.disk)))) (Ok (node_gave m (event.Disk n j) [] n (node_step (node_setting m n) s (back.Disk j)))) Good (λ t. tt)
       (λ t. node-holds m small files holds room (event.Disk n j) g [] tt n s here (disks n s here) (back.Disk j) tt)
 
   completes-good : (n j : ℕ) → IsGiven (event.Disk n j) → Good (completes m n j)
   unfolding completes
-  completes-good n j g = cond_both (is_no_node m.config.nodes n) (Err (NoNode n m.config.nodes)) (disk_at m n j (node_at m.nodes n)) Good (λ t. tt) (λ t. disk_at-good n j g (node_at m.nodes n) refl)
+  completes-good n j g = cond_both (is_no_node m.config.nodes n) (Err (Refused (NoNode n m.config.nodes))) (disk_at m n j (node_at m.nodes n)) Good (λ t. tt) (λ t. disk_at-good n j g (node_at m.nodes n) refl)
 
   clocked-good : (ms : ℕ) → IsGiven (event.Clock ms) → Holds (clocked m ms)
   unfolding clocked

@@ -12,7 +12,8 @@ use Rattle.lard_base.specs.declared.event.Event.TheVariants as event
 use Rattle.lard_base.specs.declared.place.Place.{Place}
 use Rattle.lard_base.specs.declared.place.Place.TheVariants.{Client, Front, Node}
 use Rattle.lard_rules.specs.declared.fault.StepFault.{StepFault}
-use Rattle.lard_rules.specs.declared.fault.StepFault.TheVariants.{NoNode, WasLost}
+use Rattle.lard_rules.specs.declared.fault.Refusal.TheVariants.{NoNode, WasLost}
+use Rattle.lard_rules.specs.declared.fault.StepFault.TheVariants.{Refused}
 use Rattle.lard_rules.specs.declared.machine.Machine.{Machine}
 use Rattle.lard_rules.specs.Machine.{clocked, completes, delivered, disk_at, happens, is_no_node, limit_reached, machine_step, node_acts, node_at, segments_sent, timer, timer_at, to_place, told, told_rows, unless_limit}
 use Rattle.lard_laws.specs.RecordsMessages.{MayBeThere, OnlyNodesThatAreThereAct}
@@ -127,19 +128,19 @@ module _ (m : Machine) where
     delivered-there j (Some p) l is to =
         let same : p ≡ l = cc in
         let there : p.to ≡ Node k = ap (λ (q : Packet). q.to) same ∙ to in
-        cond_both p.lost (Err (WasLost j)) (Ok (to_place m j p p.to)) (Gives (Node k)) (λ t. tt)
+        cond_both p.lost (Err (Refused (WasLost j))) (Ok (to_place m j p p.to)) (Gives (Node k)) (λ t. tt)
         (λ t. subst (λ (q : Place). Fits (Node k) (to_place m j p q)) (sym there) (comes-there j (back.Message p.from p.bytes) (node_at m.nodes k) refl))
 
     timer-there : (p : Place) (c : ℕ) (o : Option Station) → p ≡ Node k → Gives (Node k) (timer m p c o)
     unfolding timer
     timer-there p c None is = tt
     timer-there p c (Some x) is = subst (λ (q : Place). Gives (Node k) (timer_at m q c x)) (sym is)
-        (cond_both (is_no_node m.config.nodes k) (Err (NoNode k m.config.nodes)) (Ok (node_acts m (event.Timer (Node k) c) [] k (back.Timer c) (node_at m.nodes k))) (Gives (Node k)) (λ t. tt)
+        (cond_both (is_no_node m.config.nodes k) (Err (Refused (NoNode k m.config.nodes))) (Ok (node_acts m (event.Timer (Node k) c) [] k (back.Timer c) (node_at m.nodes k))) (Gives (Node k)) (λ t. tt)
         (λ t. inl (some-node m.config.nodes k t)))
 
     completes-there : (n j : ℕ) → n ≡ k → Gives (Node k) (completes m n j)
     unfolding completes
-    completes-there n j is = cond_both (is_no_node m.config.nodes n) (Err (NoNode n m.config.nodes)) (disk_at m n j (node_at m.nodes n)) (Gives (Node k)) (λ t. tt)
+    completes-there n j is = cond_both (is_no_node m.config.nodes n) (Err (Refused (NoNode n m.config.nodes))) (disk_at m n j (node_at m.nodes n)) (Gives (Node k)) (λ t. tt)
         (λ t. gives-there (Node k) (disk_at m n j (node_at m.nodes n)) (subst (λ (i : ℕ). (1 ≤ i) × (i ≤ m.config.nodes)) is (some-node m.config.nodes n t)))
 
     -- an event of a client names no node

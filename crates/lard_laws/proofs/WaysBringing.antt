@@ -10,7 +10,8 @@ use Rattle.lard_base.specs.declared.place.Place.{Place}
 use Rattle.lard_base.specs.declared.place.Place.TheVariants.{Client, Front, Node}
 use Rattle.lard_cache.specs.Recency.{has}
 use Rattle.lard_rules.specs.declared.fault.StepFault.{StepFault}
-use Rattle.lard_rules.specs.declared.fault.StepFault.TheVariants.{WasLost}
+use Rattle.lard_rules.specs.declared.fault.Refusal.TheVariants.{WasLost}
+use Rattle.lard_rules.specs.declared.fault.StepFault.TheVariants.{Refused}
 use Rattle.lard_rules.specs.declared.machine.Machine.{Machine}
 use Rattle.lard_rules.specs.Machine.{delivered, happens, limit_reached, machine_step, node_acts, node_at, node_gave, node_setting, passed, segments_sent, to_place, told, unless_limit}
 use Rattle.lard_law_connections.proofs.StoresCalm.{first_rows, last_rows, told-journal}
@@ -229,7 +230,7 @@ module _ (m : Machine) where
     got-good : (n : Machine) → delivered m k (Some p) ≡ Ok n → Good n
     unfolding delivered
     got-good n is = go p.lost is where
-      go : (b : Bool) → cond {A = Result Machine StepFault} b (Err (WasLost k)) (Ok (to_place m k p p.to)) ≡ Ok n → Good n
+      go : (b : Bool) → cond {A = Result Machine StepFault} b (Err (Refused (WasLost k))) (Ok (to_place m k p p.to)) ≡ Ok n → Good n
       go true h = absurd (let f : ⊥ = cc in f)
       go false h = subst Good (same-machine (to_place m k p p.to) n h) place-good
 

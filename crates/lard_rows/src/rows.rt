@@ -8,7 +8,7 @@ use crate::moves::{
     A_MOVED_CONNECTION_ENDS, EMPTY_FILE_AND_HEAD, FORWARD_BEFORE_ITS_OFFER, ONE_CONNECTION_MOVES,
 };
 use crate::settles::{MOVED_CONNECTION_SETTLES, NUMBERS_BEGIN_AGAIN, SETTLED, SETTLED_LATER};
-use lard_app::{FileFault, Status, What, Why};
+use lard_app::{FileFault, Refusal, Status, What, Why};
 
 /// An input, how its run ends, and what it writes.
 #[derive(Drop)]
@@ -102,7 +102,7 @@ deliver 0
 ",
     status: Status::Refused {
         line: 5,
-        why: Why::NotSent { k: 0, sent: 1 },
+        why: Why::Untimely(Refusal::NotSent { k: 0, sent: 1 }),
     },
     report: "\
 report 1 nodes 2 low 25 high 65 age 20000 idle 25 over 130 miss 50 cache 1048576 stream 1073741824
@@ -126,7 +126,7 @@ deliver 2
 ",
     status: Status::Refused {
         line: 5,
-        why: Why::NotSent { k: 2, sent: 1 },
+        why: Why::Untimely(Refusal::NotSent { k: 2, sent: 1 }),
     },
     report: "\
 report 1 nodes 2 low 25 high 65 age 20000 idle 25 over 130 miss 50 cache 1048576 stream 1073741824
@@ -150,7 +150,7 @@ get 2 /x
 ",
     status: Status::Refused {
         line: 5,
-        why: Why::NoClient(2),
+        why: Why::Untimely(Refusal::NoClient(2)),
     },
     report: "\
 report 1 nodes 2 low 25 high 65 age 20000 idle 25 over 130 miss 50 cache 1048576 stream 1073741824
@@ -175,7 +175,7 @@ deliver 1
 ",
     status: Status::Refused {
         line: 6,
-        why: Why::WasLost(1),
+        why: Why::Untimely(Refusal::WasLost(1)),
     },
     report: "\
 report 1 nodes 2 low 25 high 65 age 20000 idle 25 over 130 miss 50 cache 1048576 stream 1073741824
@@ -200,7 +200,7 @@ open 1 1 1 1 1
 ",
     status: Status::Refused {
         line: 4,
-        why: Why::Used(1),
+        why: Why::Untimely(Refusal::Used(1)),
     },
     report: "\
 report 1 nodes 2 low 25 high 65 age 20000 idle 25 over 130 miss 50 cache 1048576 stream 1073741824

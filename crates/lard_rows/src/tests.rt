@@ -3,7 +3,7 @@
 use crate::report::{HEADING, PARTS};
 use crate::rows::{ALONE, BATCHES, LONG_SETTLES, MOVED, Row, SETTLES, TOLD};
 use crate::slow::{Counting, Drip, Trickle, Waiting};
-use lard_app::{FileFault, Status, What, Why, run};
+use lard_app::{FileFault, Refusal, Status, What, Why, run};
 use lard_base::{Bytes, Calls, ConfigFault, Key, MemSink, MemSource, NoMemory};
 use std::alloc::Global;
 use std::cell::Cell;
@@ -218,10 +218,14 @@ fn what_does_not_depend_on_a_world(rt: HostRuntime) -> Result<(), Fail> {
             ("lard 1\n", refused(2, Why::Syntax), 0),
             (
                 "lard 1\ngo\ndeliver 1\n",
-                refused(3, Why::NotSent { k: 1, sent: 0 }),
+                refused(3, Why::Untimely(Refusal::NotSent { k: 1, sent: 0 })),
                 1,
             ),
-            ("lard 1\ngo\nget 1 /x\n", refused(3, Why::NoClient(1)), 1),
+            (
+                "lard 1\ngo\nget 1 /x\n",
+                refused(3, Why::Untimely(Refusal::NoClient(1))),
+                1,
+            ),
         ],
     )?;
     Ok(())
@@ -229,14 +233,18 @@ fn what_does_not_depend_on_a_world(rt: HostRuntime) -> Result<(), Fail> {
 
 #[test]
 fn nodes_and_jobs_that_are_not_there(rt: HostRuntime) -> Result<(), Fail> {
-    let no_node = |line, n| refused(line, Why::NoNode { n, nodes: 2 });
-    let no_job = |line, n, j| refused(line, Why::NoJob { n, j, len: 0 });
+    let no_node = |line, n| refused(line, Why::Untimely(Refusal::NoNode { n, nodes: 2 }));
+    let no_job = |line, n, j| refused(line, Why::Untimely(Refusal::NoJob { n, j, len: 0 }));
     check(
         &rt,
         &[
             ("lard 1\ngo\ndisk 0 1\n", no_node(3, 0), 1),
             ("lard 1\ngo\ndisk 2 0\n", no_job(3, 2, 0), 1),
-            ("lard 1\ngo\ntimer n3 1\n", refused(3, Why::NoClient(1)), 1),
+            (
+                "lard 1\ngo\ntimer n3 1\n",
+                refused(3, Why::Untimely(Refusal::NoClient(1))),
+                1,
+            ),
             (
                 "lard 1\ngo\nopen 1 1000 5000 65535 1460\ntimer n3 1\n",
                 no_node(4, 3),

@@ -73,9 +73,10 @@ asks-left : (env : NodeEnv) (size : ℕ) (paths : List (List ℕ)) (w : Work) �
 asks-left env size [] w = refl
 asks-left env size (path ∷ paths) w = refl
 
-empty_batch : (es : List Entry) → next_in es ≡ Read → length es ≡ 0
-empty_batch [] h = refl
-empty_batch (e ∷ es) h = absurd (go e.progress h) where
+-- reading goes on where no request of the last batch is left
+pub none-left : (es : List Entry) → next_in es ≡ Read → es ≡ []
+none-left [] h = refl
+none-left (e ∷ es) h = absurd (go e.progress h) where
   go : (p : Progress) → next_by p ≡ Read → ⊥
   go (Ready via) h = cc
   go Named h = cc
@@ -91,7 +92,7 @@ read_falls env w u e h = go (batch_of 8 unread) refl h where
   used = bytes_used 8 unread
 
   none : length w.batch ≡ 0
-  none = empty_batch w.batch (found w Read (λ h. cc) e).0
+  none = ap (λ (es : List Entry). length es) (none-left w.batch (found w Read (λ h. cc) e).0)
 
   go : (vs : List Verdict) → batch_of 8 unread ≡ vs → reads_these env false used w vs ≡ More u → left u < left w
   go [] is h = absurd (let f : Done (state_of (reads_these env false used w [])) ≡ More u = h in cc)

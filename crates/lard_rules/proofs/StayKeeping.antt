@@ -17,8 +17,9 @@ use Rattle.lard_rules.specs.declared.stay.Progress.{Progress}
 use Rattle.lard_rules.specs.declared.stay.Progress.TheVariants as progress
 use Rattle.lard_rules.specs.Loop.{Step, More, Done, state_of}
 use Rattle.lard_rules.specs.Serving.{Service, answered, consumed, ended_at_fin, may_read}
-use Rattle.lard_rules.specs.Stay.{NodeEnv, Work, asks_for, came_for, come_on, entered, enters, enters_first, enters_one, goes_on, hit_here, left, named_path, named_paths, next_by, next_in, noted, own_job, path_in, queued_here, read_entry, reads_batch, reads_these, serves_by, serves_first, serves_with, started, started_here, started_there, starts_at, starts_named, starts_one, tagged, turn, turned}
+use Rattle.lard_rules.specs.Stay.{NodeEnv, Work, asks_for, came_for, come_on, entered, enters, enters_first, enters_one, goes_on, hit_here, left, named_path, named_paths, next_in, noted, own_job, path_in, queued_here, read_entry, reads_batch, reads_these, serves_by, serves_first, serves_with, started, started_here, started_there, starts_at, starts_named, starts_one, tagged, turn, turned}
 use Rattle.lard_rules.proofs.Runs.{runs_keep}
+use Rattle.lard_rules.proofs.StayFalling.{none-left}
 
 -- the number of the request that is entered next
 abbrev pub next_number : Work → ℕ
@@ -41,18 +42,6 @@ pub record KeptByStay (env : NodeEnv) (P : Work → Type 0) : Type 0 where
 abbrev pub EachFrom : (ℕ → Entry → Type 0) → ℕ → List Entry → Type 0
 EachFrom Q r [] = Unit {0}
 EachFrom Q r (e ∷ es) = Q r e × EachFrom Q (r + 1) es
-
--- ---- what a batch is at a turn
-
--- reading goes on where no request of the last batch is left
-pub none-left : (es : List Entry) → next_in es ≡ next.Read → es ≡ []
-none-left [] h = refl
-none-left (e ∷ es) h = absurd (go e.progress h) where
-  go : (p : Progress) → next_by p ≡ next.Read → ⊥
-  go (progress.Ready way) f = cc
-  go progress.Named f = cc
-  go progress.Reading f = cc
-  go (progress.Awaited node) f = cc
 
 -- a request that an Ask names is one for that file
 good-named : (env : NodeEnv) (e : Entry) (p : Progress) (path : List ℕ) → path_in env.serve.files e p ≡ Some path → good_path env.serve.files e.verdict ≡ Some path

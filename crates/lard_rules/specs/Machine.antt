@@ -9,7 +9,8 @@ use Rattle.lard_base.specs.declared.place.Place.{Place}
 use Rattle.lard_base.specs.declared.place.Place.TheVariants as place
 use Rattle.lard_client.specs.Control.{ClientBlock, written_len, is_armed}
 use Rattle.lard_rules.specs.declared.fault.StepFault.{StepFault}
-use Rattle.lard_rules.specs.declared.fault.StepFault.TheVariants.{NoClient, Used, NoNode, NotSent, WasLost, NoJob, Limit, NoMemory}
+use Rattle.lard_rules.specs.declared.fault.Refusal.TheVariants.{NoClient, Used, NoNode, NotSent, WasLost, NoJob}
+use Rattle.lard_rules.specs.declared.fault.StepFault.TheVariants.{Limit, NoMemory, Refused}
 use Rattle.lard_rules.specs.declared.machine.Machine.{Machine}
 use Rattle.lard_rules.specs.Bounds.{HasRule}
 use Rattle.lard_files.specs.Files.{file_at}
@@ -94,11 +95,11 @@ client_goes_on m e own c x given = client_acted m e own c x.iss (is_armed x.clie
 unfoldable pub opened : Machine → ℕ → ℕ → ℕ → ℕ → ℕ → Option Station → Result Machine StepFault
 opened m c isn iss wnd mss None =
     Ok (client_acted m (event.Open c isn iss wnd mss) (rec.Opened c isn iss wnd mss ∷ []) c iss false (client_opens c isn wnd mss))
-opened m c isn iss wnd mss (Some x) = Err (Used c)
+opened m c isn iss wnd mss (Some x) = Err (Refused (Used c))
 
 -- bytes are written unless they pass the stream limit
 unfoldable pub wrote : Machine → Event → ℕ → List ℕ → Option Station → Result Machine StepFault
-wrote m e c bytes None = Err (NoClient c)
+wrote m e c bytes None = Err (Refused (NoClient c))
 wrote m e c bytes (Some x) =
     if nat_lt m.config.stream (written_len x.client bytes)
     then Err (Limit Stream)
@@ -106,7 +107,7 @@ wrote m e c bytes (Some x) =
 
 -- one that opened does what its rule gives
 unfoldable pub client_does : Machine → Event → List Rec → ℕ → (ClientBlock → ClientBlock × Turn) → Option Station → Result Machine StepFault
-client_does m e own c rule None = Err (NoClient c)
+client_does m e own c rule None = Err (Refused (NoClient c))
 client_does m e own c rule (Some x) = Ok (client_goes_on m e own c x (rule x.client))
 
 -- ---- the front end
@@ -146,10 +147,10 @@ abbrev pub timer_at : Machine → Place → ℕ → Station → Result Machine S
 timer_at m place.Front c x = Ok (front_acts m (event.Timer place.Front c) [] (input.Timer c))
 timer_at m (place.Client d) c x = Ok (client_goes_on m (event.Timer (place.Client d) c) [] c x (client_timer x.client))
 timer_at m (place.Node n) c x =
-    if is_no_node m.config.nodes n then Err (NoNode n m.config.nodes) else Ok (node_acts m (event.Timer (place.Node n) c) [] n (back.Timer c) (node_at m.nodes n))
+    if is_no_node m.config.nodes n then Err (Refused (NoNode n m.config.nodes)) else Ok (node_acts m (event.Timer (place.Node n) c) [] n (back.Timer c) (node_at m.nodes n))
 
 unfoldable pub timer : Machine → Place → ℕ → Option Station → Result Machine StepFault
-timer m p c None = Err (NoClient c)
+timer m p c None = Err (Refused (NoClient c))
 timer m p c (Some x) = timer_at m p c x
 
 -- ---- packets
@@ -176,13 +177,13 @@ to_place m k p (place.Client c) = to_client m k p.bytes c (table.get m.clients c
 to_place m k p (place.Node n) = node_acts m (event.Deliver k) (rec.Got k ∷ []) n (back.Message p.from p.bytes) (node_at m.nodes n)
 
 unfoldable pub delivered : Machine → ℕ → Option Packet → Result Machine StepFault
-delivered m k None = Err (NotSent k (length m.net))
-delivered m k (Some p) = if p.lost then Err (WasLost k) else Ok (to_place m k p p.to)
+delivered m k None = Err (Refused (NotSent k (length m.net)))
+delivered m k (Some p) = if p.lost then Err (Refused (WasLost k)) else Ok (to_place m k p p.to)
 
 unfoldable pub lost : Machine → ℕ → Option Packet → Result Machine StepFault
-lost m k None = Err (NotSent k (length m.net))
+lost m k None = Err (Refused (NotSent k (length m.net)))
 lost m k (Some p) =
-    if p.lost then Err (WasLost k) else Ok (passed (record m { net = lose_at (k - 1) m.net }) (event.Lose k) (rec.Lost k ∷ []))
+    if p.lost then Err (Refused (WasLost k)) else Ok (passed (record m { net = lose_at (k - 1) m.net }) (event.Lose k) (rec.Lost k ∷ []))
 
 -- ---- disks, and the clock
 
@@ -190,12 +191,12 @@ abbrev pub is_no_job : NodeState → ℕ → Bool
 is_no_job s j = j == 0 || nat_lt (length s.disk) j
 
 abbrev pub disk_at : Machine → ℕ → ℕ → Option NodeState → Result Machine StepFault
-disk_at m n j None = Err (NoNode n m.config.nodes)
+disk_at m n j None = Err (Refused (NoNode n m.config.nodes))
 disk_at m n j (Some s) =
-    if is_no_job s j then Err (NoJob n j (length s.disk)) else Ok (node_gave m (event.Disk n j) [] n (node_step (node_setting m n) s (back.Disk j)))
+    if is_no_job s j then Err (Refused (NoJob n j (length s.disk))) else Ok (node_gave m (event.Disk n j) [] n (node_step (node_setting m n) s (back.Disk j)))
 
 unfoldable pub completes : Machine → ℕ → ℕ → Result Machine StepFault
-completes m n j = if is_no_node m.config.nodes n then Err (NoNode n m.config.nodes) else disk_at m n j (node_at m.nodes n)
+completes m n j = if is_no_node m.config.nodes n then Err (Refused (NoNode n m.config.nodes)) else disk_at m n j (node_at m.nodes n)
 
 -- the time moves on
 unfoldable pub clocked : Machine → ℕ → Machine

@@ -15,13 +15,15 @@ pub enum What {
     Records,
     /// 2^29 bytes of responses.
     Answers,
+    /// 16,384 requests of a trace, which a replay knows nothing of.
+    Requests,
     /// The bytes that one client writes, which are as many as the responses on one connection may have.
     Stream,
 }
 
-/// Why a step is not done. All but `NoMemory` leave everything as it was.
+/// Why an event can't happen as things stand: it names what is not there, or what is there already.
 #[derive(Clone, Copy, Debug, PartialEq, Eq)]
-pub enum StepFault {
+pub enum Refusal {
     /// The client with this number has not opened.
     NoClient(u32),
     /// The client with this number opened before.
@@ -34,6 +36,13 @@ pub enum StepFault {
     WasLost(u32),
     /// The disk of node `n` has no `j`-th job; `len` are queued.
     NoJob { n: u8, j: u32, len: u32 },
+}
+
+/// Why a step is not done. All but `NoMemory` leave everything as it was.
+#[derive(Clone, Copy, Debug, PartialEq, Eq)]
+pub enum StepFault {
+    /// The event can't happen.
+    Refused(Refusal),
     /// A limit was reached before the step; or the client would write more than `Stream` allows.
     Limit(What),
     NoMemory,

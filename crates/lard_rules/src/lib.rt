@@ -15,7 +15,7 @@ pub mod nodes;
 pub mod places;
 pub mod stay;
 
-pub use fault::{StepFault, What};
+pub use fault::{Refusal, StepFault, What};
 pub use front::{FrontIn, FrontRest, FrontState, FrontTurn};
 pub use limits::first_limit;
 pub use machine::Machine;

@@ -5,7 +5,7 @@ use Rattle.lard_agenda.specs.declared.agenda.Agenda.{Agenda}
 use Rattle.lard_agenda.proofs.Follows.{still}
 use Rattle.lard_base.specs.declared.event.Event.{Event}
 use Rattle.lard_rules.specs.declared.fault.StepFault.{StepFault}
-use Rattle.lard_rules.specs.declared.fault.StepFault.TheVariants.{NoClient, Used, NoNode, NotSent, WasLost, NoJob, Limit, NoMemory}
+use Rattle.lard_rules.specs.declared.fault.StepFault.TheVariants.{Refused, Limit, NoMemory}
 use Rattle.lard_rules.specs.declared.machine.Machine.{Machine}
 use Rattle.lard_rules.specs.Machine.{Steps}
 use Rattle.lard_world.proofs.Runs.{inner-goes-on}
@@ -41,12 +41,7 @@ module _ (m : Machine) (e : Event) (es : List Event) where
 
   pub inner-stops : (new : Machine) (fault : StepFault) → Steps (inner_step m e) m new (Err fault) → Does (all_inner m (e ∷ es)) new (Err fault)
   inner-stops new NoMemory h = subst (λ (J : List Rec). IsFrontOf J (come (all_inner m (e ∷ es)))) (sym h) (all-grow (e ∷ es) m)
-  inner-stops new (NoClient c) h = inner-fault new (NoClient c) h
-  inner-stops new (Used c) h = inner-fault new (Used c) h
-  inner-stops new (NoNode n nodes) h = inner-fault new (NoNode n nodes) h
-  inner-stops new (NotSent k sent) h = inner-fault new (NotSent k sent) h
-  inner-stops new (WasLost k) h = inner-fault new (WasLost k) h
-  inner-stops new (NoJob n j len) h = inner-fault new (NoJob n j len) h
+  inner-stops new (Refused reason) h = inner-fault new (Refused reason) h
   inner-stops new (Limit what) h = inner-fault new (Limit what) h
 
 -- an inner step that is done takes no record back, and keeps the numbers of the run
@@ -175,12 +170,7 @@ module _ (m : Machine) (rounds : ℕ) where
 
   pub begun-stops : (new : Machine) (fault : StepFault) → Steps (settle_begun m rounds) m new (Err fault) → Settles (settled m rounds) new (Err fault)
   begun-stops new NoMemory h = subst (λ (J : List Rec). IsFrontOf J (outcome (settled m rounds))) (sym h) (settle-grows m rounds)
-  begun-stops new (NoClient c) h = begun-fault new (NoClient c) h
-  begun-stops new (Used c) h = begun-fault new (Used c) h
-  begun-stops new (NoNode n nodes) h = begun-fault new (NoNode n nodes) h
-  begun-stops new (NotSent k sent) h = begun-fault new (NotSent k sent) h
-  begun-stops new (WasLost k) h = begun-fault new (WasLost k) h
-  begun-stops new (NoJob n j len) h = begun-fault new (NoJob n j len) h
+  begun-stops new (Refused reason) h = begun-fault new (Refused reason) h
   begun-stops new (Limit what) h = begun-fault new (Limit what) h
 
   pub begun-front : (n : Machine) → settle_begun m rounds ≡ Ok n → IsFrontOf m.journal n.journal

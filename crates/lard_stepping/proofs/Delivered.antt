@@ -1,6 +1,7 @@
 -- A packet comes to its place with the bytes that it shares.
 use Rattle.std.proofs.Common.{◌≡◌, ℕ, List, Bool, false, cond, Some, Ok, Err, sym, ap, ◌∙◌}
-use Rattle.lard_rules.specs.declared.fault.StepFault.TheVariants.{WasLost}
+use Rattle.lard_rules.specs.declared.fault.Refusal.TheVariants.{WasLost}
+use Rattle.lard_rules.specs.declared.fault.StepFault.TheVariants.{Refused}
 use Rattle.lard_rules.specs.declared.machine.Machine.{Machine}
 use Rattle.lard_rules.specs.Machine.{delivered, to_place}
 use Rattle.lard_net.specs.Net.{Packet, packet_at}
@@ -11,5 +12,5 @@ unfolding delivered
 delivered_is m n k p bytes at lost same is =
     let of : List ℕ → Bool → Packet = λ b l. record { from = p.from; to = p.to; bytes = b; lost = l } in
     let whole : of bytes false ≡ p = ap (λ (b : List ℕ). of b false) same ∙ ap (λ (l : Bool). of p.bytes l) (sym lost) in
-    ap (delivered m k) (sym at) ∙ ap (λ (l : Bool). cond l (Err (WasLost k)) (Ok (to_place m k p p.to))) lost
+    ap (delivered m k) (sym at) ∙ ap (λ (l : Bool). cond l (Err (Refused (WasLost k))) (Ok (to_place m k p p.to))) lost
     ∙ ap Ok (sym (is ∙ ap (λ (q : Packet). to_place m k q p.to) whole))

@@ -7,7 +7,8 @@ use Rattle.lard_base.specs.declared.errors.NoMemory.{NoMemory}
 use Rattle.lard_base.specs.declared.place.Place.TheVariants as place
 use Rattle.lard_rules.specs.Machine.{completes, disk_at, is_no_job, is_no_node, node_acts, node_at, node_gave, node_setting, told}
 use Rattle.lard_rules.specs.declared.fault.StepFault.{StepFault}
-use Rattle.lard_rules.specs.declared.fault.StepFault.TheVariants.{NoNode, NoJob}
+use Rattle.lard_rules.specs.declared.fault.Refusal.TheVariants.{NoNode, NoJob}
+use Rattle.lard_rules.specs.declared.fault.StepFault.TheVariants.{Refused}
 use Rattle.lard_rules.specs.declared.machine.Machine.{Machine}
 use Rattle.lard_journal.specs.declared.rec.Rec.{Rec}
 use Rattle.lard_rules.specs.declared.node.BackIn.{BackIn}
@@ -43,7 +44,7 @@ pub completes_is : (m : Machine) (n at j : ℕ) (s : NodeState) → is_no_node m
     → completes m n j ≡ Ok (node_acts m (event.Disk n j) [] n (back.Disk j) (node_at m.nodes n))
 unfolding completes
 completes_is m n at j s node le is h job =
-    ap (λ (t : Bool). cond {A = Result Machine StepFault} t (Err (NoNode n m.config.nodes)) (disk_at m n j (node_at m.nodes n))) node
+    ap (λ (t : Bool). cond {A = Result Machine StepFault} t (Err (Refused (NoNode n m.config.nodes))) (disk_at m n j (node_at m.nodes n))) node
     ∙ ap (disk_at m n j) (there m.nodes n at s le is h)
-    ∙ ap (λ (t : Bool). cond {A = Result Machine StepFault} t (Err (NoJob n j (length s.disk))) (Ok (node_gave m (event.Disk n j) [] n (node_step (node_setting m n) s (back.Disk j))))) job
+    ∙ ap (λ (t : Bool). cond {A = Result Machine StepFault} t (Err (Refused (NoJob n j (length s.disk)))) (Ok (node_gave m (event.Disk n j) [] n (node_step (node_setting m n) s (back.Disk j))))) job
     ∙ ap Ok (sym (node_there m (event.Disk n j) [] n at (back.Disk j) s le is h))

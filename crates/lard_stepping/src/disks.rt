@@ -8,7 +8,7 @@ use crate::acting::note;
 use crate::places::node_acts;
 use lard_base::{Event, Millis, NodeId};
 use lard_journal::Rec;
-use lard_rules::{BackIn, Machine, StepFault};
+use lard_rules::{BackIn, Machine, Refusal, StepFault};
 use std::alloc::Global;
 
 /// Node n completes the j-th of its disk's jobs, both counted from 1. After `NoNode`, where there is no such node, and
@@ -23,12 +23,12 @@ pub fn complete(machine: &mut Machine, alloc: Global, n: u32, j: u32) -> Result<
 {
     let nodes = machine.config.nodes;
     let Some(node) = node_of(n, nodes) else {
-        return Err(StepFault::NoNode { n, nodes });
+        return Err(StepFault::Refused(Refusal::NoNode { n, nodes }));
     };
     let len = machine.nodes.node(n as usize - 1).disk.len();
     if j == 0 || len < j {
         let n = n as u8;
-        return Err(StepFault::NoJob { n, j, len });
+        return Err(StepFault::Refused(Refusal::NoJob { n, j, len }));
     }
     let event = Event::Disk { n, j };
     node_acts(machine, alloc, event, None, node, BackIn::Disk(j))?;

@@ -14,7 +14,7 @@ use crate::places::{front_acts, node_acts, to_node};
 use crate::stations::{put_back, take_out};
 use lard_base::{Bytes, ConnId, Event, NoMemory, NodeId, Place};
 use lard_journal::Rec;
-use lard_rules::{BackIn, FrontIn, Machine, StepFault};
+use lard_rules::{BackIn, FrontIn, Machine, Refusal, StepFault};
 use lard_seq::Seq;
 use lard_shared::Shared;
 use std::alloc::Global;
@@ -31,10 +31,10 @@ pub fn deliver(machine: &mut Machine, alloc: Global, k: u32) -> Result<(), StepF
 {
     let Some(packet) = machine.net.get(k) else {
         let sent = machine.net.sent();
-        return Err(StepFault::NotSent { k, sent });
+        return Err(StepFault::Refused(Refusal::NotSent { k, sent }));
     };
     if packet.lost {
-        return Err(StepFault::WasLost(k));
+        return Err(StepFault::Refused(Refusal::WasLost(k)));
     }
     let from = packet.from;
     let to = packet.to;
@@ -181,10 +181,10 @@ pub fn lose(machine: &mut Machine, alloc: Global, k: u32) -> Result<(), StepFaul
 {
     let Some(packet) = machine.net.get(k) else {
         let sent = machine.net.sent();
-        return Err(StepFault::NotSent { k, sent });
+        return Err(StepFault::Refused(Refusal::NotSent { k, sent }));
     };
     if packet.lost {
-        return Err(StepFault::WasLost(k));
+        return Err(StepFault::Refused(Refusal::WasLost(k)));
     }
     machine.net.lose(k);
     pass(machine, alloc, Event::Lose(k), Rec::Lost(k))?;
@@ -218,7 +218,7 @@ fn fire_front(machine: &mut Machine, alloc: Global, c: ConnId) -> Result<(), Ste
     ensures sound { OnOk result (IsSound machine.new) }
 {
     if machine.clients.get(c.number()).is_none() {
-        return Err(StepFault::NoClient(c.number()));
+        return Err(StepFault::Refused(Refusal::NoClient(c.number())));
     }
     let place = Place::Front;
     let event = Event::Timer { place, c };
@@ -236,12 +236,12 @@ fn fire_node(machine: &mut Machine, alloc: Global, n: NodeId, c: ConnId) -> Resu
     ensures sound { OnOk result (IsSound machine.new) }
 {
     if machine.clients.get(c.number()).is_none() {
-        return Err(StepFault::NoClient(c.number()));
+        return Err(StepFault::Refused(Refusal::NoClient(c.number())));
     }
     let nodes = machine.config.nodes;
     if node_of(n.number(), nodes).is_none() {
         let n = n.number();
-        return Err(StepFault::NoNode { n, nodes });
+        return Err(StepFault::Refused(Refusal::NoNode { n, nodes }));
     }
     let place = Place::Node(n);
     let event = Event::Timer { place, c };
@@ -258,7 +258,7 @@ fn fire_client(machine: &mut Machine, alloc: Global, c: ConnId) -> Result<(), St
     ensures sound { OnOk result (IsSound machine.new) }
 {
     let Some(mut acting) = take_out(machine, alloc, c) else {
-        return Err(StepFault::NoClient(c.number()));
+        return Err(StepFault::Refused(Refusal::NoClient(c.number())));
     };
     let turn = lard_station::fire(alloc, &mut acting.station.client)?;
     let place = Place::Client(c);

@@ -16,7 +16,7 @@ use crate::acting::{Act, conclude};
 use lard_base::{Bytes, ConnId, Event, NoMemory, Path, Place};
 use lard_client::Client;
 use lard_journal::Rec;
-use lard_rules::{Machine, Station, StepFault, Turn, What};
+use lard_rules::{Machine, Refusal, Station, StepFault, Turn, What};
 use lard_seq::Seq;
 use std::alloc::Global;
 
@@ -112,7 +112,7 @@ pub fn open(
     ensures sound { OnOk result (IsSound machine.new) }
 {
     if machine.clients.get(c.number()).is_some() {
-        return Err(StepFault::Used(c.number()));
+        return Err(StepFault::Refused(Refusal::Used(c.number())));
     }
     let client = Client::open(alloc, c, Seq(isn), wnd, mss);
     let event = Event::Open {
@@ -215,7 +215,7 @@ fn write(
     ensures sound { OnOk result (IsSound machine.new) }
 {
     let Some(station) = machine.clients.get(c.number()) else {
-        return Err(StepFault::NoClient(c.number()));
+        return Err(StepFault::Refused(Refusal::NoClient(c.number())));
     };
     if u64::from(machine.config.stream)
         < lard_station::written_len(&station.client, bytes.as_slice())
@@ -240,7 +240,7 @@ pub fn shut(machine: &mut Machine, alloc: Global, c: ConnId) -> Result<(), StepF
     ensures sound { OnOk result (IsSound machine.new) }
 {
     let Some(mut acting) = take_out(machine, alloc, c) else {
-        return Err(StepFault::NoClient(c.number()));
+        return Err(StepFault::Refused(Refusal::NoClient(c.number())));
     };
     let turn = lard_station::shut(alloc, &mut acting.station.client)?;
     put_back(machine, alloc, Event::Shut(c), None, acting, turn)?;
@@ -257,7 +257,7 @@ pub fn abort(machine: &mut Machine, alloc: Global, c: ConnId) -> Result<(), Step
     ensures sound { OnOk result (IsSound machine.new) }
 {
     let Some(mut acting) = take_out(machine, alloc, c) else {
-        return Err(StepFault::NoClient(c.number()));
+        return Err(StepFault::Refused(Refusal::NoClient(c.number())));
     };
     let turn = lard_station::abort(alloc, &mut acting.station.client)?;
     put_back(machine, alloc, Event::Abort(c), None, acting, turn)?;
@@ -280,7 +280,7 @@ pub fn inject(
     ensures sound { OnOk result (IsSound machine.new) }
 {
     let Some(acting) = take_out(machine, alloc, c) else {
-        return Err(StepFault::NoClient(c.number()));
+        return Err(StepFault::Refused(Refusal::NoClient(c.number())));
     };
     let copy = bytes.copy(alloc)?;
     let turn = lard_station::inject(alloc, &acting.station.client, copy)?;
@@ -299,7 +299,7 @@ pub fn hold(machine: &mut Machine, alloc: Global, c: ConnId) -> Result<(), StepF
     ensures sound { OnOk result (IsSound machine.new) }
 {
     let Some(mut acting) = take_out(machine, alloc, c) else {
-        return Err(StepFault::NoClient(c.number()));
+        return Err(StepFault::Refused(Refusal::NoClient(c.number())));
     };
     let turn = lard_station::hold(alloc, &mut acting.station.client)?;
     put_back(machine, alloc, Event::Hold(c), None, acting, turn)?;
@@ -316,7 +316,7 @@ pub fn take(machine: &mut Machine, alloc: Global, c: ConnId) -> Result<(), StepF
     ensures sound { OnOk result (IsSound machine.new) }
 {
     let Some(mut acting) = take_out(machine, alloc, c) else {
-        return Err(StepFault::NoClient(c.number()));
+        return Err(StepFault::Refused(Refusal::NoClient(c.number())));
     };
     let turn = lard_station::take(alloc, &mut acting.station.client)?;
     put_back(machine, alloc, Event::Take(c), None, acting, turn)?;

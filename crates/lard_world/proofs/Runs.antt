@@ -12,7 +12,7 @@ use Rattle.lard_client.specs.Control.{ClientBlock, is_armed, written_len}
 use Rattle.lard_rules.specs.Bounds.{HasRule}
 use Rattle.lard_rules.specs.Machine.{Steps, client_acted, client_does, client_goes_on, client_put, clocked, completes, delivered, disk_at, from_place, front_acts, front_gave, front_setting, happens, is_no_job, is_no_node, limit_reached, lost, machine_step, node_acts, node_at, node_gave, node_setting, opened, timer, passed, to_client, to_front, to_place, told, told_rows, unless_limit, wrote}
 use Rattle.lard_rules.specs.declared.fault.StepFault.{StepFault}
-use Rattle.lard_rules.specs.declared.fault.StepFault.TheVariants.{NoClient, Used, NoNode, NotSent, WasLost, NoJob, Limit, NoMemory}
+use Rattle.lard_rules.specs.declared.fault.StepFault.TheVariants.{Refused, Limit, NoMemory}
 use Rattle.lard_rules.specs.declared.machine.Machine.{Machine}
 use Rattle.lard_laws.specs.Lawful.{IsLawful}
 use Rattle.lard_laws.proofs.Lawful.{journals-lawful}
@@ -249,24 +249,14 @@ module _ (old new : Machine) (run : IsRun old) where
     pub still-lawful : (result : Result (Unit {0}) StepFault) → Steps given old new result → Lawful new
     still-lawful (Ok done) steps = on-lawful (leads steps).0 (leads steps).1
     still-lawful (Err NoMemory) steps = subst (λ (J : List Rec). IsLawful old.config (file_at old.files) (written_out J)) (sym steps) (run-lawful old run)
-    still-lawful (Err (NotSent k sent)) steps = subst Lawful (sym steps.0) (run-lawful old run)
-    still-lawful (Err (WasLost k)) steps = subst Lawful (sym steps.0) (run-lawful old run)
-    still-lawful (Err (NoClient c)) steps = subst Lawful (sym steps.0) (run-lawful old run)
-    still-lawful (Err (Used c)) steps = subst Lawful (sym steps.0) (run-lawful old run)
-    still-lawful (Err (NoNode n nodes)) steps = subst Lawful (sym steps.0) (run-lawful old run)
-    still-lawful (Err (NoJob n j len)) steps = subst Lawful (sym steps.0) (run-lawful old run)
+    still-lawful (Err (Refused reason)) steps = subst Lawful (sym steps.0) (run-lawful old run)
     still-lawful (Err (Limit what)) steps = subst Lawful (sym steps.0) (run-lawful old run)
 
     -- a world whose memory sufficed has run
     pub runs-on : (result : Result (Unit {0}) StepFault) → Steps given old new result → OnOk result (IsSound new) → is_short result ≡ false → IsRun new
     runs-on (Ok done) steps sound some = on-run old new (leads steps).0 run (leads steps).1 sound
     runs-on (Err NoMemory) steps sound some = absurd (both_ways true some refl)
-    runs-on (Err (NotSent k sent)) steps sound some = subst IsRun (sym steps.0) run
-    runs-on (Err (WasLost k)) steps sound some = subst IsRun (sym steps.0) run
-    runs-on (Err (NoClient c)) steps sound some = subst IsRun (sym steps.0) run
-    runs-on (Err (Used c)) steps sound some = subst IsRun (sym steps.0) run
-    runs-on (Err (NoNode n nodes)) steps sound some = subst IsRun (sym steps.0) run
-    runs-on (Err (NoJob n j len)) steps sound some = subst IsRun (sym steps.0) run
+    runs-on (Err (Refused reason)) steps sound some = subst IsRun (sym steps.0) run
     runs-on (Err (Limit what)) steps sound some = subst IsRun (sym steps.0) run
 
   -- what the calls of a world do leads on

@@ -7,7 +7,7 @@ use super::*;
 use lard_base::{Config, ConnId, Event, NoMemory, NodeId, Path, Place};
 use lard_files::Files;
 use lard_journal::{Journal, push_line};
-use lard_rules::StepFault;
+use lard_rules::{Refusal, StepFault};
 use std::alloc::Global;
 use std::test::Fail;
 
@@ -200,25 +200,31 @@ fn faults_of_nodes_are_named(rt: HostRuntime) -> Result<(), Fail> {
     for (steps, fault) in [
         (
             [Step::Open, Step::NodeTimer(first), Step::NodeTimer(third)].as_slice(),
-            StepFault::NoNode { n: 3, nodes: 2 },
+            StepFault::Refused(Refusal::NoNode { n: 3, nodes: 2 }),
         ),
-        ([Step::NodeTimer(third)].as_slice(), StepFault::NoClient(1)),
-        ([Step::FrontTimer].as_slice(), StepFault::NoClient(1)),
+        (
+            [Step::NodeTimer(third)].as_slice(),
+            StepFault::Refused(Refusal::NoClient(1)),
+        ),
+        (
+            [Step::FrontTimer].as_slice(),
+            StepFault::Refused(Refusal::NoClient(1)),
+        ),
         (
             [Step::Disk { n: 0, j: 1 }].as_slice(),
-            StepFault::NoNode { n: 0, nodes: 2 },
+            StepFault::Refused(Refusal::NoNode { n: 0, nodes: 2 }),
         ),
         (
             [Step::Disk { n: 3, j: 1 }].as_slice(),
-            StepFault::NoNode { n: 3, nodes: 2 },
+            StepFault::Refused(Refusal::NoNode { n: 3, nodes: 2 }),
         ),
         (
             [Step::Disk { n: 2, j: 1 }].as_slice(),
-            StepFault::NoJob { n: 2, j: 1, len: 0 },
+            StepFault::Refused(Refusal::NoJob { n: 2, j: 1, len: 0 }),
         ),
         (
             [Step::Disk { n: 2, j: 0 }].as_slice(),
-            StepFault::NoJob { n: 2, j: 0, len: 0 },
+            StepFault::Refused(Refusal::NoJob { n: 2, j: 0, len: 0 }),
         ),
     ] {
         let (told, _) = reported(rt.alloc(), steps)?;
