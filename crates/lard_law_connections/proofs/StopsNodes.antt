@@ -11,7 +11,7 @@ use Rattle.lard_block.specs.declared.block.Found.{Found}
 use Rattle.lard_block.specs.declared.block.Found.TheVariants as found
 use Rattle.lard_block.specs.Blocks.{blocks, cut_of}
 use Rattle.lard_law_connections.specs.Stops.{BackStageStops, HereStops, IsAwaited, NodeStops, ReadingStops, RowStops, StayStops}
-use Rattle.lard_rules.proofs.StayFalling.{falls}
+use Rattle.lard_rules.proofs.StayFalling.{falls, none-left}
 use Rattle.lard_law_connections.proofs.StopsSame.{Same, Stays, answered-closes, closed-there, ended-stopped, none-behind, rested-stays, same-stopped, segment-closes, speaks-same, timer-same}
 use Rattle.lard_law_view.specs.View.{Conn, node_does, grown}
 use Rattle.lard_law_view.proofs.Parts.{put-each}

@@ -27,16 +27,8 @@ use Rattle.lard_resend.specs.declared.kept.Kept.{Kept}
 use Rattle.lard_rules.specs.Loop.{Step, More, Done, state_of}
 use Rattle.lard_rules.specs.Serving.{Service, closed_behind, consumed, ended_at_fin, may_read, passed_over, queued}
 use Rattle.lard_rules.proofs.Runs.{runs_keep}
+use Rattle.lard_rules.proofs.StayFalling.{none-left}
 use Rattle.lard_send.specs.Send.{Sending}
-
-empty-batch : (es : List Entry) → next_in es ≡ next.Read → es ≡ []
-empty-batch [] h = refl
-empty-batch (e ∷ es) h = absurd (go e.progress h) where
-  go : (p : Progress) → next_by p ≡ next.Read → ⊥
-  go (progress.Ready way) f = cc
-  go progress.Named f = cc
-  go progress.Reading f = cc
-  go (progress.Awaited node) f = cc
 
 -- how many requests were read, served or not
 abbrev pub read_of : Work → ℕ
@@ -329,7 +321,7 @@ module _ (env : NodeEnv) (kept fetches : List Kept) where
 
   turned-on : (w : Work) (n : Next) → next_in w.batch ≡ n → w.service.over ≡ None → w.service.block.send.finished ≡ false → StepOn w (turned env w n)
   turned-on w next.Serve e none open_ = serves-first w w.batch none refl
-  turned-on w next.Read e none open_ = reads-these false (bytes_used 8 w.service.block.recv.unread) w (batch_of 8 w.service.block.recv.unread) (empty-batch w.batch e) open_
+  turned-on w next.Read e none open_ = reads-these false (bytes_used 8 w.service.block.recv.unread) w (batch_of 8 w.service.block.recv.unread) (none-left w.batch e) open_
   turned-on w next.Stop e none open_ = onward-self w
 
   -- what may be read is open, and not over

@@ -17,7 +17,7 @@ use Rattle.lard_laws.specs.Ways.{good_paths}
 use Rattle.lard_laws.proofs.WaysEntering.{Begun, Enters, begun-none, enters-both, here-begins, read-enter}
 use Rattle.lard_laws.proofs.WaysGoods.{good-append, prefix-take}
 use Rattle.lard_laws.proofs.WaysLying.{named-append}
-use Rattle.lard_laws.proofs.WaysStaying.{empty-batch}
+use Rattle.lard_rules.proofs.StayFalling.{none-left}
 use Rattle.lard_endpoint.specs.Control.{ControlBlock, discarding_on, finishing, queueing}
 use Rattle.lard_law_view.proofs.ReadingBytes.{IsJudged, place, read-came}
 use Rattle.lard_rules.specs.declared.stay.Asked.{Asked}
@@ -397,7 +397,7 @@ module _ (env : NodeEnv) (w out : Stream) (vs : List Verdict) (u : ℕ) where
 
   turned-fits : (k : Work) → may_read k.service ≡ true → Works env w out vs k → Fits k → (n : Next) → next_in k.batch ≡ n → StepFits (turned env k n)
   turned-fits k may works fits next.Serve e = first-served k k.batch refl fits
-  turned-fits k may works fits next.Read e = these-fit k (empty-batch k.batch e) may works fits (batch_of 8 k.service.block.recv.unread) refl
+  turned-fits k may works fits next.Read e = these-fit k (none-left k.batch e) may works fits (batch_of 8 k.service.block.recv.unread) refl
   turned-fits k may works fits next.Stop e = fits
 
   turn-fits : (k : Work) → Works env w out vs k → Fits k → StepFits (turn env k)

@@ -1,4 +1,5 @@
 -- While a stay goes on, its batch and its connection's assignments agree, and each response goes with its own.
+use Rattle.lard_rules.proofs.StayFalling.{none-left}
 use Rattle.std.proofs.Common.{◌≡◌, ◌+◌, nat_lt, ℕ, suc, false, List, [], ◌∷◌, ◌++◌, map, length, take, Option, Some, None, inl, inr, ⊎_elim, refl, sym, ap, ◌∙◌, subst, arith, append_assoc, append-nil}
 use Rattle.std.specs.List.{slice_get}
 use Rattle.std.proofs.lemmas.Bool.{cond_both}
@@ -35,15 +36,6 @@ use Rattle.lard_rules.specs.Serving.{Service, answered, consumed, ended_at_fin, 
 use Rattle.lard_law_view.specs.Truth.{Stream}
 
 -- a batch is read where none is left
-pub empty-batch : (es : List Entry) → next_in es ≡ next.Read → es ≡ []
-empty-batch [] h = refl
-empty-batch (e ∷ es) h = absurd (go e.progress h) where
-  go : (p : Progress) → next_by p ≡ next.Read → ⊥
-  go (progress.Ready way) f = cc
-  go progress.Named f = cc
-  go progress.Reading f = cc
-  go (progress.Awaited node) f = cc
-
 -- What is known of a connection before the turn of its home: what was marked, what the front end keeps, and that its first assignment
 -- is of this node. `Before` is so of the paths of an Ask that it awaits.
 pub record Home (env : NodeEnv) (m : Marks) : Type 0 where
@@ -368,5 +360,5 @@ module _ (env : NodeEnv) (m : Marks) (r : FrontRest) (Before : List (List ℕ) �
 
     pub turned-goes : (k : Work) (n : Next) → next_in k.batch ≡ n → Goes k → Reads k → (n ≡ next.Read → StepReads (turned env k n)) → StepGoes (turned env k n)
     turned-goes k next.Serve e h reads later = first-goes k k.batch refl h reads
-    turned-goes k next.Read e h reads later = these-go (bytes_used 8 k.service.block.recv.unread) k (batch_of 8 k.service.block.recv.unread) (empty-batch k.batch e) h (later refl)
+    turned-goes k next.Read e h reads later = these-go (bytes_used 8 k.service.block.recv.unread) k (batch_of 8 k.service.block.recv.unread) (none-left k.batch e) h (later refl)
     turned-goes k next.Stop e h reads later = h
