@@ -28,7 +28,7 @@ use Rattle.lard_rules.specs.declared.stay.Next.TheVariants as next
 use Rattle.lard_rules.specs.declared.stay.Progress.{Progress}
 use Rattle.lard_rules.specs.declared.stay.Progress.TheVariants as progress
 use Rattle.lard_rules.specs.Node.{stay_after}
-use Rattle.lard_rules.specs.Stay.{NodeEnv, Work, and_path, asks_for, enters, left, named_path, named_paths, next_by, next_in, path_in, reads_these, read_entry, serves_by, serves_first, serves_with, turned}
+use Rattle.lard_rules.specs.Stay.{NodeEnv, Work, and_path, asks_for, enters, left, named_path, named_paths, next_in, path_in, reads_these, read_entry, serves_by, serves_first, serves_with, turned}
 use Rattle.lard_reader.specs.Batches.{batch_of, bytes_used}
 use Rattle.lard_request.specs.declared.verdict.Verdict.{Verdict}
 use Rattle.lard_rules.specs.Loop.{Step, More, Done}
