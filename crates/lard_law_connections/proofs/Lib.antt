@@ -41,6 +41,12 @@ pub mod LimitsWorking
 pub mod LimitsFronts
 pub mod LimitsNodes
 pub mod LimitsRuns
+pub mod ResetsRows
+pub mod ResetsTurns
+pub mod ResetsMoves
+pub mod ResetsFronts
+pub mod ResetsNodes
+pub mod ResetsRuns
 pub mod MotionAnswers
 pub mod MotionPicking
 pub mod MotionComings

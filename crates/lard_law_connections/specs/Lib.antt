@@ -6,6 +6,7 @@ pub mod PlacesLaws
 pub mod Places
 pub mod LimitsCounts
 pub mod LimitsLaws
+pub mod ResetsLaws
 pub mod MotionStory
 pub mod Motion
 pub mod MotionRuns

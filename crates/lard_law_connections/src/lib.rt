@@ -1,5 +1,5 @@
 //! Laws of every run on single connections, across every move: admission and the choice of nodes (`Policy`), where a connection is
-//! (`Places`), its resets (`Limits`), when it is taken and given up (`Motion`), the line (`Line`), what is left to say (`Silence`), why
+//! (`Places`), its resets (`Limits`), who is sent RST (`Resets`), when it is taken and given up (`Motion`), the line (`Line`), what is left to say (`Silence`), why
 //! reading stops (`Stops`), what a place awaits (`Awaits`) and keeps (`Kept`), disks and caches (`Stores`, `Jobs`), the bytes that are
 //! said and taken (`Bytes`), and what an Offer carries (`Offers`).
 //!
@@ -18,6 +18,7 @@ ghost use Rattle.lard_law_connections.specs.MotionRuns.{ConnectionsMoveInSteps};
 ghost use Rattle.lard_law_connections.specs.Offers.{OffersCarryTheEndpoint};
 ghost use Rattle.lard_law_connections.specs.PlacesLaws.{EachConnectionSits, OwnersAreLawful, SendersAreLawful};
 ghost use Rattle.lard_law_connections.specs.PolicyLaws.{AdmitsByRoom, AdmitsInOrder, AdmitsToANode, AssignsAsStated, BooksAreTold, LineIsTold, LoadsAreCharges, ReleasesWhatItTook, ServersAreTold, SharesOneBatch, StandingsAreTold, StaysWithinTheRoom};
+ghost use Rattle.lard_law_connections.specs.ResetsLaws.{EndsFollowResets, RstFollowsResets};
 ghost use Rattle.lard_law_connections.specs.SilenceLaws.{ConnectionsHaveSpoken};
 ghost use Rattle.lard_law_connections.specs.StopsLaws.{ConnectionsStop};
 ghost use Rattle.lard_law_connections.specs.StoresLaws.{CachesAreTold, DisksAreRead, JobsAreTold, StoresAreLawful};
@@ -68,6 +69,14 @@ pub fn every_move_keeps_one_owner()
 pub fn responses_stay_within_the_limit()
     ensures connections { ConnectionsAreCounted }
     ensures resets { ResetsAreLawful }
+{}
+
+/// In every run of the cluster's machine, and also of a connection that the schedule touched: a place of the cluster sends a segment with
+/// RST to a client only behind the record that the stream limit reset its connection (RFC 9293, 3.10.5 and 3.10.7.1). Where the front end
+/// keeps that the limit ended a connection, and wherever an Ended says so, it was reset.
+pub fn rst_is_sent_behind_resets()
+    ensures ends { EndsFollowResets }
+    ensures rst { RstFollowsResets }
 {}
 
 /// In every run of the cluster's machine, and also of a connection that the schedule touched, whatever is lost, repeated or

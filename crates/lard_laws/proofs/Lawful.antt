@@ -18,6 +18,7 @@ use Rattle.lard_law_connections.proofs.MotionRuns.{connections-move}
 use Rattle.lard_law_connections.proofs.OffersRuns.{offers-carry}
 use Rattle.lard_law_connections.proofs.PlacesRuns.{owners-are, senders-are}
 use Rattle.lard_law_connections.proofs.PolicyCounted.{admits-by-room, admits-to-a-node, assigns-as-stated, loads-are-charges, releases-what-it-took, servers-are-told, shares-one-batch, stays-within}
+use Rattle.lard_law_connections.proofs.ResetsRuns.{rst-follows}
 use Rattle.lard_laws.proofs.QuietEnds.{journals-complete}
 use Rattle.lard_laws.proofs.RecordsThere.{only-nodes}
 use Rattle.lard_laws.proofs.SizesRuns.{batches-sized}
@@ -50,6 +51,7 @@ journals-lawful config files m checked r =
       service = journals-serve config files m small r;
       prefix = clients-accept config files m small r;
       resets = resets-lawful config files m small r;
+      sends_rst = rst-follows config files m r;
       stores = lawful config files m r;
       disks = disks-read config files m r;
       admission = admits-by-room config files m checked r;

@@ -13,6 +13,7 @@ use Rattle.lard_law_connections.specs.BytesRecords.{ServesTheAnswers}
 use Rattle.lard_law_connections.specs.LineLaws.{HasFewConnections, IsNearTheThresholds, IsNotBusy, IsWithinTheRoom, LineNeedsAFullRoom, MayPass, MayWait, MustRelease}
 use Rattle.lard_law_connections.specs.Motion.{MustMove}
 use Rattle.lard_law_connections.specs.Offers.{CarryTheEndpoint}
+use Rattle.lard_law_connections.specs.ResetsLaws.{SendsRstBehindResets}
 use Rattle.lard_law_connections.specs.PolicyLaws.{AreLoadsCharged, ArePaired, AreServersTold, MayAdmit, MayAssign, MayRelease, MayShare, Nothing, last_of}
 use Rattle.lard_counts.specs.Ledger.{Ledger, admitted, ledger}
 use Rattle.lard_laws.specs.Quiet.{CompletesWhenQuiet}
@@ -64,6 +65,8 @@ pub record IsLawful (config : Config) (files : FilesAt) (J : List Rec) : Type 0 
   pub prefix : AcceptsOnlyAnswers files J
   -- when the stream limit resets a connection
   pub resets : ResetsAtTheLimit config.stream J
+  -- and that RST is sent behind such a reset alone
+  pub sends_rst : SendsRstBehindResets J
   -- what is cached, what waits at a disk, and which job is read
   pub stores : EachMay (MayStore files config.cache) [] J
   pub disks : EachStep MustRead [] (steps J)

@@ -4,6 +4,7 @@ use Rattle.lard_base.specs.declared.place.Place.TheVariants.{Client, Front, Node
 use Rattle.lard_base.specs.declared.place.Via.TheVariants as via
 use Rattle.lard_laws.specs.BackingRequests.{MayAnswer, MayName}
 use Rattle.lard_law_connections.specs.BytesRecords.{ServesTheAnswers}
+use Rattle.lard_law_connections.specs.ResetsLaws.{SendsRstBehindResets}
 use Rattle.lard_history.specs.Journal.{request}
 use Rattle.lard_history.specs.Laws.{AcceptsOnlyAnswers, EachMay, ResetsAtTheLimit, TellsTheTruth}
 use Rattle.lard_journal.specs.declared.rec.Rec.{Rec}
@@ -122,6 +123,23 @@ third_response_resets = rec.Served (Node 1) 1 1 200 40 via.Cache ∷ rec.Served 
 -- A response is queued behind a reset.
 abbrev pub served_behind_a_reset : List Rec
 served_behind_a_reset = rec.Reset (Node 1) 1 120 ∷ rec.Served (Node 1) 1 1 200 40 via.Cache ∷ []
+
+-- ---- RST
+
+abbrev pub sends_rst : Law
+sends_rst config files J = SendsRstBehindResets J
+
+-- A packet was put on the way in the name of a client, and it is reset, though no limit was passed.
+abbrev pub touched_client_is_reset : List Rec
+touched_client_is_reset = rec.Opened 1 1000 5000 65535 1460 ∷ rec.Injected 1 ∷ rec.Sent 1 Front (Client 1) reset_segment ∷ []
+
+-- Another client passed the limit.
+abbrev pub reset_for_another_client : List Rec
+reset_for_another_client = rec.Opened 1 1000 5000 65535 1460 ∷ rec.Injected 1 ∷ rec.Reset (Node 1) 2 120 ∷ rec.Sent 1 (Node 1) (Client 1) reset_segment ∷ []
+
+-- It passed the limit itself.
+abbrev pub touched_client_passes_the_limit : List Rec
+touched_client_passes_the_limit = rec.Opened 1 1000 5000 65535 1460 ∷ rec.Injected 1 ∷ rec.Reset (Node 1) 1 120 ∷ rec.Sent 1 (Node 1) (Client 1) reset_segment ∷ []
 
 -- ---- who answers what
 

@@ -45,6 +45,14 @@ pub fn resets_refuses()
     ensures third_response_resets { Allows the.resets the.third_response_resets }
 {}
 
+/// RST is sent to a client only behind a reset at the stream limit, also to one in whose name the schedule put a packet on the way.
+pub fn sends_rst_refuses()
+    ensures law { IsLawOfAll the.sends_rst }
+    ensures touched_client_is_reset { Refuses the.sends_rst the.touched_client_is_reset }
+    ensures reset_for_another_client { Refuses the.sends_rst the.reset_for_another_client }
+    ensures touched_client_passes_the_limit { Allows the.sends_rst the.touched_client_passes_the_limit }
+{}
+
 /// The front end answers before the first request for a file, and its node from there.
 pub fn answerers_refuses()
     ensures law { IsLawOfAll the.answerers }
