@@ -1,5 +1,5 @@
 -- What a node does keeps the law of RST.
-use Rattle.std.proofs.Common.{◌≡◌, ℕ, Bool, true, List, [], ◌∷◌, ◌++◌, Option, Some, None, Result, Ok, Err, sym, subst}
+use Rattle.std.proofs.Common.{◌≡◌, ℕ, Bool, true, List, [], ◌∷◌, ◌++◌, Option, Some, None, Result, Ok, Err, refl, sym, subst}
 use Rattle.std.proofs.lemmas.Bool.{cond_both}
 use Rattle.std.specs.List.{find}
 use Rattle.lard_base.specs.declared.parts.EndpointParts.{EndpointParts}
@@ -150,7 +150,7 @@ module _ (k : Setting) (x : Conn) (sound_x : IsSound x) (h : IsBehindResets x) (
   offered-by parts New =
       let first : Work = state_of (reads_batch env true (begins env parts)) in
       works-behind ours (taken_sent env) (goes_on env first) (taken-fair was)
-      (goes-so env (IsBehind env.serve was) (serving-behind env.serve was) first (batch-state env (IsBehind env.serve was) (serving-behind env.serve was) true (begins env parts) tt))
+      (goes-so env (IsBehind env.serve was) (serving-behind env.serve was) first (batch-state env (IsBehind env.serve was) (serving-behind env.serve was) true (begins env parts) refl tt))
   offered-by parts Again = says (taken_sent env) (taken-fair was)
   offered-by parts Stale = dropped
 
