@@ -1,9 +1,10 @@
 -- The jobs that a node gives its disk in a turn are those that it notes, and what it notes of its cache is so of it.
-use Rattle.std.proofs.Common.{ℕ, ◌+◌, ◌-◌, nat_lt, ◌==◌, Bool, true, false, List, [], ◌∷◌, length, Option, Some, None, refl, subst}
+use Rattle.std.proofs.Common.{◌≡◌, ℕ, ◌+◌, ◌-◌, nat_lt, ◌==◌, Bool, true, false, List, [], ◌∷◌, length, is_some, Option, Some, None, refl, subst}
 use Rattle.std.proofs.lemmas.Bool.{cond_both}
 use Rattle.std.specs.Prelude.{slice_get}
 use Rattle.lard_answers.specs.Answers.{answer, good_path}
 use Rattle.lard_base.specs.declared.place.Via.{Via}
+use Rattle.lard_law_connections.proofs.KeptBatches.{good-file, named-file}
 use Rattle.lard_law_connections.proofs.StoresNotes.{Tells, no-more, one-more}
 use Rattle.lard_disk.specs.declared.disk.Job.{Job}
 use Rattle.lard_endpoint.specs.Control.{finishing}
@@ -12,7 +13,7 @@ use Rattle.lard_rules.specs.declared.stay.Entry.{Entry}
 use Rattle.lard_rules.specs.declared.stay.Next.{Next}
 use Rattle.lard_rules.specs.declared.stay.Next.TheVariants.{Serve, Read, Stop}
 use Rattle.lard_rules.specs.declared.stay.Progress.{Progress}
-use Rattle.lard_rules.specs.declared.stay.Progress.TheVariants.{Named, Reading, Awaited, Ready}
+use Rattle.lard_rules.specs.declared.stay.Progress.TheVariants.{Ready}
 use Rattle.lard_rules.specs.Stay.{NodeEnv, Work, asks_for, came_for, come_on, entered, enters, enters_first, enters_one, goes_on, left, named_path, named_paths, next_of, noted, reads_batch, reads_these, serves_by, serves_first, started, started_here, started_there, starts_at, starts_named, starts_one, tagged, turn, turned}
 use Rattle.lard_reader.specs.Batches.{batch_of, bytes_used}
 use Rattle.lard_request.specs.declared.verdict.Verdict.{Verdict}
@@ -26,7 +27,7 @@ use Rattle.lard_rules.proofs.Runs.{runs_keep}
 module _ (env : NodeEnv) where
   -- so far these jobs were noted
   abbrev pub Told : Service → List Job → Type 0
-  Told w jobs = Tells env.n env.cached w.notes jobs
+  Told w jobs = Tells env.n env.serve.files env.cached w.notes jobs
 
   abbrev pub IsAtWork : Work → Type 0
   IsAtWork w = Told w.service w.jobs
@@ -42,41 +43,41 @@ module _ (env : NodeEnv) where
       let bytes : List ℕ = answer env.serve.files v in
       let total : ℕ = w.block.send.total + length bytes in
       cond_both (nat_lt env.serve.stream total) (passed_over env.serve total w) (queued env.serve via v bytes w) (λ (x : Service). Told x jobs)
-      (λ t. no-more env.n env.cached w.notes jobs (rec.Reset env.serve.place env.serve.c total) h refl tt)
-      (λ t. no-more env.n env.cached w.notes jobs (rec.Served env.serve.place env.serve.c (w.count + 1) _ (length bytes) via) h refl tt)
+      (λ t. no-more env.n env.serve.files env.cached w.notes jobs (rec.Reset env.serve.place env.serve.c total) h refl tt)
+      (λ t. no-more env.n env.serve.files env.cached w.notes jobs (rec.Served env.serve.place env.serve.c (w.count + 1) _ (length bytes) via) h refl tt)
 
   ended-told : (jobs : List Job) (w : Service) → Told w jobs → Told (ended_at_fin w) jobs
   ended-told jobs w h = cond_both w.block.recv.fin (record w { block = finishing w.block }) w (λ (x : Service). Told x jobs) (λ t. h) (λ t. h)
 
   -- the end of a turn notes nothing more
-  pub settled-told : (jobs : List Job) (w : Service) → Told w jobs → Tells env.n env.cached (settled env.serve w).1.notes jobs
+  pub settled-told : (jobs : List Job) (w : Service) → Told w jobs → Tells env.n env.serve.files env.cached (settled env.serve w).1.notes jobs
   settled-told jobs w h = go w.over where
-    go : (o : Option ℕ) → Tells env.n env.cached (elim o as (λ p. Ending × Turn) [ None ↦ spoken env.serve w [] | Some total ↦ cut_off env.serve w ]).1.notes jobs
+    go : (o : Option ℕ) → Tells env.n env.serve.files env.cached (elim o as (λ p. Ending × Turn) [ None ↦ spoken env.serve w [] | Some total ↦ cut_off env.serve w ]).1.notes jobs
     go None = h
     go (Some total) = h
 
   -- ---- starting
 
-  here-works : (r : ℕ) (path : List ℕ) (v : Verdict) (w : Work) → IsAtWork w → IsAtWork (started_here env r path v w)
-  here-works r path v w h =
+  here-works : (r : ℕ) (path : List ℕ) (v : Verdict) (w : Work) → is_some (env.serve.files path) ≡ true → IsAtWork w → IsAtWork (started_here env r path v w)
+  here-works r path v w there h =
       let hit : Work = entered (record { verdict = v; progress = Ready _ }) (record w { service = noted (rec.Hit env.n path ∷ []) w.service }) in
       let job : Job = record { origin = env.n; c = env.serve.c; epoch = record { 0 = env.epoch }; r = r; path = path } in
       cond_both (env.cached path) hit _ IsAtWork
-      (λ t. no-more env.n env.cached w.service.notes w.jobs (rec.Hit env.n path) h refl (refl, t))
-      (λ t. one-more env.n env.cached w.service.notes w.jobs (rec.Queued env.n env.n env.serve.c r path) (job ∷ []) h refl (refl, t))
+      (λ t. no-more env.n env.serve.files env.cached w.service.notes w.jobs (rec.Hit env.n path) h refl (refl, t))
+      (λ t. one-more env.n env.serve.files env.cached w.service.notes w.jobs (rec.Queued env.n env.n env.serve.c r path) (job ∷ []) h refl (refl, t, there))
 
-  started-works : (node r : ℕ) (path : List ℕ) (v : Verdict) (w : Work) → IsAtWork w → IsAtWork (started env node r path v w)
-  started-works node r path v w h = cond_both (node == env.n) (started_here env r path v w) (started_there node r path v w) IsAtWork (λ t. here-works r path v w h) (λ t. h)
+  started-works : (node r : ℕ) (path : List ℕ) (v : Verdict) (w : Work) → is_some (env.serve.files path) ≡ true → IsAtWork w → IsAtWork (started env node r path v w)
+  started-works node r path v w there h = cond_both (node == env.n) (started_here env r path v w) (started_there node r path v w) IsAtWork (λ t. here-works r path v w there h) (λ t. h)
 
   -- ---- reading a batch
 
-  first-works : (r : ℕ) (v : Verdict) (w : Work) (o : Option (List ℕ)) → IsAtWork w → IsAtWork (enters_first env r v w o).1
-  first-works r v w None h = h
-  first-works r v w (Some path) h = here-works r path v w h
+  first-works : (r : ℕ) (v : Verdict) (w : Work) (o : Option (List ℕ)) → good_path env.serve.files v ≡ o → IsAtWork w → IsAtWork (enters_first env r v w o).1
+  first-works r v w None is h = h
+  first-works r v w (Some path) is h = here-works r path v w (good-file env.serve.files v path is) h
 
   one-works : (here : Bool) (r : ℕ) (v : Verdict) (w : Work) → IsAtWork w → IsAtWork (enters_one env here r v w).1
   one-works false r v w h = h
-  one-works true r v w h = first-works r v w (good_path env.serve.files v) h
+  one-works true r v w h = first-works r v w (good_path env.serve.files v) refl h
 
   enters-works : (here : Bool) (r : ℕ) (vs : List Verdict) (w : Work) → IsAtWork w → IsAtWork (enters env here r vs w)
   unfolding enters
@@ -127,13 +128,13 @@ module _ (env : NodeEnv) where
 
   -- ---- what came
 
-  named-works : (node r : ℕ) (e : Entry) (w : Work) (o : Option (List ℕ)) → IsAtWork w → IsAtWork (starts_named env node r e w o).1
-  named-works node r e w None h = h
-  named-works node r e w (Some path) h = started-works node r path e.verdict w h
+  named-works : (node r : ℕ) (e : Entry) (w : Work) (o : Option (List ℕ)) → named_path env.serve.files e ≡ o → IsAtWork w → IsAtWork (starts_named env node r e w o).1
+  named-works node r e w None is h = h
+  named-works node r e w (Some path) is h = started-works node r path e.verdict w (named-file env.serve.files e e.progress path is) h
 
   starts-works : (o : Option ℕ) (r : ℕ) (e : Entry) (w : Work) → IsAtWork w → IsAtWork (starts_one env o r e w).1
   starts-works None r e w h = h
-  starts-works (Some node) r e w h = named-works node r e w (named_path env.serve.files e) h
+  starts-works (Some node) r e w h = named-works node r e w (named_path env.serve.files e) refl h
 
   at-works : (nodes : List ℕ) (at r : ℕ) (es : List Entry) (w : Work) → IsAtWork w → IsAtWork (starts_at env nodes at r es w)
   unfolding starts_at
