@@ -22,7 +22,7 @@ use Rattle.lard_resend.proofs.Ordered.{drop_all, drop_keeps, drops, keeps, put_a
 -- ---- paths
 
 -- a good path is that of a file
-good-file : (files : FilesAt) (v : Verdict) (path : List ℕ) → good_path files v ≡ Some path → is_some (files path) ≡ true
+pub good-file : (files : FilesAt) (v : Verdict) (path : List ℕ) → good_path files v ≡ Some path → is_some (files path) ≡ true
 good-file files (verdict.Fault code) path is = let no : None ≡ Some path = is in absurd cc
 good-file files (verdict.Serve p head close) path is = go (is_some (files p)) refl is where
   go : (b : Bool) → is_some (files p) ≡ b → cond b (Some p) None ≡ Some path → is_some (files path) ≡ true

@@ -31,8 +31,8 @@ module _ (env : NodeEnv) (P : Service → Type 0) (kept : KeptByServing env.serv
 
   by_serving : KeptByNotes env Serves
   by_serving = record {
-    hits = λ path s jobs t h. kept.notes s (rec.Hit env.n path ∷ []) (tt, tt) h;
-    queues = λ r path s jobs f h. kept.notes s (rec.Queued env.n env.n env.serve.c r path ∷ []) (tt, tt) h;
+    hits = λ path v s jobs good t h. kept.notes s (rec.Hit env.n path ∷ []) (tt, tt) h;
+    queues = λ r path v s jobs good f h. kept.notes s (rec.Queued env.n env.n env.serve.c r path ∷ []) (tt, tt) h;
     takes = λ used s jobs h. kept.reads s used h;
     ends = λ s jobs h. kept.ends s h;
     answers = λ way v s jobs may h. kept.answers s way v may h;

@@ -279,7 +279,7 @@ module _ (d : Dispatcher) (ins : List ℕ) (in_ : AreIn ins d.books.loads.standi
 
     -- ---- an Ask
 
-    module _ (from epoch number queue size : ℕ) (paths : List (List ℕ)) (some : 1 ≤ length paths) where
+    module _ (from epoch number queue size : ℕ) (paths : List (List ℕ)) (some : 1 ≤ length paths) (within : length paths ≤ size) (most : size ≤ 8) where
       abbrev ask : Ask
       ask = ask_of env.serve.c from number queue size paths
 
@@ -297,7 +297,7 @@ module _ (d : Dispatcher) (ins : List ℕ) (in_ : AreIn ins d.books.loads.standi
           → Tells d env.serve.c env.now ins p (assigns env p rest from epoch ask l)
       new-tells rest found home l is = record {
         leads = subst (λ (y : Later). Leads d.config env.now ins d.books (assigns env p rest from epoch ask y).turn.notes After.books) (sym is)
-            (later-leads d.config env.now ask ins rest.assigned d.books some in_ (ap (λ (x : Standing). x.home) home));
+            (later-leads d.config env.now ask ins rest.assigned d.books some within most in_ (ap (λ (x : Standing). x.home) home));
         gave = tt;
         ordered = none-ordered d.books.line (assigns env p rest from epoch ask l).turn.notes
             (Each-append IsNeither (over_note env.serve.c l.over) (assigned_notes env.serve.c ask rest.assigned paths l.choices) (over-neither env.serve.c l.over) (assigned-neither env.serve.c ask rest.assigned paths l.choices));

@@ -19,7 +19,7 @@ use Rattle.lard_dispatch.specs.declared.dispatch.Ask.{Ask}
 use Rattle.lard_dispatch.specs.declared.line.Waiting.{Waiting}
 use Rattle.lard_dispatch.specs.Books.{Books}
 use Rattle.lard_dispatch.specs.Calls.{admitted_with, all_choices, all_shared, batch_over, choice_at, later_choice_at, released_from, shared_with}
-use Rattle.lard_dispatch.proofs.Sharing.{home-ended, home-shared, shares-ended}
+use Rattle.lard_dispatch.proofs.Sharing.{home-ended, home-shared, shares-ended, shares-shared}
 use Rattle.lard_rules.specs.Front.{assigned_notes, over_note}
 use Rattle.lard_history.proofs.Each.{Each}
 use Rattle.lard_journal.specs.declared.rec.Rec.{Rec}
@@ -121,14 +121,15 @@ module _ (cfg : Config) (now : Millis) (ask : Ask) where
     may : EachFrom (May cfg) (at now ins b) notes
     paired : ArePaired Nothing notes
 
-  shares-lead : (ins : List ℕ) (r : ℕ) (paths : List (List ℕ)) (b : Books) → AreIn ins b.loads.standings → home b.loads ask.c ≡ Some ask.home
+  shares-lead : (ins : List ℕ) (r : ℕ) (paths : List (List ℕ)) (b : Books) → 1 ≤ ask.size → ask.size ≤ 8 → open_shares b.loads ask.c + length paths ≤ 8 → AreIn ins b.loads.standings → home b.loads ask.c ≡ Some ask.home
       → Shared ins b (assigned_notes ask.c ask r paths (all_choices cfg ask now paths b)) (all_shared cfg ask now paths b)
-  shares-lead ins r [] b in_ at_home = record { then = refl; in_ = in_; may = tt; paired = tt }
-  shares-lead ins r (path ∷ paths) b in_ at_home =
+  shares-lead ins r [] b least most room in_ at_home = record { then = refl; in_ = in_; may = tt; paired = tt }
+  shares-lead ins r (path ∷ paths) b least most room in_ at_home =
       let choice : LaterChoice = later_choice_at cfg b ask path in
+      let opens : open_shares (shared b.loads ask.c choice.node ask.size) ask.c ≤ open_shares b.loads ask.c + 1 = shares-shared b.loads ask.c choice.node ask.size in
       let later : Shared ins (shared_with cfg b ask path now) (assigned_notes ask.c ask (r + 1) paths (all_choices cfg ask now paths (shared_with cfg b ask path now))) (all_shared cfg ask now paths (shared_with cfg b ask path now)) =
-      shares-lead ins (r + 1) paths (shared_with cfg b ask path now) (shared-in ins b.loads choice.node ask.size in_) (home-shared b.loads ask.c choice.node ask.size ∙ at_home) in
-      record { then = later.then; in_ = later.in_; may = ((tt, (ask.home, at_home, refl)), later.may); paired = later.paired }
+      shares-lead ins (r + 1) paths (shared_with cfg b ask path now) least most (omega (arith, room, opens)) (shared-in ins b.loads choice.node ask.size in_) (home-shared b.loads ask.c choice.node ask.size ∙ at_home) in
+      record { then = later.then; in_ = later.in_; may = ((tt, (ask.home, at_home, refl, least, most, omega (arith, room))), later.may); paired = later.paired }
 
   -- the first of a batch finds no share open, and the others stand directly behind it
   shares-after : (ins : List ℕ) (r : ℕ) (paths : List (List ℕ)) (b : Books) (before : Option Rec) → IsBehind ask.c before ⊎ (open_shares b.loads ask.c ≡ 0)
@@ -180,14 +181,14 @@ module _ (cfg : Config) (now : Millis) (ask : Ask) where
   batch-paired false r paths b some h = h
 
   -- all of an Ask
-  pub later-leads : (ins : List ℕ) (r : ℕ) (b : Books) → 1 ≤ length ask.paths → AreIn ins b.loads.standings → home b.loads ask.c ≡ Some ask.home
+  pub later-leads : (ins : List ℕ) (r : ℕ) (b : Books) → 1 ≤ length ask.paths → length ask.paths ≤ ask.size → ask.size ≤ 8 → AreIn ins b.loads.standings → home b.loads ask.c ≡ Some ask.home
       → Leads cfg now ins b (over_note ask.c (nat_lt 0 (open_shares b.loads ask.c)) ++ assigned_notes ask.c ask r ask.paths (all_choices cfg ask now ask.paths (batch_over b ask))) (all_shared cfg ask now ask.paths (batch_over b ask))
-  later-leads ins r b some in_ at_home =
+  later-leads ins r b some within most in_ at_home =
       let open_ : Bool = nat_lt 0 (open_shares b.loads ask.c) in
       let xs : List Rec = over_note ask.c open_ in
       let ys : List Rec = assigned_notes ask.c ask r ask.paths (all_choices cfg ask now ask.paths (batch_over b ask)) in
       let over : Ends ins b xs = over-ends ins b in_ open_ refl in
-      let shares = shares-lead ins r ask.paths (batch_over b ask) over.in_ (home-ended b.loads ask.c ∙ at_home) in
+      let shares = shares-lead ins r ask.paths (batch_over b ask) (omega (arith, some, within)) most (let none : open_shares (batch_ended b.loads ask.c) ask.c ≡ 0 = shares-ended b.loads ask.c in omega (arith, none, within, most)) over.in_ (home-ended b.loads ask.c ∙ at_home) in
       record {
         more = ins;
         then = fold-append ledger_step (at now ins b) xs ys ∙ ap (λ (l : Ledger). fold ledger_step l ys) over.then ∙ shares.then;

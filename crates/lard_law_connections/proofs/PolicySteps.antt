@@ -270,7 +270,7 @@ module _ (k : FrontSetting) (s : FrontState) (sound : IsFrontSound s) (lined : A
   told-tells from c epoch body.Taken table = deed-tells c (front_taken (front_part s c) epoch) (taken-tells s.dispatch ins in_ c k.now (front_part s c) epoch)
   told-tells from c epoch (body.Ask number queue size paths) table =
       deed-tells c (front_asked (front_env k s c 0) (front_part s c) from epoch (ask_of c from number queue size paths))
-      (asked-tells s.dispatch ins in_ sound.books (front_env k s c 0) (env-of c 0) (front_part s c) from epoch number queue size paths table.1 (sound.each c))
+      (asked-tells s.dispatch ins in_ sound.books (front_env k s c 0) (env-of c 0) (front_part s c) from epoch number queue size paths table.1 table.2 table.0 (sound.each c))
   told-tells from c epoch (body.Ended reason snd rcv count) table = ended-tells c from epoch (record { reason = reason; snd = record { 0 = snd }; rcv = record { 0 = rcv } })
   told-tells from c epoch _ table = still-tells
 

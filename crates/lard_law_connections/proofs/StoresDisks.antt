@@ -1,6 +1,7 @@
 -- Each event of a disk reads the job that it names, and in no other step is one read.
 use Rattle.std.proofs.Common.{◌≡◌, ℕ, ◌-◌, Bool, false, List, [], ◌∷◌, ◌++◌, map, Some, None, Ok, refl, sym, ap, ◌∙◌, subst, ⊎_elim}
 use Rattle.std.specs.Prelude.{slice_set}
+use Rattle.lard_answers.specs.Answers.{FilesAt}
 use Rattle.lard_base.specs.declared.event.Event.{Event}
 use Rattle.lard_base.specs.declared.event.Event.TheVariants as event
 use Rattle.lard_base.specs.declared.place.Place.TheVariants.{Node}
@@ -37,10 +38,10 @@ asides-unread : (rs : List Rec) → Each IsAside rs → NoneRead rs
 asides-unread [] e = tt
 asides-unread (r ∷ rs) e = ((aside r e.0).unread, asides-unread rs e.1)
 
-notes-unread : (n : ℕ) (has : List ℕ → Bool) (rs : List Rec) → Each (MayNote n has) rs → NoneRead rs
-notes-unread n has [] e = tt
-notes-unread n has (r ∷ rs) e = (one r e.0, notes-unread n has rs e.1) where
-  one : (r : Rec) → MayNote n has r → is_read r ≡ false
+notes-unread : (n : ℕ) (files : FilesAt) (has : List ℕ → Bool) (rs : List Rec) → Each (MayNote n files has) rs → NoneRead rs
+notes-unread n files has [] e = tt
+notes-unread n files has (r ∷ rs) e = (one r e.0, notes-unread n files has rs e.1) where
+  one : (r : Rec) → MayNote n files has r → is_read r ≡ false
   one (rec.Hit k path) h = refl
   one (rec.Queued k m c r path) h = refl
   one r h = (aside r h).unread
@@ -74,11 +75,11 @@ module _ (k : NodeSetting) (J : List Rec) (e : Event) (s : NodeState) (told : jo
 
   moves-read : (i : BackIn) (x : NodeState × Out) → Comes e k.n s i → NoneRead (behind e) → NodeMoves k s i x → Completes J e (behind e ++ x.1.notes ++ last)
   moves-read (back.Disk j) x named first (Plain idle moves) = let no : None ≡ Some named.1 = sym idle ∙ named.2 in absurd cc
-  moves-read (back.Timer c) x named first (Plain idle moves) = plain x.1.notes named first (notes-unread k.n _ x.1.notes moves.notes.each)
-  moves-read (back.Message from bytes) x named first (Plain idle moves) = plain x.1.notes named first (notes-unread k.n _ x.1.notes moves.notes.each)
+  moves-read (back.Timer c) x named first (Plain idle moves) = plain x.1.notes named first (notes-unread k.n k.files _ x.1.notes moves.notes.each)
+  moves-read (back.Message from bytes) x named first (Plain idle moves) = plain x.1.notes named first (notes-unread k.n k.files _ x.1.notes moves.notes.each)
   moves-read (back.Disk j) x named first (Reads {job = job} {x = y} is moves) =
       subst (λ (d : Event). Completes J d (behind d ++ rec.Read k.n job.origin job.c job.r job.path ∷ y.1.notes ++ last)) (sym named.0)
-      (job_told job, y.1.notes ++ last, waiting-is J k.n j s.disk job told is, refl, joined y.1.notes last (notes-unread k.n _ y.1.notes moves.notes.each) none)
+      (job_told job, y.1.notes ++ last, waiting-is J k.n j s.disk job told is, refl, joined y.1.notes last (notes-unread k.n k.files _ y.1.notes moves.notes.each) none)
 
 step-reads : (m n : Machine) (e : Event) → IsViewed m → HasRule e → machine_step m e ≡ Ok n → (after : IsAfter m e n)
     → ((i : ℕ) (s : NodeState) → node_at m.nodes i ≡ Some s → jobs m.journal i ≡ map job_told s.disk) → MustRead m.journal after.step

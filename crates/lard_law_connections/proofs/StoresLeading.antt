@@ -67,11 +67,11 @@ module _ (k : NodeSetting) (limit : ℕ) where
   moves-lead : (J : List Rec) (s : NodeState) (x : NodeState × Out) → IsKept k.files limit J k.n s.cache s.disk → MovesFrom k s x → Leads k.files limit J k.n x.1.notes x.0
   moves-lead J s x kept moves =
       let grown : IsKept k.files limit (J ++ x.1.notes) k.n (hits x.1.notes s.cache) (s.disk ++ moves.jobs) =
-      notes-kept k.n (has s.cache.entries) k.files limit J x.1.notes s.cache s.disk moves.jobs moves.notes kept in
+      notes-kept k.n k.files (has s.cache.entries) limit J x.1.notes s.cache s.disk moves.jobs moves.notes kept in
       record {
         mine = record { jobs_are = grown.jobs_are ∙ ap (map job_told) (sym moves.disk_is); cache_is = grown.cache_is ∙ sym moves.cache_is };
-        others = λ q cache disk other was. others-kept k.n (has s.cache.entries) k.files limit q J x.1.notes cache disk other moves.notes.each was;
-        law = notes-may k.n (has s.cache.entries) k.files limit J x.1.notes moves.notes.each (λ path. ap (λ (c : Recency). has c.entries path) kept.cache_is);
+        others = λ q cache disk other was. others-kept k.n k.files (has s.cache.entries) limit q J x.1.notes cache disk other moves.notes.each was;
+        law = notes-may k.n k.files (has s.cache.entries) limit J x.1.notes moves.notes.each (λ path. ap (λ (c : Recency). has c.entries path) kept.cache_is);
       }
 
   -- the j-th job is read

@@ -1,5 +1,6 @@
 -- What a node's step makes of its disk and its cache, and what it tells of them.
-use Rattle.std.proofs.Common.{◌≡◌, ℕ, ◌==◌, Bool, true, false, List, [], ◌∷◌, ◌++◌, Option, Some, None, Result, Ok, Err, refl, sym, append-nil}
+use Rattle.std.proofs.Common.{◌≡◌, ℕ, ◌==◌, Bool, true, false, List, [], ◌∷◌, ◌++◌, is_some, Option, Some, None, Result, Ok, Err, refl, sym, ap, append-nil}
+use Rattle.lard_answers.specs.Answers.{FilesAt}
 use Rattle.std.proofs.lemmas.Bool.{cond_both}
 use Rattle.std.specs.List.{flat_map, list_any}
 use Rattle.lard_base.specs.declared.place.Place.{Place}
@@ -31,11 +32,11 @@ use Rattle.lard_segment.specs.Segment.{decoded}
 
 -- Node n, which had this cache and these jobs, is so now and did this: it was given the jobs that it notes, and its cache has the
 -- paths in front that it notes.
-pub record Moves (n : ℕ) (cache : Recency) (disk : List Job) (t : NodeState) (o : Out) : Type 0 where
+pub record Moves (n : ℕ) (files : FilesAt) (cache : Recency) (disk : List Job) (t : NodeState) (o : Out) : Type 0 where
   pub jobs : List Job
   pub disk_is : t.disk ≡ disk ++ jobs
   pub cache_is : t.cache ≡ hits o.notes cache
-  pub notes : Tells n (has cache.entries) o.notes jobs
+  pub notes : Tells n files (has cache.entries) o.notes jobs
   pub gave : Each IsAside o.gave
   pub timers : Each IsAside o.timers
 
@@ -57,17 +58,17 @@ timers-aside place c was is (kind ∷ kinds) =
 module _ (k : NodeSetting) where
   -- what is so of a step from this state
   abbrev pub MovesFrom : NodeState → NodeState × Out → Type 0
-  MovesFrom s x = Moves k.n s.cache s.disk x.0 x.1
+  MovesFrom s x = Moves k.n k.files s.cache s.disk x.0 x.1
 
   stays : (s : NodeState) → MovesFrom s (s, nothing_done)
-  stays s = record { jobs = []; disk_is = sym (append-nil s.disk); cache_is = refl; notes = nothing-told k.n (has s.cache.entries); gave = tt; timers = tt }
+  stays s = record { jobs = []; disk_is = sym (append-nil s.disk); cache_is = refl; notes = nothing-told k.n k.files (has s.cache.entries); gave = tt; timers = tt }
 
-  aside-moves : (s : NodeState) (t : NodeTurn) → Tells k.n (has s.cache.entries) t.notes t.jobs → MovesFrom s (aside s t)
+  aside-moves : (s : NodeState) (t : NodeTurn) → Tells k.n k.files (has s.cache.entries) t.notes t.jobs → MovesFrom s (aside s t)
   aside-moves s t tells = record { jobs = t.jobs; disk_is = refl; cache_is = refl; notes = tells; gave = tt; timers = tt }
 
-  deed-moves : (s : NodeState) (c : ℕ) (d : Deed) → DeedTells k.n (has s.cache.entries) d → MovesFrom s (node_deed k s c d)
+  deed-moves : (s : NodeState) (c : ℕ) (d : Deed) → DeedTells k.n k.files (has s.cache.entries) d → MovesFrom s (node_deed k s c d)
   deed-moves s c Drops h = stays s
-  deed-moves s c (Says messages) h = aside-moves s (saying messages) (nothing-told k.n (has s.cache.entries))
+  deed-moves s c (Says messages) h = aside-moves s (saying messages) (nothing-told k.n k.files (has s.cache.entries))
   deed-moves s c (Does x) h = record {
     jobs = x.1.jobs;
     disk_is = refl;
@@ -79,21 +80,21 @@ module _ (k : NodeSetting) where
 
   -- ---- messages
 
-  fetched-moves : (s : NodeState) (from c epoch r : ℕ) (path : List ℕ) (o : Option (List ℕ)) → MovesFrom s (fetched k s from c epoch r path o)
-  fetched-moves s from c epoch r path None = stays s
-  fetched-moves s from c epoch r path (Some bytes) = cond_both (list_any (is_for c epoch r) s.disk) (s, nothing_done) (aside s (fetched_file k s from c epoch r path)) (MovesFrom s)
+  fetched-moves : (s : NodeState) (from c epoch r : ℕ) (path : List ℕ) (o : Option (List ℕ)) → k.files path ≡ o → MovesFrom s (fetched k s from c epoch r path o)
+  fetched-moves s from c epoch r path None is = stays s
+  fetched-moves s from c epoch r path (Some bytes) is = cond_both (list_any (is_for c epoch r) s.disk) (s, nothing_done) (aside s (fetched_file k s from c epoch r path)) (MovesFrom s)
       (λ t. stays s)
       (λ t. aside-moves s (fetched_file k s from c epoch r path)
-      (cond_both (has s.cache.entries path) _ _ (λ (u : NodeTurn). Tells k.n (has s.cache.entries) u.notes u.jobs)
+      (cond_both (has s.cache.entries path) _ _ (λ (u : NodeTurn). Tells k.n k.files (has s.cache.entries) u.notes u.jobs)
       (λ there. record { told = refl; each = ((refl, there), tt) })
-      (λ there. record { told = refl; each = ((refl, there), tt) })))
+      (λ there. record { told = refl; each = ((refl, there, ap is_some is), tt) })))
 
   hears-moves : (s : NodeState) (from : Place) (c epoch : ℕ) (b : Body) → MovesFrom s (node_hears k s from c epoch b)
   hears-moves s Front c epoch (body.Offer parts) = deed-moves s c (node_offered (node_env k s c epoch) (node_part s c) parts) (offered-deed (node_env k s c epoch) (node_part s c) parts)
   hears-moves s Front c epoch (body.Forward bytes) = deed-moves s c (node_forwarded (node_env k s c epoch) (node_part s c) (decoded bytes c ToCluster)) (forwarded-deed (node_env k s c epoch) (node_part s c) (decoded bytes c ToCluster))
   hears-moves s Front c epoch (body.Tag number nodes) = deed-moves s c (node_tagged (node_env k s c epoch) (node_part s c) number nodes) (tagged-deed (node_env k s c epoch) (node_part s c) number nodes)
   hears-moves s Front c epoch body.EndedAck = deed-moves s c (node_acknowledged (node_env k s c epoch) (node_part s c)) (acknowledged-deed (node_env k s c epoch) (node_part s c))
-  hears-moves s (Node from) c epoch (body.Fetch r path) = fetched-moves s from c epoch r path (k.files path)
+  hears-moves s (Node from) c epoch (body.Fetch r path) = fetched-moves s from c epoch r path (k.files path) refl
   hears-moves s (Node from) c epoch (body.Content r bytes) = deed-moves s c (node_content (node_env k s c epoch) (node_part s c) from r) (content-deed (node_env k s c epoch) (node_part s c) from r)
   hears-moves s _ c epoch _ = stays s
 
@@ -107,7 +108,7 @@ module _ (k : NodeSetting) where
   brought-moves s job = cond_both (job.origin == k.n) (node_deed k s job.c (node_read (node_env k s job.c job.epoch.0) (node_part s job.c) job.r))
       (aside s (saying (content_sent k job.origin job.c job.epoch.0 job.r job.path ∷ []))) (MovesFrom s)
       (λ t. deed-moves s job.c (node_read (node_env k s job.c job.epoch.0) (node_part s job.c) job.r) (read-deed (node_env k s job.c job.epoch.0) (node_part s job.c) job.r))
-      (λ t. aside-moves s (saying (content_sent k job.origin job.c job.epoch.0 job.r job.path ∷ [])) (nothing-told k.n (has s.cache.entries)))
+      (λ t. aside-moves s (saying (content_sent k job.origin job.c job.epoch.0 job.r job.path ∷ [])) (nothing-told k.n k.files (has s.cache.entries)))
 
   -- no job is there that this would complete
   abbrev pub IsIdle : NodeState → BackIn → Type 0

@@ -2,6 +2,7 @@
 use Rattle.std.proofs.Common.{ℕ, Bool, true, List, [], Option, Some, None, Result, Ok, Err, refl}
 use Rattle.std.proofs.lemmas.Bool.{cond_both}
 use Rattle.std.specs.List.{find}
+use Rattle.lard_answers.specs.Answers.{FilesAt}
 use Rattle.lard_base.specs.declared.parts.EndpointParts.{EndpointParts}
 use Rattle.lard_base.specs.declared.place.Place.{Place}
 use Rattle.lard_base.specs.declared.place.TimerKind.TheVariants as kind
@@ -29,22 +30,22 @@ use Rattle.lard_segment.specs.declared.fault.SegFault.{SegFault}
 use Rattle.lard_segment.specs.Segment.{Said}
 
 -- The jobs of a turn are those that it notes, and what it gives up says nothing of disks.
-pub record TurnTells (n : ℕ) (has : List ℕ → Bool) (t : NodeTurn) : Type 0 where
-  pub notes : Tells n has t.notes t.jobs
+pub record TurnTells (n : ℕ) (files : FilesAt) (has : List ℕ → Bool) (t : NodeTurn) : Type 0 where
+  pub notes : Tells n files has t.notes t.jobs
   pub gave : Each IsAside t.gave
 
-abbrev pub DeedTells : ℕ → (List ℕ → Bool) → Deed → Type 0
-DeedTells n has Drops = Unit {0}
-DeedTells n has (Says messages) = Unit {0}
-DeedTells n has (Does x) = TurnTells n has x.1
+abbrev pub DeedTells : ℕ → FilesAt → (List ℕ → Bool) → Deed → Type 0
+DeedTells n files has Drops = Unit {0}
+DeedTells n files has (Says messages) = Unit {0}
+DeedTells n files has (Does x) = TurnTells n files has x.1
 
 -- a turn that only sends
-pub nothing-told : (n : ℕ) (has : List ℕ → Bool) → Tells n has [] []
-nothing-told n has = record { told = refl; each = tt }
+pub nothing-told : (n : ℕ) (files : FilesAt) (has : List ℕ → Bool) → Tells n files has [] []
+nothing-told n files has = record { told = refl; each = tt }
 
 module _ (env : NodeEnv) where
   abbrev IsDeed : Deed → Type 0
-  IsDeed d = DeedTells env.n env.cached d
+  IsDeed d = DeedTells env.n env.serve.files env.cached d
 
   gave-told : (e : Ending) → Each IsAside (gave_by env e)
   gave-told (Here b count) = tt
@@ -54,7 +55,7 @@ module _ (env : NodeEnv) where
   works-deed p before w h = record { notes = settled-told env w.jobs w.service h; gave = gave-told (settled env.serve w.service).0 }
 
   fresh : (b : ControlBlock) (s : Stay) → IsAtWork env (work_of b s)
-  fresh b s = nothing-told env.n env.cached
+  fresh b s = nothing-told env.n env.serve.files env.cached
 
   module _ (p : NodePart) where
     heard-deed : (given : Result Said SegFault) (x : Option (ControlBlock × Stay)) → IsDeed (heard_by env p given x)
@@ -111,11 +112,11 @@ module _ (env : NodeEnv) where
     pub acknowledged-deed : IsDeed (node_acknowledged env p)
     acknowledged-deed =
         let q : NodePart = record p { row = gone p.row; kept = without kind.Ended 0 p.kept } in
-        cond_both (awaits_ack env.epoch p.row) (Does (q, saying [])) Drops IsDeed (λ t. record { notes = nothing-told env.n env.cached; gave = tt }) (λ t. tt)
+        cond_both (awaits_ack env.epoch p.row) (Does (q, saying [])) Drops IsDeed (λ t. record { notes = nothing-told env.n env.serve.files env.cached; gave = tt }) (λ t. tt)
 
     fired-deed : (x : Option (ControlBlock × Stay)) → IsDeed (fired_by env p x)
     fired-deed None = tt
-    fired-deed (Some x) = record { notes = nothing-told env.n env.cached; gave = gave-told _ }
+    fired-deed (Some x) = record { notes = nothing-told env.n env.serve.files env.cached; gave = gave-told _ }
 
     pub fires-deed : IsDeed (node_timer env p)
     fires-deed = fired-deed (both_of (endpoint_of p.row) p.stay)

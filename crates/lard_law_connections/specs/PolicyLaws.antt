@@ -61,14 +61,18 @@ ArePaired (Later c) (_ ∷ rs) = ⊥
 -- ---- choices
 
 -- The first choice is that of LARD with replication, for a connection that has no node, and a later one that of the extended
--- policy, for one that has: each at the loads and the server sets as they stand just before the record. A connection that is
--- released has a node. Shares end only where some are open.
+-- policy, for one that has: each at the loads and the server sets as they stand just before the record. The batch of a later one has
+-- one to eight requests, and fewer than eight shares of the connection are open. A connection that is released has a node. Shares end
+-- only where some are open.
 abbrev pub MayAssign : Config → Ledger → Rec → Type 0
 MayAssign cfg l (rec.AssignedFirst c r path n add remove) =
     (home l.loads c ≡ None)
     × (◌≡◌ {A = FirstChoice} (record { node = n; add = add; remove = remove }) (first_choice l.loads (server_set l path).members l.now (server_set l path).modified cfg))
 MayAssign cfg l (rec.AssignedLater c r path n add size queue) =
     (h : ℕ) × (home l.loads c ≡ Some h) × (◌≡◌ {A = LaterChoice} (record { node = n; add = add }) (later_choice l.loads h (server_set l path).members queue cfg))
+    × (1 ≤ size)
+    × (size ≤ 8)
+    × (open_shares l.loads c < 8)
 MayAssign cfg l (rec.Released c) = is_some (home l.loads c) ≡ true
 MayAssign cfg l (rec.BatchOver c) = nat_lt 0 (open_shares l.loads c) ≡ true
 MayAssign cfg l _ = Unit {0}

@@ -1,5 +1,5 @@
 -- What is so of disks and caches in every run.
-use Rattle.std.specs.Prelude.{◌≡◌, ℕ, Bool, true, false, List, [], ◌∷◌, length, map, Some}
+use Rattle.std.specs.Prelude.{◌≡◌, ℕ, Bool, true, false, is_some, List, [], ◌∷◌, length, map, Some}
 use Rattle.std.specs.List.{AllByRecursion}
 use Rattle.lard_answers.specs.Answers.{FilesAt}
 use Rattle.lard_base.specs.declared.config.Config.{Config}
@@ -40,11 +40,11 @@ CachesAreTold = OfEachNode (λ config files J n s. cached (file_at files) config
 
 -- ---- records
 
--- A hit is of a path that the cache has, and a job is queued for one that it has not. What is read is the job that the event of
--- the step names.
+-- A hit is of a path that the cache has. A job is queued for one that it has not, and that a file has. What is read is the job that
+-- the event of the step names.
 abbrev pub MayStore : FilesAt → ℕ → List Rec → Rec → Type 0
 MayStore files limit past (rec.Hit n path) = has (cached files limit past n) path ≡ true
-MayStore files limit past (rec.Queued n m c r path) = has (cached files limit past n) path ≡ false
+MayStore files limit past (rec.Queued n m c r path) = (has (cached files limit past n) path ≡ false) × (is_some (files path) ≡ true)
 MayStore files limit past (rec.Read n m c r path) = (j : ℕ) × (last_event past ≡ Some (Disk n j)) × (waiting_at (jobs past n) j ≡ Some (m, c, r, path))
 MayStore files limit past _ = Unit {0}
 

@@ -51,8 +51,8 @@ module _ (env : NodeEnv) (own : env.serve.place ≡ Node env.n) (number : IsNumb
 
   pub by_told : KeptByNotes env AreTold
   by_told = record {
-    hits = λ path s jobs t h. (one-noted s (rec.Hit env.n path) h.0 refl (λ n. refl), h.1);
-    queues = λ r path s jobs f h. (one-noted s (rec.Queued env.n env.n env.serve.c r path) h.0 (refl, refl) (λ n. refl), all-append (λ (job : Job). IsNumber job.c) jobs (own_job env r path ∷ []) h.1 (number, tt));
+    hits = λ path v s jobs good t h. (one-noted s (rec.Hit env.n path) h.0 refl (λ n. refl), h.1);
+    queues = λ r path v s jobs good f h. (one-noted s (rec.Queued env.n env.n env.serve.c r path) h.0 (refl, refl) (λ n. refl), all-append (λ (job : Job). IsNumber job.c) jobs (own_job env r path ∷ []) h.1 (number, tt));
     takes = λ used s jobs h. h;
     ends = λ s jobs h. (turns.ended-noted env.serve N noting s h.0, h.1);
     answers = λ way v s jobs may h. (turns.answered-noted env.serve N noting way v s h.0, h.1);

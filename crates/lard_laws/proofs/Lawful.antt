@@ -28,6 +28,7 @@ use Rattle.lard_laws.proofs.StepsTimers.{timers-change}
 use Rattle.lard_law_connections.proofs.StoresDisks.{disks-read}
 use Rattle.lard_law_connections.proofs.StoresStored.{lawful}
 use Rattle.lard_laws.proofs.WaysEarlier.{contents-were-there}
+use Rattle.lard_laws.proofs.WaysNaming.{asks-name}
 use Rattle.lard_laws.proofs.WaysRuns.{assign-a-prefix, assign-in-order, contents-come}
 use Rattle.lard_laws.proofs.WaysSteps.{contents-are-files}
 
@@ -76,6 +77,7 @@ journals-lawful config files m checked r =
       sizes = batches-sized config files m small r;
       requests = assign-in-order config files m small r;
       paths = assign-a-prefix config files m small r;
+      names_next = asks-name config files m small r;
       ways = contents-come config files m small r;
       answerers = home-answers config files m small r;
       named = requests-named config files m small r;

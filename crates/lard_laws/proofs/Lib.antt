@@ -66,6 +66,8 @@ pub mod WaysFrontAnswers
 pub mod WaysClients
 pub mod WaysMoments
 pub mod WaysRuns
+pub mod WaysAsking
+pub mod WaysNaming
 pub mod WaysQuiet
 pub mod WaysSending
 pub mod WaysBringing

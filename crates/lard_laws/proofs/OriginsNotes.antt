@@ -61,8 +61,8 @@ module _ (env : NodeEnv) where
 
   by_own : KeptByNotes env NotesOwn
   by_own = record {
-    hits = λ path s jobs t h. more s.notes (rec.Hit env.n path) h tt;
-    queues = λ r path s jobs f h. more s.notes (rec.Queued env.n env.n env.serve.c r path) h refl;
+    hits = λ path v s jobs good t h. more s.notes (rec.Hit env.n path) h tt;
+    queues = λ r path v s jobs good f h. more s.notes (rec.Queued env.n env.n env.serve.c r path) h refl;
     takes = λ used s jobs h. h;
     ends = λ s jobs h. fin-own s h;
     answers = λ way v s jobs may h. answered-own way v s h;

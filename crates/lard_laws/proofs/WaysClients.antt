@@ -112,7 +112,7 @@ client-makes files x heads notes segments s h help g =
     let is : IsSame files m n = record { assigned = refl; wanted = wanted-grow files m.wrote w.more } in
     makes files x v help g n w.notes w.told (assigned-same files m n is g.paths) (seat-more files m w.more same x.part x.part.front.row g.seat)
     (carries-same files m n is x.part v.part help.owes.grows refl refl (λ i e ps c d a. a))
-    (λ old. none-behind n v.part segments (client-says files n v.part x.c segments)) where
+    (λ old. none-behind n v.part segments (client-says files n v.part x.c segments)) tt where
       none-behind : (n : Marks) (q : Part) (ss : List (Place × List ℕ)) → Each (LetterWays files n q) (map (letter (Client x.c)) ss) → Each (LetterWays files n q) (map (letter (Client x.c)) ss ++ [])
       none-behind n q [] h = tt
       none-behind n q (y ∷ ss) h = (h.0, none-behind n q ss h.1)

@@ -92,7 +92,7 @@ module _ (env : FrontEnv) (x : Conn) (heads : List Seen) where
   Goal d = Keeps files x (front_does x heads d)
 
   drops-makes : Goal Drops
-  drops-makes = stands-makes files x Front heads nothing_said tt (λ old. tt)
+  drops-makes = stands-makes files x Front heads nothing_said tt (λ old. tt) tt
 
   -- ---- a Taken
 
@@ -111,7 +111,7 @@ module _ (env : FrontEnv) (x : Conn) (heads : List Seen) where
         tag = λ i e number nodes c by h. h (was i e c);
         offer = λ i e parts said f. inr f;
       })
-      (λ old. tt)
+      (λ old. tt) tt
 
   taken-at : (row : FrontRow) (epoch : ℕ) → p.row ≡ Some row → (d : FrontConn) → row.stage ≡ d → Goal (taken_by p epoch (Some row) (offered_to epoch d))
   taken-at row epoch found (stage.Offering n d) at = go (d.0 == epoch) refl where
@@ -130,12 +130,12 @@ module _ (env : FrontEnv) (x : Conn) (heads : List Seen) where
   ended-makes from epoch last None given = drops-makes
   ended-makes from epoch last (Some row) Stale = drops-makes
   ended-makes from epoch last (Some row) Again = stands-makes files x Front heads (by_front (saying (ack_sent env from epoch))) tt
-      (λ old. (front-quiet files m x.part from env.serve.c epoch body.EndedAck (λ f. let z : kind.EndedAck ≡ kind.Offer = f in cc) (λ f. let z : kind.EndedAck ≡ kind.Tag = f in cc), tt))
+      (λ old. (front-quiet files m x.part from env.serve.c epoch body.EndedAck (λ f. let z : kind.EndedAck ≡ kind.Offer = f in cc) (λ f. let z : kind.EndedAck ≡ kind.Tag = f in cc), tt)) tt
   ended-makes from epoch last (Some row) (New next) = λ help g.
       let v : Move = front_does x heads (ended_by env p from epoch last (Some row) (New next)) in
       makes files x v help g m (tt, (tt, tt)) refl g.paths tt
       (carries-none files m m (same-marks files m m.served) x.part v.part help.owes.grows (λ i e c. let z : false ≡ true = c in cc))
-      (λ old. (front-quiet files m v.part from env.serve.c epoch body.EndedAck (λ f. let z : kind.EndedAck ≡ kind.Offer = f in cc) (λ f. let z : kind.EndedAck ≡ kind.Tag = f in cc), tt))
+      (λ old. (front-quiet files m v.part from env.serve.c epoch body.EndedAck (λ f. let z : kind.EndedAck ≡ kind.Offer = f in cc) (λ f. let z : kind.EndedAck ≡ kind.Tag = f in cc), tt)) tt
 
   -- ---- an Ask
 
@@ -267,7 +267,7 @@ module _ (env : FrontEnv) (x : Conn) (heads : List Seen) where
             offer = λ i e parts said f. inl (⊎_elim (λ (a : IsDecided e (x.part.nodes i).row). a)
                 (λ (a : IsOffered i e p.row). let o = w.offers i e (subst (IsOffered i e) w.found a) in subst (λ (f : ℕ). IsDecided f (x.part.nodes i).row) (sym o.1) (subst (λ (j : ℕ). IsDecided epoch (x.part.nodes j).row) (sym o.0) decided)) said);
           })
-          (λ old. (tag-says now v.part n epoch ask.number (map (λ c. c.node) (env.later ask).choices) (let e = w.same in let two = w.second in omega (arith, e, two)) (subst (IsBy epoch) (sym w.found) (let e = w.same in omega (arith, e))) refl refl, tt))
+          (λ old. (tag-says now v.part n epoch ask.number (map (λ c. c.node) (env.later ask).choices) (let e = w.same in let two = w.second in omega (arith, e, two)) (subst (IsBy epoch) (sym w.found) (let e = w.same in omega (arith, e))) refl refl, tt)) tt
 
     -- the last Ask again
     again-makes : is_at n epoch p.row ≡ true → Goal (Says (saying (tag_sent env n epoch rest.asks rest.tag)))
@@ -275,7 +275,7 @@ module _ (env : FrontEnv) (x : Conn) (heads : List Seen) where
         let w = with-of n epoch help.placed at in
         let r_is : rest ≡ rest_of p.rest = sym (ap rest_of there) in
         stands-makes files x Front heads (by_front (saying (tag_sent env n epoch rest.asks rest.tag))) tt
-        (λ old. (tag-says m x.part n epoch rest.asks rest.tag (let e = w.same in let two = w.second in omega (arith, e, two)) (subst (IsBy epoch) (sym w.found) (let e = w.same in omega (arith, e))) (ap (λ (r : FrontRest). r.asks) (sym r_is)) (ap (λ (r : FrontRest). r.tag) r_is), tt)) help g
+        (λ old. (tag-says m x.part n epoch rest.asks rest.tag (let e = w.same in let two = w.second in omega (arith, e, two)) (subst (IsBy epoch) (sym w.found) (let e = w.same in omega (arith, e))) (ap (λ (r : FrontRest). r.asks) (sym r_is)) (ap (λ (r : FrontRest). r.tag) r_is), tt)) tt help g
 
   module _ (n epoch : ℕ) (ask : Ask) (sent : GoesItsWay files x → NodeSaysWays files m x.part n epoch (body.Ask ask.number ask.queue ask.size ask.paths)) where
     rest-makes : is_at n epoch p.row ≡ true → (rest : Option FrontRest) → p.rest ≡ rest → Goal (asked_by env p n epoch ask rest)

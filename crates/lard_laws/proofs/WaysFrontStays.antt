@@ -56,7 +56,7 @@ use Rattle.lard_rules.specs.declared.places.Ending.TheVariants as ending
 use Rattle.lard_rules.specs.declared.places.Station.{Station}
 use Rattle.lard_rules.specs.declared.places.Turn.{Turn}
 use Rattle.lard_rules.specs.Tombstone.{is_plain_syn, last_words, tombstone}
-use Rattle.lard_rules.specs.Serving.{ServeEnv, Service, cut_off, ready_of, serving, settled, spoken}
+use Rattle.lard_rules.specs.Serving.{ServeEnv, Service, ready_of, serving, settled, spoken}
 use Rattle.lard_rules.specs.Speaking.{speaks}
 use Rattle.lard_segment.specs.Segment.{Said}
 use Rattle.lard_law_view.specs.Truth.{IsStream, Stream}
@@ -230,17 +230,17 @@ module _ (k : Setting) (small : k.stream ≤ 2 ^ 30) (x : Conn) (s : Station) (t
           (spoken-waits v [] (rest_of p.rest).target (segment-keeps (λ r y. IsWaiting files r.unread (rest_of p.rest).target) (waits-kept files (rest_of p.rest).target) b sd seat.1)) help g
 
       tombs-makes : (said : Option Said) → Goal (Says (turn_here (tombstone env.serve said)))
-      tombs-makes None = stands-makes files x Front heads (by_front (turn_here (tombstone env.serve None))) tt (λ old. tt)
-      tombs-makes (Some sd) = stands-makes files x Front heads (by_front (turn_here (tombstone env.serve (Some sd)))) tt (λ old. (tt, tt))
+      tombs-makes None = stands-makes files x Front heads (by_front (turn_here (tombstone env.serve None))) tt (λ old. tt) tt
+      tombs-makes (Some sd) = stands-makes files x Front heads (by_front (turn_here (tombstone env.serve (Some sd)))) tt (λ old. (tt, tt)) tt
 
       forwards-makes : (n : ℕ) (e : Epoch) (bytes : List ℕ) → Goal (forwarded env n e bytes)
       forwards-makes n e bytes = stands-makes files x Front heads (by_front (saying ((Node n, message env.serve.c e.0 (body.Forward bytes)) ∷ []))) tt
-          (λ old. (front-quiet files m x.part n env.serve.c e.0 (body.Forward bytes) (λ f. let z : kind.Forward ≡ kind.Offer = f in cc) (λ f. let z : kind.Forward ≡ kind.Tag = f in cc), tt))
+          (λ old. (front-quiet files m x.part n env.serve.c e.0 (body.Forward bytes) (λ f. let z : kind.Forward ≡ kind.Offer = f in cc) (λ f. let z : kind.Forward ≡ kind.Tag = f in cc), tt)) tt
 
       hears-stage : (bytes : List ℕ) (sd : Said) → IsWord l.w sd → (d : FrontConn) → row.stage ≡ d → Goal (hears_at env p row bytes sd d)
       hears-stage bytes sd word (stage.Held b) at = held-makes b at sd word
       hears-stage bytes sd word (stage.Waiting b) at = waiting-makes b at sd
-      hears-stage bytes sd word stage.Lent at = stands-makes files x Front heads nothing_said tt (λ old. tt)
+      hears-stage bytes sd word stage.Lent at = stands-makes files x Front heads nothing_said tt (λ old. tt) tt
       hears-stage bytes sd word (stage.Offering n e) at = forwards-makes n e bytes
       hears-stage bytes sd word (stage.Moved n e) at = forwards-makes n e bytes
       hears-stage bytes sd word (stage.Closed last) at = tombs-makes (last_words last.reason last sd)
@@ -261,15 +261,15 @@ module _ (k : Setting) (small : k.stream ≤ 2 ^ 30) (x : Conn) (s : Station) (t
           let before = ready_of env.serve (after_timer b) (timed b) in
           waits-makes heads row (rest_of p.rest) (fired env (rest_of p.rest) b) v (start-looks (after_timer b) count fh.0.holds.counted seat.0) refl (spoken-to env.serve v before (ready-to env.serve (after_timer b) (timed b))) seat.0.0
           (spoken-waits v before (rest_of p.rest).target (timer-keeps (λ r y. IsWaiting files r.unread (rest_of p.rest).target) (waits-kept files (rest_of p.rest).target) b seat.1)) help g
-      fires-stage (stage.Offering n e) at help g = stands-makes files x Front heads (by_front (saying (map sent_of p.kept))) tt (λ old. sent-say files m x.part x Front p.kept help.sound.front old) help g
-      fires-stage _ at help g = stands-makes files x Front heads nothing_said tt (λ old. tt) help g
+      fires-stage (stage.Offering n e) at help g = stands-makes files x Front heads (by_front (saying (map sent_of p.kept))) tt (λ old. sent-say files m x.part x Front p.kept help.sound.front old) tt help g
+      fires-stage _ at help g = stands-makes files x Front heads nothing_said tt (λ old. tt) tt help g
 
   -- ---- nobody has it yet
 
   begins-makes : (heads : List Seen) (sd : Said) → p.row ≡ None → Keeps files x (front_does x heads (met env p sd))
   begins-makes heads sd found = go (is_plain_syn sd) where
     go : (b : Bool) → Keeps files x (front_does x heads (cond b (begun env p sd) Drops))
-    go false help g = stands-makes files x Front heads nothing_said tt (λ old. tt) help g
+    go false help g = stands-makes files x Front heads nothing_said tt (λ old. tt) tt help g
     go true help g =
         let truth : (l.vs ≡ []) × (pend ≡ []) × (l.out.ended ≡ false) = subst (SeatAgrees l.w l.out l.vs pend l.was_reset x.c x.part) found o.seat in
         let free : IsFree files m = subst (SeatWays files m x.part) found g.seat in
@@ -283,7 +283,7 @@ module _ (k : Setting) (small : k.stream ≤ 2 ^ 30) (x : Conn) (s : Station) (t
   hears-row heads bytes sd word talk (Some row) found = hears-stage heads row found talk bytes sd word row.stage refl
 
   pub fires-row : (heads : List Seen) → IsFrontTalk env l.w l.out l.vs → (row : Option FrontRow) → p.row ≡ row → Keeps files x (front_does x heads (fired_by env p row))
-  fires-row heads talk None found = stands-makes files x Front heads nothing_said tt (λ old. tt)
+  fires-row heads talk None found = stands-makes files x Front heads nothing_said tt (λ old. tt) tt
   fires-row heads talk (Some row) found = fires-stage heads row found talk row.stage refl
 
   -- ---- it is admitted, from the head of the line

@@ -70,7 +70,7 @@ module _ (env : FrontEnv) (x : Conn) where
       let v : Move = front_does x heads (Does did) in
       makes files x v help g (record m { served = n }) notes told paths seat
       (carries-none files m (record m { served = n }) (same-marks files m n) x.part v.part help.owes.grows none)
-      (λ old. both did.turn.segments did.turn.messages v.part (clients-say files (record m { served = n }) v.part Front env.serve.c did.turn.segments to) (messages v.part)) where
+      (λ old. both did.turn.segments did.turn.messages v.part (clients-say files (record m { served = n }) v.part Front env.serve.c did.turn.segments to) (messages v.part)) tt where
         both : (ss ms : List (Place × List ℕ)) (q : Part) → Each (LetterWays files (record m { served = n }) q) (map (letter Front) ss) → Each (LetterWays files (record m { served = n }) q) (map (letter Front) ms)
             → Each (LetterWays files (record m { served = n }) q) (map (letter Front) ss ++ map (letter Front) ms)
         both [] ms q h k = k
@@ -142,7 +142,7 @@ module _ (env : FrontEnv) (x : Conn) where
           tag = λ i f number nodes at by was. let is : f ≡ e = counts-epoch i f at in let le : f ≤ row.epoch.0 = subst (IsBy f) found by in absurd (omega (arith, is, second, le, one));
           offer = λ i f parts said offer. let no : (offer.0, offer.1) ∷ [] ≡ [] = sym offer.2 ∙ none in absurd (let f : ⊥ = cc in f);
         })
-        (λ old. (offer-says v.part n refl, tt)) where
+        (λ old. (offer-says v.part n refl, tt)) tt where
           MayMark_here : Marks → Type 0
           MayMark_here q = IsNextGood files q path
 

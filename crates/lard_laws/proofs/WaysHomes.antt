@@ -14,10 +14,10 @@ use Rattle.lard_law_view.specs.View.{AreSent, Conn, Move, Part, letter, named, n
 use Rattle.lard_law_view.proofs.Parts.{put-each, put-same}
 use Rattle.lard_laws.specs.WaysState.{GoesItsWay, IsAway, IsPlacedOnce, LetterWays, NodeSaysWays, SeatWays, StageWays, StayAsks, StayWays, marks_at}
 use Rattle.lard_laws.specs.WaysUnder.{Assigned}
-use Rattle.lard_laws.specs.Ways.{Marks}
+use Rattle.lard_laws.specs.Ways.{BodyGoesOn, Marks}
 use Rattle.lard_laws.proofs.WaysLetters.{Counts, carries-same}
 use Rattle.lard_laws.proofs.WaysMarking.{IsPlain, Rightly, mark, marked}
-use Rattle.lard_laws.proofs.WaysMoving.{Keeps, clients-say, makes, same-marks, says-append, sent-say, stands-makes}
+use Rattle.lard_laws.proofs.WaysMoving.{Keeps, LetterAsks, asks-append, clients-ask, clients-say, makes, same-marks, says-append, sent-ask, sent-say, stands-makes}
 use Rattle.lard_laws.proofs.WaysSpelling.{ReadsAsk, ask-reads, epoch-reads}
 use Rattle.lard_laws.proofs.WaysTurning.{BodyIs, SaysIt, TurnWays}
 use Rattle.lard_rules.specs.declared.front.FrontRest.{FrontRest}
@@ -26,7 +26,7 @@ use Rattle.lard_handoff_front.specs.declared.row.FrontConn.{FrontConn}
 use Rattle.lard_handoff_front.specs.declared.row.FrontConn.TheVariants as stage
 use Rattle.lard_handoff_front.specs.declared.row.FrontRow.{FrontRow}
 use Rattle.lard_history.specs.Own.{Seen, whose}
-use Rattle.lard_history.proofs.Each.{Each}
+use Rattle.lard_history.proofs.Each.{Each, Each-append}
 use Rattle.lard_journal.specs.declared.rec.Rec.{Rec}
 use Rattle.lard_journal.specs.declared.rec.Rec.TheVariants as rec
 use Rattle.lard_message.specs.declared.kind.Kind.TheVariants as kind
@@ -36,6 +36,7 @@ use Rattle.lard_message.specs.declared.message.Message.{Message}
 use Rattle.lard_message.specs.Message.{kind_of}
 use Rattle.lard_message.specs.Reading.{decoded_message}
 use Rattle.lard_rules.specs.declared.node.NodeTurn.{NodeTurn}
+use Rattle.lard_rules.specs.declared.stay.Stay.{Stay}
 use Rattle.lard_rules.specs.Node.{NodePart, again_sent, message}
 use Rattle.lard_rules.specs.Stay.{NodeEnv}
 use Rattle.lard_resend.specs.declared.kept.Kept.{Kept}
@@ -121,6 +122,47 @@ module _ (env : NodeEnv) (m : Marks) (p : Part) (n : ℕ) (small : env.epoch < 2
         (λ (f : (b : Body) × (s ≡ (Front, message env.serve.c env.epoch b)) × BodyIs env m r (p.nodes n).stay b).
         subst (λ (z : Place × List ℕ). LetterWays files m p (letter (Node n) z)) (sym f.1) (λ msg d. body-says f.0 f.2 msg d)) h.0,
     it-says ss h.1,
+  )
+
+-- ---- its paths go on
+
+asks-nothing : (fs : FilesAt) (m : Marks) (b : Body) → kind_of b ≢ kind.Ask → BodyGoesOn fs m b
+asks-nothing fs m (body.Ask number queue size paths) not = absurd (not refl)
+asks-nothing fs m _ not = tt
+
+other-goes : (fs : FilesAt) (m : Marks) (c e : ℕ) (b : Body) → kind_of b ≢ kind.Ask → (msg : Message) → decoded_message (message c e b) ≡ Ok msg → BodyGoesOn fs m msg.body
+other-goes fs m c e b not msg d = asks-nothing fs m msg.body (λ ask. not (kinds-same (record { c = c; epoch = record { 0 = e }; body = b }) msg d ∙ ask))
+
+pub quiet-asks : (fs : FilesAt) (m : Marks) (x : Conn) (n c e : ℕ) (b : Body) → kind_of b ≢ kind.Ask → LetterAsks fs m x (record { from = Node n; to = Front; bytes = message c e b })
+quiet-asks fs m x n c e b not = inr (other-goes fs m c e b not)
+
+module _ (env : NodeEnv) (m : Marks) (r : FrontRest) (x : Conn) (n : ℕ) (stay : Option Stay) where
+  abbrev its_files : FilesAt
+  its_files = env.serve.files
+
+  abbrev Goes : Body → Type 0
+  Goes b = (msg : Message) → decoded_message (message env.serve.c env.epoch b) ≡ Ok msg → BodyGoesOn its_files m msg.body
+
+  body-asks : (b : Body) → BodyIs env m r stay b → Goes b
+  body-asks (body.Ask number queue size paths) h = λ msg d. subst (BodyGoesOn its_files m) (sym (ask-reads env.serve.c env.epoch number queue size paths h.1 msg d).is) h.2
+  body-asks (body.Offer parts) h = other-goes its_files m env.serve.c env.epoch (body.Offer parts) (λ ask. let no : kind.Offer ≡ kind.Ask = ask in cc)
+  body-asks body.Taken h = other-goes its_files m env.serve.c env.epoch body.Taken (λ ask. let no : kind.Taken ≡ kind.Ask = ask in cc)
+  body-asks (body.Forward bytes) h = other-goes its_files m env.serve.c env.epoch (body.Forward bytes) (λ ask. let no : kind.Forward ≡ kind.Ask = ask in cc)
+  body-asks (body.Tag number nodes) h = other-goes its_files m env.serve.c env.epoch (body.Tag number nodes) (λ ask. let no : kind.Tag ≡ kind.Ask = ask in cc)
+  body-asks (body.Fetch q path) h = other-goes its_files m env.serve.c env.epoch (body.Fetch q path) (λ ask. let no : kind.Fetch ≡ kind.Ask = ask in cc)
+  body-asks (body.Content q file) h = other-goes its_files m env.serve.c env.epoch (body.Content q file) (λ ask. let no : kind.Content ≡ kind.Ask = ask in cc)
+  body-asks (body.Ended reason snd rcv count) h = other-goes its_files m env.serve.c env.epoch (body.Ended reason snd rcv count) (λ ask. let no : kind.Ended ≡ kind.Ask = ask in cc)
+  body-asks body.EndedAck h = other-goes its_files m env.serve.c env.epoch body.EndedAck (λ ask. let no : kind.EndedAck ≡ kind.Ask = ask in cc)
+
+  -- what a turn says
+  pub it-asks : (ss : List (Place × List ℕ)) → Each (SaysIt env m r stay) ss → Each (LetterAsks its_files m x) (map (letter (Node n)) ss)
+  it-asks [] h = tt
+  it-asks (s ∷ ss) h = (
+    ⊎_elim
+        (λ (to : (i : ℕ) × (s.0 ≡ Node i)). subst (λ (q : Place). LetterAsks its_files m x (record { from = Node n; to = q; bytes = s.1 })) (sym to.1) tt)
+        (λ (f : (b : Body) × (s ≡ (Front, message env.serve.c env.epoch b)) × BodyIs env m r stay b).
+        subst (λ (z : Place × List ℕ). LetterAsks its_files m x (letter (Node n) z)) (sym f.1) (inr (body-asks f.0 f.2))) h.0,
+    it-asks ss h.1,
   )
 
 -- ---- its seat
@@ -209,6 +251,12 @@ module _ (env : NodeEnv) (x : Conn) (n : ℕ) (node : env.n ≡ n) (small : env.
       (λ (e : ms ≡ again_sent p). subst (λ (l : List (Place × List ℕ)). Each (LetterWays all_files k q) (map (letter (Node n)) l)) (sym e)
       (sent-say all_files k q x (Node n) (p.kept ++ p.fetches) (sent-append x (Node n) p.kept p.fetches (help.sound.kept n) (help.sound.fetches n)) all)) h
 
+  again-ask : (k : Marks) (v : Move) → Helps x v → (ms : List (Place × List ℕ)) → (ms ≡ []) ⊎ (ms ≡ again_sent p) → Each (LetterAsks all_files k x) (map (letter (Node n)) ms)
+  again-ask k v help ms h = ⊎_elim
+      (λ (e : ms ≡ []). subst (λ (l : List (Place × List ℕ)). Each (LetterAsks all_files k x) (map (letter (Node n)) l)) (sym e) tt)
+      (λ (e : ms ≡ again_sent p). subst (λ (l : List (Place × List ℕ)). Each (LetterAsks all_files k x) (map (letter (Node n)) l)) (sym e)
+      (sent-ask all_files k x n (p.kept ++ p.fetches) (sent-append x (Node n) p.kept p.fetches (help.sound.kept n) (help.sound.fetches n)))) h
+
   abbrev pub does_with : List Seen → List Rec → NodePart × NodeTurn → Move
   does_with heads notes given = record {
     place = Node n;
@@ -235,7 +283,11 @@ module _ (env : NodeEnv) (x : Conn) (n : ℕ) (node : env.n ≡ n) (small : env.
       (λ old. append-letters (given.1.segments) (given.1.messages) v.part k
       (clients-say all_files k v.part (Node n) env.serve.c given.1.segments t.to)
       (subst (λ (ms : List (Place × List ℕ)). Each (LetterWays all_files k v.part) (map (letter (Node n)) ms)) (sym t.messages)
-      (says-append all_files k v.part (Node n) t.again t.more (again-say k v.part v help t.again t.sent old) (it-says env k v.part n small now t.more said)))) where
+      (says-append all_files k v.part (Node n) t.again t.more (again-say k v.part v help t.again t.sent old) (it-says env k v.part n small now t.more said))))
+      (Each-append (LetterAsks all_files k x) (map (letter (Node n)) given.1.segments) (map (letter (Node n)) given.1.messages)
+      (clients-ask all_files k x n env.serve.c given.1.segments t.to)
+      (subst (λ (ms : List (Place × List ℕ)). Each (LetterAsks all_files k x) (map (letter (Node n)) ms)) (sym t.messages)
+      (asks-append all_files k x n t.again t.more (again-ask k v help t.again t.sent) (it-asks env k kept x n given.0.stay t.more t.said)))) where
         append-letters : (ss ms : List (Place × List ℕ)) (q : Part) (k : Marks) → Each (LetterWays all_files k q) (map (letter (Node n)) ss) → Each (LetterWays all_files k q) (map (letter (Node n)) ms)
             → Each (LetterWays all_files k q) (map (letter (Node n)) ss ++ map (letter (Node n)) ms)
         append-letters [] ms q k h g = g
@@ -248,4 +300,6 @@ module _ (env : NodeEnv) (x : Conn) (n : ℕ) (node : env.n ≡ n) (small : env.
       (λ old. ⊎_elim
       (λ (again : ms ≡ again_sent p). again-say m x.part (stands x (Node n) heads (record nothing_said { notes = notes; messages = ms })) help ms (inr again) old)
       (λ (f : Each (SaysIt env m kept p.stay) ms). ⊎_elim (λ (d : IsDecided env.epoch p.row). it-says env m x.part n small d ms f)
-      (λ (again : ms ≡ again_sent p). again-say m x.part (stands x (Node n) heads (record nothing_said { notes = notes; messages = ms })) help ms (inr again) old) decided) h) help g
+      (λ (again : ms ≡ again_sent p). again-say m x.part (stands x (Node n) heads (record nothing_said { notes = notes; messages = ms })) help ms (inr again) old) decided) h)
+      (⊎_elim (λ (again : ms ≡ again_sent p). again-ask m (stands x (Node n) heads (record nothing_said { notes = notes; messages = ms })) help ms (inr again))
+      (λ (f : Each (SaysIt env m kept p.stay) ms). it-asks env m kept x n p.stay ms f) h) help g

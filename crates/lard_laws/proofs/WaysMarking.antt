@@ -206,6 +206,18 @@ module _ (files : FilesAt) (x : Conn) (v : Move) (own : IsItsOwn x v) (heads : E
   unfolding before
   before-same = heads-marks x.c v.heads (tale_at x) heads
 
+  -- what is told behind its notes, and behind what it gives up
+  pub noted-marks : marks_of (told_on x.c (tale_before x v) v.said.notes) ≡ marked (marks_at x) v.said.notes
+  unfolding before
+  noted-marks = told-marks files x.c before v.said.notes ours ∙ ap (λ (m : Marks). marked m v.said.notes) before-same
+
+  pub said-marks : marks_of (tale_said x v (tale_before x v)) ≡ marked (marks_at x) v.said.notes
+  unfolding before noted segments
+  said-marks =
+      plain-told files x.c (told_on x.c noted segments) v.said.gave gave
+      ∙ plain-told files x.c noted segments (sends-plain v.place v.said.segments)
+      ∙ noted-marks
+
   -- what is told behind a move
   pub marks-after : marks_at (grown x v) ≡ marked (marks_at x) v.said.notes
   unfolding before noted segments

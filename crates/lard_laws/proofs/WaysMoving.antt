@@ -1,24 +1,39 @@
 -- A move leaves a connection on its way, where its notes may stand, its seat agrees, and what is said agrees.
-use Rattle.std.proofs.Common.{◌≡◌, ℕ, List, [], ◌∷◌, ◌++◌, map, refl, sym, ◌∙◌, subst, append-nil}
+use Rattle.std.proofs.Common.{◌≡◌, ◌⊎◌, ℕ, List, [], ◌∷◌, ◌++◌, map, Ok, inl, refl, sym, ◌∙◌, subst, append-nil}
 use Rattle.lard_answers.specs.Answers.{FilesAt, IsPrefix}
 use Rattle.lard_base.specs.declared.place.Place.{Place}
 use Rattle.lard_base.specs.declared.place.Place.TheVariants.{Client, Front, Node}
 use Rattle.lard_law_connections.proofs.BytesLaw.{Helps}
 use Rattle.lard_law_connections.proofs.BytesClientMoves.{has-fair}
 use Rattle.lard_law_connections.proofs.PlacesGrowing.{grows-still}
-use Rattle.lard_law_view.specs.View.{AreSent, Conn, Move, Part, Said, grown, letter, letters_of, seen_in, stands}
+use Rattle.lard_law_view.specs.View.{AreSent, Conn, Move, Part, Said, Was, grown, letter, letters_of, seen_in, stands}
 use Rattle.lard_laws.specs.WaysState.{GoesItsWay, LetterWays, SeatWays, marks_at}
-use Rattle.lard_laws.specs.Ways.{Marks, paths_assigned, paths_wanted}
+use Rattle.lard_laws.specs.Ways.{BodyGoesOn, Marks, paths_assigned, paths_wanted}
 use Rattle.lard_laws.proofs.WaysLetters.{Carries, IsSame, carries-same, letters-on}
 use Rattle.lard_laws.proofs.WaysMarking.{IsPlain, Mine, Rightly, marked, marks-after, plain-marked, plain-rightly, rows-mine}
-use Rattle.lard_history.specs.Own.{EachRow, Seen}
+use Rattle.lard_history.specs.Own.{EachRow, Letter, Seen}
 use Rattle.lard_history.proofs.Each.{Each, Each-append}
+use Rattle.lard_message.specs.declared.message.Message.{Message}
+use Rattle.lard_message.specs.Reading.{decoded_message}
 use Rattle.lard_resend.specs.declared.kept.Kept.{Kept}
 use Rattle.lard_resend.specs.Pending.{sent_of}
 
--- it is on its way still, and all that it sees of the move may stand
+-- What a node sends was sent before, or the paths of an Ask go on from those that were assigned.
+abbrev pub AskTo : FilesAt → Marks → Conn → Place → Place → List ℕ → Type 0
+AskTo files m x (Node n) Front bytes = Was x (Node n) Front bytes ⊎ ((msg : Message) → decoded_message bytes ≡ Ok msg → BodyGoesOn files m msg.body)
+AskTo files m x _ _ bytes = Unit {0}
+
+abbrev pub LetterAsks : FilesAt → Marks → Conn → Letter → Type 0
+LetterAsks files m x l = AskTo files m x l.from l.to l.bytes
+
+-- so it is of all that a place sends, where that is a node
+abbrev pub AsksBy : FilesAt → Marks → Conn → Place → List Letter → Type 0
+AsksBy files m x (Node n) ls = Each (LetterAsks files m x) ls
+AsksBy files m x _ ls = Unit {0}
+
+-- it is on its way still, all that it sees of the move may stand, and what is asked goes on
 abbrev pub IsMade : FilesAt → Conn → Move → Type 0
-IsMade files x v = GoesItsWay files (grown x v) × EachRow (Mine files x.c) x.seen (seen_in x v)
+IsMade files x v = GoesItsWay files (grown x v) × EachRow (Mine files x.c) x.seen (seen_in x v) × AsksBy files (marked (marks_at x) v.said.notes) x v.place (letters_of v)
 
 -- what a move owes
 abbrev pub Keeps : FilesAt → Conn → Move → Type 0
@@ -45,12 +60,40 @@ module _ (files : FilesAt) (m : Marks) (p : Part) where
   sent-say x place [] h all = tt
   sent-say x place (k ∷ ks) h all = (has-fair (LetterWays files m p) (record { from = place; to = k.to; bytes = k.bytes }) x.letters h.0.1 all, sent-say x place ks h.1 all)
 
+-- ---- Asks
+
+module _ (files : FilesAt) (m : Marks) (x : Conn) (n : ℕ) where
+  -- a client is asked nothing
+  pub clients-ask : (c : ℕ) (ss : List (Place × List ℕ)) → Each (λ s. s.0 ≡ Client c) ss → Each (LetterAsks files m x) (map (letter (Node n)) ss)
+  clients-ask c [] h = tt
+  clients-ask c (s ∷ ss) h = (subst (λ (to : Place). AskTo files m x (Node n) to s.1) (sym h.0) tt, clients-ask c ss h.1)
+
+  pub asks-append : (xs ys : List (Place × List ℕ)) → Each (LetterAsks files m x) (map (letter (Node n)) xs) → Each (LetterAsks files m x) (map (letter (Node n)) ys) → Each (LetterAsks files m x) (map (letter (Node n)) (xs ++ ys))
+  asks-append [] ys h k = k
+  asks-append (s ∷ xs) ys h k = (h.0, asks-append xs ys h.1 k)
+
+  was-asked : (to : Place) (bytes : List ℕ) → Was x (Node n) to bytes → AskTo files m x (Node n) to bytes
+  was-asked Front bytes was = inl was
+  was-asked (Client d) bytes was = tt
+  was-asked (Node j) bytes was = tt
+
+  -- what is held was sent before
+  pub sent-ask : (ks : List Kept) → AreSent x (Node n) ks → Each (LetterAsks files m x) (map (letter (Node n)) (map sent_of ks))
+  sent-ask [] h = tt
+  sent-ask (k ∷ ks) h = (was-asked k.to k.bytes h.0.1, sent-ask ks h.1)
+
+-- a place that says nothing asks nothing
+pub none-asked : (files : FilesAt) (m : Marks) (x : Conn) (place : Place) → AsksBy files m x place []
+none-asked files m x (Node n) = tt
+none-asked files m x Front = tt
+none-asked files m x (Client d) = tt
+
 -- ---- a move
 
 module _ (files : FilesAt) (x : Conn) (v : Move) (help : Helps x v) (g : GoesItsWay files x) where
   pub makes : (n : Marks) → Rightly files (marks_at x) v.said.notes → marked (marks_at x) v.said.notes ≡ n → IsPrefix (paths_assigned n) (paths_wanted files n) → SeatWays files n v.part v.part.front.row
-      → Carries files (marks_at x) n x.part v.part → (Each (LetterWays files n v.part) x.letters → Each (LetterWays files n v.part) (letters_of v)) → IsMade files x v
-  makes n notes told paths seat carries new =
+      → Carries files (marks_at x) n x.part v.part → (Each (LetterWays files n v.part) x.letters → Each (LetterWays files n v.part) (letters_of v)) → AsksBy files n x v.place (letters_of v) → IsMade files x v
+  makes n notes told paths seat carries new asks =
       let after : marks_at (grown x v) ≡ n = marks-after files x v help.own help.heads ∙ told in
       let old : Each (LetterWays files n v.part) x.letters = letters-on files (marks_at x) n x.part v.part carries x.letters help.placed.letters g.letters in (
         record {
@@ -60,6 +103,7 @@ module _ (files : FilesAt) (x : Conn) (v : Move) (help : Helps x v) (g : GoesIts
               (Each-append (LetterWays files n v.part) x.letters (letters_of v) old (new old));
         },
         rows-mine files x v help.own help.heads notes,
+        subst (λ (m : Marks). AsksBy files m x v.place (letters_of v)) (sym told) asks,
       )
 
 -- what was assigned is the same, and so is what the client wrote
@@ -68,8 +112,9 @@ same-marks files m n = record { assigned = refl; wanted = ([], sym (append-nil (
 
 -- nothing that is kept changes, and nothing is told
 pub stands-makes : (files : FilesAt) (x : Conn) (place : Place) (heads : List Seen) (said : Said) → Each IsPlain said.notes
-    → (Each (LetterWays files (marks_at x) x.part) x.letters → Each (LetterWays files (marks_at x) x.part) (letters_of (stands x place heads said))) → Keeps files x (stands x place heads said)
-stands-makes files x place heads said plain new help g =
+    → (Each (LetterWays files (marks_at x) x.part) x.letters → Each (LetterWays files (marks_at x) x.part) (letters_of (stands x place heads said))) → AsksBy files (marks_at x) x place (letters_of (stands x place heads said))
+    → Keeps files x (stands x place heads said)
+stands-makes files x place heads said plain new asks help g =
     let m : Marks = marks_at x in
     makes files x (stands x place heads said) help g m (plain-rightly files m said.notes plain) (plain-marked m said.notes plain) g.paths g.seat
-    (carries-same files m m (same-marks files m m.served) x.part x.part (grows-still x.part) refl refl (λ i e ps at decided a. a)) new
+    (carries-same files m m (same-marks files m m.served) x.part x.part (grows-still x.part) refl refl (λ i e ps at decided a. a)) new asks

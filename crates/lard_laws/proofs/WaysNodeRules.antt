@@ -16,7 +16,7 @@ use Rattle.lard_laws.specs.WaysState.{GoesItsWay, StayAsks, marks_at}
 use Rattle.lard_laws.specs.Ways.{Marks}
 use Rattle.lard_laws.proofs.WaysHomes.{seat-kept}
 use Rattle.lard_laws.proofs.WaysLetters.{carries-same}
-use Rattle.lard_laws.proofs.WaysMoving.{IsMade, Keeps, makes, same-marks, stands-makes}
+use Rattle.lard_laws.proofs.WaysMoving.{IsMade, Keeps, makes, none-asked, same-marks, stands-makes}
 use Rattle.lard_laws.proofs.WaysNodes.{contents-keep, fires-keep, forwards-keep, read-keeps, tags-keep}
 use Rattle.lard_laws.proofs.WaysOffered.{offered-keep}
 use Rattle.lard_rules.specs.Front.{rest_of}
@@ -59,13 +59,13 @@ module _ (files : FilesAt) (x : Conn) (n : ℕ) (heads : List Seen) where
       (seat-kept files m x.part n q ((λ e h. gone-past e p.row h), (λ e h. gone-decided e p.row h), refl) x.part.front.row g.seat)
       (carries-same files m m (same-marks files m m.served) x.part v.part help.owes.grows refl refl
       (λ i e ps c d a. put-each x.part.nodes n q (λ j (z : NodePart). StayAsks files ((rest_of x.part.front.rest).asks + 1) ps (x.part.nodes j).stay → StayAsks files ((rest_of x.part.front.rest).asks + 1) ps z.stay) (λ b. b) (λ j other b. b) i a))
-      (λ old. tt)
+      (λ old. tt) tt
 
   acknowledged-keep : (env : NodeEnv) → Keeps files x (node_does x n heads (node_acknowledged env p))
   acknowledged-keep env = go (awaits_ack env.epoch p.row) where
     go : (b : Bool) → Keeps files x (node_does x n heads (cond b (Does (q, saying [])) Drops))
     go true = gone-makes
-    go false = stands-makes files x (Node n) heads nothing_said tt (λ old. tt)
+    go false = stands-makes files x (Node n) heads nothing_said tt (λ old. tt) tt
 
 -- ---- the rules
 
@@ -91,14 +91,14 @@ module _ (k : Setting) (small : k.stream ≤ 2 ^ 30) where
       let heads : List Seen = packet_seen (Node from) (Node n) bytes in
       by-station k small x (GoesItsWay k.files x → IsMade k.files x (node_does x n heads (node_content env (x.part.nodes n) from r)))
       (λ s there. contents-keep k small x s there h.talk h.pend (open-at k.files x s there h) n epoch env is heads from r help)
-      (λ none. subst (λ (d : Deed). Keeps k.files x (node_does x n heads d)) (sym (ap (come_by env from r (x.part.nodes n)) (nothing-here k.files x none h n env.epoch help.placed.sits))) (stands-makes k.files x (Node n) heads nothing_said tt (λ old. tt)) help)
+      (λ none. subst (λ (d : Deed). Keeps k.files x (node_does x n heads d)) (sym (ap (come_by env from r (x.part.nodes n)) (nothing-here k.files x none h n env.epoch help.placed.sits))) (stands-makes k.files x (Node n) heads nothing_said tt (λ old. tt) tt) help)
 
   read : (x : Conn) (n epoch r : ℕ) (env : NodeEnv) (path : List ℕ) → IsNodeEnv k x.c n epoch env → Owes x (reads_first (rec.Read n n x.c r path) (node_does x n [] (node_read env (x.part.nodes n) r)))
   read x n epoch r env path is h help =
       by-station k small x (GoesItsWay k.files x → IsMade k.files x (reads_first (rec.Read n n x.c r path) (node_does x n [] (node_read env (x.part.nodes n) r))))
       (λ s there. read-keeps k small x s there h.talk h.pend (open-at k.files x s there h) n epoch env is r path help)
       (λ none. subst (λ (d : Deed). Keeps k.files x (reads_first (rec.Read n n x.c r path) (node_does x n [] d))) (sym (ap (read_by env r (x.part.nodes n)) (nothing-here k.files x none h n env.epoch help.placed.sits)))
-      (stands-makes k.files x (Node n) [] (record nothing_said { notes = rec.Read n n x.c r path ∷ [] }) (tt, tt) (λ old. tt)) help)
+      (stands-makes k.files x (Node n) [] (record nothing_said { notes = rec.Read n n x.c r path ∷ [] }) (tt, tt) (λ old. tt) tt) help)
 
   pub nodes : NodeRules k Owes
   nodes = record {
@@ -113,11 +113,11 @@ module _ (k : Setting) (small : k.stream ≤ 2 ^ 30) where
     acknowledged = λ x n epoch env bytes is spells was h. acknowledged-keep k.files x n (packet_seen Front (Node n) bytes) env;
     read = read;
     fires = λ x s n env there is h. fires-keep k small x s there h.talk h.pend (open-at k.files x s there h) n _ env is (event_seen (event.Timer (Node n) x.c)) is.epoch_is;
-    answers = λ x n from epoch r path file bytes there spells was h. stands-makes k.files x (Node n) (packet_seen (Node from) (Node n) bytes) (contents k n from x.c epoch r path) tt (λ old. (tt, tt));
-    queues = λ x n from epoch r path file bytes there spells was h. stands-makes k.files x (Node n) (packet_seen (Node from) (Node n) bytes) (record nothing_said { notes = rec.Queued n from x.c r path ∷ [] }) (tt, tt) (λ old. tt);
-    brings = λ x n from epoch r path h. stands-makes k.files x (Node n) [] (brought_said k n from x.c epoch r path) (tt, tt) (λ old. (tt, tt));
+    answers = λ x n from epoch r path file bytes there spells was h. stands-makes k.files x (Node n) (packet_seen (Node from) (Node n) bytes) (contents k n from x.c epoch r path) tt (λ old. (tt, tt)) (tt, tt);
+    queues = λ x n from epoch r path file bytes there spells was h. stands-makes k.files x (Node n) (packet_seen (Node from) (Node n) bytes) (record nothing_said { notes = rec.Queued n from x.c r path ∷ [] }) (tt, tt) (λ old. tt) tt;
+    brings = λ x n from epoch r path h. stands-makes k.files x (Node n) [] (brought_said k n from x.c epoch r path) (tt, tt) (λ old. (tt, tt)) (tt, tt);
   }
 
   -- a packet comes, and nothing is done
   pub ignores : (x : Conn) (from to : Place) (bytes : List ℕ) → Owes x (stands x to (packet_seen from to bytes) nothing_said)
-  ignores x from to bytes h = stands-makes k.files x to (packet_seen from to bytes) nothing_said tt (λ old. tt)
+  ignores x from to bytes h = stands-makes k.files x to (packet_seen from to bytes) nothing_said tt (λ old. tt) (none-asked k.files (marks_at x) x to)

@@ -14,7 +14,7 @@ use Rattle.lard_law_view.specs.View.{Conn, IsNodeEnv, Move, Setting, Spells, Was
 use Rattle.lard_laws.specs.WaysState.{FrontSaysWays, GoesItsWay, LetterWays, StayWays, TagIs, marks_at}
 use Rattle.lard_laws.specs.Ways.{Marks}
 use Rattle.lard_laws.proofs.WaysHomes.{AtHome, at-home, does-makes, named-marked, named-rightly, says-makes, sent-append}
-use Rattle.lard_laws.proofs.WaysMoving.{Keeps, sent-say, stands-makes}
+use Rattle.lard_laws.proofs.WaysMoving.{Keeps, sent-ask, sent-say, stands-makes}
 use Rattle.lard_laws.proofs.WaysStaying.{Home}
 use Rattle.lard_laws.proofs.WaysTurning.{Asked_by, DeedWays, TurnWays, comes-ways, fires-ways, hears-ways, reads-ways, tags-ways}
 use Rattle.lard_endpoint.specs.Control.{ControlBlock}
@@ -88,7 +88,7 @@ module _ (k : Setting) (small : k.stream ≤ 2 ^ 30) (x : Conn) (s : Station) (t
   -- a deed where it is here
   deed-makes : (heads : List Seen) (d : Deed) → ((it : IsIt) (placed : IsPlaced x) (g : GoesItsWay files x) → DeedWays env m r p (Asked_by env m r p) d) → IsIt → Keeps files x (node_does x n heads d)
   unfolding has
-  deed-makes heads Drops d it help g = stands-makes files x (Node n) heads nothing_said tt (λ old. tt) help g
+  deed-makes heads Drops d it help g = stands-makes files x (Node n) heads nothing_said tt (λ old. tt) tt help g
   deed-makes heads (Says ms) d it help g =
       let small = second it help.placed g in
       says-makes env x n is.node small heads [] ms tt (d it help.placed g) (inl (subst (λ (e : ℕ). IsDecided e p.row) (has it help.placed g).same (has it help.placed g).decided)) help g
@@ -102,7 +102,7 @@ module _ (k : Setting) (small : k.stream ≤ 2 ^ 30) (x : Conn) (s : Station) (t
   -- behind the record of a job that was completed
   first-makes : (i : ℕ) (path : List ℕ) (d : Deed) → ((it : IsIt) (placed : IsPlaced x) (g : GoesItsWay files x) → DeedWays env m r p (Asked_by env m r p) d) → IsIt → Keeps files x (reads_first (rec.Read n n x.c i path) (node_does x n [] d))
   unfolding has
-  first-makes i path Drops d it help g = stands-makes files x (Node n) [] (record nothing_said { notes = rec.Read n n x.c i path ∷ [] }) (tt, tt) (λ old. tt) help g
+  first-makes i path Drops d it help g = stands-makes files x (Node n) [] (record nothing_said { notes = rec.Read n n x.c i path ∷ [] }) (tt, tt) (λ old. tt) tt help g
   first-makes i path (Says ms) d it help g =
       let small = second it help.placed g in
       says-makes env x n is.node small [] (rec.Read n n x.c i path ∷ []) ms (tt, tt) (d it help.placed g) (inl (subst (λ (e : ℕ). IsDecided e p.row) (has it help.placed g).same (has it help.placed g).decided)) help g
@@ -147,7 +147,7 @@ module _ (k : Setting) (small : k.stream ≤ 2 ^ 30) (x : Conn) (s : Station) (t
 
   by-here : (heads : List Seen) (rule : Option (ControlBlock × Stay) → Deed) → rule None ≡ Drops → ((it : IsIt) (placed : IsPlaced x) (g : GoesItsWay files x) → Known it placed g (rule (here env.epoch p))) → Keeps k.files x (node_does x n heads (rule (here env.epoch p)))
   by-here heads rule none knows = by-files (node_does x n heads (rule (here env.epoch p))) (⊎_elim
-      (λ (e : here env.epoch p ≡ None). subst (λ (d : Deed). Keeps files x (node_does x n heads d)) (sym (ap rule e ∙ none)) (stands-makes files x (Node n) heads nothing_said tt (λ old. tt)))
+      (λ (e : here env.epoch p ≡ None). subst (λ (d : Deed). Keeps files x (node_does x n heads d)) (sym (ap rule e ∙ none)) (stands-makes files x (Node n) heads nothing_said tt (λ old. tt) tt))
       (λ (it : IsIt). deed-makes heads (rule (here env.epoch p)) knows it) (here-or k small x s there l pend o n env epoch is))
 
   pub forwards-keep : (heads : List Seen) (sd : spelling.Said) → IsWord l.w sd → Keeps k.files x (node_does x n heads (node_forwarded env p (Ok sd)))
@@ -177,7 +177,7 @@ module _ (k : Setting) (small : k.stream ≤ 2 ^ 30) (x : Conn) (s : Station) (t
   pub read-keeps : (i : ℕ) (path : List ℕ) → Keeps k.files x (reads_first (rec.Read n n x.c i path) (node_does x n [] (node_read env p i)))
   read-keeps i path = by-files (reads_first (rec.Read n n x.c i path) (node_does x n [] (node_read env p i))) (⊎_elim
       (λ (e : here env.epoch p ≡ None). subst (λ (d : Deed). Keeps files x (reads_first (rec.Read n n x.c i path) (node_does x n [] d))) (sym (ap (read_by env i p) e))
-      (stands-makes files x (Node n) [] (record nothing_said { notes = rec.Read n n x.c i path ∷ [] }) (tt, tt) (λ old. tt)))
+      (stands-makes files x (Node n) [] (record nothing_said { notes = rec.Read n n x.c i path ∷ [] }) (tt, tt) (λ old. tt) tt))
       (λ (it : IsIt). first-makes i path (node_read env p i) (λ it placed g. knows-reads it placed g i) it) (here-or k small x s there l pend o n env epoch is))
 
   pub fires-keep : (heads : List Seen) → env.epoch ≡ epoch_in p → Keeps k.files x (node_does x n heads (node_timer env p))
@@ -186,4 +186,5 @@ module _ (k : Setting) (small : k.stream ≤ 2 ^ 30) (x : Conn) (s : Station) (t
       (λ (it : IsIt). deed-makes heads (node_timer env p) (λ it placed g. knows-fires it placed g) it) (endpoint-or k small x s there l pend o n env epoch is p.row refl same)) where
         again-keep : (heads : List Seen) → Keeps files x (node_does x n heads (Says (again_sent p)))
         again-keep heads help g = stands-makes files x (Node n) heads (record nothing_said { messages = again_sent p }) tt
-            (λ old. sent-say files m x.part x (Node n) (p.kept ++ p.fetches) (sent-append x (Node n) p.kept p.fetches (help.sound.kept n) (help.sound.fetches n)) old) help g
+            (λ old. sent-say files m x.part x (Node n) (p.kept ++ p.fetches) (sent-append x (Node n) p.kept p.fetches (help.sound.kept n) (help.sound.fetches n)) old)
+            (sent-ask files m x n (p.kept ++ p.fetches) (sent-append x (Node n) p.kept p.fetches (help.sound.kept n) (help.sound.fetches n))) help g

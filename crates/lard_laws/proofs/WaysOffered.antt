@@ -23,7 +23,7 @@ use Rattle.lard_laws.specs.WaysState.{BeginsWith, IsAway, IsPlacedOnce, LetterWa
 use Rattle.lard_laws.specs.WaysUnder.{Assigned}
 use Rattle.lard_laws.specs.Ways.{Marks, good_paths, paths_answered}
 use Rattle.lard_laws.proofs.WaysGoing.{first-goes, stay-goes}
-use Rattle.lard_laws.proofs.WaysHomes.{does-makes, named-marked, named-rightly, quiet-says}
+use Rattle.lard_laws.proofs.WaysHomes.{does-makes, named-marked, named-rightly, quiet-asks, quiet-says}
 use Rattle.lard_laws.proofs.WaysMoving.{Keeps, stands-makes}
 use Rattle.lard_laws.proofs.WaysStaying.{Goes, Home}
 use Rattle.lard_laws.proofs.WaysTurning.{DeedWays, TurnWays, work-ways}
@@ -187,10 +187,11 @@ module _ (k : Setting) (small : k.stream ≤ 2 ^ 30) (x : Conn) (s : Station) (t
 
   answer-makes : Goal (Says (taken_sent env))
   answer-makes = stands-makes all_files x (Node n) heads (record nothing_said { messages = taken_sent env }) tt (λ old. (quiet-says all_files m x.part n env.serve.c env.epoch body.Taken (λ ask. let no : kind.Taken ≡ kind.Ask = ask in cc), tt))
+      (quiet-asks all_files m x n env.serve.c env.epoch body.Taken (λ ask. let no : kind.Taken ≡ kind.Ask = ask in cc), tt)
 
   by-answer : (row : Option BackRow) → p.row ≡ row → (a : Adopt) → offer_answer env.epoch row ≡ a → offer_answer env.epoch p.row ≡ a → Goal (node_offered env p parts)
   by-answer row found Again e f = subst (λ (a : Adopt). Goal (offered_by env parts p a)) (sym f) answer-makes
-  by-answer row found Stale e f = subst (λ (a : Adopt). Goal (offered_by env parts p a)) (sym f) (stands-makes all_files x (Node n) heads nothing_said tt (λ old. tt))
+  by-answer row found Stale e f = subst (λ (a : Adopt). Goal (offered_by env parts p a)) (sym f) (stands-makes all_files x (Node n) heads nothing_said tt (λ old. tt) tt)
   by-answer None found New e f = subst (λ (a : Adopt). Goal (offered_by env parts p a)) (sym f) (new-makes (λ h. subst (IsDecided epoch) found h))
   by-answer (Some row) found New e f =
       let below : row.epoch.0 < env.epoch = new-below row e in

@@ -8,6 +8,7 @@ use Rattle.lard_rules.specs.declared.machine.Machine.{Machine}
 use Rattle.lard_rules.specs.Machine.{IsReached}
 use Rattle.lard_law_connections.specs.BytesAgreement.{IsFair, IsFairOn, IsTruthful}
 use Rattle.lard_law_connections.proofs.BytesClientMoves.{has-fair, open-at}
+use Rattle.lard_law_connections.proofs.BytesLaw.{Helps}
 use Rattle.lard_law_connections.proofs.BytesFrontMessages.{opened-at}
 use Rattle.lard_law_connections.proofs.BytesFrontMoves.{talk-of}
 use Rattle.lard_law_connections.proofs.BytesOwners.{Known, Knows, known}
@@ -30,7 +31,7 @@ use Rattle.lard_laws.proofs.WaysFrontAnswers.{asked-makes, ended-makes, taken-ro
 use Rattle.lard_laws.proofs.WaysFrontStays.{fires-row, hears-row, waits-frozen}
 use Rattle.lard_laws.proofs.WaysMarking.{MayTell, Mine}
 use Rattle.lard_laws.proofs.WaysMoments.{assigns-a-prefix}
-use Rattle.lard_laws.proofs.WaysMoving.{Keeps}
+use Rattle.lard_laws.proofs.WaysMoving.{IsMade, Keeps}
 use Rattle.lard_laws.proofs.WaysNodeRules.{Owes, ignores, nodes}
 use Rattle.lard_files.specs.Files.{file_at}
 use Rattle.lard_rules.specs.Front.{FrontEnv, FrontPart, admitted_at, admitted_by, ask_of, front_gets, front_timer}
@@ -109,27 +110,34 @@ module _ (k : Setting) (small : k.stream ≤ 2 ^ 30) where
   keeps : UntouchedRules k (Owes k small)
   keeps = record { client = clients k small; front = fronts; node = nodes k small; ignores = λ x from to bytes was. ignores k small x from to bytes }
 
-  abbrev Owed : Conn → Move → Type 0
+  abbrev pub Owed : Conn → Move → Type 0
   Owed x v = MayMove IsPlaced x → IsPlaced x → places.Owes x v
 
-  abbrev Given : Conn → Type 0
+  abbrev pub Given : Conn → Type 0
   Given x = IsPlaced x × Untouched (IsTruthful k.files) x
 
-  abbrev All : Conn → Move → Type 0
+  abbrev pub All : Conn → Move → Type 0
   All x v = ((IsFine x v × Owed x v) × Knows x v) × Owes k small x v
 
   abbrev Wanted : Conn → Move → Type 0
   Wanted x v = MayMove Given x → (tale_at x).touched ≡ false → GoesItsWay k.files x → GoesItsWay k.files (grown x v) × EachRow (Mine k.files x.c) x.seen (seen_in x v)
 
-  all : UntouchedRules k All
+  pub all : UntouchedRules k All
   all = untouched-both k (λ x v. (IsFine x v × Owed x v) × Knows x v) (Owes k small) (untouched-both k (λ x v. IsFine x v × Owed x v) Knows (untouched-both k IsFine Owed (fine k).untouched (owing k IsPlaced).untouched) (known k)) keeps
 
-  wanted : (x : Conn) (v : Move) → All x v → Wanted x v
-  wanted x v h may untouched way =
+  -- what helps a rule
+  pub helped : (x : Conn) (v : Move) → All x v → MayMove Given x → Helps x v
+  helped x v h may =
       let placed : MayMove IsPlaced x = record { number = may.number; sound = may.sound; given = may.given.0 } in
       let own : IsItsOwn x v = (h.0.0.0 may.number may.sound).0 in
       let more : Known x v = h.0.1 placed own in
-      h.1 (may.given.1 untouched) (record { number = may.number; sound = may.sound; placed = may.given.0; owes = h.0.0.1 placed may.given.0; own = own; heads = more.heads; serves = more.serves }) way
+      record { number = may.number; sound = may.sound; placed = may.given.0; owes = h.0.0.1 placed may.given.0; own = own; heads = more.heads; serves = more.serves }
+
+  pub made : (x : Conn) (v : Move) → All x v → MayMove Given x → (tale_at x).touched ≡ false → GoesItsWay k.files x → IsMade k.files x v
+  made x v h may untouched way = h.1 (may.given.1 untouched) (helped x v h may) way
+
+  wanted : (x : Conn) (v : Move) → All x v → Wanted x v
+  wanted x v h may untouched way = let it : IsMade k.files x v = made x v h may untouched way in (it.0, it.1)
 
   ways-law : IsGuardedLaw k Given (GoesItsWay k.files) (λ c. Mine k.files c)
   ways-law = record {
@@ -145,7 +153,7 @@ module _ (files : FilesAt) where
   abbrev seen_so : ℕ → List Seen → Rec → Type 0
   seen_so c past r = WhileUntouched (λ c. Mine files c) c past r
 
-  marks-own : (J : List Rec) (c : ℕ) → marks_of (tale_of c (own c J)) ≡ marks J c
+  pub marks-own : (J : List Rec) (c : ℕ) → marks_of (tale_of c (own c J)) ≡ marks J c
   marks-own J c = ap marks_of (sym (tale-own J c)) ∙ (λ i. record { wrote = sym (wrote-tale J c) i; served = sym (served-tale J c) i; assigned = sym (assigned-tale J c) i })
 
   says : (J : List Rec) (r : Rec) (c d : ℕ) → d ≡ c → seen_so c (own c J) r → is_touched J d ≡ false → MayTell files c (tale_of c (own c J)) r

@@ -1,5 +1,5 @@
 -- What follows where few bytes were written: an established client sent all that it has, and an endpoint has an open window.
-use Rattle.std.proofs.Common.{◌≡◌, ◌-◌, ℕ, List, Some, refl, subst}
+use Rattle.std.proofs.Common.{◌≡◌, ℕ, List, Some, refl, subst}
 use Rattle.lard_law_connections.proofs.PlacesFrontRules.{has-each}
 use Rattle.lard_law_view.specs.View.{Conn, Spells, Was}
 use Rattle.lard_base.specs.declared.place.Place.TheVariants.{Client, Front, Node}

@@ -22,7 +22,7 @@ use Rattle.lard_laws.specs.Sizes.{MustSize}
 use Rattle.lard_law_connections.specs.StoresLaws.{MayStore, MustRead}
 use Rattle.lard_laws.specs.WaysBefore.{MayBeServed}
 use Rattle.lard_laws.specs.WaysContents.{MustBring}
-use Rattle.lard_laws.specs.Ways.{AreAssignedInOrder, AssignsAPrefix, ComeAsAssigned}
+use Rattle.lard_laws.specs.Ways.{AreAssignedInOrder, AssignsAPrefix, ComeAsAssigned, NamesTheNext}
 use Rattle.lard_files.specs.Files.{file_at}
 use Rattle.lard_history.specs.Laws.{AcceptsOnlyAnswers, ActsInPlace, EachMay, IsNetwork, IsOwnership, IsSoleSender, KeepsTime, ResetsAtTheLimit, TellsTheTruth, WritesWhileOpen}
 use Rattle.lard_history.specs.Steps.{AtEachEnd, EachStep, steps}
@@ -100,6 +100,8 @@ pub record IsLawful (config : Config) (files : FilesAt) (J : List Rec) : Type 0 
   -- which request each assignment is for, and by which way its content comes
   pub requests : AreAssignedInOrder files J
   pub paths : AssignsAPrefix files J
+  -- and the paths of an Ask go on from those that were assigned before it is sent first
+  pub names_next : NamesTheNext files J
   pub ways : ComeAsAssigned files J
   -- which place answers each request; for which request the first assignment is, and each job of a disk
   pub answerers : EachMay (MayAnswer files) [] J

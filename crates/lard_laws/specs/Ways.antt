@@ -1,15 +1,20 @@
 -- By which way each content came, and in which order requests are assigned, in words of the journal.
-use Rattle.std.specs.Prelude.{◌≡◌, ◌≢◌, ℕ, false, List, [], ◌∷◌, ◌++◌, length, map, take, Option, Some, None}
+use Rattle.std.specs.Prelude.{◌≡◌, ◌≢◌, ℕ, false, List, [], ◌∷◌, ◌++◌, length, map, take, Option, Some, None, Ok}
 use Rattle.std.specs.List.{slice_get}
 use Rattle.lard_answers.specs.Answers.{FilesAt, IsPrefix, good_path, goods, verdicts}
 use Rattle.lard_base.specs.declared.place.Place.{Place}
-use Rattle.lard_base.specs.declared.place.Place.TheVariants.{Node}
+use Rattle.lard_base.specs.declared.place.Place.TheVariants.{Front, Node}
 use Rattle.lard_base.specs.declared.place.Via.{Via}
 use Rattle.lard_base.specs.declared.place.Via.TheVariants as via
 use Rattle.lard_history.specs.Journal.{assigned, is_touched, served, wrote}
 use Rattle.lard_history.specs.Laws.{EachMay}
 use Rattle.lard_journal.specs.declared.rec.Rec.{Rec}
 use Rattle.lard_journal.specs.declared.rec.Rec.TheVariants as rec
+use Rattle.lard_law_connections.specs.Offers.{WasSent}
+use Rattle.lard_message.specs.declared.message.Body.{Body}
+use Rattle.lard_message.specs.declared.message.Body.TheVariants as body
+use Rattle.lard_message.specs.declared.message.Message.{Message}
+use Rattle.lard_message.specs.Reading.{decoded_message}
 use Rattle.lard_rules.specs.Stay.{and_path}
 use Rattle.lard_request.specs.declared.verdict.Verdict.{Verdict}
 
@@ -101,3 +106,25 @@ AreAssignedInOrder files J = EachMay (MayBeAssigned files) [] J
 abbrev pub AssignsAPrefix : FilesAt → List Rec → Type 0
 AssignsAPrefix files J =
     (past later : List Rec) (c : ℕ) → J ≡ past ++ later → is_touched past c ≡ false → IsPrefix (map (λ a. a.0) (assigned past c)) (map (λ g. g.1) (goods files (wrote past c)))
+
+-- ---- the paths of an Ask that goes out
+
+-- They go on from those that were assigned: both, one behind the other, are a prefix of the paths of the good requests.
+abbrev pub BodyGoesOn : FilesAt → Marks → Body → Type 0
+BodyGoesOn files m (body.Ask number queue size paths) = IsPrefix (paths_assigned m ++ paths) (paths_wanted files m)
+BodyGoesOn files m _ = Unit {0}
+
+-- Of a message of a node to the front end, which was not sent there before: so it is of each connection that the schedule did
+-- not touch.
+abbrev pub GoesOnTo : FilesAt → List Rec → Place → Place → List ℕ → Type 0
+GoesOnTo files past (Node n) Front bytes =
+    (m : Message) → decoded_message bytes ≡ Ok m → is_touched past m.c ≡ false → (WasSent (Node n) Front bytes past → ⊥) → BodyGoesOn files (marks past m.c) m.body
+GoesOnTo files past _ _ bytes = Unit {0}
+
+abbrev pub MayGoOn : FilesAt → List Rec → Rec → Type 0
+MayGoOn files past (rec.Sent k from to bytes) = GoesOnTo files past from to bytes
+MayGoOn files past _ = Unit {0}
+
+-- each Ask names the next paths, where it is sent first
+abbrev pub NamesTheNext : FilesAt → List Rec → Type 0
+NamesTheNext files J = EachMay (MayGoOn files) [] J

@@ -1,6 +1,6 @@
 -- The ways of requests, over every run of the cluster's machine.
 use Rattle.lard_law_connections.specs.BytesRuns.{Always}
-use Rattle.lard_laws.specs.Ways.{AreAssignedInOrder, AssignsAPrefix, ComeAsAssigned}
+use Rattle.lard_laws.specs.Ways.{AreAssignedInOrder, AssignsAPrefix, ComeAsAssigned, NamesTheNext}
 use Rattle.lard_files.specs.Files.{file_at}
 
 -- Each assignment is of the next good request.
@@ -14,3 +14,7 @@ JournalsAssignAPrefix = Always (λ files m. AssignsAPrefix (file_at files) m.jou
 -- Each content came from where its request was assigned.
 abbrev pub ContentsComeAsAssigned : Type 0
 ContentsComeAsAssigned = Always (λ files m. ComeAsAssigned (file_at files) m.journal)
+
+-- The paths of each Ask go on from those that were assigned.
+abbrev pub AsksNameTheNext : Type 0
+AsksNameTheNext = Always (λ files m. NamesTheNext (file_at files) m.journal)

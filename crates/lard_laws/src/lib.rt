@@ -26,7 +26,7 @@ ghost use Rattle.lard_laws.specs.StepsTimers.{TimersChangeInSteps, TimersRunAsKe
 ghost use Rattle.lard_laws.specs.TagsLaws.{ConnectionsNameNodes};
 ghost use Rattle.lard_laws.specs.WaysBefore.{ContentsWereThere};
 ghost use Rattle.lard_laws.specs.WaysContents.{ContentsAreFiles};
-ghost use Rattle.lard_laws.specs.WaysRuns.{ContentsComeAsAssigned, JournalsAssignAPrefix, JournalsAssignInOrder};
+ghost use Rattle.lard_laws.specs.WaysRuns.{AsksNameTheNext, ContentsComeAsAssigned, JournalsAssignAPrefix, JournalsAssignInOrder};
 ghost use Rattle.lard_laws.specs.WindowsLaws.{ClientsStart, ForwardsComeFromClients, OpenClientsSentTheirSyn, RefusalsAnswer, WindowsReach, WordsFit};
 
 use lard_law_connections::every_run_is_true;
@@ -123,6 +123,13 @@ pub fn disks_stay_short()
 pub fn requests_are_assigned_in_order()
     ensures next { JournalsAssignInOrder }
     ensures paths { JournalsAssignAPrefix }
+{}
+
+/// In every run of the cluster's machine, whatever is lost, repeated or comes out of order, and of each connection that the schedule
+/// did not touch: an Ask, where a node sends it first, names the next paths. Those that were assigned before it is sent, and behind
+/// them its own, are the first of the paths of the good requests that the client wrote, in their order.
+pub fn asks_name_the_next_paths()
+    ensures { AsksNameTheNext }
 {}
 
 /// In every run of the cluster's machine, whatever is lost, repeated or comes out of order, and for every connection that the schedule

@@ -1,5 +1,5 @@
 -- What nodes bear before anything is assigned and behind one assignment, and which nodes are chosen then.
-use Rattle.std.proofs.Common.{◌≡◌, ℕ, [], ◌∷◌, length, Option, Some, None, refl, ap, ◌∙◌, arith}
+use Rattle.std.proofs.Common.{◌≡◌, ◌+◌, ℕ, nat_eq, cond, [], ◌∷◌, ◌++◌, length, length-append, Option, Some, None, refl, ap, ◌∙◌, arith}
 use Rattle.std.specs.FinMap.{get-empty}
 use Rattle.std.specs.FinMap as map
 use Rattle.std.specs.Ordering.{nat_cmp}
@@ -68,6 +68,41 @@ pub share-is-open : open_shares (shared one_at_home 1 2 2) 1 ≡ 1
 share-is-open =
     ap (λ (o : Option Standing). open_shares (sharing one_at_home 1 2 2 o) 1) is-there
     ∙ ap (λ (o : Option Standing). length (shares_of o)) (get_inserted one_at_home.standings 1 (record at_home { shares = record { node = 2; units = 420 } ∷ [] }))
+
+-- So many shares of connection 1, which is at node 1, are open.
+record Opens (t : Tally) (n : ℕ) : Type 0 where
+  standing : Standing
+  there : map.get t.standings 1 ≡ Some standing
+  home_is : standing.home ≡ 1
+  many : length standing.shares ≡ n
+
+-- one more behind a request at node 2
+abbrev more : Tally → Tally
+more t = shared t 1 2 2
+
+opens-more : (t : Tally) (n : ℕ) → Opens t n → Opens (more t) (n + 1)
+opens-more t n o =
+    let s : Standing = o.standing in
+    let next : Standing = record s { shares = s.shares ++ record { node = 2; units = 420 } ∷ [] } in
+    record {
+      standing = next;
+      there =
+          ap (λ (p : Option Standing). map.get (sharing t 1 2 2 p).standings 1) o.there
+          ∙ ap (λ (h : ℕ). map.get (cond (nat_eq 2 h) t (record t { standings = map.insert t.standings 1 next })).standings 1) o.home_is
+          ∙ get_inserted t.standings 1 next;
+      home_is = o.home_is;
+      many = length-append s.shares (record { node = 2; units = 420 } ∷ []) ∙ ap (λ (i : ℕ). i + 1) o.many;
+    }
+
+-- behind eight there are eight
+pub eight-shares-are-open : open_shares (more (more (more (more (more (more (more (more one_at_home)))))))) 1 ≡ 8
+eight-shares-are-open =
+    let none : Opens one_at_home 0 = record { standing = at_home; there = is-there; home_is = refl; many = refl } in
+    let two = opens-more _ _ (opens-more _ _ none) in
+    let four = opens-more _ _ (opens-more _ _ two) in
+    let six = opens-more _ _ (opens-more _ _ four) in
+    let eight = opens-more _ _ (opens-more _ _ six) in
+    ap (λ (o : Option Standing). length (shares_of o)) eight.there ∙ eight.many
 
 -- before that no share was
 pub no-share-is-open : open_shares one_at_home 1 ≡ 0

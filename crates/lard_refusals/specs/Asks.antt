@@ -6,7 +6,7 @@ use Rattle.lard_base.specs.declared.place.Via.TheVariants as via
 use Rattle.lard_laws.specs.AsksAnswers.{MustAnswer, MustEnd}
 use Rattle.lard_laws.specs.AsksSent.{MustAsk}
 use Rattle.lard_laws.specs.Sizes.{MustSize}
-use Rattle.lard_laws.specs.Ways.{AreAssignedInOrder, AssignsAPrefix, ComeAsAssigned}
+use Rattle.lard_laws.specs.Ways.{AreAssignedInOrder, AssignsAPrefix, ComeAsAssigned, NamesTheNext}
 use Rattle.lard_history.specs.Journal.{request}
 use Rattle.lard_history.specs.Steps.{EachStep, steps}
 use Rattle.lard_journal.specs.declared.rec.Rec.{Rec}
@@ -99,6 +99,18 @@ its_path_assigned = rec.Wrote 1 (request (codes "/a")) ∷ rec.AssignedFirst 1 1
 
 abbrev pub paths : Law
 paths config files J = AssignsAPrefix files J
+
+abbrev pub names_next : Law
+names_next config files J = NamesTheNext files J
+
+-- A node asks for the request that was assigned with the connection.
+abbrev pub asks_for_the_first_again : List Rec
+asks_for_the_first_again =
+    rec.Wrote 1 (request (codes "/a")) ∷ rec.AssignedFirst 1 1 (codes "/a") 1 (Some 1) None ∷ rec.Sent 1 (Node 1) Front first_ask ∷ []
+
+-- It asks for one that was not assigned.
+abbrev pub asks_for_what_is_next : List Rec
+asks_for_what_is_next = rec.Wrote 1 (request (codes "/a")) ∷ rec.Sent 1 (Node 1) Front first_ask ∷ []
 
 -- ---- the way of a content
 

@@ -41,6 +41,14 @@ kept_path_is_a_hit =
 abbrev pub queued_though_cached : List Rec
 queued_though_cached = rec.Queued 1 1 1 1 (codes "/a") ∷ rec.Event 1 (event.Disk 1 1) ∷ rec.Read 1 1 1 1 (codes "/a") ∷ rec.Queued 1 1 1 2 (codes "/a") ∷ []
 
+-- A job is queued for a path that no file has.
+abbrev pub queued_without_a_file : List Rec
+queued_without_a_file = rec.Queued 1 1 1 1 (codes "/c") ∷ []
+
+-- It is for that of a file.
+abbrev pub queued_for_a_file : List Rec
+queued_for_a_file = rec.Queued 1 1 1 1 (codes "/a") ∷ []
+
 -- ---- disks
 
 abbrev pub disks : Law

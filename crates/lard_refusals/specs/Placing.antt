@@ -64,6 +64,15 @@ leaves_a_short_queue = first_joining 1 1 ∷ later_at 2 2 ∷ []
 abbrev pub stays_at_a_short_queue : List Rec
 stays_at_a_short_queue = first_joining 1 1 ∷ later_at 2 1 ∷ []
 
+-- It is of a batch of nine requests.
+abbrev pub batch_of_nine : List Rec
+batch_of_nine = first_joining 1 1 ∷ rec.AssignedLater 1 2 (codes "/a") 1 None 9 0 ∷ []
+
+-- A later request is assigned while eight shares of its connection are open.
+abbrev pub ninth_share : List Rec
+ninth_share =
+    first_joining 1 1 ∷ later_at 2 2 ∷ later_at 3 2 ∷ later_at 4 2 ∷ later_at 5 2 ∷ later_at 6 2 ∷ later_at 7 2 ∷ later_at 8 2 ∷ later_at 9 2 ∷ later_at 10 1 ∷ []
+
 -- A later request is assigned for a connection that has no node.
 abbrev pub later_without_a_node : List Rec
 later_without_a_node = later_at 2 1 ∷ []

@@ -49,6 +49,14 @@ pub fn paths_refuses()
     ensures its_path_assigned { Allows the.paths the.its_path_assigned }
 {}
 
+/// An Ask names those that come next.
+pub fn names_next_refuses()
+    ensures law { IsLawOfAll the.names_next }
+    ensures asks_for_nothing { Refuses the.names_next the.asks_for_nothing }
+    ensures asks_for_the_first_again { Refuses the.names_next the.asks_for_the_first_again }
+    ensures asks_for_what_is_next { Allows the.names_next the.asks_for_what_is_next }
+{}
+
 /// A content comes from where its request was assigned.
 pub fn ways_refuses()
     ensures law { IsLawOfAll the.ways }

@@ -3,13 +3,15 @@
 ghost use Rattle.lard_refusals.specs.Contents as the;
 ghost use Rattle.lard_refusals.specs.Refusals.{Allows, IsLawOfAll, Refuses};
 
-/// A hit is of what is cached, and a job of what is not.
+/// A hit is of what is cached, and a job of a file that is not.
 pub fn stores_refuses()
     ensures law { IsLawOfAll the.stores }
     ensures hit_of_what_was_never_read { Refuses the.stores the.hit_of_what_was_never_read }
     ensures evicted_path_is_a_hit { Refuses the.stores the.evicted_path_is_a_hit }
     ensures queued_though_cached { Refuses the.stores the.queued_though_cached }
+    ensures queued_without_a_file { Refuses the.stores the.queued_without_a_file }
     ensures kept_path_is_a_hit { Allows the.stores the.kept_path_is_a_hit }
+    ensures queued_for_a_file { Allows the.stores the.queued_for_a_file }
 {}
 
 /// A disk reads the job that its event names, and reads it there.

@@ -12,6 +12,8 @@ pub fn choices_refuses()
     ensures another_joins { Refuses the.choices the.another_joins }
     ensures assigned_first_twice { Refuses the.choices the.assigned_first_twice }
     ensures leaves_a_short_queue { Refuses the.choices the.leaves_a_short_queue }
+    ensures batch_of_nine { Refuses the.choices the.batch_of_nine }
+    ensures ninth_share { Refuses the.choices the.ninth_share }
     ensures later_without_a_node { Refuses the.choices the.later_without_a_node }
     ensures tie_to_the_lowest { Allows the.choices the.tie_to_the_lowest }
     ensures threshold_above_high { Allows the.choices the.threshold_above_high }

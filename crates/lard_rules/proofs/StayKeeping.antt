@@ -174,8 +174,9 @@ module _ (env : NodeEnv) (P : Work → Type 0) (kept : KeptByStay env P) where
 -- P is kept where the start of a request is noted, with its job or without, where bytes are taken, behind the client's FIN, and where a request
 -- is answered.
 pub record KeptByNotes (env : NodeEnv) (P : Service → List Job → Type 0) : Type 0 where
-  pub hits : (path : List ℕ) (s : Service) (jobs : List Job) → env.cached path ≡ true → P s jobs → P (noted (rec.Hit env.n path ∷ []) s) jobs
-  pub queues : (r : ℕ) (path : List ℕ) (s : Service) (jobs : List Job) → env.cached path ≡ false → P s jobs → P (noted (rec.Queued env.n env.n env.serve.c r path ∷ []) s) (jobs ++ own_job env r path ∷ [])
+  pub hits : (path : List ℕ) (v : Verdict) (s : Service) (jobs : List Job) → good_path env.serve.files v ≡ Some path → env.cached path ≡ true → P s jobs → P (noted (rec.Hit env.n path ∷ []) s) jobs
+  pub queues : (r : ℕ) (path : List ℕ) (v : Verdict) (s : Service) (jobs : List Job) → good_path env.serve.files v ≡ Some path → env.cached path ≡ false → P s jobs
+      → P (noted (rec.Queued env.n env.n env.serve.c r path ∷ []) s) (jobs ++ own_job env r path ∷ [])
   pub takes : (used : ℕ) (s : Service) (jobs : List Job) → P s jobs → P (consumed used s) jobs
   pub ends : (s : Service) (jobs : List Job) → P s jobs → P (ended_at_fin s) jobs
   pub answers : (way : Via) (v : Verdict) (s : Service) (jobs : List Job) → may_read s ≡ true → P s jobs → P (answered env.serve way v s) jobs
@@ -186,8 +187,8 @@ module _ (env : NodeEnv) (P : Service → List Job → Type 0) (kept : KeptByNot
 
   by_notes : KeptByStay env Works
   by_notes = record {
-    hits = λ r path v w good is t h. kept.hits path w.service w.jobs t h;
-    queues = λ r path v w good is f h. kept.queues r path w.service w.jobs f h;
+    hits = λ r path v w good is t h. kept.hits path v w.service w.jobs good t h;
+    queues = λ r path v w good is f h. kept.queues r path v w.service w.jobs good f h;
     wants = λ node r path v w good is f h. h;
     enters = λ v w h. h;
     asks = λ size path paths w e h. h;

@@ -1,4 +1,4 @@
-use Rattle.std.proofs.Common.{◌≡◌, Option, ℕ, None, Some, sym, ap, subst, ◌∙◌, arith}
+use Rattle.std.proofs.Common.{◌≡◌, ◌≤◌, Option, ℕ, None, Some, sym, ap, subst, ◌∙◌, arith}
 use Rattle.std.specs.FinMap.{get-empty}
 use Rattle.std.specs.Ordering.{nat_cmp}
 use Rattle.lard_costs.specs.declared.later.LaterChoice.{LaterChoice}
@@ -7,7 +7,7 @@ use Rattle.lard_loads.specs.Tally.{home, home_of, start}
 use Rattle.lard_policy.specs.declared.first.FirstChoice.{FirstChoice}
 use Rattle.lard_policy.specs.First.{first_choice}
 use Rattle.lard_refusals.specs.Refusals.{three_nodes}
-use Rattle.lard_refusals.proofs.Loads.{first-of-none, its-home, later-stays, one_at_home, second-first, second-has-none}
+use Rattle.lard_refusals.proofs.Loads.{eight-shares-are-open, first-of-none, its-home, later-stays, no-share-is-open, one_at_home, second-first, second-has-none}
 use Rattle.lard_refusals.proofs.placing.choices_refuses.Goals as goal
 
 -- the first connection goes to node 1
@@ -56,7 +56,13 @@ returns-clause-leaves_a_short_queue c h =
     omega arith
 
 pub returns-clause-stays_at_a_short_queue : goal.returns-clause-stays_at_a_short_queue
-returns-clause-stays_at_a_short_queue c = (first-goes, ((1, its-home, sym later-stays), tt))
+returns-clause-stays_at_a_short_queue c = (first-goes, ((1, its-home, sym later-stays, omega arith, omega arith, (let none = no-share-is-open in omega (arith, none))), tt))
+
+pub returns-clause-batch_of_nine : goal.returns-clause-batch_of_nine
+returns-clause-batch_of_nine c h = let most : 9 ≤ 8 = h.1.0.4 in omega arith
+
+pub returns-clause-ninth_share : goal.returns-clause-ninth_share
+returns-clause-ninth_share c h = let few = h.1.1.1.1.1.1.1.1.1.0.5 in omega (arith, few, eight-shares-are-open)
 
 pub returns-clause-later_without_a_node : goal.returns-clause-later_without_a_node
 returns-clause-later_without_a_node c h =
