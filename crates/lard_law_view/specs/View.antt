@@ -39,6 +39,7 @@ use Rattle.lard_rules.specs.Node.{NodePart, message, node_acknowledged, node_con
 use Rattle.lard_rules.specs.NodePlace as node_place
 use Rattle.lard_rules.specs.NodePlace.{bytes_of, node_part}
 use Rattle.lard_rules.specs.Stay.{NodeEnv}
+pub use Rattle.lard_law_view.specs.Sending.{sending}
 use Rattle.lard_policy.specs.declared.first.FirstChoice.{FirstChoice}
 use Rattle.lard_resend.specs.declared.kept.Kept.{Kept}
 use Rattle.lard_rules.specs.declared.places.Station.{Station}
@@ -118,9 +119,6 @@ timer_rows (Node n) c p q = node_place.timers_of n c (p.nodes n) (q.nodes n)
 
 abbrev pub letter : Place → Place × List ℕ → Letter
 letter from s = record { from = from; to = s.0; bytes = s.1 }
-
-abbrev pub sending : Place → Place × List ℕ → Rec
-sending from s = rec.Sent 0 from s.0 s.1
 
 -- the move's records, behind its heads
 abbrev pub rows_of : Conn → Move → List Rec

@@ -7,10 +7,7 @@ use Rattle.lard_rules.specs.Machine.{IsReached, Passes, start}
 use Rattle.lard_history.specs.Journal.{answered_bytes}
 use Rattle.lard_history.specs.Laws.{ActsInPlace, Follows, IsNetwork, KeepsTime}
 use Rattle.lard_law_view.specs.ClientTale.{IsNetOf}
-
--- it is so of each state that events lead to
-abbrev pub Always : (Machine → Type 0) → Type 0
-Always P = (config : Config) (files : List (List ℕ × List ℕ)) (m : Machine) → IsReached config files m → P m
+pub use Rattle.lard_law_connections.specs.PlacesLaws.{Always}
 
 abbrev pub SettingsStay : Type 0
 SettingsStay = (config : Config) (files : List (List ℕ × List ℕ)) (m : Machine) → IsReached config files m → (m.config ≡ config) × (m.files ≡ files)

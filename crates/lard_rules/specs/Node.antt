@@ -21,15 +21,16 @@ use Rattle.lard_journal.specs.declared.rec.Rec.TheVariants as rec
 use Rattle.lard_lateral.specs.Lateral.{fetch_kept, is_from}
 use Rattle.lard_message.specs.declared.message.Body.{Body}
 use Rattle.lard_message.specs.declared.message.Body.TheVariants as body
-use Rattle.lard_message.specs.Message.{spelled_message}
 use Rattle.lard_rules.specs.declared.node.NodeTurn.{NodeTurn}
 use Rattle.lard_rules.specs.declared.stay.Asked.{Asked}
 use Rattle.lard_rules.specs.declared.stay.Stay.{Stay}
 use Rattle.lard_rules.specs.declared.stay.Want.{Want}
+pub use Rattle.lard_rules.specs.Front.{message}
 use Rattle.lard_rules.specs.Loop.{state_of}
 use Rattle.lard_rules.specs.Stay.{NodeEnv, Work, came_for, come_progress, goes_on, named_paths, read_progress, reads_batch, tagged}
 use Rattle.lard_resend.specs.declared.kept.Kept.{Kept}
-use Rattle.lard_resend.specs.Kept.{is_under, put_in, rank, without}
+pub use Rattle.lard_resend.specs.Kept.{anew}
+use Rattle.lard_resend.specs.Kept.{is_under, rank, without}
 use Rattle.lard_resend.specs.Pending.{sent_of}
 use Rattle.lard_rules.specs.declared.places.Ending.{Ending}
 use Rattle.lard_rules.specs.declared.places.Ending.TheVariants.{Here, Over}
@@ -55,9 +56,6 @@ pub data Deed : Type 0 where
 
 -- ---- messages
 
-abbrev pub message : ℕ → ℕ → Body → List ℕ
-message c epoch b = spelled_message (record { c = c; epoch = record { 0 = epoch }; body = b })
-
 abbrev pub ask_kept : ℕ → ℕ → Asked → Kept
 ask_kept c epoch a = record { kind = kind.Ask; r = 0; to = place.Front; bytes = message c epoch (body.Ask a.number a.queue a.size a.paths) }
 
@@ -68,10 +66,6 @@ count_of (Some total) = total
 
 abbrev pub ended_kept : ℕ → ℕ → Final → ℕ → Kept
 ended_kept c epoch last count = record { kind = kind.Ended; r = 0; to = place.Front; bytes = message c epoch (body.Ended last.reason last.snd.0 last.rcv.0 count) }
-
--- a message takes the place of one of its kind and number that is held
-abbrev pub anew : Kept → List Kept → List Kept
-anew k ks = put_in k (without k.kind k.r ks)
 
 -- ---- what is in hand
 
