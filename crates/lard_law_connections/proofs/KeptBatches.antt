@@ -16,8 +16,9 @@ use Rattle.lard_rules.specs.Stay.{and_path, come_on, come_progress, named_path, 
 use Rattle.lard_request.specs.declared.verdict.Verdict.{Verdict}
 use Rattle.lard_request.specs.declared.verdict.Verdict.TheVariants as verdict
 use Rattle.lard_resend.specs.declared.kept.Kept.{Kept}
-use Rattle.lard_resend.specs.Kept.{AreInOrder, comes_before, is_under, put_in, without}
-use Rattle.lard_resend.proofs.Ordered.{drop_all, drop_keeps, drops, keeps, put_all, put_behind, put_here}
+use Rattle.lard_resend.specs.Kept.{AreInOrder, is_under, without}
+use Rattle.lard_resend.proofs.Lengths.{without-less}
+use Rattle.lard_resend.proofs.Ordered.{drop_all, drop_keeps, drops, keeps, put_all}
 
 -- ---- paths
 
@@ -85,23 +86,6 @@ module _ (N : ℕ → Type 0) (files : FilesAt) (c e n : ℕ) where
 
   pub without-fetches : (r : ℕ) (ks : List Kept) → AreFetches ks → AreFetches (without kind.Fetch r ks)
   without-fetches r ks h = record { each = drop_all (IsFetch N files c e n) kind.Fetch r ks h.each; order = drop_keeps kind.Fetch r ks h.order }
-
--- one more
-length-anew : (k : Kept) (ks : List Kept) → length (put_in k ks) ≡ length ks + 1
-length-anew k [] = refl
-length-anew k (x ∷ xs) = go (comes_before k.kind k.r x) refl (length-anew k xs) where
-  go : (t : Bool) → comes_before k.kind k.r x ≡ t → length (put_in k xs) ≡ length xs + 1 → length (put_in k (x ∷ xs)) ≡ suc (length xs) + 1
-  go true e ih = let is = ap (λ (ks : List Kept). length ks) (put_behind k x xs e) in omega (arith, is, ih)
-  go false e ih = let is = ap (λ (ks : List Kept). length ks) (put_here k x xs e) in omega (arith, is)
-
-without-less : (a : TimerKind) (r : ℕ) (ks : List Kept) → length (without a r ks) ≤ length ks
-without-less a r [] = omega arith
-without-less a r (k ∷ ks) =
-    let rest = without-less a r ks in
-    cond_both (not (is_under a r k)) (k ∷ without a r ks) (without a r ks) (λ (xs : List Kept). length xs ≤ suc (length ks)) (λ t. omega (arith, rest)) (λ t. omega (arith, rest))
-
-pub anew-more : (k : Kept) (ks : List Kept) → length (anew k ks) ≤ length ks + 1
-anew-more k ks = let is = length-anew k (without k.kind k.r ks) in let less = without-less k.kind k.r ks in omega (arith, is, less)
 
 -- one less, where one is found
 pub found-less : (a : TimerKind) (r from epoch : ℕ) (ks : List Kept) → is_from from epoch (find (is_under a r) ks) ≡ true → length (without a r ks) + 1 ≤ length ks

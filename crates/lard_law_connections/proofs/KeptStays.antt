@@ -8,7 +8,8 @@ use Rattle.lard_base.specs.declared.place.Via.{Via}
 use Rattle.lard_base.specs.declared.place.Via.TheVariants as via
 use Rattle.lard_law_connections.proofs.AwaitsBatches.{wants-push}
 use Rattle.lard_law_connections.specs.Kept.{AsksFor, IsFetch, awaited_in, awaits}
-use Rattle.lard_law_connections.proofs.KeptBatches.{AreFetches, anew-fetches, anew-more, awaited-push, named-awaits, named-file, named-push}
+use Rattle.lard_law_connections.proofs.KeptBatches.{AreFetches, anew-fetches, awaited-push, named-awaits, named-file, named-push}
+use Rattle.lard_resend.proofs.Lengths.{anew-more}
 use Rattle.lard_history.proofs.Each.{Each}
 use Rattle.lard_journal.specs.declared.rec.Rec.TheVariants as rec
 use Rattle.lard_rules.specs.declared.stay.Asked.{Asked}

@@ -13,7 +13,7 @@ use Rattle.lard_rules.specs.declared.stay.Progress.TheVariants as progress
 use Rattle.lard_rules.specs.declared.stay.Want.{Want}
 use Rattle.lard_rules.specs.Node.{anew, fetch_of, wants_kept}
 use Rattle.lard_rules.specs.Stay.{NodeEnv, Work, came_for, come_on, come_progress, entered, named_path, path_in, read_progress, started, started_here, started_there, starts_at, starts_named, starts_one, tagged}
-use Rattle.lard_law_progress.proofs.Keeping.{anew-more, without-less}
+use Rattle.lard_resend.proofs.Lengths.{anew-more, without-less}
 use Rattle.lard_request.specs.declared.verdict.Verdict.{Verdict}
 use Rattle.lard_resend.specs.declared.kept.Kept.{Kept}
 use Rattle.lard_resend.specs.Kept.{is_under, without}

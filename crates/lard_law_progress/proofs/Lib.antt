@@ -1,5 +1,4 @@
 pub mod Less
-pub mod Keeping
 pub mod Stays
 pub mod Coming
 pub mod Ends

@@ -18,7 +18,7 @@ use Rattle.lard_rules.specs.declared.stay.Progress.TheVariants as progress
 use Rattle.lard_rules.specs.declared.stay.Want.{Want}
 use Rattle.lard_rules.specs.Node.{ask_kept, asked_kept, wants_kept}
 use Rattle.lard_rules.specs.Stay.{NodeEnv, Work, asks_for, asking, entered, enters, enters_first, enters_one, goes_on, left, named_paths, next_in, read_entry, reads_batch, reads_these, serves_by, serves_first, serves_with, started_here, turn, turned}
-use Rattle.lard_law_progress.proofs.Keeping.{anew-more, length-anew}
+use Rattle.lard_resend.proofs.Lengths.{anew-more, length-anew}
 use Rattle.lard_reader.specs.Batches.{batch_of, bytes_used}
 use Rattle.lard_recv.specs.Recv.{Received, awaited, room}
 use Rattle.lard_request.specs.declared.verdict.Verdict.{Verdict}

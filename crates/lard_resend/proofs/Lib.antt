@@ -3,3 +3,4 @@ pub mod Ordered
 pub mod Held
 pub mod Lists
 pub mod Renewed
+pub mod Lengths

@@ -1,11 +1,10 @@
--- How many messages are kept.
+-- How many messages are kept: of a kind and number no more, or one more.
 use Rattle.std.proofs.Common.{◌≡◌, ◌≤◌, ◌+◌, ℕ, suc, not, List, [], ◌∷◌, length, arith}
 use Rattle.std.proofs.lemmas.Bool.{cond_both}
 use Rattle.std.proofs.lemmas.List.Edits.{length-insert}
 use Rattle.lard_base.specs.declared.place.TimerKind.{TimerKind}
-use Rattle.lard_rules.specs.Node.{anew}
 use Rattle.lard_resend.specs.declared.kept.Kept.{Kept}
-use Rattle.lard_resend.specs.Kept.{comes_before, is_under, place_of, without}
+use Rattle.lard_resend.specs.Kept.{anew, comes_before, is_under, place_of, without}
 
 module _ (kind : TimerKind) (r : ℕ) where
   pub without-less : (ks : List Kept) → length (without kind r ks) ≤ length ks
