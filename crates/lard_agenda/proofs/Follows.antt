@@ -1,5 +1,5 @@
 -- An agenda goes on record by record.
-use Rattle.std.proofs.Common.{◌≡◌, ◌+◌, ◌<◌, ◌≤◌, arith, List, [], ◌∷◌, ◌++◌, length, take, get_or, refl, sym, ap, ◌∙◌, subst}
+use Rattle.std.proofs.Common.{◌≡◌, ◌+◌, ◌<◌, arith, List, [], ◌∷◌, ◌++◌, length, take, get_or, refl, sym, ap, ◌∙◌, subst}
 use Rattle.std.proofs.lemmas.List.{length-append, take-append-le, take_more}
 use Rattle.std.proofs.lemmas.List.Sums.{fold-append}
 use Rattle.std.proofs.Math.Seq.{take-length}
@@ -38,10 +38,6 @@ goes_on a J d less is = record {
 pub turn : (a b : Agenda) (J : List Rec) (r : Rec) → a.noted < length J → get_or J a.noted r ≡ r → b ≡ changed_by a r → IsAgendaOf a J → IsAgendaOf (record b { noted = b.noted + 1 }) J
 turn a b J r less at ok is =
     subst (λ (x : Agenda). IsAgendaOf x J) (ap (noted_by a) at ∙ sym (ap (λ (x : Agenda). record x { noted = x.noted + 1 }) ok)) (goes_on a J r less is)
-
--- all were noted
-pub ends : (a : Agenda) (J : List Rec) → length J ≤ a.noted → IsAgendaOf a J → a ≡ agenda_of J
-ends a J all is = is.agenda ∙ ap agenda_of (subst (λ n. take n J ≡ J) (omega (arith, all, is.within)) (take-length J))
 
 -- the journal goes on
 pub still : (a : Agenda) (J more : List Rec) → IsAgendaOf a J → IsAgendaOf a (J ++ more)

@@ -20,16 +20,12 @@ use Rattle.lard_app.specs.Causes.{Leads}
 use Rattle.lard_app.specs.declared.status.Status.{Status}
 use Rattle.lard_app.specs.declared.status.Status.TheVariants.{Done, Usage, Refused, ReadFault, WriteFault, NoMemory, Limit}
 use Rattle.lard_app.specs.declared.status.Why.TheVariants.{Syntax}
-use Rattle.lard_app.specs.Replay.{begin, ended_at, ending, gain, event_listed, halted, is_past, judged, passed, replayed, report_of, whole, IsSound, Passes, Progress}
+use Rattle.lard_app.specs.Replay.{begin, ended_at, ending, gain, event_listed, halted, is_past, judged, passed, replayed, report_of, whole, Passes, Progress}
 use Rattle.lard_app.specs.Run.{Completes, Ended, EndsInLine, IsDecided, IsTold}
 use Rattle.lard_app.proofs.Growth.{halted-grown, passed-grown}
 use Rattle.lard_app.proofs.Halting.{halted_by}
 use Rattle.lard_app.proofs.Keeping.{Keeps, begin-keeps, passed-keeps}
 use Rattle.lard_app.proofs.Passing.{passed-read, passed_by}
-
--- what a line's call relies on
-pub keeps-sound : (s : Progress) (es : List Event) → Keeps s es → IsSound s
-keeps-sound s es k = record { lines = k.lines; read = k.read }
 
 -- ---- lines that pass
 
@@ -199,13 +195,6 @@ module _ (text rest : List ℕ) (s : Progress) (old now : Option (List ℕ)) (g 
         split_at is_feed (rest ++ more) at (found_before is_feed rest more at is)
         ∙ ap (λ line. line ∷ lines_of (drop (at + 1) (rest ++ more))) (take-append-le at rest more (omega (arith, within)))
         ∙ ap (λ xs. take at rest ∷ lines_of xs) (drop-append-le (at + 1) rest more within)
-
-    when_passed : (t : Progress) → passed s (take at rest) ≡ Ok t → (more : List ℕ) → whole (text ++ more) ≡ replayed t (lines_of (drop (at + 1) rest ++ more))
-    when_passed t e more = go (first_part is_feed (drop (at + 1) rest ++ more)) where
-      go : (part : List ℕ) × (parts : List (List ℕ)) × (lines_of (drop (at + 1) rest ++ more) ≡ part ∷ parts) → whole (text ++ more) ≡ replayed t (lines_of (drop (at + 1) rest ++ more))
-      go f =
-          let step : replayed s (take at rest ∷ f.0 ∷ f.1) ≡ replayed t (f.0 ∷ f.1) = rw (e, replayed) refl in
-          goes_on more ∙ ap (replayed s) (one_line more ∙ ap (λ ls. take at rest ∷ ls) f.2) ∙ step ∙ ap (replayed t) (sym f.2)
 
     when_refused : (status : Status) → passed s (take at rest) ≡ Err status → (more : List ℕ) → whole (text ++ more) ≡ (halted s (take at rest), status)
     when_refused status e more = go (first_part is_feed (drop (at + 1) rest ++ more)) where

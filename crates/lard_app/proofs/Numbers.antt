@@ -91,9 +91,6 @@ no_room : (others low : ℕ) → others + low ≤ 1 → nat_eq (others + low - 1
 no_room others low h = grind (arith, nat_tests, h)
 
 module _ (c : Config) (ranged : IsInRange c) where
-  -- how the check goes on where each number is in its range
-  together : Result (Unit {0}) ConfigFault
-  together = cond (nat_lt c.high c.low) (Err (LowHigh c.low c.high)) (cond (nat_eq (room_of c) 0) (Err NoRoom) (Ok tt))
 
   passes : (key : Key) (keys : List Key) → checked_from c (key ∷ keys) ≡ checked_from c keys
   passes key keys = ap (λ b. cond {A = Result (Unit {0}) ConfigFault} b (checked_from c keys) (Err (Range key (value_of c key)))) (ranged key)

@@ -10,7 +10,7 @@ use Rattle.lard_settling.specs.Events.{Goes, LeadsTo, MayCome, event_step}
 use Rattle.lard_settling.specs.Settling.{Stop}
 use Rattle.lard_app.specs.declared.status.Status.{Status}
 use Rattle.lard_app.specs.declared.status.Status.TheVariants.{Done, Usage, Refused, ReadFault, WriteFault, NoMemory, Limit}
-use Rattle.lard_app.specs.Generate.{EndsEvent, EndsLeft, EndsPlay, Happens, Plays, played}
+use Rattle.lard_app.specs.Generate.{EndsEvent, EndsLeft, EndsPlay, played}
 use Rattle.lard_app.specs.Replay.{ended_by}
 use Rattle.lard_app.proofs.Blames.{Blames, event-blames, reaches-stop}
 use Rattle.lard_app.proofs.Events.{event-stays}
@@ -177,14 +177,3 @@ caused line m events may fit timely status = (
 -- one more event was done
 pub played-on : (line : ℕ) (m n : Machine) (e : Event) (es all : List Event) (given : Machine × Status) → event_step m e ≡ Ok n → all ≡ e ∷ es → played line m all ≡ given → played (line + 1) n es ≡ given
 played-on line m n e es all given is are h = sym (played-goes line m n e es is) ∙ ap (played line m) (sym are) ∙ h
-
--- one was not, or not to its end
-pub played-stopped : (line : ℕ) (m n : Machine) (e : Event) (es all : List Event) (given : Machine × Status) (f : StepFault) → Happens (event_step m e) n (Err f) → all ≡ e ∷ es → played line m all ≡ given → Plays given n (Err (ended_by line f))
-played-stopped line m n e es all given f h are g = go f h where
-  stops : (k : StepFault) → event_step m e ≡ Err (n, k) → given ≡ (n, ended_by line k)
-  stops k i = sym g ∙ ap (played line m) are ∙ played-stops line m e es (n, k) i
-
-  go : (k : StepFault) → Happens (event_step m e) n (Err k) → Plays given n (Err (ended_by line k))
-  go fault.NoMemory i = tt
-  go (fault.Refused reason) i = stops (fault.Refused reason) i
-  go (fault.Limit what) i = stops (fault.Limit what) i

@@ -1,19 +1,14 @@
 -- What is read of a source, a piece after another, and how a run over it ends.
-use Rattle.std.proofs.Common.{◌≡◌, ◌⊎◌, inl, inr, ℕ, ◌+◌, ◌≤◌, List, [], ◌∷◌, ◌++◌, length, take, drop, Bool, true, false, cond, Option, Some, None, Result, Ok, Err, refl, sym, ap, ◌∙◌, subst, arith, length-append}
+use Rattle.std.proofs.Common.{◌≡◌, ◌⊎◌, inl, inr, ℕ, ◌+◌, ◌≤◌, List, [], ◌++◌, length, take, drop, Option, Some, None, Ok, Err, refl, sym, ap, ◌∙◌, subst, arith, length-append}
 use Rattle.std.proofs.KnownBytes.{Appends-nil, Consumes-nil, Consumes-trans}
 use Rattle.std.specs.Io.KnownBytes.{Appends, Consumes, IsAtEnd}
 use Rattle.std.specs.List.{position}
-use Rattle.std.specs.Prelude.{nat_lt}
 use Rattle.lard_base.specs.declared.limits.TheConstants.{MAX_INPUT_BYTES}
 use Rattle.lard_base.specs.Outside.{TakesIn, WrotePrefix}
 use Rattle.lard_lines.specs.Lines.{Held, is_feed}
-use Rattle.lard_rules.specs.declared.fault.What.TheVariants.{Input}
-use Rattle.lard_schedule.specs.declared.reader.Stage.{Stage}
-use Rattle.lard_schedule.specs.declared.reader.Stage.TheVariants.{Start, Settings, Files, Running}
 use Rattle.lard_app.specs.declared.status.Status.{Status}
-use Rattle.lard_app.specs.declared.status.Status.TheVariants.{Done, Usage, Refused, ReadFault, WriteFault, NoMemory, Limit}
-use Rattle.lard_app.specs.declared.status.Why.TheVariants.{Syntax}
-use Rattle.lard_app.specs.Replay.{begin, ended_at, ending, gain, passed, report_of, whole, EndsCount, Passes, Progress}
+use Rattle.lard_app.specs.declared.status.Status.TheVariants.{ReadFault, NoMemory}
+use Rattle.lard_app.specs.Replay.{begin, ending, gain, passed, report_of, whole, Passes, Progress}
 use Rattle.lard_app.specs.Run.{Reads}
 use Rattle.lard_app.proofs.Going.{EndsSo, Going, going_end, going_failed, going_first, going_more, going_on, going_starved, going_stop}
 
@@ -92,41 +87,3 @@ reads-nothing left old = record {
   wrote = none-wrote old;
   ended = inr (record { lines = []; are = refl; state = begin; leads = refl; written = Appends-nil old });
 }
-
--- no line ends a run by a fault of reading, nor does the text's end
-pub stop_no_read : (given : Result Progress Status) (text : List ℕ) (old new : Option (List ℕ)) (t : Progress) (status : Status) → Passes given text old new t (Err status) → ¬ (status ≡ ReadFault)
-stop_no_read given text old new t ReadFault h e = h
-stop_no_read given text old new t Done h e = cc
-stop_no_read given text old new t Usage h e = cc
-stop_no_read given text old new t (Refused line why) h e = cc
-stop_no_read given text old new t (Limit line what) h e = cc
-stop_no_read given text old new t WriteFault h e = cc
-stop_no_read given text old new t NoMemory h e = cc
-
-end_no_read : (s : Progress) (stage : Stage) → ¬ (ended_at s.lines stage ≡ ReadFault)
-end_no_read s Start e = cc
-end_no_read s Settings e = cc
-end_no_read s Files e = cc
-end_no_read s Running e = cc
-
-pub ending_no_read : (s : Progress) (rest : List ℕ) → ¬ (ending s rest ≡ ReadFault)
-ending_no_read s [] e = end_no_read s s.reader.stage e
-ending_no_read s (b ∷ bs) e = go (nat_lt MAX_INPUT_BYTES (s.read + length (b ∷ bs))) e where
-  go : (t : Bool) → cond t (Limit (s.lines + 1) Input) (Refused (s.lines + 1) Syntax) ≡ ReadFault → ⊥
-  go true f = cc
-  go false f = cc
-
-pub ending_no_write : (s : Progress) (rest : List ℕ) (before : ℕ) (status : Status) → status ≡ ending s rest → EndsCount before before status
-ending_no_write s rest before status e = subst (EndsCount before before) (sym e) (go rest) where
-  stage_end : (stage : Stage) → EndsCount before before (ended_at s.lines stage)
-  stage_end Start = refl
-  stage_end Settings = refl
-  stage_end Files = refl
-  stage_end Running = refl
-
-  go : (r : List ℕ) → EndsCount before before (ending s r)
-  go [] = stage_end s.reader.stage
-  go (b ∷ bs) = past (nat_lt MAX_INPUT_BYTES (s.read + length (b ∷ bs))) where
-    past : (t : Bool) → EndsCount before before (cond t (Limit (s.lines + 1) Input) (Refused (s.lines + 1) Syntax))
-    past true = refl
-    past false = refl

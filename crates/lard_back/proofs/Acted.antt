@@ -34,7 +34,6 @@ use Rattle.lard_rules.specs.declared.places.Out.{Out}
 use Rattle.lard_rules.specs.declared.places.Ending.{Ending}
 use Rattle.lard_rules.specs.declared.places.Ending.TheVariants as ending
 use Rattle.lard_rules.specs.declared.places.Turn.{Turn}
-use Rattle.lard_rules.specs.Outs.{nothing_done}
 use Rattle.lard_rules.specs.Serving.{settled}
 use Rattle.lard_rules.proofs.Totals.{segment-many}
 use Rattle.lard_segment.specs.Segment.{Said}
@@ -100,14 +99,6 @@ gone-acted k s t at was f x w n out found lends is sound gone =
     (subst (λ (u : NodeState). IsGone u at was [] w (settled (env_of k s at).serve w.service) n out) lends gone) in
     let all = gone-ends k s at was [] x.0 v (settled (env_of k s at).serve v.service) n out (here-parts s at x found).0 sound g in
     record { does = all.0 ∙ ap (acted k s at was f) (sym found); sound = all.1 }
-
--- where it is not here, nothing is done
-pub none-acted : (k : NodeSetting) (s n : NodeState) (at : At) (was : Flags) (f : NodeEnv → ControlBlock × Stay → Work) (out : Out)
-    → here at.epoch.0 (node_part s at.c) ≡ None → n ≡ s → out ≡ nothing_done → IsNodeSound s → IsActed k s at was f n out
-none-acted k s n at was f out found same nothing sound = record {
-  does = (λ i. (same i, nothing i)) ∙ ap (acted k s at was f) (sym found);
-  sound = subst IsNodeSound (sym same) sound;
-}
 
 -- ---- a stay that is found is sound
 

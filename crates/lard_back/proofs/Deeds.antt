@@ -23,8 +23,8 @@ use Rattle.lard_lateral.specs.Lateral as lateral
 use Rattle.lard_rules.specs.declared.node.NodeState.{NodeState}
 use Rattle.lard_rules.specs.declared.stay.Stay.{Stay}
 use Rattle.lard_rules.specs.declared.node.NodeTurn.{NodeTurn}
-use Rattle.lard_rules.specs.Node.{Does, Drops, NodePart, come_by, heard_by, here, is_awaited, kept_after, node_armed, node_content, node_forwarded, node_read, node_tagged, read_by, rests, saying, tagged_by, turn_by, work_of}
-use Rattle.lard_rules.specs.NodePlace.{NodeSetting, aside, node_deed, node_did, node_env, node_out, node_part, node_put, timers_of, told}
+use Rattle.lard_rules.specs.Node.{Does, Drops, NodePart, come_by, heard_by, here, is_awaited, kept_after, node_armed, node_content, node_forwarded, node_read, node_tagged, read_by, rests, tagged_by, turn_by, work_of}
+use Rattle.lard_rules.specs.NodePlace.{NodeSetting, node_deed, node_did, node_env, node_out, node_part, node_put, timers_of, told}
 use Rattle.lard_rules.specs.Stay.{NodeEnv, Work, came_for, come_progress, goes_on, read_progress, tagged}
 use Rattle.lard_resend.specs.declared.kept.Kept.{Kept}
 use Rattle.lard_resend.specs.Kept.{without}
@@ -35,7 +35,7 @@ use Rattle.lard_rules.specs.declared.places.Out.{Out}
 use Rattle.lard_rules.specs.declared.places.Ending.{Ending}
 use Rattle.lard_rules.specs.declared.places.Turn.{Turn}
 use Rattle.lard_table.specs.Table.{put_or}
-use Rattle.lard_rules.specs.Outs.{kind_change, nothing_done}
+use Rattle.lard_rules.specs.Outs.{kind_change}
 use Rattle.lard_rules.specs.Serving as serving
 use Rattle.lard_segment.specs.declared.fault.SegFault.{SegFault}
 use Rattle.lard_segment.specs.Segment.{Said}
@@ -88,10 +88,6 @@ ends-did k s at was before w given flags node =
     let turn : NodeTurn = turn_by env before w given in
     (λ i. ends_with k s (at-node k at node i) (flags i) before w given)
     ∙ (λ i. (told (node_put s at.c q) turn, record (node_out k.n at.c (node_part s at.c) q turn) { timers = changes-are k.n at.c (node_part s at.c) q i }))
-
--- messages go out, and nothing else is done
-pub said-is : (s : NodeState) (ms : List (Place × List ℕ)) (out : Out) → out ≡ record nothing_done { messages = ms } → (s, out) ≡ aside s (saying ms)
-said-is s ms out is = λ i. (record s { disk = sym (append-nil s.disk) i }, is i)
 
 -- a segment that decodes comes to the connection
 pub forwarded : (k : NodeSetting) (s : NodeState) (at : At) (m : Said) → at.n ≡ k.n

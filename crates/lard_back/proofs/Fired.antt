@@ -1,5 +1,5 @@
 -- The timers of a connection fire.
-use Rattle.std.proofs.Common.{◌≡◌, ℕ, ◌+◌, ◌≤◌, ◌==◌, List, length, Option, Some, None, Result, Ok, Err, IfOk, OnOk, refl, sym, ap, subst, ◌∙◌, arith}
+use Rattle.std.proofs.Common.{◌≡◌, ℕ, ◌==◌, List, Option, Some, None, Result, Ok, Err, IfOk, OnOk, refl, sym, ap, subst, ◌∙◌, arith}
 use Rattle.std.proofs.lemmas.Bool.{cond-true, eq-eqb}
 use Rattle.std.specs.FinMap.{get}
 use Rattle.lard_back.specs.declared.hand.At.{At}
@@ -12,7 +12,6 @@ use Rattle.lard_back.specs.Sound.{EndsSound, IsNodeSound}
 use Rattle.lard_back.specs.Timers.{flags_of}
 use Rattle.lard_back.proofs.Acted.{gone-ends, here-parts}
 use Rattle.lard_back.proofs.Deeds.{at-node, ends-did}
-use Rattle.lard_back.proofs.Keeping.{timer-same}
 use Rattle.lard_back.proofs.Turning.{spoken-sound, spoken-tells}
 use Rattle.lard_base.specs.declared.errors.NoMemory.{NoMemory}
 use Rattle.lard_base.specs.declared.place.Place.{Place}
@@ -30,19 +29,10 @@ use Rattle.lard_rules.specs.declared.places.Out.{Out}
 use Rattle.lard_rules.specs.declared.places.Ending.{Ending}
 use Rattle.lard_rules.specs.declared.places.Turn.{Turn}
 use Rattle.lard_rules.specs.Serving.{ServeEnv, ready_of, spoken}
-use Rattle.lard_recv.specs.Recv.{Received}
 use Rattle.lard_serving.specs.Bounds.{IsTurn}
 use Rattle.lard_stay.specs.Work.{IsStaySound}
 
 -- ---- the endpoint in hand
-
--- what the timer leaves is as sound
-pub timer-sound : (b : ControlBlock) (s : Stay) → IsStaySound b s → IsStaySound (after_timer b) s
-timer-sound b s sound = record {
-  within = subst (λ (r : Received). s.served + length s.batch + length r.unread ≤ r.got) (sym (timer-same b)) sound.within;
-  few = sound.few;
-  asks = sound.asks;
-}
 
 -- the endpoint said what it may; nothing was read or asked for
 pub spoken-is : (env : ServeEnv) (b : ControlBlock) (s : Stay) (before : List (Place × List ℕ)) (e : Ending) (turn : Turn) (rest : Rest) → IsStaySound b s → rest ≡ rest_of (work_of b s)

@@ -6,13 +6,13 @@ use Rattle.lard_endpoint.specs.declared.control.arriving.Arrival.{Arrival}
 use Rattle.lard_endpoint.specs.declared.control.arriving.Arrival.TheVariants.{Fine, AckOwed, Reset}
 use Rattle.lard_endpoint.specs.Arriving.{on_ack, on_acked, on_rst, on_segment, on_syn, on_text, on_unacceptable, owing}
 use Rattle.lard_endpoint.specs.Control.{ControlBlock, rcv_nxt, rcv_wnd}
-use Rattle.lard_endpoint.specs.Leaving.{advanced, after_emit, after_owed, after_piece, after_timer, owes, retried, told}
+use Rattle.lard_endpoint.specs.Leaving.{advanced, after_emit, after_owed, after_piece, owes, told}
 use Rattle.lard_recv.specs.Recv.{Received, arrived, awaited, begins_after, ends, fresh, taken}
 use Rattle.lard_rules.proofs.Loops.{speaks_keep}
 use Rattle.lard_rules.specs.Speaking.{speaks}
 use Rattle.lard_segment.specs.Segment.{Said}
 use Rattle.lard_send.specs.declared.piece.Piece.{Piece}
-use Rattle.lard_send.specs.Send.{after_ack, next_piece, resent_piece}
+use Rattle.lard_send.specs.Send.{after_ack, next_piece}
 use Rattle.lard_seq.specs.Seq.{seq_offset}
 
 -- ---- a segment comes
@@ -75,9 +75,6 @@ emit-same b =
     let next : ControlBlock = advanced b in
     cond_both b.reset b (after_piece next (next_piece b.send) (after_owed next)) (SameReceived b) (λ t. refl) (λ t.
     piece-same b next (after_owed next) (next_piece b.send) refl (cond_both (owes next) (told next) next (SameReceived b) (λ u. refl) (λ u. refl)))
-
-pub timer-same : (b : ControlBlock) → SameReceived b (after_timer b)
-timer-same b = cond_both b.reset b (after_piece (retried b) (resent_piece b.send) (retried b)) (SameReceived b) (λ t. refl) (λ t. piece-same b (retried b) (retried b) (resent_piece b.send) refl refl)
 
 pub speaks-same : (c : ℕ) (b : ControlBlock) → SameReceived b (speaks c b).1
 speaks-same c b = speaks_keep c (λ b ss d. SameReceived b d) (record { rests = λ b. refl; says = λ b r ss d e later. later ∙ emit-same b }) b

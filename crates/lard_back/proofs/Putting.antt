@@ -88,14 +88,6 @@ part-put s c q = λ i. record {
   fetches = held_put s.fetches c q.fetches i;
 }
 
-pub put-again : (s : NodeState) (c : ℕ) (p q : NodePart) → node_put (node_put s c p) c q ≡ node_put s c q
-put-again s c p q = λ i. record s {
-  conns = put_twice s.conns c p.row q.row i;
-  stays = put_twice s.stays c p.stay q.stay i;
-  kept = list_twice s.kept c p.kept q.kept i;
-  fetches = list_twice s.fetches c p.fetches q.fetches i;
-}
-
 -- ---- the end of a turn
 
 pub left-is : (k : NodeSetting) (s : NodeState) (at : At) (b : ControlBlock) (w : Work) (e : Ending) → staying at.epoch.0 (get s.conns at.c) ≡ Some b

@@ -1,5 +1,5 @@
 -- What is one of a list, in a list and its parts.
-use Rattle.std.proofs.Common.{◌≡◌, List, [], ◌∷◌, ◌++◌, ⊎_elim, inl, inr, subst, sym}
+use Rattle.std.proofs.Common.{◌≡◌, List, [], ◌∷◌, ◌++◌, inr, subst, sym}
 use Rattle.lard_history.specs.Own.{Has}
 
 module _ {A : Type 0} where
@@ -7,13 +7,6 @@ module _ {A : Type 0} where
   behind a [] ys h = h
   behind a (x ∷ xs) ys h = inr (behind a xs ys h)
 
-  before : (a : A) (xs ys : List A) → Has a xs → Has a (xs ++ ys)
-  before a [] ys h = elim h [ ]
-  before a (x ∷ xs) ys h = ⊎_elim (λ e. inl e) (λ t. inr (before a xs ys t)) h
-
   -- of a list that is cut, each part is within the whole
   pub of-later : (a : A) (all xs ys : List A) → all ≡ xs ++ ys → Has a ys → Has a all
   of-later a all xs ys cut h = subst (Has a) (sym cut) (behind a xs ys h)
-
-  pub of-first : (a : A) (all xs ys : List A) → all ≡ xs ++ ys → Has a xs → Has a all
-  of-first a all xs ys cut h = subst (Has a) (sym cut) (before a xs ys h)

@@ -6,8 +6,8 @@ use Rattle.lard_history.specs.Journal.{request}
 use Rattle.lard_message.specs.declared.message.Body.{Body}
 use Rattle.lard_message.specs.declared.message.Body.TheVariants as body
 use Rattle.lard_message.specs.declared.message.Message.{Message}
-use Rattle.lard_message.specs.Reading.{ask_at, content_at, counted_at, decoded_message, flag_at, nodes_of, offer_at, parts_at, paths_at, tag_at}
-use Rattle.lard_refusals.specs.Packets.{ask_with_a_queue, content, first_ask, offer, offer_without_bytes, second_ask, tag}
+use Rattle.lard_message.specs.Reading.{ask_at, content_at, counted_at, decoded_message, flag_at, offer_at, parts_at, paths_at}
+use Rattle.lard_refusals.specs.Packets.{content, first_ask, offer, offer_without_bytes}
 
 -- a message on connection 1 in epoch 2
 abbrev pub saying : Body → Message
@@ -29,18 +29,6 @@ pub first-ask-says : decoded_message first_ask ≡ Ok (saying (body.Ask 1 0 1 (c
 unfolding ask_at counted_at decoded_message paths_at
 first-ask-says = refl
 
-pub second-ask-says : decoded_message second_ask ≡ Ok (saying (body.Ask 2 0 1 (codes "/a" ∷ [])))
-unfolding ask_at counted_at decoded_message paths_at
-second-ask-says = refl
-
-pub ask-with-a-queue-says : decoded_message ask_with_a_queue ≡ Ok (saying (body.Ask 1 3 1 (codes "/a" ∷ [])))
-unfolding ask_at counted_at decoded_message paths_at
-ask-with-a-queue-says = refl
-
 pub content-says : decoded_message content ≡ Ok (saying (body.Content 1 (codes "hi")))
 unfolding content_at decoded_message
 content-says = refl
-
-pub tag-says : decoded_message tag ≡ Ok (saying (body.Tag 1 (1 ∷ [])))
-unfolding decoded_message nodes_of tag_at
-tag-says = refl

@@ -2,10 +2,10 @@
 use Rattle.std.proofs.Common.{◌≡◌, true, false, [], ◌∷◌, Some, None, Result, Ok, Err, refl}
 use Rattle.std.specs.Prelude.{codes}
 use Rattle.lard_history.specs.Journal.{Numbers}
-use Rattle.lard_refusals.specs.Packets.{acknowledgement, acknowledges_three_bytes, client_acknowledgement, final_segment, reset_segment, two_bytes, two_bytes_from_the_end, two_bytes_from_zero, two_other_bytes}
+use Rattle.lard_refusals.specs.Packets.{acknowledgement, acknowledges_three_bytes, final_segment, reset_segment, two_bytes, two_bytes_from_the_end, two_bytes_from_zero, two_other_bytes}
 use Rattle.lard_segment.specs.declared.fault.SegFault.{SegFault}
 use Rattle.lard_segment.specs.declared.fault.SegFault.TheVariants as fault
-use Rattle.lard_segment.specs.declared.segment.Dir.TheVariants.{ToClient, ToCluster}
+use Rattle.lard_segment.specs.declared.segment.Dir.TheVariants.{ToClient}
 use Rattle.lard_segment.specs.declared.segment.Flags.{Flags}
 use Rattle.lard_segment.specs.Segment.{Said, decoded}
 
@@ -54,11 +54,6 @@ final-decodes = refl
 pub reset-decodes : decoded reset_segment 1 ToClient ≡ Ok reset_says
 unfolding decoded
 reset-decodes = refl
-
--- the client's acknowledgement is a segment
-pub client-decodes : decoded client_acknowledgement 1 ToCluster ≡ Ok (record { seq = 1001; ack = 5001; flags = ack_flags; wnd = 65535; mss = None; payload = [] })
-unfolding decoded
-client-decodes = refl
 
 abbrev pub from_zero_say : Said
 from_zero_say = record two_bytes_say { seq = 0 }

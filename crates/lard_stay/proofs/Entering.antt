@@ -14,19 +14,6 @@ use Rattle.lard_stay.specs.Work.{HasEntered, IsAsk, IsSound, StartsOne}
 
 -- ---- one by one
 
-pub entered_none : (w : Work) → HasEntered 0 w w
-entered_none w = record {
-  batch = omega arith;
-  count = refl;
-  answered = refl;
-  over = refl;
-  asks = refl;
-  asked = refl;
-  jobs = omega arith;
-  wants = omega arith;
-  short = λ h. h;
-}
-
 pub entered_more : (n m : ℕ) (w v u : Work) → m ≡ n + 1 → HasEntered n w v → HasEntered 1 v u → HasEntered m w u
 entered_more n m w v u e a b = record {
   batch = omega (arith, a.batch, b.batch, e);
@@ -39,10 +26,6 @@ entered_more n m w v u e a b = record {
   wants = omega (arith, a.wants, b.wants, e);
   short = λ h. b.short (a.short h);
 }
-
-pub starts_none : (here : Bool) (js : List Job) → StartsOne here here js js
-starts_none false js = (refl, refl)
-starts_none true js = omega arith
 
 pub starts_more : (here more last : Bool) (js ks ls : List Job) → StartsOne here more js ks → StartsOne more last ks ls → StartsOne here last js ls
 starts_more false true last js ks ls a b = absurd (let f : true ≡ false = a.0 in cc)

@@ -1,17 +1,14 @@
 -- The loop of a stay as the code takes it: each turn goes on as the rule does, and takes something away.
-use Rattle.std.proofs.Common.{◌≡◌, ℕ, ◌<◌, Bool, true, false, arith, refl, sym, ap, ◌∙◌}
+use Rattle.std.proofs.Common.{◌≡◌, ◌<◌, Bool, true, false, sym, ap, ◌∙◌}
 use Rattle.lard_rules.specs.declared.stay.Next.TheVariants.{Serve, Read, Stop}
-use Rattle.lard_rules.specs.Loop.{state_of, step_of}
+use Rattle.lard_rules.specs.Loop.{step_of}
 use Rattle.lard_rules.specs.Stay.{NodeEnv, Work, goes_on, left, next_of, reads_batch, serves, turn, turned}
 use Rattle.lard_rules.proofs.Runs.{goes_done, goes_more}
-use Rattle.lard_rules.proofs.StayFalling.{falls, read_falls, serve_falls}
+use Rattle.lard_rules.proofs.StayFalling.{falls, read_falls}
 
 -- as the code takes a turn: the first request was served
 pub served : (env : NodeEnv) (w u : Work) → next_of w ≡ Serve → u ≡ serves env w → goes_on env u ≡ goes_on env w
 served env w u e h = ap (goes_on env) h ∙ sym (goes_more (turn env) left (falls env) w (serves env w) (ap (turned env w) e))
-
-pub served_less : (env : NodeEnv) (w u : Work) → next_of w ≡ Serve → u ≡ serves env w → left u < left w
-served_less env w u e h = omega (arith, serve_falls env w e, ap left h)
 
 -- a batch was read, or none was left
 pub read_on : (env : NodeEnv) (w u : Work) (more : Bool) → next_of w ≡ Read → step_of more u ≡ reads_batch env false w → more ≡ true → goes_on env u ≡ goes_on env w
@@ -26,8 +23,3 @@ read_last env w u more e h m = sym (goes_done (turn env) left w u (ap (turned en
 -- nothing was to be done
 pub stopped : (env : NodeEnv) (w : Work) → next_of w ≡ Stop → w ≡ goes_on env w
 stopped env w e = sym (goes_done (turn env) left w w (ap (turned env w) e))
-
--- whichever step it was, the state is as it is
-pub state-step : (more : Bool) (w : Work) → state_of (step_of more w) ≡ w
-state-step true w = refl
-state-step false w = refl
