@@ -33,7 +33,7 @@ use Rattle.lard_files.specs.Files.{file_at}
 use Rattle.lard_history.specs.Own.{Came, Letter, Row, Seen}
 use Rattle.lard_history.proofs.Each.{Each}
 use Rattle.lard_law_settles.proofs.KnownCalm as known
-use Rattle.lard_law_settles.proofs.KnownEventsGiven.{IsOfSettle, config-of, settle-given}
+use Rattle.lard_law_settles.proofs.KnownEventsGiven.{config-of, settle-given}
 use Rattle.lard_law_settles.proofs.KnownNodesGiven.{fetch-opened, front-opened}
 use Rattle.lard_law_view.proofs.ByteLists.{each-all}
 use Rattle.lard_law_progress.proofs.AnswersForm.{IsLateOn}
@@ -55,7 +55,6 @@ use Rattle.lard_law_settles.proofs.EnoughWarming.{IsReady, IsRounds, OfAll, Warm
 use Rattle.lard_law_settles.proofs.EnoughWithin.{AreGiven, IsWithin, SettlesWithin, within-kept, within-quiet}
 use Rattle.lard_law_settles.proofs.EnoughWording.{First, IsCalmConn, Second, second-first}
 use Rattle.lard_law_settles.proofs.EnoughRuling.{step-warms}
-use Rattle.lard_law_settles.proofs.SettlesFiring.{IsInner}
 use Rattle.lard_settling.specs.declared.settled.Settled.{Settled}
 use Rattle.lard_settling.specs.Left.{holds_there}
 use Rattle.lard_settling.specs.Settling.{settled}
@@ -64,13 +63,6 @@ use Rattle.lard_message.specs.declared.message.Body.TheVariants as body
 use Rattle.lard_journal.specs.declared.rec.Rec.TheVariants as rec
 
 -- ---- inner steps
-
-inner-settles : (e : Event) → IsInner e → IsOfSettle e
-inner-settles (event.Take c) h = tt
-inner-settles (event.Deliver k) h = tt
-inner-settles (event.Disk n j) h = h
-inner-settles (event.Timer p c) h = h
-inner-settles _ h = absurd h
 
 made-rounds : (m : Machine) (e : Event) → IsMade m e → IsRounds e
 made-rounds m (event.Deliver k) h = tt
@@ -95,7 +87,7 @@ module _ (config : Config) (files : List (List ℕ × List ℕ)) (checked : conf
   Good p = IsWithin config files m.journal p × OfAll Second p
 
   pub events : AreGiven config files
-  events p n e reached inner is = settle-given config files checked p n e reached (inner-settles e inner) is
+  events p n e reached inner is = settle-given config files checked p n e reached inner is
 
   -- ---- of a machine within
 

@@ -25,19 +25,12 @@ use Rattle.lard_law_view.proofs.After.{step-after}
 use Rattle.lard_law_view.proofs.Carried.{carried-keep, reached-viewed}
 use Rattle.lard_journal.specs.Range.{IsNumber, IsPlaceInRange}
 use Rattle.lard_law_settles.proofs.KnownRuns.{number-of}
+use Rattle.lard_law_settles.proofs.SettlesFiring.{IsInner}
 use Rattle.lard_law_view.proofs.EventRange.{few-before}
 use Rattle.lard_net.specs.Net.{Packet, bytes_in, packet_at}
 use Rattle.lard_rules.specs.declared.node.BackIn.TheVariants as back
 use Rattle.lard_rules.specs.Client.{client_takes}
 use Rattle.lard_rules.specs.declared.places.Station.{Station}
-
--- the events of which a settle is made
-abbrev pub IsOfSettle : Event → Type 0
-IsOfSettle (event.Take c) = Unit {0}
-IsOfSettle (event.Deliver k) = Unit {0}
-IsOfSettle (event.Disk n j) = j ≡ 1
-IsOfSettle (event.Timer p c) = HasTimer p c
-IsOfSettle _ = ⊥
 
 never : {A : Type 0} (fault : StepFault) (n : Machine) → ◌≡◌ {A = Result Machine StepFault} (Err fault) (Ok n) → A
 never fault n e = absurd cc
@@ -84,7 +77,7 @@ module _ (m n : Machine) (view : IsViewed m) (nodes : IsNumber m.config.nodes) w
     test true t h = never (Refused (NoNode i m.config.nodes)) n h
     test false t h = node-number i t
 
-  pub event-given : (e : Event) → IsOfSettle e → machine_step m e ≡ Ok n → IsGiven e
+  pub event-given : (e : Event) → IsInner e → machine_step m e ≡ Ok n → IsGiven e
   event-given (event.Take c) h is = (takes c (event.Take c) (table.get m.clients c) refl (below m n (event.Take c) is).1, tt)
   event-given (event.Deliver k) h is =
       let parts = below m n (event.Deliver k) is in
@@ -99,7 +92,7 @@ module _ (m n : Machine) (view : IsViewed m) (nodes : IsNumber m.config.nodes) w
 pub config-of : (config : Config) (files : List (List ℕ × List ℕ)) (m : Machine) → IsReached config files m → m.config ≡ config
 config-of config files m reached = carried-keep config files (λ k. k.config ≡ config) refl (λ k n e on h rule is. (step-after k on.view e n rule is).config ∙ h) m reached
 
-pub settle-given : (config : Config) (files : List (List ℕ × List ℕ)) → config_check config ≡ Ok tt → (m n : Machine) (e : Event) → IsReached config files m → IsOfSettle e → machine_step m e ≡ Ok n → IsGiven e
+pub settle-given : (config : Config) (files : List (List ℕ × List ℕ)) → config_check config ≡ Ok tt → (m n : Machine) (e : Event) → IsReached config files m → IsInner e → machine_step m e ≡ Ok n → IsGiven e
 settle-given config files checked m n e reached of is =
     let few = (usable config checked).nodes in
     let same : m.config.nodes ≡ config.nodes = ap (λ (c : Config). c.nodes) (config-of config files m reached) in
