@@ -15,16 +15,17 @@ use Rattle.lard_law_connections.proofs.LineHolding.{IsRead}
 use Rattle.lard_law_connections.proofs.LineLaw.{IsLined}
 use Rattle.lard_law_connections.proofs.LineNotes.{Alone, Begins, Ends, Enters, Goes, IsLater, Noted, Reads, Shares, Was, Waits}
 use Rattle.lard_law_connections.proofs.LineStands.{stand_at, stand_step, unknown}
-use Rattle.lard_law_connections.proofs.LineSteps.{IsNoEntry, IsQuiet, IsRising, behind-quiet, gifts-quiet, last-quiet, note-quiet, read-quiet, rows-same, timers-quiet}
+use Rattle.lard_law_connections.proofs.LineSteps.{IsNoEntry, IsQuiet, IsRising, behind-quiet, gifts-quiet, last-quiet, nobody-quiet, note-quiet, on-quiet, read-quiet, rows-same, timers-quiet}
 use Rattle.lard_law_connections.proofs.LineTelling.{stands-told}
 use Rattle.lard_law_connections.proofs.LineTurns.{IsEntry, IsNoted, Notes, was_at}
 use Rattle.lard_law_connections.specs.LineLaws.{AdmitsBehind, AdmitsHead, MayPass}
 use Rattle.lard_law_connections.specs.Line.{Line, leaves, left_at, left_by, line, line_step, nobody, without}
 use Rattle.lard_law_connections.proofs.PolicyCalm.{first_rows, last_rows, told-journal}
 use Rattle.lard_law_connections.proofs.PolicyHomes.{less-any}
-use Rattle.lard_law_view.specs.View.{IsViewed, Move, Part, Rules, conn, part_of, setting_of}
-use Rattle.lard_law_view.proofs.Saying.{NamesAll, NotedAt, notes-all}
-use Rattle.lard_law_view.proofs.Shapes.{Shapes, both_out, move_of}
+use Rattle.lard_law_view.specs.View.{IsViewed, Move, Part, Rules, conn, setting_of}
+use Rattle.lard_law_view.proofs.AnyShape.{IsAct, each-act, one-act, two-act}
+use Rattle.lard_law_view.proofs.Saying.{NotedAt, notes-all}
+use Rattle.lard_law_view.proofs.Shapes.{NamesNobody, ReadsOn, Shapes, both_out, each_out, move_of, with_rest}
 use Rattle.lard_law_view.proofs.Stepping.{step-has}
 use Rattle.lard_law_connections.specs.PolicyLaws.{last_of}
 use Rattle.lard_rules.specs.Front.{over_note}
@@ -307,10 +308,33 @@ module _ (L : List ℕ) (l : Line) (less : IsLess l.waits L) where
     alone-keeps : (xs : List Rec) → Enters c xs → Each (AdmitsHead L) xs → (before : Option Rec) → IsSettled l.waits before → PassTo (IsFirst d) l before xs
     alone-keeps xs (Alone r path n add remove) heads = absurd (not-first c d apart in_ [] (rec.AssignedFirst c r path n add remove ∷ []) ys heads enters then)
 
-    both-pass : (xs : List Rec) → Noted c s xs ⊎ Enters c xs → Each (AdmitsHead L) xs → Pass l (xs ++ ys)
-    both-pass xs h heads before settled = pass-append (IsFirst d) IsSettled l before xs ys
-        (⊎_elim (λ (k : Noted c s xs). first-keeps xs k heads before settled) (λ (k : Enters c xs). alone-keeps xs k heads before settled) h)
-        (λ last first. entry-pass d (fold line_step l xs) last ys first enters)
+    -- ---- where more of c's notes stand behind the admission
+
+    waits-first : (ws es : List ℕ) (q : ℕ) → q ≡ c → ws ++ q ∷ [] ≡ d ∷ es → (rest : List ℕ) × (ws ≡ d ∷ rest)
+    waits-first [] es q is same = let lists : q ∷ [] ≡ d ∷ es = same in let its : q ≡ d = cc in absurd (apart (sym its ∙ is))
+    waits-first (w ∷ ws) es q is same = let lists : w ∷ (ws ++ q ∷ []) ≡ d ∷ es = same in let its : w ≡ d = cc in (ws, λ i. its i ∷ ws)
+
+    step-first : (k : Line) (r : Rec) → ReadsOn r × NotedAt Front c r → (rest : List ℕ) × ((line_step k r).waits ≡ d ∷ rest) → (rest : List ℕ) × (k.waits ≡ d ∷ rest)
+    step-first k (rec.Served place q n code size via) on h = h
+    step-first k (rec.Reset place q total) on h = h
+    step-first k (rec.Waits q) on h = waits-first k.waits h.0 q on.1 h.1
+    step-first k _ on h = absurd on.0
+
+    first-before : (k : Line) (at : Option Rec) (zs : List Rec) → Each (λ r. ReadsOn r × NotedAt Front c r) zs → PassTo (IsFirst d) k at zs → IsFirst d k.waits at
+    first-before k at [] on h = h
+    first-before k at (z ∷ zs) on h = step-first k z on.0 (first-before (line_step k z) (Some z) zs on.1 h.1)
+
+    pass-front : (k : Line) (at : Option Rec) (xs zs : List Rec) → Each (λ r. ReadsOn r × NotedAt Front c r) zs → PassTo (IsFirst d) k at (xs ++ zs) → PassTo (IsFirst d) k at xs
+    pass-front k at [] zs on h = first-before k at zs on h
+    pass-front k at (x ∷ xs) zs on h = (h.0, pass-front (line_step k x) (Some x) xs zs on h.1)
+
+    both-pass : (xs zs : List Rec) → Noted c s (xs ++ zs) ⊎ Enters c (xs ++ zs) → Each (AdmitsHead L) (xs ++ zs) → Each (λ r. ReadsOn r × NotedAt Front c r) zs → Pass l (xs ++ ys ++ zs)
+    both-pass xs zs h heads on at settled =
+        let all : PassTo (IsFirst d) l at (xs ++ zs) =
+        ⊎_elim (λ (k : Noted c s (xs ++ zs)). first-keeps (xs ++ zs) k heads at settled) (λ (k : Enters c (xs ++ zs)). alone-keeps (xs ++ zs) k heads at settled) h in
+        pass-append IsSettled IsSettled l at (xs ++ ys) zs
+        (pass-append (IsFirst d) IsSettled l at xs ys (pass-front l at xs zs on all) (λ last first. entry-pass d (fold line_step l xs) last ys first enters))
+        (plain-pass (fold line_step l (xs ++ ys)) zs (Each-weaker (λ r. ReadsOn r × NotedAt Front c r) IsPlain (λ r k. quiet-plain r (on-quiet r k.0)) zs on))
 
 -- ---- a step
 
@@ -358,15 +382,15 @@ module _ (m : Machine) (view : IsViewed m) (lined : (q : ℕ) → IsLined (conn 
   passed-adds w e own same quiet =
       (rec.Event (w.events + 1) e ∷ own, ap (λ (J : List Rec). J ++ rec.Event (w.events + 1) e ∷ own) same, λ lets. quiet-pass before (rec.Event (w.events + 1) e ∷ own) (((λ i. refl), tt, tt, tt), quiet))
 
-  told-adds : (w : Machine) (e : Event) (place : Place) (o : Out) → w.journal ≡ m.journal → Each IsQuiet o.gave → Each IsQuiet o.timers
+  told-adds : (w : Machine) (e : Event) (place : Place) (o : Out) → IsAct m w e place o
       → (LetsFirst o.notes → Pass (behind_first (w.events + 1) e) o.notes) → Adds (told w e (behind e) place o)
-  told-adds w e place o same gave timers notes =
+  told-adds w e place o act notes =
       let first : List Rec = first_rows w e in
       let last : List Rec = last_rows w place o in
       let quiet : Each IsQuiet first = (((λ i. refl), tt, tt, tt), behind-quiet e) in
-      let still : Each IsQuiet last = last-quiet w place o gave timers in (
+      let still : Each IsQuiet last = last-quiet w place o (gifts-quiet place o.gave act.gave) (timers-quiet place o.timers act.timers) in (
         first ++ o.notes ++ last,
-        told-journal w e place o ∙ ap (λ (J : List Rec). J ++ (first ++ o.notes ++ last)) same,
+        told-journal w e place o ∙ ap (λ (J : List Rec). J ++ (first ++ o.notes ++ last)) act.put.journal,
         λ lets at settled. pass-append IsSettled IsSettled before at (first ++ o.notes) last
             (pass-append IsSettled IsSettled before at first o.notes (quiet-pass before first quiet at settled)
             (notes (part-behind (AdmitsHead (line m.journal)) first o.notes (part-before (AdmitsHead (line m.journal)) (first ++ o.notes) last lets.0), between-lets (line m.journal) first o.notes last quiet still lets.1)))
@@ -395,47 +419,48 @@ module _ (m : Machine) (view : IsViewed m) (lined : (q : ℕ) → IsLined (conn 
   notes-pass i e (Client d) c heads ns o p first noted seen does lets = other-pass (Client d) c (behind_first i e) o.notes (λ e. let no : Client d ≡ Front = e in absurd cc) noted
 
   -- of two
-  pair-pass : (i : ℕ) (e : Event) (c d : ℕ) (v z : Move) → d ≢ c → seen_on d m.net (rec.Event i e ∷ behind e) ≡ [] → IsNoted (conn m c) v → IsNoted (conn m d) z → v.place ≡ Front → z.place ≡ Front → z.heads ≡ []
-      → LetsFirst (v.said.notes ++ z.said.notes) → Pass (behind_first i e) (v.said.notes ++ z.said.notes)
+  pair-pass : (i : ℕ) (e : Event) (c d : ℕ) (v y : Move) (xs zs : List Rec) → d ≢ c → seen_on d m.net (rec.Event i e ∷ behind e) ≡ [] → IsNoted (conn m c) v → IsNoted (conn m d) y → v.place ≡ Front → y.place ≡ Front
+      → y.heads ≡ [] → xs ++ zs ≡ v.said.notes → Each (λ r. ReadsOn r × NotedAt Front c r) zs → LetsFirst (xs ++ y.said.notes ++ zs) → Pass (behind_first i e) (xs ++ y.said.notes ++ zs)
   unfolding conn
-  pair-pass i e c d v z apart unseen h k at too none lets =
+  pair-pass i e c d v y xs zs apart unseen h k at too none same on lets =
       let L : List ℕ = line m.journal in
       let l : Line = behind_first i e in
-      let entry : IsEntry (conn m d) z = k.alone too none in
+      let ys : List Rec = y.said.notes in
+      let entry : IsEntry (conn m d) y = k.alone too none in
       let in_ : has d L ≡ true = waits-told d ∙ entry.waits in
-      let mine : Each (AdmitsHead L) v.said.notes = part-before (AdmitsHead L) v.said.notes z.said.notes lets.0 in
-      let its : Each (AdmitsHead L) z.said.notes = part-behind (AdmitsHead L) v.said.notes z.said.notes lets.0 in
-      let there : (es : List ℕ) × (l.waits ≡ d ∷ es) = its-there L l d z.said.notes (first-less before i e) in_ (unseen-stays d i e unseen ∙ in_) its entry.enters in
-      both-pass L l (first-less before i e) c d (was_at (conn m c)) apart there.0 there.1 in_ z.said.notes entry.enters its v.said.notes
-      (⊎_elim (λ (n : Noted c (was_at (conn m c)) v.said.notes). inl n) (λ (n : IsEntry (conn m c) v). inr n.enters) (h.noted at)) mine
+      let two : Each (AdmitsHead L) (xs ++ ys) = part-before (AdmitsHead L) (xs ++ ys) zs lets.0 in
+      let mine : Each (AdmitsHead L) (xs ++ zs) = Each-append (AdmitsHead L) xs zs (part-before (AdmitsHead L) xs ys two) (part-behind (AdmitsHead L) (xs ++ ys) zs lets.0) in
+      let its : Each (AdmitsHead L) ys = part-behind (AdmitsHead L) xs ys two in
+      let there : (es : List ℕ) × (l.waits ≡ d ∷ es) = its-there L l d ys (first-less before i e) in_ (unseen-stays d i e unseen ∙ in_) its entry.enters in
+      both-pass L l (first-less before i e) c d (was_at (conn m c)) apart there.0 there.1 in_ ys entry.enters its xs zs
+      (subst (λ (rs : List Rec). Noted c (was_at (conn m c)) rs ⊎ Enters c rs) (sym same)
+      (⊎_elim (λ (n : Noted c (was_at (conn m c)) v.said.notes). inl n) (λ (n : IsEntry (conn m c) v). inr n.enters) (h.noted at))) mine on
     where
       its-there : (L : List ℕ) (l : Line) (d : ℕ) (ys : List Rec) → IsLess l.waits L → has d L ≡ true → has d l.waits ≡ true → Each (AdmitsHead L) ys → Enters d ys → (es : List ℕ) × (l.waits ≡ d ∷ es)
       its-there L l d ys less in_ stays heads (Alone r path n add remove) = first-there L l less d (rec.AssignedFirst d r path n add remove ∷ []) in_ stays heads
 
-  both-notes : (i : ℕ) (e : Event) (place : Place) (c d : ℕ) (heads : List Seen) (a b : Out) (p r : Part) → NamesAll place → d ≢ c → seen_on d m.net (rec.Event i e ∷ behind e) ≡ [] → Each (NotedAt place c) a.notes → Each (NotedAt place d) b.notes
-      → Notes (conn m c) (move_of place heads a.notes a p) → Notes (conn m d) (move_of place [] b.notes b r) → LetsFirst (a.notes ++ b.notes) → Pass (behind_first i e) (a.notes ++ b.notes)
-  both-notes i e Front c d heads a b p r names apart unseen noted too does then lets =
-      pair-pass i e c d (move_of Front heads a.notes a p) (move_of Front [] b.notes b r) apart unseen (does (lined c)) (then (lined d)) refl refl refl lets
-  both-notes i e (Node n) c d heads a b p r names apart unseen noted too does then lets = absurd names
-  both-notes i e (Client q) c d heads a b p r names apart unseen noted too does then lets =
-      let never : Client q ≡ Front → ⊥ = λ e. absurd (cc) in
-      let behind_a : Line = fold line_step (behind_first i e) a.notes in
-      λ at settled. pass-append IsSettled IsSettled (behind_first i e) at a.notes b.notes (other-pass (Client q) c (behind_first i e) a.notes never noted at settled) (other-pass (Client q) d behind_a b.notes never too)
+  both-each : (P R : Rec → Type 0) (rs : List Rec) → Each P rs → Each R rs → Each (λ r. P r × R r) rs
+  both-each P R [] h k = tt
+  both-each P R (r ∷ rs) h k = ((h.0, k.0), both-each P R rs h.1 k.1)
+
+  both-notes : (i : ℕ) (e : Event) (c d : ℕ) (heads : List Seen) (a b z : Out) (ns : List Rec) (p r : Part) → d ≢ c → seen_on d m.net (rec.Event i e ∷ behind e) ≡ [] → Each (NotedAt Front c) a.notes → Each (NotedAt Front c) z.notes
+      → Each ReadsOn z.notes → ((net : List Packet) → seen_on c net (a.notes ++ z.notes) ≡ map Row ns)
+      → Notes (conn m c) (move_of Front heads ns (with_rest a z) p) → Notes (conn m d) (move_of Front [] b.notes b r) → LetsFirst (a.notes ++ b.notes ++ z.notes) → Pass (behind_first i e) (a.notes ++ b.notes ++ z.notes)
+  both-notes i e c d heads a b z ns p r apart unseen noted rest on seen does then lets =
+      let all : Each (NotedAt Front c) (a.notes ++ z.notes) = Each-append (NotedAt Front c) a.notes z.notes noted rest in
+      let same : a.notes ++ z.notes ≡ ns = rows-same (a.notes ++ z.notes) ns (sym (notes-all Front c [] (a.notes ++ z.notes) tt all) ∙ seen []) in
+      pair-pass i e c d (move_of Front heads ns (with_rest a z) p) (move_of Front [] b.notes b r) a.notes z.notes apart unseen (does (lined c)) (then (lined d)) refl refl refl same
+      (both-each ReadsOn (NotedAt Front c) z.notes on rest) lets
 
   shapes-pass : Shapes m Notes (λ e n. Adds n)
   unfolding clocked
   shapes-pass = record {
-    one = λ w e place o c heads ns p act does. told-adds w e place o act.put.journal (gifts-quiet place c o.gave act.said.gave) (timers-quiet place c (part_of m c) p o.timers act.timers)
+    one = λ w e place o c heads ns p act does. told-adds w e place o (one-act m w e place o c heads ns p act)
         (notes-pass (w.events + 1) e place c heads ns o p (act.begins.mine (w.events + 1)) act.said.notes act.notes does);
-    two = λ w e place a b rows c d heads p r act does too.
-        let s : Each IsQuiet a.timers = timers-quiet place c (part_of m c) p a.timers act.timers in
-        let t : Each IsQuiet b.timers = timers-quiet place d (part_of m d) r b.timers act.timers_too in
-        told-adds w e place (both_out a b rows) act.put.journal (Each-append IsQuiet a.gave b.gave (gifts-quiet place c a.gave act.said.gave) (gifts-quiet place d b.gave act.said_too.gave))
-        (⊎_elim
-        (λ (is : rows ≡ a.timers ++ b.timers). subst (Each IsQuiet) (sym is) (Each-append IsQuiet a.timers b.timers s t))
-        (λ (is : rows ≡ b.timers ++ a.timers). subst (Each IsQuiet) (sym is) (Each-append IsQuiet b.timers a.timers t s))
-        act.order)
-        (both-notes (w.events + 1) e place c d heads a b p r act.names act.apart (act.begins.others (w.events + 1) d act.apart) act.said.notes act.said_too.notes does too);
+    two = λ w e a b z rows c d heads ns p r act does too. told-adds w e Front (both_out a b z rows) (two-act m w e a b z rows c d heads ns p r act)
+        (both-notes (w.events + 1) e c d heads a b z ns p r act.apart (act.begins.others (w.events + 1) d act.apart) act.said.notes act.said_rest.notes act.reads_on act.notes does too);
+    each = λ w e place notes xs act made. told-adds w e place (each_out notes xs) (each-act m w e place notes xs act)
+        (λ lets. quiet-pass (behind_first (w.events + 1) e) notes (Each-weaker (NamesNobody place) IsQuiet (nobody-quiet place) notes act.nobody));
     nobody = λ k l at there. passed-adds m (event.Deliver k) (rec.Got k ∷ []) refl (((λ i. refl), tt, tt, tt), tt);
     loses = λ k l at there. passed-adds (record m { net = lose_at (k - 1) m.net }) (event.Lose k) (rec.Lost k ∷ []) refl (((λ i. refl), tt, tt, tt), tt);
     clocks = λ ms. passed-adds (record m { now = m.now + ms }) (event.Clock ms) (rec.Clock (record { 0 = m.now + ms }) ∷ []) refl (((λ i. refl), tt, tt, tt), tt);

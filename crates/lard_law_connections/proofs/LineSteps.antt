@@ -16,11 +16,12 @@ use Rattle.lard_law_connections.proofs.LineStands.{stand_at}
 use Rattle.lard_law_connections.proofs.LineTurns.{IsEntry, IsNoted, Notes, was_at}
 use Rattle.lard_law_connections.specs.LineLaws.{AreReleased, Due, Nothing, Release, due_behind}
 use Rattle.lard_law_connections.proofs.PolicyCalm.{first_rows, last_rows, told-journal}
-use Rattle.lard_law_view.specs.View.{IsViewed, Move, Part, Rules, conn, part_of, setting_of, timer_rows}
-use Rattle.lard_law_view.proofs.Saying.{GaveAt, NamesAll, NotedAt, notes-all}
-use Rattle.lard_law_view.proofs.Shapes.{IsPut, Shapes, both_out, move_of}
+use Rattle.lard_law_view.specs.View.{IsViewed, Move, Part, Rules, conn, setting_of}
+use Rattle.lard_law_view.proofs.AnyShape.{IsAct, SomeGift, SomeTimer, each-act, one-act, two-act}
+use Rattle.lard_law_view.proofs.Saying.{GaveAt, NotedAt, notes-all}
+use Rattle.lard_law_view.proofs.Shapes.{NamesNobody, ReadsOn, Shapes, both_out, each_out, move_of, with_rest}
 use Rattle.lard_law_view.proofs.Stepping.{step-has}
-use Rattle.lard_law_view.proofs.Timers.{IsTimerAt, timer_rows-are}
+use Rattle.lard_law_view.proofs.Timers.{IsTimerAt}
 use Rattle.lard_rules.specs.Front.{over_note}
 use Rattle.lard_history.specs.Own.{Row, Seen, seen_on}
 use Rattle.lard_history.proofs.Each.{Each, Each-append, Each-weaker}
@@ -102,11 +103,22 @@ last-quiet w place o gave timers =
     (Each-append IsQuiet (S ++ o.gave) M (Each-append IsQuiet S o.gave (sents-quiet (length w.net + 1) place o.segments) gave) (sents-quiet (length (segments_sent w place o) + 1) place o.messages))
     timers
 
-pub timers-quiet : (place : Place) (c : ℕ) (p q : Part) (rs : List Rec) → rs ≡ timer_rows place c p q → Each IsQuiet rs
-timers-quiet place c p q rs e = subst (Each IsQuiet) (sym e) (Each-weaker (IsTimerAt place c) IsQuiet (timer-quiet place c) (timer_rows place c p q) (timer_rows-are place c p q))
+pub gifts-quiet : (place : Place) (rs : List Rec) → Each (SomeGift place) rs → Each IsQuiet rs
+gifts-quiet place rs e = Each-weaker (SomeGift place) IsQuiet (λ r h. gave-quiet place h.0 r h.1) rs e
 
-pub gifts-quiet : (place : Place) (c : ℕ) (rs : List Rec) → Each (GaveAt place c) rs → Each IsQuiet rs
-gifts-quiet place c rs e = Each-weaker (GaveAt place c) IsQuiet (gave-quiet place c) rs e
+pub timers-quiet : (place : Place) (rs : List Rec) → Each (SomeTimer place) rs → Each IsQuiet rs
+timers-quiet place rs e = Each-weaker (SomeTimer place) IsQuiet (λ r h. timer-quiet place h.0 r h.1) rs e
+
+-- what names nobody is quiet, and so is what is read on behind the head of the line
+pub nobody-quiet : (place : Place) (r : Rec) → NamesNobody place r → IsQuiet r
+nobody-quiet (Node n) (rec.Hit k path) h = ((λ inside. refl), tt, tt, tt)
+nobody-quiet _ _ h = absurd h
+
+pub on-quiet : (r : Rec) → ReadsOn r → IsQuiet r
+on-quiet (rec.Served place c r code size via) h = ((λ inside. refl), tt, tt, tt)
+on-quiet (rec.Reset place c total) h = ((λ inside. refl), tt, tt, tt)
+on-quiet (rec.Waits c) h = ((λ inside. refl), tt, tt, tt)
+on-quiet _ h = absurd h
 
 -- ---- lists of records
 
@@ -232,28 +244,75 @@ module _ (inside : ℕ → Bool) where
     abbrev entry : List Rec
     entry = rec.Admitted d ∷ rec.AssignedFirst d r path n add remove ∷ []
 
-    entry-order : (c : ℕ) (s : Was) → inside c ≡ s.inside → (xs : List Rec) → Noted c s xs → IsInOrder (xs ++ entry)
-    entry-order c s is xs noted =
-        let o : IsInOrder xs = noted-order c s is xs noted in
-        record {
-          released = released-append Nothing xs entry o.released tt;
-          falls = o.falls;
-          rises = o.rises ++ entry;
-          split = ap (λ (zs : List Rec). zs ++ entry) o.split ∙ append_assoc o.falls o.rises entry;
-          falling = o.falling;
-          rising = Each-append IsRising o.rises entry o.rising (tt, (tt, tt));
-        }
+    entry-order : (xs : List Rec) → IsInOrder xs → IsInOrder (xs ++ entry)
+    entry-order xs o = record {
+      released = released-append Nothing xs entry o.released tt;
+      falls = o.falls;
+      rises = o.rises ++ entry;
+      split = ap (λ (zs : List Rec). zs ++ entry) o.split ∙ append_assoc o.falls o.rises entry;
+      falling = o.falling;
+      rising = Each-append IsRising o.rises entry o.rising (tt, (tt, tt));
+    }
 
-  pub enters-order : (c : ℕ) (s : Was) → inside c ≡ s.inside → (d : ℕ) (xs ys : List Rec) → Noted c s xs → Enters d ys → IsInOrder (xs ++ ys)
-  enters-order c s is d xs ys noted (Alone r path n add remove) = entry-order d r path n add remove c s is xs noted
+  enters-order : (d : ℕ) (xs ys : List Rec) → IsInOrder xs → Enters d ys → IsInOrder (xs ++ ys)
+  enters-order d xs ys o (Alone r path n add remove) = entry-order d r path n add remove xs o
 
-  -- an admission by itself, and one behind another
+  -- an admission by itself
   pub alone-order : (d : ℕ) (ys : List Rec) → Enters d ys → IsInOrder ys
   alone-order d ys (Alone r path n add remove) = behind-read [] (rec.Admitted d ∷ rec.AssignedFirst d r path n add remove ∷ []) tt tt (tt, (tt, tt))
 
-  pub both-enter : (c d : ℕ) (xs ys : List Rec) → Enters c xs → Enters d ys → IsInOrder (xs ++ ys)
-  both-enter c d xs ys (Alone r path n add remove) (Alone r2 path2 n2 add2 remove2) =
-      behind-read [] (rec.Admitted c ∷ rec.AssignedFirst c r path n add remove ∷ rec.Admitted d ∷ rec.AssignedFirst d r2 path2 n2 add2 remove2 ∷ []) tt tt (tt, (tt, (tt, (tt, tt))))
+  -- ---- what stands before records that release nobody
+
+  front-released : (o : Due) (xs zs : List Rec) → AreReleased inside o (xs ++ zs) → Each IsRising zs → AreReleased inside o xs
+  front-released Nothing [] zs h e = tt
+  front-released (Release c) [] [] h e = absurd h
+  front-released (Release c) [] (z ∷ zs) h e = absurd (subst IsRising h.0 e.0)
+  front-released Nothing (x ∷ xs) zs h e = front-released (due_behind inside x) xs zs h e
+  front-released (Release c) (x ∷ xs) zs h e = (h.0, front-released Nothing xs zs h.1 e)
+
+  -- what falls first falls first in front of others
+  record FallsFirst (rs : List Rec) : Type 0 where
+    falls : List Rec
+    rises : List Rec
+    split : rs ≡ falls ++ rises
+    falling : Each IsFalling falls
+    rising : Each IsRising rises
+
+  front-all : (P : Rec → Type 0) (xs zs rs : List Rec) → xs ++ zs ≡ rs → Each P rs → Each P xs
+  front-all P [] zs rs same e = tt
+  front-all P (x ∷ xs) zs [] same e = let no : x ∷ (xs ++ zs) ≡ [] = same in absurd cc
+  front-all P (x ∷ xs) zs (r ∷ rs) same e =
+      let lists : x ∷ (xs ++ zs) ≡ r ∷ rs = same in
+      let one : x ≡ r = cc in
+      let rest : xs ++ zs ≡ rs = cc in
+      (subst P (sym one) e.0, front-all P xs zs rs rest e.1)
+
+  front-falls : (xs zs falls rises : List Rec) → xs ++ zs ≡ falls ++ rises → Each IsFalling falls → Each IsRising rises → FallsFirst xs
+  front-falls [] zs falls rises same f r = record { falls = []; rises = []; split = refl; falling = tt; rising = tt }
+  front-falls (x ∷ xs) zs [] rises same f r = record { falls = []; rises = x ∷ xs; split = refl; falling = tt; rising = front-all IsRising (x ∷ xs) zs rises same r }
+  front-falls (x ∷ xs) zs (y ∷ falls) rises same f r =
+      let lists : x ∷ (xs ++ zs) ≡ y ∷ (falls ++ rises) = same in
+      let one : x ≡ y = cc in
+      let rest : xs ++ zs ≡ falls ++ rises = cc in
+      let h : FallsFirst xs = front-falls xs zs falls rises rest f.1 r in
+      record { falls = x ∷ h.falls; rises = h.rises; split = ap (λ (rs : List Rec). x ∷ rs) h.split; falling = (subst IsFalling (sym one) f.0, h.falling); rising = h.rising }
+
+  -- Records are in order where they are so with quiet ones behind them.
+  pub front-order : (xs zs : List Rec) → IsInOrder (xs ++ zs) → Each IsQuiet zs → IsInOrder xs
+  front-order xs zs o e =
+      let h : FallsFirst xs = front-falls xs zs o.falls o.rises o.split o.falling o.rising in
+      record {
+        released = front-released Nothing xs zs o.released (Each-weaker IsQuiet IsRising (λ r q. q.2) zs e);
+        falls = h.falls;
+        rises = h.rises;
+        split = h.split;
+        falling = h.falling;
+        rising = h.rising;
+      }
+
+  -- behind one connection another one is admitted, and quiet records stand behind that
+  pub round-order : (d : ℕ) (xs ys zs : List Rec) → IsInOrder (xs ++ zs) → Each IsQuiet zs → Enters d ys → IsInOrder (xs ++ ys ++ zs)
+  round-order d xs ys zs o e enters = between-order [] (xs ++ ys) zs tt (enters-order d xs ys (front-order xs zs o e) enters) e
 
 -- ---- a step
 
@@ -276,11 +335,12 @@ module _ (m : Machine) (lined : (q : ℕ) → IsLined (conn m q)) (inside : ℕ 
   passed-adds w e own same quiet =
       (rec.Event (w.events + 1) e ∷ own, ap (λ (J : List Rec). J ++ rec.Event (w.events + 1) e ∷ own) same, quiet-order inside (rec.Event (w.events + 1) e ∷ own) (((λ i. refl), tt, tt, tt), quiet))
 
-  told-adds : (w : Machine) (e : Event) (place : Place) (o : Out) → IsPut m w → IsInOrder inside o.notes → Each IsQuiet o.gave → Each IsQuiet o.timers → Adds (told w e (behind e) place o)
-  told-adds w e place o put notes gave timers = (
+  told-adds : (w : Machine) (e : Event) (place : Place) (o : Out) → IsAct m w e place o → IsInOrder inside o.notes → Adds (told w e (behind e) place o)
+  told-adds w e place o act notes = (
     first_rows w e ++ o.notes ++ last_rows w place o,
-    told-journal w e place o ∙ ap (λ (J : List Rec). J ++ (first_rows w e ++ o.notes ++ last_rows w place o)) put.journal,
-    between-order inside (first_rows w e) o.notes (last_rows w place o) (((λ i. refl), tt, tt, tt), behind-quiet e) notes (last-quiet w place o gave timers),
+    told-journal w e place o ∙ ap (λ (J : List Rec). J ++ (first_rows w e ++ o.notes ++ last_rows w place o)) act.put.journal,
+    between-order inside (first_rows w e) o.notes (last_rows w place o) (((λ i. refl), tt, tt, tt), behind-quiet e) notes
+        (last-quiet w place o (gifts-quiet place o.gave act.gave) (timers-quiet place o.timers act.timers)),
   )
 
   -- a connection has its number
@@ -295,9 +355,6 @@ module _ (m : Machine) (lined : (q : ℕ) → IsLined (conn m q)) (inside : ℕ 
   turn-order : (c : ℕ) (rs : List Rec) → Noted c (was_at (conn m c)) rs ⊎ Enters c rs → IsInOrder inside rs
   turn-order c rs h = ⊎_elim (λ (k : Noted c (was_at (conn m c)) rs). noted-order inside c (was_at (conn m c)) (told_is c) rs k) (λ (k : Enters c rs). alone-order inside c rs k) h
 
-  turns-order : (c d : ℕ) (xs ys : List Rec) → Noted c (was_at (conn m c)) xs ⊎ Enters c xs → Enters d ys → IsInOrder inside (xs ++ ys)
-  turns-order c d xs ys h e = ⊎_elim (λ (k : Noted c (was_at (conn m c)) xs). enters-order inside c (was_at (conn m c)) (told_is c) d xs ys k e) (λ (k : Enters c xs). both-enter inside c d xs ys k e) h
-
   -- what another place than the front end notes
   other-order : (place : Place) (c : ℕ) (rs : List Rec) → (place ≡ Front → ⊥) → Each (NotedAt place c) rs → IsInOrder inside rs
   other-order place c rs never e = quiet-order inside rs (Each-weaker (NotedAt place c) IsQuiet (λ r h. note-quiet place c r never h) rs e)
@@ -310,30 +367,21 @@ module _ (m : Machine) (lined : (q : ℕ) → IsLined (conn m q)) (inside : ℕ 
   notes-order (Node n) c heads ns o p noted seen does = other-order (Node n) c o.notes (λ e. let no : Node n ≡ Front = e in absurd cc) noted
   notes-order (Client d) c heads ns o p noted seen does = other-order (Client d) c o.notes (λ e. let no : Client d ≡ Front = e in absurd cc) noted
 
-  both-order : (place : Place) (c d : ℕ) (heads : List Seen) (a b : Out) (p r : Part) → NamesAll place → Each (NotedAt place c) a.notes → Each (NotedAt place d) b.notes
-      → Notes (conn m c) (move_of place heads a.notes a p) → Notes (conn m d) (move_of place [] b.notes b r) → IsInOrder inside (a.notes ++ b.notes)
-  both-order Front c d heads a b p r names noted too does then =
-      turns-order c d a.notes b.notes (own-noted c (move_of Front heads a.notes a p) (does (lined c)) refl) (own-enters d (move_of Front [] b.notes b r) (then (lined d)) refl refl)
-  both-order (Node n) c d heads a b p r names noted too does then = absurd names
-  both-order (Client q) c d heads a b p r names noted too does then =
-      let never : Client q ≡ Front → ⊥ = λ e. absurd (cc) in
-      quiet-order inside (a.notes ++ b.notes) (Each-append IsQuiet a.notes b.notes
-      (Each-weaker (NotedAt (Client q) c) IsQuiet (λ r h. note-quiet (Client q) c r never h) a.notes noted)
-      (Each-weaker (NotedAt (Client q) d) IsQuiet (λ r h. note-quiet (Client q) d r never h) b.notes too))
+  -- of two, at the front end
+  both-order : (c d : ℕ) (heads : List Seen) (a b z : Out) (ns : List Rec) (p r : Part) → Each (NotedAt Front c) (a.notes ++ z.notes) → Each ReadsOn z.notes → ((net : List Packet) → seen_on c net (a.notes ++ z.notes) ≡ map Row ns)
+      → Notes (conn m c) (move_of Front heads ns (with_rest a z) p) → Notes (conn m d) (move_of Front [] b.notes b r) → IsInOrder inside (a.notes ++ b.notes ++ z.notes)
+  both-order c d heads a b z ns p r noted on seen does then =
+      round-order inside d a.notes b.notes z.notes (notes-order Front c heads ns (with_rest a z) p noted seen does) (Each-weaker ReadsOn IsQuiet on-quiet z.notes on)
+      (own-enters d (move_of Front [] b.notes b r) (then (lined d)) refl refl)
 
   shapes-add : Shapes m Notes (λ e n. Adds n)
   unfolding clocked
   shapes-add = record {
-    one = λ w e place o c heads ns p act does. told-adds w e place o act.put (notes-order place c heads ns o p act.said.notes act.notes does) (gifts-quiet place c o.gave act.said.gave) (timers-quiet place c (part_of m c) p o.timers act.timers);
-    two = λ w e place a b rows c d heads p r act does too.
-        let s : Each IsQuiet a.timers = timers-quiet place c (part_of m c) p a.timers act.timers in
-        let t : Each IsQuiet b.timers = timers-quiet place d (part_of m d) r b.timers act.timers_too in
-        told-adds w e place (both_out a b rows) act.put (both-order place c d heads a b p r act.names act.said.notes act.said_too.notes does too)
-        (Each-append IsQuiet a.gave b.gave (gifts-quiet place c a.gave act.said.gave) (gifts-quiet place d b.gave act.said_too.gave))
-        (⊎_elim
-        (λ (is : rows ≡ a.timers ++ b.timers). subst (Each IsQuiet) (sym is) (Each-append IsQuiet a.timers b.timers s t))
-        (λ (is : rows ≡ b.timers ++ a.timers). subst (Each IsQuiet) (sym is) (Each-append IsQuiet b.timers a.timers t s))
-        act.order);
+    one = λ w e place o c heads ns p act does. told-adds w e place o (one-act m w e place o c heads ns p act) (notes-order place c heads ns o p act.said.notes act.notes does);
+    two = λ w e a b z rows c d heads ns p r act does too. told-adds w e Front (both_out a b z rows) (two-act m w e a b z rows c d heads ns p r act)
+        (both-order c d heads a b z ns p r (Each-append (NotedAt Front c) a.notes z.notes act.said.notes act.said_rest.notes) act.reads_on act.notes does too);
+    each = λ w e place notes xs act made. told-adds w e place (each_out notes xs) (each-act m w e place notes xs act)
+        (quiet-order inside notes (Each-weaker (NamesNobody place) IsQuiet (nobody-quiet place) notes act.nobody));
     nobody = λ k l at there. passed-adds m (event.Deliver k) (rec.Got k ∷ []) refl (((λ i. refl), tt, tt, tt), tt);
     loses = λ k l at there. passed-adds (record m { net = lose_at (k - 1) m.net }) (event.Lose k) (rec.Lost k ∷ []) refl (((λ i. refl), tt, tt, tt), tt);
     clocks = λ ms. passed-adds (record m { now = m.now + ms }) (event.Clock ms) (rec.Clock (record { 0 = m.now + ms }) ∷ []) refl (((λ i. refl), tt, tt, tt), tt);

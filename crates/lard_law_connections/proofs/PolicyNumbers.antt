@@ -1,5 +1,5 @@
 -- Each record of admission and of assignments is of a connection's number.
-use Rattle.std.proofs.Common.{◌≡◌, ℕ, ◌+◌, List, [], ◌∷◌, ◌++◌, Ok, refl, sym, ap, ◌∙◌, subst, ⊎_elim}
+use Rattle.std.proofs.Common.{◌≡◌, ℕ, ◌+◌, List, [], ◌∷◌, ◌++◌, Ok, refl, sym, ap, ◌∙◌, subst}
 use Rattle.lard_base.specs.declared.config.Config.{Config}
 use Rattle.lard_base.specs.declared.event.Event.{Event}
 use Rattle.lard_base.specs.declared.event.Event.TheVariants as event
@@ -9,14 +9,11 @@ use Rattle.lard_rules.specs.declared.machine.Machine.{Machine}
 use Rattle.lard_rules.specs.Bounds.{HasRule, IsNumber}
 use Rattle.lard_rules.specs.Machine.{IsReached, clocked, machine_step, passed, told}
 use Rattle.lard_law_connections.proofs.PolicyAsides.{IsAside, note-aside}
-use Rattle.lard_law_connections.proofs.PolicyCalm.{first-aside, first_rows, gifts-aside, last-aside, last_rows, timers-aside, told-journal}
-use Rattle.lard_law_view.specs.View.{IsViewed, Part, part_of, setting_of}
+use Rattle.lard_law_connections.proofs.PolicyCalm.{first-aside, first_rows, last-aside, last_rows, some-gifts-aside, some-timers-aside, told-journal}
+use Rattle.lard_law_view.specs.View.{IsViewed}
+use Rattle.lard_law_view.proofs.AnyShape.{AnyShape, IsAct, SomeNote, step-any}
 use Rattle.lard_law_view.proofs.Carried.{carried-keep}
-use Rattle.lard_law_view.proofs.Fine.{IsFine, fine}
 use Rattle.lard_law_view.proofs.Saying.{NotedAt}
-use Rattle.lard_law_view.proofs.Shapes.{ActsOn, ActsOnTwo, IsPut, Shapes, both_out}
-use Rattle.lard_law_view.proofs.Stepping.{step-has}
-use Rattle.lard_history.specs.Own.{Seen}
 use Rattle.lard_history.proofs.Each.{Each, Each-append, Each-weaker}
 use Rattle.lard_journal.specs.declared.rec.Rec.{Rec}
 use Rattle.lard_journal.specs.declared.rec.Rec.TheVariants as rec
@@ -55,9 +52,6 @@ note-numbered (Node k) c r n h = aside-numbered r (note-aside (Node k) c r tt h)
 note-numbered (Client d) c r n h = aside-numbered r (note-aside (Client d) c r tt h)
 note-numbered _ c _ n h = absurd h
 
-notes-numbered : (place : Place) (c : ℕ) (rs : List Rec) → IsNumber c → Each (NotedAt place c) rs → Each IsNumbered rs
-notes-numbered place c rs n e = Each-weaker (NotedAt place c) IsNumbered (λ r h. note-numbered place c r n h) rs e
-
 asides-numbered : (rs : List Rec) → Each IsAside rs → Each IsNumbered rs
 asides-numbered rs e = Each-weaker IsAside IsNumbered aside-numbered rs e
 
@@ -69,42 +63,26 @@ module _ (m : Machine) where
   passed-adds : (e : Event) (own : List Rec) → Each IsNumbered own → Adds (passed m e own)
   passed-adds e own numbered = (rec.Event (m.events + 1) e ∷ own, refl, (tt, numbered))
 
-  told-adds : (w : Machine) (e : Event) (place : Place) (o : Out) → IsPut m w → Each IsNumbered o.notes → Each IsAside o.gave → Each IsAside o.timers → Adds (told w e (behind e) place o)
-  told-adds w e place o put notes gave timers = (
+  told-adds : (w : Machine) (e : Event) (place : Place) (o : Out) → IsAct m w e place o → Adds (told w e (behind e) place o)
+  told-adds w e place o act = (
     first_rows w e ++ o.notes ++ last_rows w place o,
-    told-journal w e place o ∙ ap (λ (J : List Rec). J ++ (first_rows w e ++ o.notes ++ last_rows w place o)) put.journal,
-    Each-append IsNumbered (first_rows w e ++ o.notes) (last_rows w place o) (Each-append IsNumbered (first_rows w e) o.notes (asides-numbered (first_rows w e) (first-aside w e)) notes)
-        (asides-numbered (last_rows w place o) (last-aside w place o gave timers)),
+    told-journal w e place o ∙ ap (λ (J : List Rec). J ++ (first_rows w e ++ o.notes ++ last_rows w place o)) act.put.journal,
+    Each-append IsNumbered (first_rows w e ++ o.notes) (last_rows w place o)
+        (Each-append IsNumbered (first_rows w e) o.notes (asides-numbered (first_rows w e) (first-aside w e)) (Each-weaker (SomeNote place) IsNumbered (λ r h. note-numbered place h.0 r h.1 h.2) o.notes act.notes))
+        (asides-numbered (last_rows w place o) (last-aside w place o (some-gifts-aside place o.gave act.gave) (some-timers-aside place o.timers act.timers))),
   )
 
-  one-adds : (w : Machine) (e : Event) (place : Place) (o : Out) (c : ℕ) (heads : List Seen) (ns : List Rec) (p : Part) → ActsOn m w e place o c heads ns p → Adds (told w e (behind e) place o)
-  one-adds w e place o c heads ns p act =
-      told-adds w e place o act.put (notes-numbered place c o.notes act.number act.said.notes) (gifts-aside place c o.gave act.said.gave) (timers-aside place c (part_of m c) p o.timers act.timers)
-
-  two-adds : (w : Machine) (e : Event) (place : Place) (a b : Out) (rows : List Rec) (c d : ℕ) (heads : List Seen) (p r : Part) → ActsOnTwo m w e place a b rows c d heads p r → Adds (told w e (behind e) place (both_out a b rows))
-  two-adds w e place a b rows c d heads p r act =
-      let s : Each IsAside a.timers = timers-aside place c (part_of m c) p a.timers act.timers in
-      let t : Each IsAside b.timers = timers-aside place d (part_of m d) r b.timers act.timers_too in
-      told-adds w e place (both_out a b rows) act.put
-      (Each-append IsNumbered a.notes b.notes (notes-numbered place c a.notes act.number act.said.notes) (notes-numbered place d b.notes act.number_too act.said_too.notes))
-      (Each-append IsAside a.gave b.gave (gifts-aside place c a.gave act.said.gave) (gifts-aside place d b.gave act.said_too.gave))
-      (⊎_elim
-      (λ (is : rows ≡ a.timers ++ b.timers). subst (Each IsAside) (sym is) (Each-append IsAside a.timers b.timers s t))
-      (λ (is : rows ≡ b.timers ++ a.timers). subst (Each IsAside) (sym is) (Each-append IsAside b.timers a.timers t s))
-      act.order)
-
-  shapes-add : Shapes m IsFine (λ e n. Adds n)
+  any-add : AnyShape m (λ e n. Adds n)
   unfolding clocked
-  shapes-add = record {
-    one = λ w e place o c heads ns p act does. one-adds w e place o c heads ns p act;
-    two = λ w e place a b rows c d heads p r act does too. two-adds w e place a b rows c d heads p r act;
+  any-add = record {
+    acts = told-adds;
     nobody = λ k l at there. passed-adds (event.Deliver k) (rec.Got k ∷ []) (tt, tt);
     loses = λ k l at there. passed-adds (event.Lose k) (rec.Lost k ∷ []) (tt, tt);
     clocks = λ ms. passed-adds (event.Clock ms) (rec.Clock (record { 0 = m.now + ms }) ∷ []) (tt, tt);
   }
 
 step-adds : (m : Machine) → IsViewed m → (e : Event) (n : Machine) → HasRule e → machine_step m e ≡ Ok n → Adds m n
-step-adds m view e n rule is = step-has m view IsFine (fine (setting_of m)) (λ d k. Adds m k) (shapes-add m) e n rule is
+step-adds m view e n rule is = step-any m view (λ d k. Adds m k) (any-add m) e n rule is
 
 pub reached-numbered : (config : Config) (files : List (List ℕ × List ℕ)) (m : Machine) → IsReached config files m → Each IsNumbered m.journal
 reached-numbered config files m r = carried-keep config files (λ m. Each IsNumbered m.journal) tt

@@ -24,7 +24,7 @@ use Rattle.lard_law_settles.proofs.CourseDelivering.{near-new, still}
 use Rattle.lard_law_settles.proofs.CourseFirsts.{first-due, no-sooner}
 use Rattle.lard_law_settles.proofs.CourseGoing.{IsPlain}
 use Rattle.lard_law_settles.proofs.CourseLasting.{moves}
-use Rattle.lard_law_settles.proofs.CourseMoves.{shown}
+use Rattle.lard_law_view.proofs.Steps.{shown}
 use Rattle.lard_law_settles.proofs.CourseOwing.{IsFirst, IsStep}
 use Rattle.lard_dispatch.specs.Line.{waits}
 use Rattle.lard_endpoint.specs.Control.{ControlBlock}

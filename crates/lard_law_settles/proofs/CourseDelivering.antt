@@ -14,7 +14,7 @@ use Rattle.lard_law_settles.specs.Course.{NearIn, chain_by, chain_in, chain_of}
 use Rattle.lard_law_settles.specs.CourseGame.{game}
 use Rattle.lard_law_settles.proofs.CourseGoing.{IsPlain}
 use Rattle.lard_law_settles.proofs.CourseLasting.{Moved, each-still, moved, moves}
-use Rattle.lard_law_settles.proofs.CourseMoves.{shown}
+use Rattle.lard_law_view.proofs.Steps.{shown}
 use Rattle.lard_law_settles.proofs.CourseOwing.{IsStep}
 use Rattle.lard_law_settles.proofs.CourseSending.{any-has, every-has, has-new, more, new-has, new-letters, new-none}
 use Rattle.lard_files.specs.Files.{file_at}

@@ -12,8 +12,8 @@ use Rattle.lard_bound.specs.Progress.{spot_at}
 use Rattle.lard_bound.specs.Units.{Whole, units, units_of}
 use Rattle.lard_rules.specs.declared.machine.Machine.{Machine}
 use Rattle.lard_law_view.specs.View.{Conn, Goes, Move, conn, grown, setting_of}
-use Rattle.lard_law_view.proofs.Acts.{ActsAlone, ActsBoth, IsPassing, said_rows, step_acts}
-use Rattle.lard_law_settles.proofs.CourseMoves.{IsShown, shown, step_comes}
+use Rattle.lard_law_view.proofs.Acts.{ActsAlone, ActsMany, IsPassing, said_rows, step_acts}
+use Rattle.lard_law_view.proofs.Steps.{IsShown, shown, step_comes}
 use Rattle.lard_law_settles.proofs.CourseOwing.{IsStep, Leads, Owed}
 use Rattle.lard_files.specs.Files.{file_at}
 use Rattle.lard_history.specs.Own.{Seen, net_step, own, seen_on}
@@ -96,12 +96,11 @@ module _ (Given : Conn → Type 0) (Came : Conn → Move → Type 0) (all : ℕ 
       (λ (are : acts.adds ≡ behind e). ap (λ rs. seen_on q m.net (rec.Event (m.events + 1) e ∷ rs)) (sym are) ∙ none)
       (λ (nothing : (q : ℕ) → shown m e q ≡ []). nothing q)
       (passing-behind e acts.adds passing))
-      (λ (a : ActsAlone (Owed Given Came all (setting_of m)) m e acts.adds ⊎ ActsBoth (Owed Given Came all (setting_of m)) m e acts.adds). ⊎_elim
+      (λ (a : ActsAlone (Owed Given Came all (setting_of m)) m e acts.adds ⊎ ActsMany (Owed Given Came all (setting_of m)) m e acts.adds). ⊎_elim
       (λ (one : ActsAlone (Owed Given Came all (setting_of m)) m e acts.adds).
       behind-none q one.move.place one.noted one.move.said.segments one.move.said.gave one.move.said.messages _ acts.adds one.are none)
-      (λ (two : ActsBoth (Owed Given Came all (setting_of m)) m e acts.adds).
-      behind-none q two.first.place (two.first.said.notes ++ two.second.said.notes) (two.first.said.segments ++ two.second.said.segments) (two.first.said.gave ++ two.second.said.gave)
-      (two.first.said.messages ++ two.second.said.messages) two.timers acts.adds two.are none)
+      (λ (many : ActsMany (Owed Given Came all (setting_of m)) m e acts.adds).
+      behind-none q many.place many.o.notes many.o.segments many.o.gave many.o.messages many.o.timers acts.adds many.are none)
       a)
       acts.acts
 

@@ -12,11 +12,10 @@ use Rattle.lard_base.specs.declared.place.Place.{Place}
 use Rattle.lard_rules.specs.declared.machine.Machine.{Machine}
 use Rattle.lard_rules.specs.Bounds.{HasRule}
 use Rattle.lard_rules.specs.Machine.{clocked, machine_step, passed, segments_sent, told, told_rows}
-use Rattle.lard_law_view.specs.View.{IsViewed, part_of, setting_of}
-use Rattle.lard_law_view.proofs.Fine.{IsFine, fine}
-use Rattle.lard_law_view.proofs.Shapes.{IsPut, Shapes, both_out}
-use Rattle.lard_law_view.proofs.Stepping.{step-has}
-use Rattle.lard_law_settles.proofs.CourseWays.{OnlySend, SaysLittle, both-little, lost-length, none-send, said-little, sents-send}
+use Rattle.lard_law_view.specs.View.{IsViewed}
+use Rattle.lard_law_view.proofs.AnyShape.{AnyShape, step-any}
+use Rattle.lard_law_view.proofs.Shapes.{IsPut}
+use Rattle.lard_law_settles.proofs.CourseWays.{OnlySend, SaysLittle, act-little, lost-length, none-send, sents-send}
 use Rattle.lard_history.proofs.Seeing.{by_number, same_number}
 use Rattle.lard_journal.specs.declared.rec.Rec.{Rec}
 use Rattle.lard_journal.specs.declared.rec.Rec.TheVariants as rec
@@ -108,17 +107,14 @@ module _ (m : Machine) where
   passed-new : (n : Machine) → length n.net ≡ length m.net → AreNew m n
   passed-new n same k late within = absurd (omega (arith, late, within, same))
 
-  shapes-new : Shapes m IsFine (λ e n. AreNew m n)
+  any-new : AnyShape m (λ e n. AreNew m n)
   unfolding clocked
-  shapes-new = record {
-    one = λ w e place o c heads ns p act does. told-new w e place o act.put (λ k. said-little k (length m.net) place c o o.answered (part_of m c) p act.said act.timers);
-    two = λ w e place a b rows c d heads p r act does too. told-new w e place (both_out a b rows) act.put (λ k. both-little k (length m.net) a b rows
-        (said-little k (length m.net) place c a a.answered (part_of m c) p act.said act.timers)
-        (said-little k (length m.net) place d b 0 (part_of m d) r act.said_too act.timers_too) act.order);
+  any-new = record {
+    acts = λ w e place o act. told-new w e place o act.put (λ k. act-little k (length m.net) m w e place o act);
     nobody = λ k l at there. passed-new (passed m (event.Deliver k) (rec.Got k ∷ [])) refl;
     loses = λ k l at there. passed-new (passed (record m { net = lose_at (k - 1) m.net }) (event.Lose k) (rec.Lost k ∷ [])) (lost-length m.net (k - 1));
     clocks = λ ms. passed-new (passed (record m { now = m.now + ms }) (event.Clock ms) (rec.Clock (record { 0 = m.now + ms }) ∷ [])) refl;
   }
 
 pub step-new : (m : Machine) → IsViewed m → (e : Event) (n : Machine) → HasRule e → machine_step m e ≡ Ok n → AreNew m n
-step-new m view e n rule is = step-has m view IsFine (fine (setting_of m)) (λ d k. AreNew m k) (shapes-new m) e n rule is
+step-new m view e n rule is = step-any m view (λ d k. AreNew m k) (any-new m) e n rule is

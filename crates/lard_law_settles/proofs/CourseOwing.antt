@@ -14,7 +14,7 @@ use Rattle.lard_rules.specs.Machine.{machine_step}
 use Rattle.lard_law_view.specs.Carry.{MayMove}
 use Rattle.lard_law_view.specs.View.{Conn, IsViewed, Move, Part, Rules, Setting, conn, event_seen, grown, letters_of, setting_of, station_armed}
 use Rattle.lard_law_view.proofs.Saying.{NamesAll}
-use Rattle.lard_law_settles.proofs.CourseMoves.{IsShown}
+use Rattle.lard_law_view.proofs.Steps.{IsShown}
 use Rattle.lard_endpoint.specs.Control.{ControlBlock}
 use Rattle.lard_rules.specs.Front.{front_armed}
 use Rattle.lard_rules.specs.Node.{node_armed}

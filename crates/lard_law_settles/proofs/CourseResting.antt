@@ -21,7 +21,7 @@ use Rattle.lard_law_settles.proofs.CourseDelivering.{near-of, packet-leads, pack
 use Rattle.lard_law_settles.proofs.CourseFetched.{fetches-lead}
 use Rattle.lard_law_settles.proofs.CourseFetching.{Fetches}
 use Rattle.lard_law_settles.proofs.CourseGoing.{IsListed, IsPlain, goes-on, spots}
-use Rattle.lard_law_settles.proofs.CourseMoves.{IsShown}
+use Rattle.lard_law_view.proofs.Steps.{IsShown}
 use Rattle.lard_law_settles.proofs.CourseOnWay.{step-new}
 use Rattle.lard_law_settles.proofs.CourseOwing.{IsStep, Owed}
 use Rattle.lard_law_settles.proofs.CourseWays.{Takes, Ways, step-ways}

@@ -15,7 +15,7 @@ use Rattle.lard_law_view.proofs.Naming.{decoded-names}
 use Rattle.lard_law_view.proofs.Parts.{node-kept}
 use Rattle.lard_law_settles.proofs.CourseFetching.{deed-part, delivered-to}
 use Rattle.lard_law_settles.proofs.CourseGoing.{IsListed}
-use Rattle.lard_law_settles.proofs.CourseMoves.{IsShown, shown}
+use Rattle.lard_law_view.proofs.Steps.{IsShown, shown}
 use Rattle.lard_endpoint.specs.Control.{ControlBlock}
 use Rattle.lard_base.specs.declared.ids.Epoch.{Epoch}
 use Rattle.lard_handoff_back.specs.declared.row.BackConn.{BackConn}

@@ -13,14 +13,12 @@ use Rattle.lard_base.specs.declared.place.Place.TheVariants.{Front, Node, Client
 use Rattle.lard_rules.specs.declared.machine.Machine.{Machine}
 use Rattle.lard_rules.specs.Bounds.{HasRule}
 use Rattle.lard_rules.specs.Machine.{clocked, machine_step, passed, segments_sent, told, told_rows}
-use Rattle.lard_law_view.specs.View.{IsViewed, Part, part_of, setting_of, timer_rows}
-use Rattle.lard_law_view.proofs.Fine.{IsFine, fine}
+use Rattle.lard_law_view.specs.View.{IsViewed}
+use Rattle.lard_law_view.proofs.AnyShape.{AnyShape, IsAct, SomeGift, SomeNote, SomeTimer, step-any}
 use Rattle.lard_law_view.proofs.Saying.{GaveAt, NotedAt}
-use Rattle.lard_law_view.proofs.Shapes.{IsPut, Shapes, both_out}
-use Rattle.lard_law_view.proofs.Stepping.{step-has}
-use Rattle.lard_law_view.proofs.Timers.{IsTimerAt, timer_rows-are}
-use Rattle.lard_law_view.proofs.Turned.{IsSaid}
-use Rattle.lard_history.proofs.Each.{Each, Each-append, Each-weaker}
+use Rattle.lard_law_view.proofs.Shapes.{IsPut}
+use Rattle.lard_law_view.proofs.Timers.{IsTimerAt}
+use Rattle.lard_history.proofs.Each.{Each, Each-weaker}
 use Rattle.lard_history.proofs.Seeing.{by_number, other_number, same_number}
 use Rattle.lard_journal.specs.declared.rec.Rec.{Rec}
 use Rattle.lard_journal.specs.declared.rec.Rec.TheVariants as rec
@@ -127,21 +125,11 @@ module _ (k first : ℕ) where
     pub gave : Each SaysNone o.gave
     pub timers : Each SaysNone o.timers
 
-  pub said-little : (place : Place) (c : ℕ) (o : Out) (answered : ℕ) (p q : Part) → IsSaid place c o.notes o.segments o.gave o.messages answered → o.timers ≡ timer_rows place c p q → SaysLittle o
-  said-little place c o answered p q said timers = record {
-    notes = Each-weaker (NotedAt place c) SaysNone (note-none place c) o.notes said.notes;
-    gave = Each-weaker (GaveAt place c) SaysNone (gave-none place c) o.gave said.gave;
-    timers = subst (Each SaysNone) (sym timers) (Each-weaker (IsTimerAt place c) SaysNone (timer-none place c) (timer_rows place c p q) (timer_rows-are place c p q));
-  }
-
-  pub both-little : (a b : Out) (rows : List Rec) → SaysLittle a → SaysLittle b → (rows ≡ a.timers ++ b.timers) ⊎ (rows ≡ b.timers ++ a.timers) → SaysLittle (both_out a b rows)
-  both-little a b rows h g order = record {
-    notes = Each-append SaysNone a.notes b.notes h.notes g.notes;
-    gave = Each-append SaysNone a.gave b.gave h.gave g.gave;
-    timers = ⊎_elim
-        (λ (e : rows ≡ a.timers ++ b.timers). subst (Each SaysNone) (sym e) (Each-append SaysNone a.timers b.timers h.timers g.timers))
-        (λ (e : rows ≡ b.timers ++ a.timers). subst (Each SaysNone) (sym e) (Each-append SaysNone b.timers a.timers g.timers h.timers))
-        order;
+  pub act-little : (m w : Machine) (e : Event) (place : Place) (o : Out) → IsAct m w e place o → SaysLittle o
+  act-little m w e place o act = record {
+    notes = Each-weaker (SomeNote place) SaysNone (λ r h. note-none place h.0 r h.2) o.notes act.notes;
+    gave = Each-weaker (SomeGift place) SaysNone (λ r h. gave-none place h.0 r h.1) o.gave act.gave;
+    timers = Each-weaker (SomeTimer place) SaysNone (λ r h. timer-none place h.0 r h.1) o.timers act.timers;
   }
 
   -- behind the event's own records
@@ -278,13 +266,10 @@ module _ (m : Machine) where
       ap (λ (J : List Rec). is_on_way (J ++ rec.Event (w.events + 1) e ∷ r ∷ []) k) journal ∙ fold-append (way_flag k) false m.journal (rec.Event (w.events + 1) e ∷ r ∷ []) in
       subst (Goes k (length m.net) e was) (sym told_is) (go-behind k (length m.net) e was (way_flag k was r) [] (h k) (send-none k (length m.net))))
 
-  shapes-ways : Shapes m IsFine (λ e n. Ways m e n)
+  any-ways : AnyShape m (λ e n. Ways m e n)
   unfolding clocked
-  shapes-ways = record {
-    one = λ w e place o c heads ns p act does. told-ways w e place o act.put (λ k. said-little k (length m.net) place c o o.answered (part_of m c) p act.said act.timers);
-    two = λ w e place a b rows c d heads p r act does too. told-ways w e place (both_out a b rows) act.put (λ k. both-little k (length m.net) a b rows
-        (said-little k (length m.net) place c a a.answered (part_of m c) p act.said act.timers)
-        (said-little k (length m.net) place d b 0 (part_of m d) r act.said_too act.timers_too) act.order);
+  any-ways = record {
+    acts = λ w e place o act. told-ways w e place o act.put (λ k. act-little k (length m.net) m w e place o act);
     nobody = λ k l at there. passed-ways m (event.Deliver k) (rec.Got k) refl refl (λ j p is. is) (λ j. own-passes j (length m.net) (event.Deliver k) (is_on_way m.journal j));
     loses = λ k l at there. passed-ways (record m { net = lose_at (k - 1) m.net }) (event.Lose k) (rec.Lost k) refl (lost-length m.net (k - 1)) tt
         (λ j. own-passes j (length m.net) (event.Lose k) (is_on_way m.journal j));
@@ -293,4 +278,4 @@ module _ (m : Machine) where
   }
 
 pub step-ways : (m : Machine) → IsViewed m → (e : Event) (n : Machine) → HasRule e → machine_step m e ≡ Ok n → Ways m e n
-step-ways m view e n rule is = step-has m view IsFine (fine (setting_of m)) (λ d k. Ways m d k) (shapes-ways m) e n rule is
+step-ways m view e n rule is = step-any m view (λ d k. Ways m d k) (any-ways m) e n rule is

@@ -26,7 +26,7 @@ use Rattle.lard_law_view.proofs.After.{IsAfter, step-after}
 use Rattle.lard_law_view.proofs.Carried.{carried-keep, reached-viewed}
 use Rattle.lard_law_view.proofs.Frames.{KeepsAt, Owed, by_clients}
 use Rattle.lard_law_view.proofs.Runs.{passes-more}
-use Rattle.lard_law_settles.proofs.CourseMoves.{IsShown, step_comes}
+use Rattle.lard_law_view.proofs.Steps.{IsShown, step_comes}
 use Rattle.lard_history.proofs.Each.{Each}
 use Rattle.lard_history.proofs.Seeing.{by_number, other_number, same_number}
 use Rattle.lard_history.specs.Laws.{AreOwn, IsStep, is_own}

@@ -7,12 +7,10 @@ use Rattle.lard_base.specs.declared.place.Place.{Place}
 use Rattle.lard_rules.specs.Bounds.{HasRule, IsNumber}
 use Rattle.lard_rules.specs.declared.machine.Machine.{Machine}
 use Rattle.lard_rules.specs.Machine.{IsReached, clocked, machine_step, told}
-use Rattle.lard_law_view.specs.View.{IsViewed, setting_of}
+use Rattle.lard_law_view.specs.View.{IsViewed}
+use Rattle.lard_law_view.proofs.AnyShape.{AnyShape, IsAct, SomeSent, step-any}
 use Rattle.lard_law_view.proofs.Carried.{carried-keep}
-use Rattle.lard_law_view.proofs.Fine.{IsFine, fine}
-use Rattle.lard_law_view.proofs.Saying.{AllBetween, between-conn, messages-between}
-use Rattle.lard_law_view.proofs.Shapes.{IsPut, Shapes, both_out}
-use Rattle.lard_law_view.proofs.Stepping.{step-has}
+use Rattle.lard_law_view.proofs.Saying.{between-conn}
 use Rattle.lard_law_settles.proofs.CourseGoing.{IsListed}
 use Rattle.lard_history.proofs.Each.{Each, Each-append}
 use Rattle.lard_history.specs.Own.{conn_of}
@@ -29,42 +27,33 @@ IsOfOne p = (q : ℕ) × (conn_of p.from p.to p.bytes ≡ Some q) × IsNumber q
 abbrev AreOfOne : List Packet → Type 0
 AreOfOne ps = Each IsOfOne ps
 
-sent-of-one : (c : ℕ) (place : Place) (ss : List (Place × List ℕ)) → IsNumber c → AllBetween c place ss → AreOfOne (packets_of place ss)
-sent-of-one c place [] number h = tt
-sent-of-one c place (s ∷ ss) number h = ((c, between-conn c place s.0 s.1 h.0, number), sent-of-one c place ss number h.1)
+sent-of-one : (place : Place) (ss : List (Place × List ℕ)) → Each (SomeSent place) ss → AreOfOne (packets_of place ss)
+sent-of-one place [] h = tt
+sent-of-one place (s ∷ ss) h = ((h.0.0, between-conn h.0.0 place s.0 s.1 h.0.2, h.0.1), sent-of-one place ss h.1)
 
 lost-of-one : (net : List Packet) (i : ℕ) → AreOfOne net → AreOfOne (lose_at i net)
 lost-of-one [] i h = tt
 lost-of-one (p ∷ net) zero h = (h.0, h.1)
 lost-of-one (p ∷ net) (suc i) h = (h.0, lost-of-one net i h.1)
 
-packets-split : (place : Place) (xs ys : List (Place × List ℕ)) → AreOfOne (packets_of place xs) → AreOfOne (packets_of place ys) → AreOfOne (packets_of place (xs ++ ys))
-packets-split place [] ys h k = k
-packets-split place (x ∷ xs) ys h k = (h.0, packets-split place xs ys h.1 k)
-
 module _ (m : Machine) (h : AreOfOne m.net) where
-  told-of-one : (w : Machine) (e : Event) (place : Place) (o : Out) → IsPut m w → AreOfOne (packets_of place o.segments) → AreOfOne (packets_of place o.messages) → AreOfOne (told w e (behind e) place o).net
+  told-of-one : (w : Machine) (e : Event) (place : Place) (o : Out) → IsAct m w e place o → AreOfOne (told w e (behind e) place o).net
   unfolding told
-  told-of-one w e place o put segments messages =
+  told-of-one w e place o act =
       Each-append IsOfOne (w.net ++ packets_of place o.segments) (packets_of place o.messages)
-      (Each-append IsOfOne w.net (packets_of place o.segments) (subst AreOfOne (sym put.net) h) segments) messages
+      (Each-append IsOfOne w.net (packets_of place o.segments) (subst AreOfOne (sym act.put.net) h) (sent-of-one place o.segments act.segments)) (sent-of-one place o.messages act.messages)
 
-  shapes-of-one : Shapes m IsFine (λ e n. AreOfOne n.net)
+  any-of-one : AnyShape m (λ e n. AreOfOne n.net)
   unfolding clocked
-  shapes-of-one = record {
-    one = λ w e place o c heads ns p act does. told-of-one w e place o act.put (sent-of-one c place o.segments act.number act.said.segments)
-        (sent-of-one c place o.messages act.number (messages-between c place o.messages act.said.messages));
-    two = λ w e place a b rows c d heads p r act does too. told-of-one w e place (both_out a b rows) act.put
-        (packets-split place a.segments b.segments (sent-of-one c place a.segments act.number act.said.segments) (sent-of-one d place b.segments act.number_too act.said_too.segments))
-        (packets-split place a.messages b.messages (sent-of-one c place a.messages act.number (messages-between c place a.messages act.said.messages))
-        (sent-of-one d place b.messages act.number_too (messages-between d place b.messages act.said_too.messages)));
+  any-of-one = record {
+    acts = told-of-one;
     nobody = λ k l at there. h;
     loses = λ k l at there. lost-of-one m.net (k - 1) h;
     clocks = λ ms. h;
   }
 
   step-of-one : (n : Machine) (e : Event) → IsViewed m → HasRule e → machine_step m e ≡ Ok n → AreOfOne n.net
-  step-of-one n e view rule is = step-has m view IsFine (fine (setting_of m)) (λ d k. AreOfOne k.net) shapes-of-one e n rule is
+  step-of-one n e view rule is = step-any m view (λ d k. AreOfOne k.net) any-of-one e n rule is
 
 net-of-one : (config : Config) (files : List (List ℕ × List ℕ)) (m : Machine) → IsReached config files m → AreOfOne m.net
 net-of-one config files m r = carried-keep config files (λ k. AreOfOne k.net) tt (λ k n e on h rule is. step-of-one k h n e on.view rule is) m r

@@ -21,7 +21,7 @@ use Rattle.lard_client.specs.Control.{is_holding}
 use Rattle.lard_law_view.specs.View.{Conn, Move, Rules, Setting, Spells, conn, grown, part_of, setting_of}
 use Rattle.lard_law_view.proofs.Carried.{reached-viewed}
 use Rattle.lard_law_settles.proofs.KnownEverything.{is-set, setting-is}
-use Rattle.lard_law_settles.proofs.CourseMoves.{IsShown}
+use Rattle.lard_law_view.proofs.Steps.{IsShown}
 use Rattle.lard_law_settles.proofs.CourseOwing.{Owed}
 use Rattle.lard_law_settles.proofs.CourseTagging.{tags-fall}
 use Rattle.lard_law_settles.proofs.CourseUniting.{Known, rules-owe}

@@ -4,7 +4,7 @@ use Rattle.lard_base.specs.declared.event.Event.{Event}
 use Rattle.lard_rules.specs.declared.machine.Machine.{Machine}
 use Rattle.lard_rules.specs.Machine.{machine_step}
 use Rattle.lard_law_view.specs.View.{Conn, Goes, IsViewed, Move, NodeRules, Rules, Setting, conn, grown, node_does, nothing_said, packet_seen, reads_first, setting_of, stands}
-use Rattle.lard_law_settles.proofs.CourseMoves.{IsShown, step_comes}
+use Rattle.lard_law_view.proofs.Steps.{IsShown, step_comes}
 use Rattle.lard_history.proofs.Each.{Each-weaker}
 use Rattle.lard_history.specs.Own.{Came, Row, Seen}
 use Rattle.lard_journal.specs.declared.rec.Rec.{Rec}

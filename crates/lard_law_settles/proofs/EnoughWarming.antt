@@ -14,7 +14,7 @@ use Rattle.lard_rules.specs.Machine.{IsReached, machine_step}
 use Rattle.lard_law_view.specs.View.{Conn, Goes, Move, conn, grown, letters_of}
 use Rattle.lard_law_view.proofs.Carried.{reached-viewed}
 use Rattle.lard_law_settles.specs.CourseGame.{Task, game}
-use Rattle.lard_law_settles.proofs.CourseMoves.{IsShown, shown}
+use Rattle.lard_law_view.proofs.Steps.{IsShown, shown}
 use Rattle.lard_law_settles.proofs.CourseSending.{more, new-has, new-letters, new-none}
 use Rattle.lard_law_settles.proofs.CourseWays.{KeepsPackets, Takes, Ways, step-ways}
 use Rattle.lard_history.proofs.Seeing.{by_number, one-mine, one-other}

@@ -58,7 +58,6 @@ pub mod KnownFrontWords
 pub mod KnownFrontRuns
 pub mod KnownEverything
 pub mod CourseChains
-pub mod CourseMoves
 pub mod CourseOwing
 pub mod CourseLasting
 pub mod CourseStaying

@@ -18,7 +18,8 @@ use Rattle.lard_laws.proofs.RecordsThere.{only-nodes}
 use Rattle.lard_laws.specs.RecordsMessages.{MayBeThere}
 use Rattle.lard_law_view.specs.Carry.{setting}
 use Rattle.lard_law_view.specs.View.{Conn, IsMachine, IsViewed, Move, Part, Rules, Setting, conn, part_of, timer_rows}
-use Rattle.lard_law_view.proofs.Acts.{ActsAlone, ActsBoth, IsPassing, IsStepOf, said_rows, step_acts}
+use Rattle.lard_law_view.proofs.Acts.{ActsAlone, ActsMany, IsPassing, IsStepOf, Moving, said_rows, step_acts, timers_in}
+use Rattle.lard_law_view.proofs.AnyShape.{SomeGift, SomeNote}
 use Rattle.lard_law_view.proofs.Carried.{IsOn, carried-keep, on-setting}
 use Rattle.lard_law_view.proofs.Fine.{IsFine, IsItsOwn, fine}
 use Rattle.lard_law_view.proofs.Frames.{Owed, clients-leave, fronts-leave, nodes-leave}
@@ -139,35 +140,29 @@ module _ (m : Machine) (view : IsViewed m) (e : Event) (adds : List Rec) where
       (said-named e m.net v.place a.noted v.said.segments v.said.gave v.said.messages (timer_rows v.place a.c (part_of m a.c) v.part)
       (notes-named v.place a.c a.noted a.moves.notes) (gaves-named v.place a.c v.said.gave own.gave) (rows-named v.place a.c (part_of m a.c) v.part a.moves.number seated))
 
-  both-named : ActsBoth Moves m e adds → AreNamed adds
+  -- the records of the timers of several, one behind another
+  timers-named : (xs : List Moving) → Each (λ x. IsNumber x.c × Moves (conn m x.c) x.move) xs → AreNamed (timers_in m xs)
   unfolding conn
-  both-named a =
-      let v : Move = a.first in
-      let w : Move = a.second in
-      let own : IsItsOwn (conn m a.c) v = (a.moves.does.1 a.moves.number (view.sound a.c)).0 in
-      let its : IsItsOwn (conn m a.d) w = (a.moves_too.does.1 a.moves_too.number (view.sound a.d)).0 in
-      let cs : List Rec = timer_rows v.place a.c (part_of m a.c) v.part in
-      let ds : List Rec = timer_rows w.place a.d (part_of m a.d) w.part in
-      let c_named : AreNamed cs = rows-named v.place a.c (part_of m a.c) v.part a.moves.number (a.moves.does.0 a.moves.number (view.sound a.c)) in
-      let d_named : AreNamed ds = rows-named w.place a.d (part_of m a.d) w.part a.moves_too.number (a.moves_too.does.0 a.moves_too.number (view.sound a.d)) in
-      let timers : AreNamed a.timers = ⊎_elim
-      (λ (is : a.timers ≡ cs ++ ds). subst AreNamed (sym is) (Each-append IsNamed cs ds c_named d_named))
-      (λ (is : a.timers ≡ ds ++ cs). subst AreNamed (sym is) (Each-append IsNamed ds cs d_named c_named))
-      a.order in
+  timers-named [] h = tt
+  timers-named (x ∷ xs) h = Each-append IsNamed (timer_rows x.move.place x.c (part_of m x.c) x.move.part) (timers_in m xs)
+      (rows-named x.move.place x.c (part_of m x.c) x.move.part h.0.0 (h.0.1.0 h.0.0 (view.sound x.c))) (timers-named xs h.1)
+
+  many-named : ActsMany Moves m e adds → AreNamed adds
+  many-named a =
       subst AreNamed (sym a.are)
-      (said-named e m.net v.place (v.said.notes ++ w.said.notes) (v.said.segments ++ w.said.segments) (v.said.gave ++ w.said.gave) (v.said.messages ++ w.said.messages) a.timers
-      (Each-append IsNamed v.said.notes w.said.notes (notes-named v.place a.c v.said.notes own.notes) (notes-named w.place a.d w.said.notes its.notes))
-      (Each-append IsNamed v.said.gave w.said.gave (gaves-named v.place a.c v.said.gave own.gave) (gaves-named w.place a.d w.said.gave its.gave))
-      timers)
+      (said-named e m.net a.place a.o.notes a.o.segments a.o.gave a.o.messages a.o.timers
+      (Each-weaker (SomeNote a.place) IsNamed (λ r h. note-named a.place h.0 r h.2) a.o.notes a.act.notes)
+      (Each-weaker (SomeGift a.place) IsNamed (λ r h. gave-named a.place h.0 r h.1) a.o.gave a.act.gave)
+      (subst AreNamed (sym a.timers) (timers-named a.moving a.moves)))
 
   passing-named : (d : Event) → IsPassing m d adds → AreNamed adds
   passing-named (event.Clock ms) h = subst AreNamed (sym h) (tt, tt)
   passing-named d h = subst AreNamed (sym h) (behind-named d)
 
-  adds-named : IsPassing m e adds ⊎ (ActsAlone Moves m e adds ⊎ ActsBoth Moves m e adds) → AreNamed adds
+  adds-named : IsPassing m e adds ⊎ (ActsAlone Moves m e adds ⊎ ActsMany Moves m e adds) → AreNamed adds
   adds-named (inl passing) = passing-named e passing
   adds-named (inr (inl a)) = alone-named a
-  adds-named (inr (inr a)) = both-named a
+  adds-named (inr (inr a)) = many-named a
 
 -- ---- every run
 

@@ -1,16 +1,19 @@
 -- The connections that move in a step, and the step's records with the numbers that they have.
-use Rattle.std.proofs.Common.{◌≡◌, ◌≢◌, ℕ, ◌+◌, List, [], ◌∷◌, ◌++◌, map, length, Ok, refl, ap, ◌∙◌, inl, inr, ⊎_elim}
+use Rattle.std.proofs.Common.{◌≡◌, ◌≢◌, ◌<◌, ℕ, ◌+◌, List, [], ◌∷◌, ◌++◌, map, length, Ok, refl, sym, ap, ◌∙◌, inl, inr, ⊎_elim, append-nil, arith}
 use Rattle.std.specs.Prelude.{◌⊎◌}
+use Rattle.std.specs.List.{flat_map}
 use Rattle.lard_base.specs.declared.event.Event.{Event}
 use Rattle.lard_base.specs.declared.event.Event.TheVariants as event
 use Rattle.lard_base.specs.declared.place.Place.{Place}
+use Rattle.lard_base.specs.declared.place.Place.TheVariants.{Front}
 use Rattle.lard_rules.specs.declared.machine.Machine.{Machine}
 use Rattle.lard_rules.specs.Bounds.{HasRule, IsNumber}
 use Rattle.lard_rules.specs.Machine.{clocked, machine_step, told}
-use Rattle.lard_law_view.specs.View.{Conn, IsViewed, Move, Part, Rules, conn, part_of, setting_of, timer_rows}
+use Rattle.lard_law_view.specs.View.{Conn, IsMachine, IsViewed, Move, Part, Rules, conn, part_of, setting_of, timer_rows}
+use Rattle.lard_law_view.proofs.AnyShape.{IsAct, each-act, two-act}
 use Rattle.lard_law_view.proofs.Heads.{ActsAt}
-use Rattle.lard_law_view.proofs.Saying.{NotedAt, notes-all}
-use Rattle.lard_law_view.proofs.Shapes.{ActsOn, ActsOnTwo, Shapes, both_out, move_of}
+use Rattle.lard_law_view.proofs.Saying.{NotedAt}
+use Rattle.lard_law_view.proofs.Shapes.{ActsOn, ActsOnEach, ActsOnTwo, AreRising, IsMover, Mover, Shapes, both_out, each_out, move_of, mover_move, with_rest}
 use Rattle.lard_law_view.proofs.Stepping.{step-has}
 use Rattle.lard_history.specs.Own.{Row, Seen, seen_on}
 use Rattle.lard_history.proofs.Each.{Each}
@@ -45,34 +48,44 @@ pub record ActsAlone (P : Conn → Move → Type 0) (m : Machine) (e : Event) (a
   pub acts : ActsAt m.net e move.place
   pub are : adds ≡ said_rows (behind e) m.net move.place noted move.said.segments move.said.gave move.said.messages (timer_rows move.place c (part_of m c) move.part)
 
--- Two move, at one place: of each kind of records those of c stand before those of d, and of timers in the order of the numbers.
-pub record ActsBoth (P : Conn → Move → Type 0) (m : Machine) (e : Event) (adds : List Rec) : Type 0 where
+-- one that moves among several
+pub record Moving : Type 0 where
   pub c : ℕ
-  pub d : ℕ
-  pub apart : d ≢ c
-  pub first : Move
-  pub second : Move
-  pub place : second.place ≡ first.place
-  pub moves : Moves P m e c first first.said.notes
-  pub moves_too : Moves P m e d second second.said.notes
-  pub acts : ActsAt m.net e first.place
-  pub timers : List Rec
-  pub order : let cs : List Rec = timer_rows first.place c (part_of m c) first.part in
-      let ds : List Rec = timer_rows second.place d (part_of m d) second.part in (timers ≡ cs ++ ds) ⊎ (timers ≡ ds ++ cs)
-  pub are : adds ≡ said_rows (behind e) m.net first.place (first.said.notes ++ second.said.notes) (first.said.segments ++ second.said.segments) (first.said.gave ++ second.said.gave)
-      (first.said.messages ++ second.said.messages) timers
+  pub move : Move
+
+-- no two of them are the same
+abbrev pub AreApart : List Moving → Type 0
+AreApart [] = Unit {0}
+AreApart (x ∷ xs) = Each (λ y. y.c ≢ x.c) xs × AreApart xs
+
+-- the records of their timers, one behind another
+abbrev pub timers_in : Machine → List Moving → List Rec
+timers_in m xs = flat_map (λ x. timer_rows x.move.place x.c (part_of m x.c) x.move.part) xs
+
+-- Several move in the step of a machine of the cluster, or none. What it says of them stands kind by kind.
+pub record ActsMany (P : Conn → Move → Type 0) (m : Machine) (e : Event) (adds : List Rec) : Type 0 where
+  pub w : Machine
+  pub place : Place
+  pub machine : IsMachine place
+  pub o : Out
+  pub act : IsAct m w e place o
+  pub moving : List Moving
+  pub apart : AreApart moving
+  pub moves : Each (λ x. IsNumber x.c × P (conn m x.c) x.move) moving
+  pub timers : o.timers ≡ timers_in m moving
+  pub are : adds ≡ said_rows (behind e) m.net place o.notes o.segments o.gave o.messages o.timers
 
 -- what stands behind an event in whose step nothing is done
 abbrev pub IsPassing : Machine → Event → List Rec → Type 0
 IsPassing m (event.Clock ms) adds = adds ≡ rec.Clock (record { 0 = m.now + ms }) ∷ []
 IsPassing m e adds = adds ≡ behind e
 
--- The step adds its event and these records: one connection moves, or two, or none.
+-- The step adds its event and these records: one connection moves, or several, or none.
 pub record IsStepOf (P : Conn → Move → Type 0) (m n : Machine) (e : Event) : Type 0 where
   pub events : n.events ≡ m.events + 1
   pub adds : List Rec
   pub journal : n.journal ≡ m.journal ++ rec.Event (m.events + 1) e ∷ adds
-  pub acts : IsPassing m e adds ⊎ (ActsAlone P m e adds ⊎ ActsBoth P m e adds)
+  pub acts : IsPassing m e adds ⊎ (ActsAlone P m e adds ⊎ ActsMany P m e adds)
 
 module _ (m : Machine) (P : Conn → Move → Type 0) where
   -- the records of an act, as they are told
@@ -98,43 +111,63 @@ module _ (m : Machine) (P : Conn → Move → Type 0) where
     }));
   }
 
-  two-act : (w : Machine) (e : Event) (place : Place) (a b : Out) (rows : List Rec) (c d : ℕ) (heads : List Seen) (p r : Part) → ActsOnTwo m w e place a b rows c d heads p r
-      → P (conn m c) (move_of place heads a.notes a p) → P (conn m d) (move_of place [] b.notes b r) → IsStepOf P m (told w e (behind e) place (both_out a b rows)) e
+  many-act : (w : Machine) (e : Event) (place : Place) (o : Out) (moving : List Moving) → IsMachine place → IsAct m w e place o → AreApart moving → Each (λ x. IsNumber x.c × P (conn m x.c) x.move) moving
+      → o.timers ≡ timers_in m moving → IsStepOf P m (told w e (behind e) place o) e
   unfolding told
-  two-act w e place a b rows c d heads p r act does too = record {
+  many-act w e place o moving machine act apart moves timers = record {
     events = ap (λ i. i + 1) act.put.events;
-    adds = said_rows (behind e) m.net place (a.notes ++ b.notes) (a.segments ++ b.segments) (a.gave ++ b.gave) (a.messages ++ b.messages) rows;
-    journal = rows-are w e place (both_out a b rows) act.put.net act.put.journal act.put.events;
-    acts = inr (inr (record {
-      c = c;
-      d = d;
-      apart = act.apart;
-      first = move_of place heads a.notes a p;
-      second = move_of place [] b.notes b r;
-      place = refl;
-      moves = record {
-        number = act.number;
-        does = does;
-        event = act.begins.event;
-        came = act.begins.came;
-        notes = act.said.notes;
-        seen = λ net. notes-all place c net a.notes act.names act.said.notes;
-      };
-      moves_too = record { number = act.number_too; does = too; event = tt; came = tt; notes = act.said_too.notes; seen = λ net. notes-all place d net b.notes act.names act.said_too.notes };
-      acts = act.begins.acts;
-      timers = rows;
-      order = ordered act.order act.timers act.timers_too;
-      are = refl;
-    }));
-  } where
-    ordered : {as_c as_d cs ds : List Rec} → (rows ≡ as_c ++ as_d) ⊎ (rows ≡ as_d ++ as_c) → as_c ≡ cs → as_d ≡ ds → (rows ≡ cs ++ ds) ⊎ (rows ≡ ds ++ cs)
-    ordered order ec ed = ⊎_elim (λ e. inl (e ∙ (λ i. ec i ++ ed i))) (λ e. inr (e ∙ (λ i. ed i ++ ec i))) order
+    adds = said_rows (behind e) m.net place o.notes o.segments o.gave o.messages o.timers;
+    journal = rows-are w e place o act.put.net act.put.journal act.put.events;
+    acts = inr (inr (record { w = w; place = place; machine = machine; o = o; act = act; moving = moving; apart = apart; moves = moves; timers = timers; are = refl }));
+  }
+
+  two-move : (w : Machine) (e : Event) (a b z : Out) (rows : List Rec) (c d : ℕ) (heads : List Seen) (ns : List Rec) (p r : Part) → ActsOnTwo m w e a b z rows c d heads ns p r
+      → P (conn m c) (move_of Front heads ns (with_rest a z) p) → P (conn m d) (move_of Front [] b.notes b r) → IsStepOf P m (told w e (behind e) Front (both_out a b z rows)) e
+  two-move w e a b z rows c d heads ns p r act does too =
+      let x : Moving = record { c = c; move = move_of Front heads ns (with_rest a z) p } in
+      let y : Moving = record { c = d; move = move_of Front [] b.notes b r } in
+      let cs : List Rec = timer_rows Front c (part_of m c) p in
+      let ds : List Rec = timer_rows Front d (part_of m d) r in
+      let acts : IsAct m w e Front (both_out a b z rows) = two-act m w e a b z rows c d heads ns p r act in
+      ⊎_elim
+      (λ (order : rows ≡ a.timers ++ b.timers). many-act w e Front (both_out a b z rows) (x ∷ y ∷ []) tt acts ((act.apart, tt), (tt, tt)) ((act.number, does), ((act.number_too, too), tt))
+      (order ∙ (λ i. act.timers i ++ act.timers_too i) ∙ ap (λ (rs : List Rec). cs ++ rs) (sym (append-nil ds))))
+      (λ (order : rows ≡ b.timers ++ a.timers). many-act w e Front (both_out a b z rows) (y ∷ x ∷ []) tt acts (((λ same. act.apart (sym same)), tt), (tt, tt)) ((act.number_too, too), ((act.number, does), tt))
+      (order ∙ (λ i. act.timers_too i ++ act.timers i) ∙ ap (λ (rs : List Rec). ds ++ rs) (sym (append-nil cs))))
+      act.order
+
+  -- each of many
+  abbrev moving_of : Place → Mover → Moving
+  moving_of place x = record { c = x.c; move = mover_move place x }
+
+  apart-behind : (place : Place) (c : ℕ) (xs : List Mover) → Each (λ y. c < y.c) xs → Each (λ y. y.c ≢ c) (map (moving_of place) xs)
+  apart-behind place c [] h = tt
+  apart-behind place c (y ∷ xs) h = ((λ same. omega (arith, h.0, same)), apart-behind place c xs h.1)
+
+  rising-apart : (place : Place) (xs : List Mover) → AreRising xs → AreApart (map (moving_of place) xs)
+  rising-apart place [] h = tt
+  rising-apart place (x ∷ xs) h = (apart-behind place x.c xs h.0, rising-apart place xs h.1)
+
+  movers-move : (w : Machine) (place : Place) (xs : List Mover) → Each (IsMover m w place) xs → Each (λ x. P (conn m x.c) (mover_move place x)) xs
+      → Each (λ x. IsNumber x.c × P (conn m x.c) x.move) (map (moving_of place) xs)
+  movers-move w place [] h made = tt
+  movers-move w place (x ∷ xs) h made = ((h.0.number, made.0), movers-move w place xs h.1 made.1)
+
+  movers-timers : (w : Machine) (place : Place) (xs : List Mover) → Each (IsMover m w place) xs → flat_map (λ x. x.timers) xs ≡ timers_in m (map (moving_of place) xs)
+  movers-timers w place [] h = refl
+  movers-timers w place (x ∷ xs) h = λ i. h.0.timers i ++ movers-timers w place xs h.1 i
+
+  each-move : (w : Machine) (e : Event) (place : Place) (notes : List Rec) (xs : List Mover) → ActsOnEach m w e place notes xs → Each (λ x. P (conn m x.c) (mover_move place x)) xs
+      → IsStepOf P m (told w e (behind e) place (each_out notes xs)) e
+  each-move w e place notes xs act made = many-act w e place (each_out notes xs) (map (moving_of place) xs) act.machine (each-act m w e place notes xs act) (rising-apart place xs act.rising)
+      (movers-move w place xs act.movers made) (movers-timers w place xs act.movers)
 
   shapes-act : Shapes m P (λ e n. IsStepOf P m n e)
   unfolding clocked
   shapes-act = record {
     one = one-acts;
-    two = two-act;
+    two = two-move;
+    each = each-move;
     nobody = λ k l at there. record { events = refl; adds = behind (event.Deliver k); journal = refl; acts = inl refl };
     loses = λ k l at there. record { events = refl; adds = behind (event.Lose k); journal = refl; acts = inl refl };
     clocks = λ ms. record { events = refl; adds = rec.Clock (record { 0 = m.now + ms }) ∷ []; journal = refl; acts = inl refl };

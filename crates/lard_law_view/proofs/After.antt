@@ -1,7 +1,6 @@
 -- What a step makes of the journal, of no one connection: it begins by its event and no other, and what the journal tells of
 -- packets goes on as the network does.
-use Rattle.std.proofs.Common.{◌≡◌, ℕ, ◌+◌, ◌-◌, List, [], ◌∷◌, ◌++◌, length, false, Ok, refl, sym, ap, ◌∙◌, subst, ⊎_elim, true, not, ◌&&◌, arith, append_assoc}
-use Rattle.std.specs.Prelude.{◌⊎◌}
+use Rattle.std.proofs.Common.{◌≡◌, ℕ, ◌+◌, ◌-◌, List, [], ◌∷◌, ◌++◌, length, false, Ok, refl, sym, ap, ◌∙◌, true, not, ◌&&◌, append_assoc}
 use Rattle.std.proofs.lemmas.List.Sums.{fold-append}
 use Rattle.std.specs.List.{fold, list_all}
 use Rattle.lard_base.specs.declared.event.Event.{Event}
@@ -11,13 +10,11 @@ use Rattle.lard_base.specs.declared.place.Place.TheVariants.{Front, Node}
 use Rattle.lard_rules.specs.declared.machine.Machine.{Machine}
 use Rattle.lard_rules.specs.Bounds.{HasRule}
 use Rattle.lard_rules.specs.Machine.{clocked, machine_step, node_at, passed, segments_sent, told, told_rows}
-use Rattle.lard_law_view.specs.View.{IsViewed, Part, part_of, setting_of, timer_rows}
-use Rattle.lard_law_view.proofs.Fine.{IsFine, fine}
-use Rattle.lard_law_view.proofs.Saying.{GaveAt, IsStill, NotedAt, gave-still, note-still}
-use Rattle.lard_law_view.proofs.Shapes.{HasJobs, IsPut, Shapes, both_out}
-use Rattle.lard_law_view.proofs.Stepping.{step-has}
-use Rattle.lard_law_view.proofs.Timers.{IsTimerAt, timer-still, timer_rows-are}
-use Rattle.lard_law_view.proofs.Turned.{IsSaid}
+use Rattle.lard_law_view.specs.View.{IsViewed}
+use Rattle.lard_law_view.proofs.AnyShape.{AnyShape, IsAct, SomeGift, SomeNote, SomeTimer, step-any}
+use Rattle.lard_law_view.proofs.Saying.{GaveAt, IsStill, gave-still, note-still}
+use Rattle.lard_law_view.proofs.Shapes.{HasJobs, IsPut}
+use Rattle.lard_law_view.proofs.Timers.{IsTimerAt, timer-still}
 use Rattle.lard_history.specs.Journal.{answered_step}
 use Rattle.lard_history.specs.Laws.{IsStep, is_own}
 use Rattle.lard_history.specs.Own.{net_of, net_step}
@@ -92,42 +89,20 @@ timer-quiet place c (rec.Armed p d kind) h = (λ n. refl, refl)
 timer-quiet place c (rec.Cleared p d kind) h = (λ n. refl, refl)
 timer-quiet place c _ h = absurd h
 
--- ---- what an act says, of one connection or of two
+-- ---- what an act says
 
--- Its notes, gifts and timers begin no step and tell of no packet; the notes count its responses.
-pub record IsStillOut (o : Out) : Type 0 where
-  pub notes : AreStill o.notes
-  pub gave : Each (λ r. IsStill r × IsQuiet r) o.gave
-  pub timers : Each (λ r. IsStill r × IsQuiet r) o.timers
-  pub counted : (n : ℕ) → fold answered_step n o.notes ≡ n + o.answered
+-- Its notes, gifts and timers begin no step and tell of no packet, and the last two count no response.
+record IsStillOut (o : Out) : Type 0 where
+  notes : AreStill o.notes
+  gave : Each (λ r. IsStill r × IsQuiet r) o.gave
+  timers : Each (λ r. IsStill r × IsQuiet r) o.timers
 
-timers-still : (place : Place) (c : ℕ) (p q : Part) (rs : List Rec) → rs ≡ timer_rows place c p q → Each (λ r. IsStill r × IsQuiet r) rs
-timers-still place c p q rs e = subst (Each (λ r. IsStill r × IsQuiet r)) (sym e)
-    (Each-weaker (IsTimerAt place c) (λ r. IsStill r × IsQuiet r) (λ r h. (timer-still place c r h, timer-quiet place c r h)) (timer_rows place c p q) (timer_rows-are place c p q))
-
-said-still : (place : Place) (c : ℕ) (o : Out) (answered : ℕ) → answered ≡ o.answered → IsSaid place c o.notes o.segments o.gave o.messages answered
-    → Each (λ r. IsStill r × IsQuiet r) o.timers → IsStillOut o
-said-still place c o answered same said timers = record {
-  notes = Each-weaker (NotedAt place c) IsStill (note-still place c) o.notes said.notes;
-  gave = Each-weaker (GaveAt place c) (λ r. IsStill r × IsQuiet r) (λ r h. (gave-still place c r h, gave-quiet place c r h)) o.gave said.gave;
-  timers = timers;
-  counted = λ n. said.counted n ∙ ap (λ k. n + k) same;
+act-still : (m w : Machine) (e : Event) (place : Place) (o : Out) → IsAct m w e place o → IsStillOut o
+act-still m w e place o act = record {
+  notes = Each-weaker (SomeNote place) IsStill (λ r h. note-still place h.0 r h.2) o.notes act.notes;
+  gave = Each-weaker (SomeGift place) (λ r. IsStill r × IsQuiet r) (λ r h. (gave-still place h.0 r h.1, gave-quiet place h.0 r h.1)) o.gave act.gave;
+  timers = Each-weaker (SomeTimer place) (λ r. IsStill r × IsQuiet r) (λ r h. (timer-still place h.0 r h.1, timer-quiet place h.0 r h.1)) o.timers act.timers;
 }
-
-both-still : (a b : Out) (rows : List Rec) → IsStillOut a → IsStillOut (record b { answered = 0 }) → (rows ≡ a.timers ++ b.timers) ⊎ (rows ≡ b.timers ++ a.timers) → IsStillOut (both_out a b rows)
-both-still a b rows h k order =
-    let Both : Rec → Type 0 = λ r. IsStill r × IsQuiet r in record {
-      notes = Each-append IsStill a.notes b.notes h.notes k.notes;
-      gave = Each-append Both a.gave b.gave h.gave k.gave;
-      timers = ⊎_elim
-          (λ (e : rows ≡ a.timers ++ b.timers). subst (Each Both) (sym e) (Each-append Both a.timers b.timers h.timers k.timers))
-          (λ (e : rows ≡ b.timers ++ a.timers). subst (Each Both) (sym e) (Each-append Both b.timers a.timers k.timers h.timers))
-          order;
-      counted = λ n.
-          let all : fold answered_step n (a.notes ++ b.notes) ≡ (n + a.answered) + 0 =
-          fold-append answered_step n a.notes b.notes ∙ ap (λ j. fold answered_step j b.notes) (h.counted n) ∙ k.counted (n + a.answered) in
-          all ∙ omega arith;
-    }
 
 -- the event and its own records stand before all others
 own_first : (r : Rec) (own rest notes S G M T : List Rec) → notes ≡ own ++ rest
@@ -142,9 +117,12 @@ own_first r own rest notes S G M T e =
 -- ---- a step
 
 module _ (m : Machine) (known : net_of m.journal ≡ m.net) where
-  told-after : (w : Machine) (e : Event) (place : Place) (o : Out) → IsPut m w → AreStill (behind e) → ((n : ℕ) → fold answered_step n (behind e) ≡ n) → HasOwn e (behind e ++ o.notes) → IsStillOut o → IsAfter m e (told w e (behind e) place o)
+  told-after : (w : Machine) (e : Event) (place : Place) (o : Out) → IsAct m w e place o → IsAfter m e (told w e (behind e) place o)
   unfolding told
-  told-after w e place o put first uncounted has still =
+  told-after w e place o act =
+      let put : IsPut m w = act.put in
+      let has : HasOwn e (behind e ++ o.notes) = act.first in
+      let still : IsStillOut o = act-still m w e place o act in
       let inside : Rec → Type 0 = λ r. is_opening r ≡ false in
       let Both : Rec → Type 0 = λ r. IsStill r × IsQuiet r in
       let gave_still : AreStill o.gave = Each-weaker Both IsStill (λ r h. h.0) o.gave still.gave in
@@ -154,7 +132,7 @@ module _ (m : Machine) (known : net_of m.journal ≡ m.net) where
       let A : List Rec = rec.Event (w.events + 1) e ∷ behind e in
       let S : List Rec = sent_records (length w.net + 1) place o.segments in
       let M : List Rec = sent_records (length (segments_sent w place o) + 1) place o.messages in
-      let to_notes : fold net_step m.net (A ++ o.notes) ≡ m.net = fold-append net_step m.net A o.notes ∙ ap (λ n. fold net_step n o.notes) (still-net m.net (behind e) first) ∙ still-net m.net o.notes still.notes in
+      let to_notes : fold net_step m.net (A ++ o.notes) ≡ m.net = fold-append net_step m.net A o.notes ∙ ap (λ n. fold net_step n o.notes) (still-net m.net (behind e) act.still) ∙ still-net m.net o.notes still.notes in
       let to_segments : fold net_step m.net (A ++ o.notes ++ S) ≡ m.net ++ packets_of place o.segments =
       fold-append net_step m.net (A ++ o.notes) S ∙ ap (λ n. fold net_step n S) to_notes ∙ sents-net m.net (length w.net + 1) place o.segments in
       let between : List Packet = m.net ++ packets_of place o.segments in
@@ -171,7 +149,7 @@ module _ (m : Machine) (known : net_of m.journal ≡ m.net) where
               (Each-append inside (behind e ++ o.notes ++ S ++ o.gave) M
               (Each-append inside (behind e ++ o.notes ++ S) o.gave
               (Each-append inside (behind e ++ o.notes) S
-              (Each-append inside (behind e) o.notes (still-inside (behind e) first) (still-inside o.notes still.notes))
+              (Each-append inside (behind e) o.notes (still-inside (behind e) act.still) (still-inside o.notes still.notes))
               (sents-inside (length w.net + 1) place o.segments))
               (still-inside o.gave gave_still))
               (sents-inside (length (segments_sent w place o) + 1) place o.messages))
@@ -201,8 +179,8 @@ module _ (m : Machine) (known : net_of m.journal ≡ m.net) where
             ∙ fold-append answered_step m.answered (A ++ o.notes) S
             ∙ quiet-count (fold answered_step m.answered (A ++ o.notes)) S (sents-quiet (length w.net + 1) place o.segments)
             ∙ fold-append answered_step m.answered A o.notes
-            ∙ ap (λ n. fold answered_step n o.notes) (uncounted m.answered)
-            ∙ still.counted m.answered
+            ∙ ap (λ n. fold answered_step n o.notes) (act.uncounted m.answered)
+            ∙ act.counted m.answered
             ∙ ap (λ n. n + o.answered) (sym put.answered);
         told =
             fold-append net_step [] w.journal (told_rows w e (behind e) place o)
@@ -232,14 +210,10 @@ module _ (m : Machine) (known : net_of m.journal ≡ m.net) where
     jobs = λ h n s at. h n s (ap (λ ns. node_at ns n) (sym nodes) ∙ at);
   }
 
-  shapes-after : Shapes m IsFine (λ e n. IsAfter m e n)
+  after-any : AnyShape m (λ e n. IsAfter m e n)
   unfolding clocked
-  shapes-after = record {
-    one = λ w e place o c heads ns p act does. told-after w e place o act.put act.begins.still act.begins.uncounted act.first
-        (said-still place c o o.answered refl act.said (timers-still place c (part_of m c) p o.timers act.timers));
-    two = λ w e place a b rows c d heads p r act does too. told-after w e place (both_out a b rows) act.put act.begins.still act.begins.uncounted act.first
-        (both-still a b rows (said-still place c a a.answered refl act.said (timers-still place c (part_of m c) p a.timers act.timers))
-        (said-still place d (record b { answered = 0 }) 0 refl act.said_too (timers-still place d (part_of m d) r b.timers act.timers_too)) act.order);
+  after-any = record {
+    acts = told-after;
     nobody = λ k l at there. passed-after m (event.Deliver k) (rec.Got k) refl refl refl (own-alone (event.Deliver k) (rec.Got k ∷ []) refl) (λ n. refl) refl refl refl refl refl;
     loses = λ k l at there. passed-after (record m { net = lose_at (k - 1) m.net }) (event.Lose k) (rec.Lost k) refl refl refl (own-alone (event.Lose k) (rec.Lost k ∷ []) refl) (λ n. refl) refl refl refl refl refl;
     clocks = λ ms. passed-after (record m { now = m.now + ms }) (event.Clock ms) (rec.Clock (record { 0 = m.now + ms })) refl refl refl
@@ -247,4 +221,4 @@ module _ (m : Machine) (known : net_of m.journal ≡ m.net) where
   }
 
 pub step-after : (m : Machine) → IsViewed m → (e : Event) (n : Machine) → HasRule e → machine_step m e ≡ Ok n → IsAfter m e n
-step-after m view e n rule is = step-has m view IsFine (fine (setting_of m)) (λ d k. IsAfter m d k) (shapes-after m view.told) e n rule is
+step-after m view e n rule is = step-any m view (λ d k. IsAfter m d k) (after-any m view.told) e n rule is

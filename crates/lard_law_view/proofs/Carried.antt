@@ -1,5 +1,5 @@
 -- A law of one connection is a law of each connection in every state that events lead to.
-use Rattle.std.proofs.Common.{◌≡◌, ℕ, List, [], ◌∷◌, ◌++◌, Some, None, Ok, refl, sym, ap, ◌∙◌, subst, inr, ⊎_elim}
+use Rattle.std.proofs.Common.{◌≡◌, ℕ, List, [], ◌∷◌, ◌++◌, Some, None, Ok, refl, sym, ap, ◌∙◌, subst, inl, inr, ⊎_elim}
 use Rattle.lard_base.specs.declared.config.Config.{Config}
 use Rattle.lard_base.specs.declared.event.Event.{Event}
 use Rattle.lard_rules.specs.declared.machine.Machine.{Machine}
@@ -11,15 +11,17 @@ use Rattle.lard_law_view.specs.View.{AreNumbered, Conn, Goes, IsSound, IsViewed,
 use Rattle.lard_law_view.proofs.After.{IsAfter, step-after}
 use Rattle.lard_law_view.proofs.Fine.{IsFine, fine}
 use Rattle.lard_law_view.proofs.Runs.{length-replicated, of-nodes, passes-keep, passes-more, start-blank}
-use Rattle.lard_law_view.proofs.Stepping.{step-has}
-use Rattle.lard_law_view.proofs.Steps.{To, shapes-go}
+use Rattle.lard_law_view.proofs.Steps.{IsShown, step_comes}
 use Rattle.lard_files.specs.Files.{file_at}
 use Rattle.lard_rules.specs.declared.node.NodeState.{NodeState}
 use Rattle.lard_rules.specs.NodePlace.{no_stays}
 
 -- each connection stays, or makes one move of one rule
 pub step_moves : StepsMove
-step_moves m n e P view R rule is = step-has m view P R (λ d k. To m view P R k) (shapes-go m view P R) e n rule is
+step_moves m n e P view R rule is q = ⊎_elim
+    (λ (same : conn n q ≡ conn m q). inl same)
+    (λ (k : (v : Move) × (IsShown m e (conn m q) v × P (conn m q) v) × (conn n q ≡ grown (conn m q) v)). inr (k.0, (k.1.0.number, k.1.1), k.2))
+    (step_comes m n e P view R rule is q)
 
 -- ---- what the view rests on
 

@@ -1,19 +1,21 @@
 -- Where a connection ended at its node, the front end acts on it, and on the head of the line as well where that is admitted.
-use Rattle.std.proofs.Common.{◌≡◌, ◌≢◌, ℕ, nat_lt, Bool, true, false, cond, List, ◌++◌, Option, Some, None, refl, sym, ap, ◌∙◌, inl, inr}
+use Rattle.std.proofs.Common.{◌≡◌, ◌≢◌, ℕ, ◌+◌, nat_lt, Bool, true, false, cond, List, [], ◌++◌, Option, Some, None, refl, sym, ap, ◌∙◌, subst, inl, inr, append-nil, arith}
 use Rattle.std.specs.Prelude.{◌⊎◌}
 use Rattle.lard_base.specs.declared.event.Event.{Event}
 use Rattle.lard_base.specs.declared.place.Place.TheVariants.{Front}
 use Rattle.lard_rules.specs.declared.machine.Machine.{Machine}
 use Rattle.lard_rules.specs.Bounds.{IsNumber}
-use Rattle.lard_rules.specs.Machine.{front_gave, front_setting}
+use Rattle.lard_rules.specs.Machine.{front_gave, front_setting, told}
+use Rattle.lard_rules.specs.Outs.{nothing_done}
+use Rattle.lard_rules.specs.declared.places.Out.{Out}
 use Rattle.lard_law_view.specs.View.{Conn, IsViewed, Move, Rules, conn, front_does, part_of, setting_of, timer_rows, with_front}
 use Rattle.lard_law_view.proofs.FrontActs.{front-acts, front-put}
 use Rattle.lard_law_view.proofs.Fronts.{IsAdmission, IsFrontDeed, admitted-turn}
 use Rattle.lard_law_view.proofs.Heads.{Begins}
 use Rattle.lard_law_view.proofs.Numbers.{row-number}
 use Rattle.lard_law_view.proofs.Parts.{front-mine, front-others}
-use Rattle.lard_law_view.proofs.Saying.{notes-other}
-use Rattle.lard_law_view.proofs.Shapes.{Shapes}
+use Rattle.lard_law_view.proofs.Saying.{notes-all, notes-other}
+use Rattle.lard_law_view.proofs.Shapes.{Shapes, both_out, move_of, with_rest}
 use Rattle.lard_law_view.proofs.Turned.{sent-messages}
 use Rattle.lard_endpoint.specs.declared.control.moving.Final.{Final}
 use Rattle.lard_rules.specs.declared.front.FrontState.{FrontState}
@@ -27,7 +29,7 @@ use Rattle.lard_handoff_front.specs.declared.table.OnEnded.{OnEnded}
 use Rattle.lard_handoff_front.specs.declared.table.OnEnded.TheVariants.{New, Again, Stale}
 use Rattle.lard_handoff_front.specs.Front.{end_answer}
 use Rattle.lard_history.specs.Laws.{AreOwn}
-use Rattle.lard_history.specs.Own.{Seen}
+use Rattle.lard_history.specs.Own.{Seen, seen_on}
 use Rattle.lard_journal.specs.declared.rec.Rec.{Rec}
 use Rattle.lard_policy.specs.declared.first.FirstChoice.{FirstChoice}
 use Rattle.lard_law_view.proofs.Firsts.{others_append}
@@ -59,6 +61,31 @@ admitted-row env p choice y e = go p.row refl where
   go : (o : Option FrontRow) → p.row ≡ o → (row : FrontRow) × (p.row ≡ Some row)
   go None is = let no : ◌≡◌ {A = Option (FrontPart × FrontTurn)} None (Some y) = ap (λ (o : Option FrontRow). front_admitted env (record p { row = o }) choice) (sym is) ∙ e in absurd cc
   go (Some row) is = (row, is)
+
+-- ---- nothing of it stands behind the head
+
+plus-none : (n : ℕ) → n + 0 ≡ n
+plus-none n = omega arith
+
+rest-none : (a : Out) → with_rest a nothing_done ≡ a
+rest-none a = λ i. record {
+  notes = append-nil a.notes i;
+  segments = append-nil a.segments i;
+  gave = append-nil a.gave i;
+  messages = append-nil a.messages i;
+  timers = a.timers;
+  answered = plus-none a.answered i;
+}
+
+both-none : (t u : FrontTurn) (rows as_ bs : List Rec) → both_out (out_of t as_) (out_of u bs) nothing_done rows ≡ out_of (joined t u) rows
+both-none t u rows as_ bs = λ i. record {
+  notes = append-nil (t.notes ++ u.notes) i;
+  segments = append-nil (t.segments ++ u.segments) i;
+  gave = append-nil (t.gave ++ u.gave) i;
+  messages = append-nil (t.messages ++ u.messages) i;
+  timers = rows;
+  answered = plus-none t.answered i;
+}
 
 -- ---- the step
 
@@ -95,17 +122,30 @@ module _ (m : Machine) (view : IsViewed m) (P : Conn → Move → Type 0) (R : R
         let ds : List Rec = timers_of d (front_part s d) y.0 in
         let kept = sent-messages (conn m d) Front (front_part m.front d).kept (view.sound d).between (view.sound d).front in
         let admission : IsAdmission d (front_part m.front d) y = admitted-turn env refl its (front_part m.front d) kept choice y now in
-        shapes.two (record m { front = front_put s d y.0 }) e Front (out_of x.turn cs) (out_of y.1 ds) (in_order c d cs ds) c d heads (with_front (part_of m c) x.part) (with_front (part_of m d) y.0)
+        let rows : List Rec = in_order c d cs ds in
+        let a : Out = out_of x.turn cs in
+        let w : Machine = record m { front = front_put s d y.0 } in
+        subst (λ (o : Out). Q e (told w e (behind e) Front o)) (both-none x.turn y.1 rows cs ds)
+        (shapes.two w e a (out_of y.1 ds) nothing_done rows c d heads x.turn.notes (with_front (part_of m c) x.part) (with_front (part_of m d) y.0)
         (record {
           put = front-put m (front_put s d y.0);
           number = number;
           number_too = its;
           apart = n;
           begins = begins;
-          names = tt;
-          first = (behind e, x.turn.notes ++ y.1.notes, refl, own, others_append x.turn.notes y.1.notes (notes-other Front c x.turn.notes tt of.0.notes) (notes-other Front d y.1.notes tt admission.0.notes));
+          first = (
+            behind e,
+            x.turn.notes ++ y.1.notes ++ [],
+            refl,
+            own,
+            others_append (x.turn.notes ++ y.1.notes) [] (others_append x.turn.notes y.1.notes (notes-other Front c x.turn.notes tt of.0.notes) (notes-other Front d y.1.notes tt admission.0.notes)) refl,
+          );
           said = of.0;
           said_too = admission.0;
+          said_rest = record { notes = tt; segments = tt; gave = tt; messages = tt; counted = λ n. omega arith };
+          reads_on = tt;
+          notes = λ net. ap (seen_on c net) (append-nil x.turn.notes) ∙ notes-all Front c net x.turn.notes tt of.0.notes;
+          notes_too = λ net. notes-all Front d net y.1.notes tt admission.0.notes;
           order = ordered (nat_lt d c) ds;
           timers = refl;
           timers_too = ap (λ (p : FrontPart). timers_of d p y.0) before;
@@ -113,7 +153,8 @@ module _ (m : Machine) (view : IsViewed m) (P : Conn → Move → Type 0) (R : R
           mine_too = front-mine m (front_put s d y.0) d y.0 (part_put s d y.0);
           others = λ q not_c not_d. front-others m (front_put s d y.0) q (part_other s d q y.0 not_d ∙ part_other m.front c q x.part not_c);
         })
-        does (R.untouched.front.admitted (conn m d) env choice y (record { place = refl; number = refl; files = refl; stream = refl }) now) where
+        (subst (λ (o : Out). P (conn m c) (move_of Front heads x.turn.notes o (with_front (part_of m c) x.part))) (sym (rest-none a)) does)
+        (R.untouched.front.admitted (conn m d) env choice y (record { place = refl; number = refl; files = refl; stream = refl }) now)) where
           ordered : (b : Bool) (ds : List Rec) → (cond b (ds ++ cs) (cs ++ ds) ≡ cs ++ ds) ⊎ (cond b (ds ++ cs) (cs ++ ds) ≡ ds ++ cs)
           ordered true ds = inr refl
           ordered false ds = inl refl

@@ -82,6 +82,7 @@ pub mod Hearing
 pub mod Stepping
 pub mod Firing
 pub mod Fine
+pub mod AnyShape
 pub mod After
 pub mod Runs
 pub mod Carried

@@ -22,7 +22,8 @@ use Rattle.lard_counts.specs.Stores.{jobs}
 use Rattle.lard_law_connections.proofs.PolicyCalm.{first_rows, last_rows, told-journal}
 use Rattle.lard_law_connections.proofs.StoresStored.{jobs-told}
 use Rattle.lard_law_view.specs.View.{IsViewed, Move, Part, conn, part_of, sending, setting_of, timer_rows}
-use Rattle.lard_law_view.proofs.Acts.{ActsAlone, ActsBoth, IsPassing, IsStepOf, Moves, said_rows, step_acts}
+use Rattle.lard_law_view.proofs.AnyShape.{SomeGift, SomeNote, SomeTimer}
+use Rattle.lard_law_view.proofs.Acts.{ActsAlone, ActsMany, IsPassing, IsStepOf, Moves, said_rows, step_acts}
 use Rattle.lard_law_view.proofs.Fine.{IsFine, IsItsOwn, fine}
 use Rattle.lard_law_view.proofs.Heads.{ActsAt}
 use Rattle.lard_law_view.proofs.Parts.{node-set}
@@ -253,29 +254,21 @@ module _ (config : Config) (files : List (List ℕ × List ℕ)) (m n : Machine)
         (behind-unsent e) (notes-unsent a.move.place a.c a.noted a.moves.notes) (gifts-unsent a.move.place a.c a.move.said.gave own_is.gave) (timers-unsent a.move.place a.c (part_of m a.c) a.move.part)
         ∙ (λ i. else-asks j d a.move.place a.move.said.segments quiet i ++ else-asks j d a.move.place a.move.said.messages quiet i)))
 
-    both-told : ActsBoth IsFine m e stepped.adds → AllTold
-    unfolding conn
-    both-told a = by-place a.first.place a.acts (λ quiet. rest-none _ a.are (λ j d.
-        let own_is = own-of a.c a.first a.first.said.notes a.moves in
-        let own_too = own-of a.d a.second a.second.said.notes a.moves_too in
-        let cs : List Rec = timer_rows a.first.place a.c (part_of m a.c) a.first.part in
-        let ds : List Rec = timer_rows a.second.place a.d (part_of m a.d) a.second.part in
-        let hc : Each IsUnsent cs = timers-unsent a.first.place a.c (part_of m a.c) a.first.part in
-        let hd : Each IsUnsent ds = timers-unsent a.second.place a.d (part_of m a.d) a.second.part in
-        acts-sent j d (behind e) m.net a.first.place (a.first.said.notes ++ a.second.said.notes) (a.first.said.segments ++ a.second.said.segments) (a.first.said.gave ++ a.second.said.gave) (a.first.said.messages ++ a.second.said.messages) a.timers
-        (behind-unsent e)
-        (Each-append IsUnsent a.first.said.notes a.second.said.notes (notes-unsent a.first.place a.c a.first.said.notes a.moves.notes) (notes-unsent a.second.place a.d a.second.said.notes a.moves_too.notes))
-        (Each-append IsUnsent a.first.said.gave a.second.said.gave (gifts-unsent a.first.place a.c a.first.said.gave own_is.gave) (gifts-unsent a.second.place a.d a.second.said.gave own_too.gave))
-        (⊎_elim
-        (λ (o : a.timers ≡ cs ++ ds). subst (Each IsUnsent) (sym o) (Each-append IsUnsent cs ds hc hd))
-        (λ (o : a.timers ≡ ds ++ cs). subst (Each IsUnsent) (sym o) (Each-append IsUnsent ds cs hd hc))
-        a.order)
-        ∙ (λ i. else-asks j d a.first.place (a.first.said.segments ++ a.second.said.segments) quiet i ++ else-asks j d a.first.place (a.first.said.messages ++ a.second.said.messages) quiet i)))
+    some-notes : (place : Place) (rs : List Rec) → Each (SomeNote place) rs → Each IsUnsent rs
+    some-notes place rs h = Each-weaker (SomeNote place) IsUnsent (λ r k. note-unsent place k.0 r k.2) rs h
+
+    many-told : ActsMany IsFine m e stepped.adds → AllTold
+    many-told a = by-place a.place a.act.acts (λ quiet. rest-none _ a.are (λ j d.
+        acts-sent j d (behind e) m.net a.place a.o.notes a.o.segments a.o.gave a.o.messages a.o.timers
+        (behind-unsent e) (some-notes a.place a.o.notes a.act.notes)
+        (Each-weaker (SomeGift a.place) IsUnsent (λ r k. gave-unsent a.place k.0 r k.1) a.o.gave a.act.gave)
+        (Each-weaker (SomeTimer a.place) IsUnsent (λ r k. timer-unsent a.place k.0 r k.1) a.o.timers a.act.timers)
+        ∙ (λ i. else-asks j d a.place a.o.segments quiet i ++ else-asks j d a.place a.o.messages quiet i)))
 
     pub step-told : AllTold
     step-told = ⊎_elim
         (λ (p : IsPassing m e stepped.adds). rest-none stepped.adds refl (λ j d. unsent-none j d stepped.adds (passing-none e stepped.adds p)))
-        (λ (h : ActsAlone IsFine m e stepped.adds ⊎ ActsBoth IsFine m e stepped.adds). ⊎_elim alone-told both-told h)
+        (λ (h : ActsAlone IsFine m e stepped.adds ⊎ ActsMany IsFine m e stepped.adds). ⊎_elim alone-told many-told h)
         stepped.acts
 
     -- ---- and jobs stand first
@@ -296,26 +289,13 @@ module _ (config : Config) (files : List (List ℕ × List ℕ)) (m n : Machine)
         rest-first _ a.are (acts-first (behind e) m.net a.move.place a.noted a.move.said.segments a.move.said.gave a.move.said.messages (timer_rows a.move.place a.c (part_of m a.c) a.move.part)
         (behind-unsent e) (notes-unsent a.move.place a.c a.noted a.moves.notes) (gifts-jobs a.move.place a.c a.move.said.gave own_is.gave) (timers-jobs a.move.place a.c (part_of m a.c) a.move.part))
 
-    both-first : ActsBoth IsFine m e stepped.adds → JobsFirst step
-    unfolding conn
-    both-first a =
-        let own_is = own-of a.c a.first a.first.said.notes a.moves in
-        let own_too = own-of a.d a.second a.second.said.notes a.moves_too in
-        let cs : List Rec = timer_rows a.first.place a.c (part_of m a.c) a.first.part in
-        let ds : List Rec = timer_rows a.second.place a.d (part_of m a.d) a.second.part in
-        let hc : NoJobs cs = timers-jobs a.first.place a.c (part_of m a.c) a.first.part in
-        let hd : NoJobs ds = timers-jobs a.second.place a.d (part_of m a.d) a.second.part in
-        rest-first _ a.are (acts-first (behind e) m.net a.first.place (a.first.said.notes ++ a.second.said.notes) (a.first.said.segments ++ a.second.said.segments) (a.first.said.gave ++ a.second.said.gave)
-        (a.first.said.messages ++ a.second.said.messages) a.timers (behind-unsent e)
-        (Each-append IsUnsent a.first.said.notes a.second.said.notes (notes-unsent a.first.place a.c a.first.said.notes a.moves.notes) (notes-unsent a.second.place a.d a.second.said.notes a.moves_too.notes))
-        (no-jobs a.first.said.gave a.second.said.gave (gifts-jobs a.first.place a.c a.first.said.gave own_is.gave) (gifts-jobs a.second.place a.d a.second.said.gave own_too.gave))
-        (⊎_elim
-        (λ (o : a.timers ≡ cs ++ ds). subst NoJobs (sym o) (no-jobs cs ds hc hd))
-        (λ (o : a.timers ≡ ds ++ cs). subst NoJobs (sym o) (no-jobs ds cs hd hc))
-        a.order))
+    many-first : ActsMany IsFine m e stepped.adds → JobsFirst step
+    many-first a = rest-first _ a.are (acts-first (behind e) m.net a.place a.o.notes a.o.segments a.o.gave a.o.messages a.o.timers (behind-unsent e) (some-notes a.place a.o.notes a.act.notes)
+        (each-jobs (SomeGift a.place) (λ r k. gave-job a.place k.0 r k.1) a.o.gave a.act.gave)
+        (each-jobs (SomeTimer a.place) (λ r k. timer-job a.place k.0 r k.1) a.o.timers a.act.timers))
 
     pub step-first : JobsFirst step
     step-first = ⊎_elim
         (λ (p : IsPassing m e stepped.adds). rest-first stepped.adds refl (unsent-first stepped.adds (passing-none e stepped.adds p)))
-        (λ (h : ActsAlone IsFine m e stepped.adds ⊎ ActsBoth IsFine m e stepped.adds). ⊎_elim alone-first both-first h)
+        (λ (h : ActsAlone IsFine m e stepped.adds ⊎ ActsMany IsFine m e stepped.adds). ⊎_elim alone-first many-first h)
         stepped.acts

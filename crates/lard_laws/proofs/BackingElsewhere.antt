@@ -1,5 +1,5 @@
 -- A step in which no node acts tells no response of a node, and queues no job.
-use Rattle.std.proofs.Common.{◌≡◌, ℕ, ◌+◌, List, [], ◌∷◌, ◌++◌, length, Ok, refl, sym, ap, ◌∙◌, subst, inl, inr, ⊎_elim}
+use Rattle.std.proofs.Common.{◌≡◌, ℕ, ◌+◌, List, [], ◌∷◌, ◌++◌, length, Ok, refl, ap, ◌∙◌, inl, inr}
 use Rattle.std.specs.Prelude.{◌⊎◌}
 use Rattle.lard_base.specs.declared.event.Event.{Event}
 use Rattle.lard_base.specs.declared.event.Event.TheVariants as event
@@ -10,13 +10,10 @@ use Rattle.lard_rules.specs.Bounds.{HasRule}
 use Rattle.lard_rules.specs.Machine.{clocked, machine_step, passed, segments_sent, told}
 use Rattle.lard_laws.proofs.BackingHitting.{IsStill}
 use Rattle.lard_law_connections.proofs.StoresCalm.{NodeActs, first_rows, last_rows, told-journal}
-use Rattle.lard_law_view.specs.View.{IsViewed, Part, part_of, setting_of, timer_rows}
-use Rattle.lard_law_view.proofs.Fine.{IsFine, fine}
+use Rattle.lard_law_view.specs.View.{IsViewed}
+use Rattle.lard_law_view.proofs.AnyShape.{AnyShape, IsAct, SomeGift, SomeNote, SomeTimer, step-any}
 use Rattle.lard_law_view.proofs.Saying.{GaveAt, NamesAll, NotedAt}
-use Rattle.lard_law_view.proofs.Shapes.{ActsOn, ActsOnTwo, IsPut, Shapes, both_out}
-use Rattle.lard_law_view.proofs.Stepping.{step-has}
-use Rattle.lard_law_view.proofs.Timers.{IsTimerAt, timer_rows-are}
-use Rattle.lard_history.specs.Own.{Seen}
+use Rattle.lard_law_view.proofs.Timers.{IsTimerAt}
 use Rattle.lard_history.proofs.Each.{Each, Each-append, Each-weaker}
 use Rattle.lard_journal.specs.declared.rec.Rec.{Rec}
 use Rattle.lard_journal.specs.declared.rec.Rec.TheVariants as rec
@@ -76,60 +73,36 @@ last-still w place o gave timers =
 
 -- ---- places other than nodes
 
-timers-still : (place : Place) (c : ℕ) (p q : Part) (rs : List Rec) → rs ≡ timer_rows place c p q → Each IsStill rs
-timers-still place c p q rs e = subst (Each IsStill) (sym e) (Each-weaker (IsTimerAt place c) IsStill (timer-still place c) (timer_rows place c p q) (timer_rows-are place c p q))
-
-notes-still : (place : Place) (c : ℕ) (rs : List Rec) → NamesAll place → Each (NotedAt place c) rs → Each IsStill rs
-notes-still place c rs names e = Each-weaker (NotedAt place c) IsStill (λ r h. note-still place c r names h) rs e
-
-gifts-still : (place : Place) (c : ℕ) (rs : List Rec) → Each (GaveAt place c) rs → Each IsStill rs
-gifts-still place c rs e = Each-weaker (GaveAt place c) IsStill (gave-still place c) rs e
-
 module _ (m : Machine) where
   pub passed-mild : (e : Event) → IsMild m (passed m e (behind e))
   passed-mild e = (first_rows m e, refl, first-still m e)
 
-  told-mild : (w : Machine) (e : Event) (place : Place) (o : Out) → IsPut m w → Each IsStill o.notes → Each IsStill o.gave → Each IsStill o.timers → IsMild m (told w e (behind e) place o)
-  told-mild w e place o put notes gave timers = (
+  told-mild : (w : Machine) (e : Event) (place : Place) (o : Out) → IsAct m w e place o → NamesAll place → IsMild m (told w e (behind e) place o)
+  told-mild w e place o act names = (
     first_rows w e ++ o.notes ++ last_rows w place o,
-    told-journal w e place o ∙ ap (λ (J : List Rec). J ++ (first_rows w e ++ o.notes ++ last_rows w place o)) put.journal,
-    Each-append IsStill (first_rows w e ++ o.notes) (last_rows w place o) (Each-append IsStill (first_rows w e) o.notes (first-still w e) notes) (last-still w place o gave timers),
+    told-journal w e place o ∙ ap (λ (J : List Rec). J ++ (first_rows w e ++ o.notes ++ last_rows w place o)) act.put.journal,
+    Each-append IsStill (first_rows w e ++ o.notes) (last_rows w place o)
+        (Each-append IsStill (first_rows w e) o.notes (first-still w e) (Each-weaker (SomeNote place) IsStill (λ r h. note-still place h.0 r names h.2) o.notes act.notes))
+        (last-still w place o (Each-weaker (SomeGift place) IsStill (λ r h. gave-still place h.0 r h.1) o.gave act.gave) (Each-weaker (SomeTimer place) IsStill (λ r h. timer-still place h.0 r h.1) o.timers act.timers)),
   )
 
   -- a node acts, or the step is mild
   abbrev IsEither : Event → Machine → Type 0
   IsEither e n = NodeActs m e ⊎ IsMild m n
 
-  one-mild : (w : Machine) (e : Event) (place : Place) (o : Out) (c : ℕ) (heads : List Seen) (ns : List Rec) (p : Part) → ActsOn m w e place o c heads ns p → NamesAll place → IsEither e (told w e (behind e) place o)
-  one-mild w e place o c heads ns p act names =
-      inr (told-mild w e place o act.put (notes-still place c o.notes names act.said.notes) (gifts-still place c o.gave act.said.gave) (timers-still place c (part_of m c) p o.timers act.timers))
+  act-either : (w : Machine) (e : Event) (place : Place) (o : Out) → IsAct m w e place o → IsEither e (told w e (behind e) place o)
+  act-either w e (Node i) o act = inl (i, act.acts)
+  act-either w e Front o act = inr (told-mild w e Front o act tt)
+  act-either w e (Client d) o act = inr (told-mild w e (Client d) o act tt)
 
-  one-either : (w : Machine) (e : Event) (place : Place) (o : Out) (c : ℕ) (heads : List Seen) (ns : List Rec) (p : Part) → ActsOn m w e place o c heads ns p → IsEither e (told w e (behind e) place o)
-  one-either w e (Node i) o c heads ns p act = inl (i, act.begins.acts)
-  one-either w e Front o c heads ns p act = one-mild w e Front o c heads ns p act tt
-  one-either w e (Client d) o c heads ns p act = one-mild w e (Client d) o c heads ns p act tt
-
-  two-mild : (w : Machine) (e : Event) (place : Place) (a b : Out) (rows : List Rec) (c d : ℕ) (heads : List Seen) (p r : Part) → ActsOnTwo m w e place a b rows c d heads p r → IsMild m (told w e (behind e) place (both_out a b rows))
-  two-mild w e place a b rows c d heads p r act =
-      let s : Each IsStill a.timers = timers-still place c (part_of m c) p a.timers act.timers in
-      let t : Each IsStill b.timers = timers-still place d (part_of m d) r b.timers act.timers_too in
-      told-mild w e place (both_out a b rows) act.put
-      (Each-append IsStill a.notes b.notes (notes-still place c a.notes act.names act.said.notes) (notes-still place d b.notes act.names act.said_too.notes))
-      (Each-append IsStill a.gave b.gave (gifts-still place c a.gave act.said.gave) (gifts-still place d b.gave act.said_too.gave))
-      (⊎_elim
-      (λ (is : rows ≡ a.timers ++ b.timers). subst (Each IsStill) (sym is) (Each-append IsStill a.timers b.timers s t))
-      (λ (is : rows ≡ b.timers ++ a.timers). subst (Each IsStill) (sym is) (Each-append IsStill b.timers a.timers t s))
-      act.order)
-
-  shapes-mild : Shapes m IsFine IsEither
+  any-mild : AnyShape m IsEither
   unfolding clocked
-  shapes-mild = record {
-    one = λ w e place o c heads ns p act does. one-either w e place o c heads ns p act;
-    two = λ w e place a b rows c d heads p r act does too. inr (two-mild w e place a b rows c d heads p r act);
+  any-mild = record {
+    acts = act-either;
     nobody = λ k l at there. inr (passed-mild (event.Deliver k));
     loses = λ k l at there. inr (passed-mild (event.Lose k));
     clocks = λ ms. inr (rec.Event (m.events + 1) (event.Clock ms) ∷ rec.Clock (record { 0 = m.now + ms }) ∷ [], refl, ((tt, tt), ((tt, tt), tt)));
   }
 
 pub step-mild : (m : Machine) → IsViewed m → (e : Event) (n : Machine) → HasRule e → machine_step m e ≡ Ok n → NodeActs m e ⊎ IsMild m n
-step-mild m view e n rule is = step-has m view IsFine (fine (setting_of m)) (λ d k. IsEither m d k) (shapes-mild m) e n rule is
+step-mild m view e n rule is = step-any m view (λ d k. IsEither m d k) (any-mild m) e n rule is

@@ -16,7 +16,8 @@ use Rattle.lard_laws.specs.ClientsLaws.{ClientsTakeInOrder}
 use Rattle.lard_laws.proofs.ClientsAsides.{IsOfMachine, note-machine}
 use Rattle.lard_law_view.specs.Carry.{Untouched, setting, tale_at}
 use Rattle.lard_law_view.specs.View.{Conn, GoesBetween, IsMachine, IsSound, IsViewed, Move, Part, Rules, Setting, Was, conn, part_of, timer_rows}
-use Rattle.lard_law_view.proofs.Acts.{ActsAlone, ActsBoth, IsPassing, IsStepOf, Moves, said_rows, step_acts}
+use Rattle.lard_law_view.proofs.AnyShape.{SomeGift, SomeNote, SomeTimer}
+use Rattle.lard_law_view.proofs.Acts.{ActsAlone, ActsMany, IsPassing, IsStepOf, Moves, said_rows, step_acts}
 use Rattle.lard_law_view.proofs.Carried.{IsOn, carried-keep, on-setting}
 use Rattle.lard_law_view.proofs.Fine.{IsFine, fine}
 use Rattle.lard_law_view.proofs.Guarded.{both}
@@ -27,7 +28,7 @@ use Rattle.lard_files.specs.Files.{file_at}
 use Rattle.lard_history.specs.Journal.{request}
 use Rattle.lard_history.specs.Laws.{EachMay}
 use Rattle.lard_history.specs.Own.{Letter, Row}
-use Rattle.lard_history.proofs.Each.{Each, Each-append, Each-weaker, each_append}
+use Rattle.lard_history.proofs.Each.{Each, Each-weaker, each_append}
 use Rattle.lard_journal.specs.declared.rec.Rec.{Rec}
 use Rattle.lard_journal.specs.declared.rec.Rec.TheVariants as rec
 use Rattle.lard_law_view.specs.Agreement.{IsReply}
@@ -36,6 +37,7 @@ use Rattle.lard_law_view.specs.Taking.{MayTake, TakesInOrder}
 use Rattle.lard_law_view.proofs.DeliveredPackets.{all-may, behind-nothing, notes-may, sents-nothing}
 use Rattle.lard_law_view.proofs.Taking.{Knows, TakesNothing, TakesOf, hears, writes-pass}
 use Rattle.lard_rules.specs.Sent.{packets_of, sent_records}
+use Rattle.lard_rules.specs.declared.places.Out.{Out}
 use Rattle.lard_rules.specs.declared.places.Station.{Station}
 use Rattle.lard_segment.specs.declared.segment.Dir.TheVariants.{ToClient}
 use Rattle.lard_segment.specs.Segment.{Said, decoded, spelled}
@@ -144,9 +146,6 @@ rows-same (x ∷ xs) (y ∷ ys) e =
     let later : map Row xs ≡ map Row ys = cc in
     λ i. first i ∷ rows-same xs ys later i
 
-same-number : (c d : ℕ) → Client d ≡ Client c → d ≡ c
-same-number c d e = cc
-
 module _ (files : FilesAt) (m : Machine) (view : IsViewed m) (truthful : (q : ℕ) → Untouched (IsTruthful files) (conn m q)) (e : Event) (adds : List Rec) where
   abbrev P : Conn → Move → Type 0
   P x v = Owed (Takes files) x v × IsFine x v
@@ -195,46 +194,23 @@ module _ (files : FilesAt) (m : Machine) (view : IsViewed m) (truthful : (q : �
       (said-take v.place a.noted v.said.segments v.said.gave v.said.messages (timer_rows v.place a.c (part_of m a.c) v.part) (notes-take a.c v a.noted a.moves) (gave-take a.c v a.noted a.moves)
       (timers-nothing v.place a.c (part_of m a.c) v.part))
 
-  -- two connections move at a machine alone
-  both-machine : (a : ActsBoth P m e adds) → IsMachine a.first.place
-  unfolding conn
-  both-machine a = ⊎_elim
-      (λ (machine : IsMachine a.first.place). machine)
-      (λ (t : (a.first.place ≡ Client a.c) × TakesOf a.c (tale_at (conn m a.c)) a.first.heads a.first.said.notes).
-      ⊎_elim
-      (λ (machine : IsMachine a.second.place). subst IsMachine a.place machine)
-      (λ (u : (a.second.place ≡ Client a.d) × TakesOf a.d (tale_at (conn m a.d)) a.second.heads a.second.said.notes). absurd (a.apart (same-number a.c a.d (sym u.0 ∙ a.place ∙ t.0))))
-      (a.moves_too.does.0 a.moves_too.number (view.sound a.d) (truthful a.d)))
-      (a.moves.does.0 a.moves.number (view.sound a.c) (truthful a.c))
-
-  both-take : ActsBoth P m e adds → EachMay MayTake m.journal (rec.Event (m.events + 1) e ∷ adds)
-  both-take a =
-      let v : Move = a.first in
-      let w : Move = a.second in
-      let machine : IsMachine v.place = both-machine a in
-      let cs : List Rec = timer_rows v.place a.c (part_of m a.c) v.part in
-      let ds : List Rec = timer_rows w.place a.d (part_of m a.d) w.part in
-      let c_none = timers-nothing v.place a.c (part_of m a.c) v.part in
-      let d_none = timers-nothing w.place a.d (part_of m a.d) w.part in
-      let timers : Each TakesNothing a.timers = ⊎_elim
-      (λ (o : a.timers ≡ cs ++ ds). subst (Each TakesNothing) (sym o) (Each-append TakesNothing cs ds c_none d_none))
-      (λ (o : a.timers ≡ ds ++ cs). subst (Each TakesNothing) (sym o) (Each-append TakesNothing ds cs d_none c_none))
-      a.order in
+  -- several move at a machine of the cluster alone
+  many-take : ActsMany P m e adds → EachMay MayTake m.journal (rec.Event (m.events + 1) e ∷ adds)
+  many-take a =
+      let o : Out = a.o in
+      let notes : Each TakesNothing o.notes = Each-weaker (SomeNote a.place) TakesNothing (λ r h. machine-nothing r (note-machine a.place h.0 r a.machine h.2)) o.notes a.act.notes in
       subst (λ (rs : List Rec). EachMay MayTake m.journal (rec.Event (m.events + 1) e ∷ rs)) (sym a.are)
-      (said-take v.place (v.said.notes ++ w.said.notes) (v.said.segments ++ w.said.segments) (v.said.gave ++ w.said.gave) (v.said.messages ++ w.said.messages) a.timers
-      (all-may (m.journal ++ begun) (v.said.notes ++ w.said.notes)
-      (Each-append TakesNothing v.said.notes w.said.notes (notes-nothing v.place a.c v.said.notes machine a.moves.notes)
-      (notes-nothing w.place a.d w.said.notes (subst IsMachine (sym a.place) machine) a.moves_too.notes)))
-      (Each-append TakesNothing v.said.gave w.said.gave (gave-take a.c v v.said.notes a.moves) (gave-take a.d w w.said.notes a.moves_too))
-      timers)
+      (said-take a.place o.notes o.segments o.gave o.messages o.timers (all-may (m.journal ++ begun) o.notes notes)
+      (Each-weaker (SomeGift a.place) TakesNothing (λ r h. gave-nothing a.place h.0 r h.1) o.gave a.act.gave)
+      (Each-weaker (SomeTimer a.place) TakesNothing (λ r h. timer-nothing a.place h.0 r h.1) o.timers a.act.timers))
 
-  step-takes : IsPassing m e adds ⊎ (ActsAlone P m e adds ⊎ ActsBoth P m e adds) → EachMay MayTake m.journal (rec.Event (m.events + 1) e ∷ adds)
+  step-takes : IsPassing m e adds ⊎ (ActsAlone P m e adds ⊎ ActsMany P m e adds) → EachMay MayTake m.journal (rec.Event (m.events + 1) e ∷ adds)
   step-takes (inl passing) = all-may m.journal (rec.Event (m.events + 1) e ∷ adds) (tt, passing-nothing e adds passing) where
     passing-nothing : (d : Event) (rs : List Rec) → IsPassing m d rs → Each TakesNothing rs
     passing-nothing (event.Clock ms) rs h = subst (Each TakesNothing) (sym h) (tt, tt)
     passing-nothing d rs h = subst (Each TakesNothing) (sym h) (behind-nothing d)
   step-takes (inr (inl a)) = alone-takes a
-  step-takes (inr (inr a)) = both-take a
+  step-takes (inr (inr a)) = many-take a
 
 -- ---- every run
 

@@ -17,13 +17,10 @@ use Rattle.lard_rules.specs.declared.fault.StepFault.TheVariants.{Refused}
 use Rattle.lard_rules.specs.declared.machine.Machine.{Machine}
 use Rattle.lard_rules.specs.Machine.{clocked, completes, delivered, disk_at, happens, is_no_node, limit_reached, machine_step, node_acts, node_at, segments_sent, timer, timer_at, to_place, told, told_rows, unless_limit}
 use Rattle.lard_laws.specs.RecordsMessages.{MayBeThere, OnlyNodesThatAreThereAct}
-use Rattle.lard_laws.proofs.StepsPlaces.{AreHere, all-six, behind-here, both-here, here-at, said-here}
-use Rattle.lard_law_view.specs.View.{part_of, setting_of}
+use Rattle.lard_laws.proofs.StepsPlaces.{AreHere, act-here, all-six, behind-here, here-at}
+use Rattle.lard_law_view.proofs.AnyShape.{AnyShape, IsAct, step-any}
 use Rattle.lard_law_view.proofs.Carried.{carried-keep}
-use Rattle.lard_law_view.proofs.Fine.{IsFine, fine}
 use Rattle.lard_law_view.proofs.Heads.{ActsAt}
-use Rattle.lard_law_view.proofs.Shapes.{IsPut, Shapes, both_out}
-use Rattle.lard_law_view.proofs.Stepping.{step-has}
 use Rattle.lard_history.specs.Laws.{EachMay, first_place}
 use Rattle.lard_history.proofs.Acting.{IsAt}
 use Rattle.lard_history.proofs.Each.{Each, each_append}
@@ -83,21 +80,20 @@ record Adds (m n : Machine) (e : Event) : Type 0 where
   are : Each NamesNone rows ⊎ ((p : Place) × ActsAt m.net e p × Each (IsAt p) rows)
 
 module _ (m : Machine) where
-  told-adds : (w : Machine) (e : Event) (place : Place) (o : Out) → IsPut m w → ActsAt m.net e place → AreHere place o → Adds m (told w e (behind e) place o) e
+  told-adds : (w : Machine) (e : Event) (place : Place) (o : Out) → IsAct m w e place o → Adds m (told w e (behind e) place o) e
   unfolding told
-  told-adds w e place o put acts here =
+  told-adds w e place o act =
+      let here : AreHere place o = act-here m w e place o act in
       let S : List Rec = sent_records (length w.net + 1) place o.segments in
       let M : List Rec = sent_records (length (segments_sent w place o) + 1) place o.messages in
       let rest : Each (IsAt place) (behind e ++ o.notes ++ S ++ o.gave ++ M ++ o.timers) = all-six (IsAt place) (behind e) o.notes S o.gave M o.timers (here-at place (behind e) (behind-here place e)) (here-at place o.notes here.notes)
       (sents-at (length w.net + 1) place o.segments) (here-at place o.gave here.gave) (sents-at (length (segments_sent w place o) + 1) place o.messages) (here-at place o.timers here.timers) in
-      record { rows = told_rows w e (behind e) place o; is = ap (λ (J : List Rec). J ++ told_rows w e (behind e) place o) put.journal; are = inr (place, acts, (inl refl, rest)) }
+      record { rows = told_rows w e (behind e) place o; is = ap (λ (J : List Rec). J ++ told_rows w e (behind e) place o) act.put.journal; are = inr (place, act.acts, (inl refl, rest)) }
 
-  shapes-add : Shapes m IsFine (λ e n. Adds m n e)
+  any-add : AnyShape m (λ e n. Adds m n e)
   unfolding clocked
-  shapes-add = record {
-    one = λ w e place o c heads ns p act does. told-adds w e place o act.put act.begins.acts (said-here place c o o.answered (part_of m c) p act.said act.timers);
-    two = λ w e place a b rows c d heads p r act does too. told-adds w e place (both_out a b rows) act.put act.begins.acts
-        (both-here place a b rows (said-here place c a a.answered (part_of m c) p act.said act.timers) (said-here place d b 0 (part_of m d) r act.said_too act.timers_too) act.order);
+  any-add = record {
+    acts = told-adds;
     nobody = λ k q at there. record { rows = rec.Event (m.events + 1) (event.Deliver k) ∷ rec.Got k ∷ []; is = refl; are = inl (refl, (refl, tt)) };
     loses = λ k q at there. record { rows = rec.Event (m.events + 1) (event.Lose k) ∷ rec.Lost k ∷ []; is = refl; are = inl (refl, (refl, tt)) };
     clocks = λ ms. record { rows = rec.Event (m.events + 1) (event.Clock ms) ∷ rec.Clock (record { 0 = m.now + ms }) ∷ []; is = refl; are = inl (refl, (refl, tt)) };
@@ -185,7 +181,7 @@ module _ (m : Machine) where
 pub only-nodes : OnlyNodesThatAreThereAct
 only-nodes config files m r = carried-keep config files (λ k. EachMay (MayBeThere config.nodes) [] k.journal) tt
     (λ k n e on h rule is.
-    let a : Adds k n e = step-has k on.view IsFine (fine (setting_of k)) (λ d i. Adds k i d) (shapes-add k) e n rule is in
+    let a : Adds k n e = step-any k on.view (λ d i. Adds k i d) (any-add k) e n rule is in
     let more = subst (λ (c : Config). EachMay (MayBeThere c.nodes) k.journal a.rows) on.config_is (rows-may k on.view.nodes n e is a) in
     subst (EachMay (MayBeThere config.nodes) []) (sym a.is) (each_append (MayBeThere config.nodes) [] k.journal a.rows h more))
     m r

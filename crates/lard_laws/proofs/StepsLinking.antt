@@ -1,7 +1,6 @@
 -- What the journal tells of packets and of responses goes on as the state does, shape by shape.
-use Rattle.std.proofs.Common.{◌≡◌, ℕ, ◌+◌, ◌-◌, List, [], ◌∷◌, ◌++◌, length, cond, Bool, true, false, Some, None, refl, sym, ap, ◌∙◌, subst, arith, append_assoc, nat_eq, ⊎_elim}
-use Rattle.std.specs.Prelude.{◌⊎◌, slice_get}
-use Rattle.std.proofs.lemmas.List.Sums.{fold-append}
+use Rattle.std.proofs.Common.{◌≡◌, ℕ, ◌+◌, ◌-◌, List, [], ◌∷◌, ◌++◌, length, cond, Bool, true, false, Some, None, refl, sym, ap, ◌∙◌, subst, append_assoc, nat_eq}
+use Rattle.std.specs.Prelude.{slice_get}
 use Rattle.std.specs.List.{fold}
 use Rattle.lard_base.specs.declared.config.Config.{Config}
 use Rattle.lard_base.specs.declared.event.Event.{Event}
@@ -11,18 +10,15 @@ use Rattle.lard_base.specs.declared.place.Place.TheVariants.{Front, Node, Client
 use Rattle.lard_rules.specs.declared.machine.Machine.{Machine}
 use Rattle.lard_rules.specs.Machine.{IsReached, clocked, segments_sent, start, told}
 use Rattle.lard_laws.specs.StepsLaws.{SettingsStay}
-use Rattle.lard_law_view.specs.View.{Part, part_of, setting_of, timer_rows}
 use Rattle.lard_law_view.proofs.After.{IsAfter, step-after}
+use Rattle.lard_law_view.proofs.AnyShape.{AnyShape, IsAct, SomeGift, SomeNote, SomeTimer, step-any}
 use Rattle.lard_law_view.proofs.Carried.{carried-keep}
-use Rattle.lard_law_view.proofs.Fine.{IsFine, fine}
 use Rattle.lard_law_view.proofs.Heads.{ActsAt}
 use Rattle.lard_law_view.proofs.Saying.{GaveAt, NotedAt}
-use Rattle.lard_law_view.proofs.Shapes.{IsPut, Shapes, both_out}
-use Rattle.lard_law_view.proofs.Stepping.{step-has}
-use Rattle.lard_law_view.proofs.Timers.{IsTimerAt, timer_rows-are}
-use Rattle.lard_law_view.proofs.Turned.{IsSaid}
+use Rattle.lard_law_view.proofs.Shapes.{IsPut}
+use Rattle.lard_law_view.proofs.Timers.{IsTimerAt}
 use Rattle.lard_history.specs.Journal.{answered_step}
-use Rattle.lard_history.proofs.Each.{Each, Each-append, Each-weaker}
+use Rattle.lard_history.proofs.Each.{Each, Each-weaker}
 use Rattle.lard_journal.specs.declared.rec.Rec.{Rec}
 use Rattle.lard_journal.specs.declared.rec.Rec.TheVariants as rec
 use Rattle.lard_law_view.specs.ClientTale.{goal_in, lost_in}
@@ -74,38 +70,6 @@ timer-idle p c (rec.Armed q d kind) h = (tt, λ n. refl)
 timer-idle p c (rec.Cleared q d kind) h = (tt, λ n. refl)
 timer-idle p c _ h = absurd h
 
-timers-idle : (place : Place) (c : ℕ) (p q : Part) (rs : List Rec) → rs ≡ timer_rows place c p q → Each IsIdle rs
-timers-idle place c p q rs e = subst (Each IsIdle) (sym e) (Each-weaker (IsTimerAt place c) IsIdle (timer-idle place c) (timer_rows place c p q) (timer_rows-are place c p q))
-
--- What an act says of packets is what it sends, and its notes count its responses.
-record IsPlain (o : Out) : Type 0 where
-  notes : Each IsUncounted o.notes
-  gave : Each IsIdle o.gave
-  timers : Each IsIdle o.timers
-  counted : (n : ℕ) → fold answered_step n o.notes ≡ n + o.answered
-
-said-plain : (place : Place) (c : ℕ) (o : Out) → IsSaid place c o.notes o.segments o.gave o.messages o.answered → Each IsIdle o.timers → IsPlain o
-said-plain place c o said timers = record {
-  notes = Each-weaker (NotedAt place c) IsUncounted (note-uncounted place c) o.notes said.notes;
-  gave = Each-weaker (GaveAt place c) IsIdle (gave-idle place c) o.gave said.gave;
-  timers = timers;
-  counted = said.counted;
-}
-
-both-plain : (a b : Out) (rows : List Rec) → IsPlain a → IsPlain (record b { answered = 0 }) → (rows ≡ a.timers ++ b.timers) ⊎ (rows ≡ b.timers ++ a.timers) → IsPlain (both_out a b rows)
-both-plain a b rows h k order = record {
-  notes = Each-append IsUncounted a.notes b.notes h.notes k.notes;
-  gave = Each-append IsIdle a.gave b.gave h.gave k.gave;
-  timers = ⊎_elim
-      (λ (e : rows ≡ a.timers ++ b.timers). subst (Each IsIdle) (sym e) (Each-append IsIdle a.timers b.timers h.timers k.timers))
-      (λ (e : rows ≡ b.timers ++ a.timers). subst (Each IsIdle) (sym e) (Each-append IsIdle b.timers a.timers k.timers h.timers))
-      order;
-  counted = λ n.
-      let all : fold answered_step n (a.notes ++ b.notes) ≡ (n + a.answered) + 0 =
-      fold-append answered_step n a.notes b.notes ∙ ap (λ j. fold answered_step j b.notes) (h.counted n) ∙ k.counted (n + a.answered) in
-      all ∙ omega arith;
-}
-
 idle-count : (n : ℕ) (rs : List Rec) → Each IsIdle rs → fold answered_step n rs ≡ n
 idle-count n [] e = refl
 idle-count n (r ∷ rs) e = ap (λ k. fold answered_step k rs) (e.0.1 n) ∙ idle-count n rs e.1
@@ -147,33 +111,34 @@ module _ (m : Machine) (l : IsLinked m) where
       subst (λ (J : List Rec). Linked J w.net w.answered) (sym put.journal)
       (subst (λ (ps : List Packet). Linked m.journal ps w.answered) (sym put.net) (subst (λ n. Linked m.journal m.net n) (sym put.answered) l))
 
-  told-linked : (w : Machine) (e : Event) (place : Place) (o : Out) → IsPut m w → ActsAt m.net e place → IsPlain o → IsLinked (told w e (behind e) place o)
+  told-linked : (w : Machine) (e : Event) (place : Place) (o : Out) → IsAct m w e place o → IsLinked (told w e (behind e) place o)
   unfolding told
-  told-linked w e place o put acts plain =
+  told-linked w e place o act =
+      let put : IsPut m w = act.put in
+      let notes : Each IsUncounted o.notes = Each-weaker (SomeNote place) IsUncounted (λ r h. note-uncounted place h.0 r h.2) o.notes act.notes in
+      let gave : Each IsIdle o.gave = Each-weaker (SomeGift place) IsIdle (λ r h. gave-idle place h.0 r h.1) o.gave act.gave in
+      let timers : Each IsIdle o.timers = Each-weaker (SomeTimer place) IsIdle (λ r h. timer-idle place h.0 r h.1) o.timers act.timers in
       let A : List Rec = rec.Event (w.events + 1) e ∷ behind e in
       let net : List Packet = segments_sent w place o in
       let answered : ℕ = w.answered + o.answered in
       let S : List Rec = sent_records (length w.net + 1) place o.segments in
       let M : List Rec = sent_records (length net + 1) place o.messages in
-      let first : Linked (w.journal ++ A) w.net w.answered = begun w.journal w.net w.answered (w.events + 1) e place (subst (λ (ps : List Packet). ActsAt ps e place) (sym put.net) acts) (put-linked w put) in
+      let first : Linked (w.journal ++ A) w.net w.answered = begun w.journal w.net w.answered (w.events + 1) e place (subst (λ (ps : List Packet). ActsAt ps e place) (sym put.net) act.acts) (put-linked w put) in
       let noted : Linked (w.journal ++ A ++ o.notes) w.net answered =
-      subst (λ n. Linked (w.journal ++ A ++ o.notes) w.net n) (plain.counted w.answered) (uncounted-all (w.journal ++ A) o.notes w.net w.answered plain.notes first) in
+      subst (λ n. Linked (w.journal ++ A ++ o.notes) w.net n) (act.counted w.answered) (uncounted-all (w.journal ++ A) o.notes w.net w.answered notes first) in
       let said : Linked (w.journal ++ A ++ o.notes ++ S) net answered = sents (w.journal ++ A ++ o.notes) w.net answered place o.segments noted in
-      let given : Linked (w.journal ++ A ++ o.notes ++ S ++ o.gave) net answered = idles (w.journal ++ A ++ o.notes ++ S) o.gave net answered plain.gave said in
+      let given : Linked (w.journal ++ A ++ o.notes ++ S ++ o.gave) net answered = idles (w.journal ++ A ++ o.notes ++ S) o.gave net answered gave said in
       let written = sents (w.journal ++ A ++ o.notes ++ S ++ o.gave) net answered place o.messages given in
-      let timed = idles (w.journal ++ A ++ o.notes ++ S ++ o.gave ++ M) o.timers (net ++ packets_of place o.messages) answered plain.timers written in
+      let timed = idles (w.journal ++ A ++ o.notes ++ S ++ o.gave ++ M) o.timers (net ++ packets_of place o.messages) answered timers written in
       subst (λ (J : List Rec). Linked J (net ++ packets_of place o.messages) answered) (five w.journal A o.notes S o.gave M o.timers) timed
 
   passed-linked : (ms : ℕ) → IsLinked (clocked m ms)
   unfolding clocked
   passed-linked ms = uncounted-all m.journal (rec.Event (m.events + 1) (event.Clock ms) ∷ rec.Clock (record { 0 = m.now + ms }) ∷ []) m.net m.answered (tt, (tt, tt)) l
 
-  shapes-link : Shapes m IsFine (λ e n. IsLinked n)
-  shapes-link = record {
-    one = λ w e place o c heads ns p act does. told-linked w e place o act.put act.begins.acts (said-plain place c o act.said (timers-idle place c (part_of m c) p o.timers act.timers));
-    two = λ w e place a b rows c d heads p r act does too. told-linked w e place (both_out a b rows) act.put act.begins.acts
-        (both-plain a b rows (said-plain place c a act.said (timers-idle place c (part_of m c) p a.timers act.timers))
-        (said-plain place d (record b { answered = 0 }) act.said_too (timers-idle place d (part_of m d) r b.timers act.timers_too)) act.order);
+  any-link : AnyShape m (λ e n. IsLinked n)
+  any-link = record {
+    acts = told-linked;
     nobody = λ k q at there. delivers m.journal m.net m.answered (m.events + 1) k q at there.0 l;
     loses = λ k q at there. loses m.journal m.net m.answered (m.events + 1) k q at there l;
     clocks = passed-linked;
@@ -196,7 +161,7 @@ start-linked config files = record {
 
 pub reached-linked : (config : Config) (files : List (List ℕ × List ℕ)) (m : Machine) → IsReached config files m → IsLinked m
 reached-linked config files m r = carried-keep config files IsLinked (start-linked config files)
-    (λ k n e on l rule is. step-has k on.view IsFine (fine (setting_of k)) (λ d i. IsLinked i) (shapes-link k l) e n rule is)
+    (λ k n e on l rule is. step-any k on.view (λ d i. IsLinked i) (any-link k l) e n rule is)
     m r
 
 -- the settings are those of the start

@@ -1,6 +1,5 @@
 -- What a record says of a place, the place that acts says; and the time is told in steps of the clock alone.
-use Rattle.std.proofs.Common.{◌≡◌, ℕ, ◌+◌, ◌-◌, ◌≤◌, ◌<◌, List, [], ◌∷◌, ◌++◌, length, Some, None, inl, inr, ⊎_elim, refl, sym, ap, ◌∙◌, subst, arith, length-append}
-use Rattle.std.specs.Prelude.{◌⊎◌}
+use Rattle.std.proofs.Common.{◌≡◌, ℕ, ◌+◌, ◌-◌, ◌≤◌, ◌<◌, List, [], ◌∷◌, ◌++◌, length, Some, None, inl, inr, refl, sym, ap, ◌∙◌, subst, arith, length-append}
 use Rattle.std.proofs.lemmas.List.Sums.{fold-append}
 use Rattle.std.specs.List.{fold}
 use Rattle.lard_base.specs.declared.config.Config.{Config}
@@ -11,15 +10,12 @@ use Rattle.lard_base.specs.declared.place.Place.TheVariants.{Front, Node, Client
 use Rattle.lard_rules.specs.declared.machine.Machine.{Machine}
 use Rattle.lard_rules.specs.Machine.{IsReached, clocked, passed, segments_sent, told, told_rows}
 use Rattle.lard_laws.proofs.StepsLinking.{IsLinked, reached-linked}
-use Rattle.lard_law_view.specs.View.{Part, part_of, setting_of, timer_rows}
+use Rattle.lard_law_view.proofs.AnyShape.{AnyShape, IsAct, SomeGift, SomeNote, SomeTimer, step-any}
 use Rattle.lard_law_view.proofs.Carried.{carried-keep}
-use Rattle.lard_law_view.proofs.Fine.{IsFine, fine}
 use Rattle.lard_law_view.proofs.Heads.{ActsAt}
 use Rattle.lard_law_view.proofs.Saying.{GaveAt, NotedAt}
-use Rattle.lard_law_view.proofs.Shapes.{IsPut, Shapes, both_out}
-use Rattle.lard_law_view.proofs.Stepping.{step-has}
-use Rattle.lard_law_view.proofs.Timers.{IsTimerAt, timer_rows-are}
-use Rattle.lard_law_view.proofs.Turned.{IsSaid}
+use Rattle.lard_law_view.proofs.Shapes.{IsPut}
+use Rattle.lard_law_view.proofs.Timers.{IsTimerAt}
 use Rattle.lard_history.specs.Journal.{time_of, time_step}
 use Rattle.lard_history.specs.Laws.{ActsInPlace, EachMay, KeepsTime, MayAct, MayTime, first_place}
 use Rattle.lard_history.proofs.Acting.{IsActing, IsAt, IsInside, acting-lawful, comes-acting, named-acting, placeless-acts}
@@ -106,7 +102,7 @@ sents-timeless : (k : ℕ) (p : Place) (ss : List (Place × List ℕ)) → Each 
 sents-timeless k p [] = tt
 sents-timeless k p (s ∷ ss) = (tt, sents-timeless (k + 1) p ss)
 
--- ---- what an act says, of one connection or of two
+-- ---- what an act says
 
 -- all that it says is of its place
 pub record AreHere (p : Place) (o : Out) : Type 0 where
@@ -114,21 +110,11 @@ pub record AreHere (p : Place) (o : Out) : Type 0 where
   pub gave : Each (IsHere p) o.gave
   pub timers : Each (IsHere p) o.timers
 
-pub said-here : (p : Place) (c : ℕ) (o : Out) (answered : ℕ) (was is : Part) → IsSaid p c o.notes o.segments o.gave o.messages answered → o.timers ≡ timer_rows p c was is → AreHere p o
-said-here p c o answered was is said timers = record {
-  notes = Each-weaker (NotedAt p c) (IsHere p) (note-here p c) o.notes said.notes;
-  gave = Each-weaker (GaveAt p c) (IsHere p) (gave-here p c) o.gave said.gave;
-  timers = subst (Each (IsHere p)) (sym timers) (Each-weaker (IsTimerAt p c) (IsHere p) (timer-here p c) (timer_rows p c was is) (timer_rows-are p c was is));
-}
-
-pub both-here : (p : Place) (a b : Out) (rows : List Rec) → AreHere p a → AreHere p b → (rows ≡ a.timers ++ b.timers) ⊎ (rows ≡ b.timers ++ a.timers) → AreHere p (both_out a b rows)
-both-here p a b rows h k order = record {
-  notes = Each-append (IsHere p) a.notes b.notes h.notes k.notes;
-  gave = Each-append (IsHere p) a.gave b.gave h.gave k.gave;
-  timers = ⊎_elim
-      (λ (e : rows ≡ a.timers ++ b.timers). subst (Each (IsHere p)) (sym e) (Each-append (IsHere p) a.timers b.timers h.timers k.timers))
-      (λ (e : rows ≡ b.timers ++ a.timers). subst (Each (IsHere p)) (sym e) (Each-append (IsHere p) b.timers a.timers k.timers h.timers))
-      order;
+pub act-here : (m w : Machine) (e : Event) (p : Place) (o : Out) → IsAct m w e p o → AreHere p o
+act-here m w e p o act = record {
+  notes = Each-weaker (SomeNote p) (IsHere p) (λ r h. note-here p h.0 r h.2) o.notes act.notes;
+  gave = Each-weaker (SomeGift p) (IsHere p) (λ r h. gave-here p h.0 r h.1) o.gave act.gave;
+  timers = Each-weaker (SomeTimer p) (IsHere p) (λ r h. timer-here p h.0 r h.1) o.timers act.timers;
 }
 
 module _ (p : Place) where
@@ -162,13 +148,15 @@ module _ (m : Machine) (l : IsLinked m) (timed : time_of m.journal ≡ m.now) wh
   acting-of (event.Deliver k) place h = (k, few m.net k h.0 h.1, comes-acting m.journal k place (l.is.goals k ∙ ap goal_in h.1 ∙ ap Some h.3))
   acting-of e place h = (0, omega arith, named-acting m.journal e place h)
 
-  told-adds : (w : Machine) (e : Event) (place : Place) (o : Out) → IsPut m w → ActsAt m.net e place → AreHere place o → Adds m (told w e (behind e) place o)
+  told-adds : (w : Machine) (e : Event) (place : Place) (o : Out) → IsAct m w e place o → Adds m (told w e (behind e) place o)
   unfolding told
-  told-adds w e place o put acts here =
+  told-adds w e place o act =
+      let put : IsPut m w = act.put in
+      let here : AreHere place o = act-here m w e place o act in
       let S : List Rec = sent_records (length w.net + 1) place o.segments in
       let M : List Rec = sent_records (length (segments_sent w place o) + 1) place o.messages in
       let rest : List Rec = behind e ++ o.notes ++ S ++ o.gave ++ M ++ o.timers in
-      let by = acting-of e place acts in
+      let by = acting-of e place act.acts in
       let few_w : by.0 ≤ length w.net = subst (λ (ps : List Packet). by.0 ≤ length ps) (sym put.net) by.1 in
       let first : by.0 < length w.net + 1 = omega (arith, few_w) in
       let second : by.0 < length (segments_sent w place o) + 1 = omega (arith, few_w, length-append w.net (packets_of place o.segments)) in
@@ -209,11 +197,9 @@ module _ (m : Machine) (l : IsLinked m) (timed : time_of m.journal ≡ m.now) wh
         now = refl;
       }
 
-  shapes-add : Shapes m IsFine (λ e n. Adds m n)
-  shapes-add = record {
-    one = λ w e place o c heads ns p act does. told-adds w e place o act.put act.begins.acts (said-here place c o o.answered (part_of m c) p act.said act.timers);
-    two = λ w e place a b rows c d heads p r act does too. told-adds w e place (both_out a b rows) act.put act.begins.acts
-        (both-here place a b rows (said-here place c a a.answered (part_of m c) p act.said act.timers) (said-here place d b 0 (part_of m d) r act.said_too act.timers_too) act.order);
+  any-add : AnyShape m (λ e n. Adds m n)
+  any-add = record {
+    acts = told-adds;
     nobody = λ k q at there. passed-adds m (event.Deliver k) (rec.Got k) refl refl refl tt;
     loses = λ k q at there. passed-adds (record m { net = lose_at (k - 1) m.net }) (event.Lose k) (rec.Lost k) refl refl refl tt;
     clocks = clocks-adds;
@@ -236,5 +222,5 @@ adds-more m n h a = record {
 
 pub reached-in-place : (config : Config) (files : List (List ℕ × List ℕ)) (m : Machine) → IsReached config files m → IsInPlace m
 reached-in-place config files m r = carried-keep config files IsInPlace (record { acts = tt; times = tt; now = refl })
-    (λ k n e on h rule is. adds-more k n h (step-has k on.view IsFine (fine (setting_of k)) (λ d i. Adds k i) (shapes-add k (reached-linked config files k on.reached) h.now) e n rule is))
+    (λ k n e on h rule is. adds-more k n h (step-any k on.view (λ d i. Adds k i) (any-add k (reached-linked config files k on.reached) h.now) e n rule is))
     m r

@@ -12,12 +12,13 @@ use Rattle.lard_base.specs.declared.place.Place.TheVariants.{Front, Node, Client
 use Rattle.lard_base.specs.declared.place.TimerKind.{TimerKind}
 use Rattle.lard_base.specs.declared.place.TimerKind.TheVariants.{Tcp, Offer, Ask, Fetch, Ended}
 use Rattle.lard_rules.specs.declared.machine.Machine.{Machine}
-use Rattle.lard_rules.specs.Bounds.{HasRule, HasTimer}
+use Rattle.lard_rules.specs.Bounds.{HasRule, HasTimer, IsNumber}
 use Rattle.lard_rules.specs.Machine.{IsReached, machine_step}
 use Rattle.lard_laws.specs.StepsTimers.{RunsAsKept, TimersChangeInSteps, TimersRunAsKept, armed_at, client_armed}
 use Rattle.lard_law_view.specs.Carry.{IsLaw, MayMove, OfEach, setting}
 use Rattle.lard_law_view.specs.View.{Conn, IsMachine, IsViewed, Move, Part, Rules, Setting, blank, conn, grown, part_of, rows_of, sending, timer_rows}
-use Rattle.lard_law_view.proofs.Acts.{ActsAlone, ActsBoth, IsPassing, IsStepOf, step_acts}
+use Rattle.lard_law_view.proofs.Acts.{ActsAlone, ActsMany, AreApart, IsPassing, IsStepOf, Moving, step_acts, timers_in}
+use Rattle.lard_law_view.proofs.AnyShape.{SomeGift, SomeNote}
 use Rattle.lard_law_view.proofs.After.{IsAfter, step-after}
 use Rattle.lard_law_view.proofs.Carried.{IsOn, carried, carried-keep, on-setting}
 use Rattle.lard_law_view.proofs.Fine.{IsFine, IsItsOwn, fine}
@@ -36,7 +37,7 @@ use Rattle.lard_history.proofs.Stepping.{AreLawful, cancel, one-more}
 use Rattle.lard_journal.specs.declared.rec.Rec.{Rec}
 use Rattle.lard_journal.specs.declared.rec.Rec.TheVariants as rec
 use Rattle.lard_law_view.specs.Timers.{ChangesTimers, is_change}
-use Rattle.lard_law_view.proofs.TimerChanges.{AreOthers, Exactly, IsStill, Still, all-both, all-change, changes, exactly-both, exactly-changes, exactly-none, kinds-change, number-others, place-is, place-others, step-changes, still-behind, still-rows, still-seen, still-sents, timer-is-own}
+use Rattle.lard_law_view.proofs.TimerChanges.{AreOthers, Exactly, IsStill, Still, all-both, all-change, changes, exactly-both, exactly-changes, exactly-none, kinds-change, number-others, others-both, place-is, place-others, step-changes, still-behind, still-rows, still-seen, still-sents, timer-is-own}
 use Rattle.lard_rules.specs.Sent.{packets_of, sent_records}
 use Rattle.lard_rules.specs.Node.{NodePart, node_armed}
 use Rattle.lard_rules.specs.Outs.{kinds, timer_change}
@@ -278,48 +279,47 @@ module _ (m : Machine) (view : IsViewed m) (kept : (c : ℕ) → RunsAsKept m c)
       (spoken-changes v.place a.noted v.said.segments v.said.gave v.said.messages (rows v.place a.c v.part) (still-notes v.place a.c a.noted a.moves.notes) (still-gaves v.place a.c v.said.gave own.gave)
       (rows-all v.place a.c v.part) (rows-exactly v.place a.c v.part plain.acts))
 
-  both-change : ActsBoth Changes m e adds → ChangesTimers m.journal (first ∷ adds)
-  unfolding conn
-  both-change a =
-      let v : Move = a.first in
-      let w : Move = a.second in
-      let own : IsItsOwn (conn m a.c) v = (a.moves.does.1 a.moves.number (view.sound a.c)).0 in
-      let its : IsItsOwn (conn m a.d) w = (a.moves_too.does.1 a.moves_too.number (view.sound a.d)).0 in
-      let plain : IsPlain (conn m a.c) v = a.moves.does.0 a.moves.number (view.sound a.c) in
-      let plain_too : IsPlain (conn m a.d) w = a.moves_too.does.0 a.moves_too.number (view.sound a.d) in
-      let cs : List Rec = rows v.place a.c v.part in
-      let ds : List Rec = rows w.place a.d w.part in
-      let c_all = rows-all v.place a.c v.part in
-      let d_all = rows-all w.place a.d w.part in
-      let c_exactly = rows-exactly v.place a.c v.part plain.acts in
-      let d_exactly = rows-exactly w.place a.d w.part plain_too.acts in
-      let apart : (p : Place) (q : ℕ) (kind : TimerKind) → AreOthers p q kind cs ⊎ AreOthers p q kind ds =
-      λ p q kind. by_number (AreOthers p q kind cs ⊎ AreOthers p q kind ds) a.c q
-      (λ same. inr (rows-others w.place a.d w.part p q kind (λ e. a.apart (e ∙ sym same))))
-      (λ n. inl (rows-others v.place a.c v.part p q kind n)) in
-      let turned : (p : Place) (q : ℕ) (kind : TimerKind) → AreOthers p q kind ds ⊎ AreOthers p q kind cs =
-      λ p q kind. ⊎_elim (λ (o : AreOthers p q kind cs). inr o) (λ (o : AreOthers p q kind ds). inl o) (apart p q kind) in
-      let all : list_all is_change a.timers ≡ true = ⊎_elim
-      (λ (e : a.timers ≡ cs ++ ds). subst (λ (rs : List Rec). list_all is_change rs ≡ true) (sym e) (all-both cs ds c_all d_all))
-      (λ (e : a.timers ≡ ds ++ cs). subst (λ (rs : List Rec). list_all is_change rs ≡ true) (sym e) (all-both ds cs d_all c_all))
-      a.order in
-      let exact : Exactly m.journal a.timers = ⊎_elim
-      (λ (e : a.timers ≡ cs ++ ds). subst (Exactly m.journal) (sym e) (exactly-both m.journal cs ds c_exactly d_exactly apart))
-      (λ (e : a.timers ≡ ds ++ cs). subst (Exactly m.journal) (sym e) (exactly-both m.journal ds cs d_exactly c_exactly turned))
-      a.order in
-      subst (λ (rs : List Rec). ChangesTimers m.journal (first ∷ rs)) (sym a.are)
-      (spoken-changes v.place (v.said.notes ++ w.said.notes) (v.said.segments ++ w.said.segments) (v.said.gave ++ w.said.gave) (v.said.messages ++ w.said.messages) a.timers
-      (still-both v.said.notes w.said.notes (still-notes v.place a.c v.said.notes own.notes) (still-notes w.place a.d w.said.notes its.notes))
-      (still-both v.said.gave w.said.gave (still-gaves v.place a.c v.said.gave own.gave) (still-gaves w.place a.d w.said.gave its.gave))
-      all exact)
+  -- the records of the timers of several, one behind another
+  abbrev Owned : Moving → Type 0
+  Owned x = IsNumber x.c × Changes (conn m x.c) x.move
 
-  adds-change : IsPassing m e adds ⊎ (ActsAlone Changes m e adds ⊎ ActsBoth Changes m e adds) → ChangesTimers m.journal (first ∷ adds)
+  abbrev rows_in : Moving → List Rec
+  rows_in x = rows x.move.place x.c x.move.part
+
+  moving-all : (xs : List Moving) → list_all is_change (timers_in m xs) ≡ true
+  moving-all [] = refl
+  moving-all (x ∷ xs) = all-both (rows_in x) (timers_in m xs) (rows-all x.move.place x.c x.move.part) (moving-all xs)
+
+  moving-others : (p : Place) (d : ℕ) (kind : TimerKind) (xs : List Moving) → Each (λ y. y.c ≢ d) xs → AreOthers p d kind (timers_in m xs)
+  moving-others p d kind [] h = record { none = refl; stays = λ b. refl }
+  moving-others p d kind (x ∷ xs) h = others-both p d kind (rows_in x) (timers_in m xs) (rows-others x.move.place x.c x.move.part p d kind h.0) (moving-others p d kind xs h.1)
+
+  moving-exactly : (xs : List Moving) → AreApart xs → Each Owned xs → Exactly m.journal (timers_in m xs)
+  unfolding conn
+  moving-exactly [] apart h = exactly-none m.journal
+  moving-exactly (x ∷ xs) apart h =
+      let plain : IsPlain (conn m x.c) x.move = h.0.1.0 h.0.0 (view.sound x.c) in
+      exactly-both m.journal (rows_in x) (timers_in m xs) (rows-exactly x.move.place x.c x.move.part plain.acts) (moving-exactly xs apart.1 h.1)
+      (λ p q kind. by_number (AreOthers p q kind (rows_in x) ⊎ AreOthers p q kind (timers_in m xs)) x.c q
+      (λ same. inr (moving-others p q kind xs (Each-weaker (λ y. y.c ≢ x.c) (λ y. y.c ≢ q) (λ y other e. other (e ∙ sym same)) xs apart.0)))
+      (λ other. inl (rows-others x.move.place x.c x.move.part p q kind other)))
+
+  many-change : ActsMany Changes m e adds → ChangesTimers m.journal (first ∷ adds)
+  many-change a =
+      subst (λ (rs : List Rec). ChangesTimers m.journal (first ∷ rs)) (sym a.are)
+      (spoken-changes a.place a.o.notes a.o.segments a.o.gave a.o.messages a.o.timers
+      (Each-weaker (SomeNote a.place) (λ r. is_change r ≡ false) (λ r h. still-note a.place h.0 r h.2) a.o.notes a.act.notes)
+      (Each-weaker (SomeGift a.place) (λ r. is_change r ≡ false) (λ r h. still-gave a.place h.0 r h.1) a.o.gave a.act.gave)
+      (subst (λ (rs : List Rec). list_all is_change rs ≡ true) (sym a.timers) (moving-all a.moving))
+      (subst (Exactly m.journal) (sym a.timers) (moving-exactly a.moving a.apart a.moves)))
+
+  adds-change : IsPassing m e adds ⊎ (ActsAlone Changes m e adds ⊎ ActsMany Changes m e adds) → ChangesTimers m.journal (first ∷ adds)
   adds-change (inl passing) = subst (λ (rs : List Rec). ChangesTimers m.journal (first ∷ rs)) (append-nil adds) (step-changes m.journal (first ∷ adds) [] (refl, passing-still e adds passing) refl (exactly-none m.journal)) where
     passing-still : (d : Event) (rs : List Rec) → IsPassing m d rs → Still rs
     passing-still (event.Clock ms) rs h = subst Still (sym h) (refl, tt)
     passing-still d rs h = subst Still (sym h) (still-behind d)
   adds-change (inr (inl a)) = alone-change a
-  adds-change (inr (inr a)) = both-change a
+  adds-change (inr (inr a)) = many-change a
 
 -- ---- every run
 

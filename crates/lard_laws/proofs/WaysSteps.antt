@@ -9,20 +9,20 @@ use Rattle.lard_rules.specs.declared.machine.Machine.{Machine}
 use Rattle.lard_rules.specs.Bounds.{HasRule}
 use Rattle.lard_rules.specs.Machine.{clocked, machine_step, segments_sent, told}
 use Rattle.lard_law_connections.proofs.StoresCalm.{first_rows, last_rows}
-use Rattle.lard_law_view.specs.View.{IsViewed, Move, Part, conn, packet_seen, part_of, setting_of, timer_rows}
+use Rattle.lard_law_view.specs.View.{IsViewed, Move, Part, conn, packet_seen, setting_of}
 use Rattle.lard_law_view.proofs.After.{IsAfter, step-after}
+use Rattle.lard_law_view.proofs.AnyShape.{IsAct, SomeGift, SomeNote, SomeTimer, each-act, each-flat, one-act, two-act}
 use Rattle.lard_law_view.proofs.Carried.{carried-keep}
-use Rattle.lard_law_view.proofs.Saying.{GaveAt, NamesAll, NotedAt}
-use Rattle.lard_law_view.proofs.Shapes.{ActsOn, ActsOnTwo, Shapes, both_out, move_of}
+use Rattle.lard_law_view.proofs.Saying.{NamesAll}
+use Rattle.lard_law_view.proofs.Shapes.{ActsOn, ActsOnEach, Mover, Shapes, both_out, each_out, move_of, mover_move}
 use Rattle.lard_law_view.proofs.Stepping.{step-has}
-use Rattle.lard_law_view.proofs.Timers.{IsTimerAt, timer_rows-are}
 use Rattle.lard_laws.specs.WaysContents.{ContentsAreFiles, MustBring}
 use Rattle.lard_laws.proofs.WaysBringing.{Good, IsPlain, all-may, all_rows, fetch-good, gave-plain, may_in, none-plain, note-plain, noted-has, others-plain, passed-good, timer-plain, to-client, told-good}
-use Rattle.lard_laws.proofs.WaysQuiet.{SentNone}
+use Rattle.lard_laws.proofs.WaysQuiet.{IsNone, SentNone}
 use Rattle.lard_laws.proofs.WaysSending.{Brings, Fetches, HoldsNone, Owes, SaysAt, SaysOfContents, each-holds, rules}
 use Rattle.lard_files.specs.Files.{file_at}
 use Rattle.lard_history.specs.Own.{Has, Letter, Row, Seen, letter_of}
-use Rattle.lard_history.proofs.Each.{Each, Each-append, Each-weaker}
+use Rattle.lard_history.proofs.Each.{Each, Each-weaker}
 use Rattle.lard_history.proofs.Seeing.{has-before, has-behind}
 use Rattle.lard_history.proofs.Stepping.{AreLawful, cancel, one-more}
 use Rattle.lard_journal.specs.declared.rec.Rec.{Rec}
@@ -45,18 +45,29 @@ record IsFetched (m : Machine) (e : Event) : Type 0 where
   at : packet_at m.net k ≡ Some p
   letter_is : letter_of p ≡ record { from = Node its.1.from; to = Node i; bytes = its.1.bytes }
 
-notes-plain : (place : Place) (c : ℕ) (rs : List Rec) → Each (NotedAt place c) rs → Each IsPlain rs
-notes-plain place c rs h = Each-weaker (NotedAt place c) IsPlain (note-plain place c) rs h
+notes-plain : (place : Place) (rs : List Rec) → Each (SomeNote place) rs → Each IsPlain rs
+notes-plain place rs h = Each-weaker (SomeNote place) IsPlain (λ r k. note-plain place k.0 r k.2) rs h
 
-gifts-plain : (place : Place) (c : ℕ) (rs : List Rec) → Each (GaveAt place c) rs → Each IsPlain rs
-gifts-plain place c rs h = Each-weaker (GaveAt place c) IsPlain (gave-plain place c) rs h
+gifts-plain : (place : Place) (rs : List Rec) → Each (SomeGift place) rs → Each IsPlain rs
+gifts-plain place rs h = Each-weaker (SomeGift place) IsPlain (λ r k. gave-plain place k.0 r k.1) rs h
 
-timers-plain : (place : Place) (c : ℕ) (p q : Part) (rs : List Rec) → rs ≡ timer_rows place c p q → Each IsPlain rs
-timers-plain place c p q rs e = subst (Each IsPlain) (sym e) (Each-weaker (IsTimerAt place c) IsPlain (timer-plain place c) (timer_rows place c p q) (timer_rows-are place c p q))
+timers-plain : (place : Place) (rs : List Rec) → Each (SomeTimer place) rs → Each IsPlain rs
+timers-plain place rs h = Each-weaker (SomeTimer place) IsPlain (λ r k. timer-plain place k.0 r k.1) rs h
 
 module _ (m : Machine) (held : (q : ℕ) → HoldsNone (conn m q)) where
   abbrev IsEither : Event → Machine → Type 0
   IsEither e n = IsFetched m e ⊎ Good m n
+
+  any-good : (w : Machine) (e : Event) (place : Place) (o : Out) → IsAct m w e place o → Each IsPlain (sent_records (length w.net + 1) place o.segments)
+      → Each (may_in m (all_rows m w e place o)) (sent_records (length (segments_sent w place o) + 1) place o.messages) → Good m (told w e (behind e) place o)
+  any-good w e place o act segments messages =
+      told-good m w e place o act.put.journal (notes-plain place o.notes act.notes) segments (gifts-plain place o.gave act.gave) messages (timers-plain place o.timers act.timers)
+
+  -- a place that is no node's sends no contents
+  others-good : (w : Machine) (e : Event) (place : Place) (o : Out) → NamesAll place → IsAct m w e place o → Good m (told w e (behind e) place o)
+  others-good w e place o names act =
+      any-good w e place o act (others-plain (length w.net + 1) place o.segments names)
+      (all-may m (all_rows m w e place o) (sent_records (length (segments_sent w place o) + 1) place o.messages) (others-plain (length (segments_sent w place o) + 1) place o.messages names))
 
   -- ---- a place acts on one connection
 
@@ -65,13 +76,7 @@ module _ (m : Machine) (held : (q : ℕ) → HoldsNone (conn m q)) where
     messages_in place = sent_records (length (segments_sent w place o) + 1) place o.messages
 
     acts-good : (place : Place) → ActsOn m w e place o c heads ns p → Each IsPlain (sent_records (length w.net + 1) place o.segments) → Each (may_in m (all_rows m w e place o)) (messages_in place) → Good m (told w e (behind e) place o)
-    acts-good place act segments messages =
-        told-good m w e place o act.put.journal (notes-plain place c o.notes act.said.notes) segments (gifts-plain place c o.gave act.said.gave) messages (timers-plain place c (part_of m c) p o.timers act.timers)
-
-    others-good : (place : Place) → NamesAll place → ActsOn m w e place o c heads ns p → Good m (told w e (behind e) place o)
-    others-good place names act =
-        acts-good place act (others-plain (length w.net + 1) place o.segments names)
-        (all-may m (all_rows m w e place o) (messages_in place) (others-plain (length (segments_sent w place o) + 1) place o.messages names))
+    acts-good place act segments messages = any-good w e place o (one-act m w e place o c heads ns p act) segments messages
 
     module _ (i : ℕ) (act : ActsOn m w e (Node i) o c heads ns p) where
       abbrev v : Move
@@ -109,32 +114,42 @@ module _ (m : Machine) (held : (q : ℕ) → HoldsNone (conn m q)) where
           says.messages
 
     one-good : (place : Place) → ActsOn m w e place o c heads ns p → SaysAt (setting_of m) (conn m c) (move_of place heads ns o p) place → IsEither e (told w e (behind e) place o)
-    one-good Front act says = inr (others-good Front tt act)
-    one-good (Client d) act says = inr (others-good (Client d) tt act)
+    one-good Front act says = inr (others-good w e Front o tt (one-act m w e Front o c heads ns p act))
+    one-good (Client d) act says = inr (others-good w e (Client d) o tt (one-act m w e (Client d) o c heads ns p act))
     one-good (Node i) act says = node-good i act says
 
-  -- ---- the other shapes
+  -- ---- a place acts on each of many
 
-  two-good : (w : Machine) (e : Event) (place : Place) (a b : Out) (rows : List Rec) (c d : ℕ) (heads : List Seen) (p r : Part) → ActsOnTwo m w e place a b rows c d heads p r → Good m (told w e (behind e) place (both_out a b rows))
-  two-good w e place a b rows c d heads p r act =
-      let o : Out = both_out a b rows in
-      let s : Each IsPlain a.timers = timers-plain place c (part_of m c) p a.timers act.timers in
-      let t : Each IsPlain b.timers = timers-plain place d (part_of m d) r b.timers act.timers_too in
-      told-good m w e place o act.put.journal
-      (Each-append IsPlain a.notes b.notes (notes-plain place c a.notes act.said.notes) (notes-plain place d b.notes act.said_too.notes))
-      (others-plain (length w.net + 1) place o.segments act.names)
-      (Each-append IsPlain a.gave b.gave (gifts-plain place c a.gave act.said.gave) (gifts-plain place d b.gave act.said_too.gave))
-      (all-may m (all_rows m w e place o) (sent_records (length (segments_sent w place o) + 1) place o.messages) (others-plain (length (segments_sent w place o) + 1) place o.messages act.names))
-      (⊎_elim
-      (λ (is : rows ≡ a.timers ++ b.timers). subst (Each IsPlain) (sym is) (Each-append IsPlain a.timers b.timers s t))
-      (λ (is : rows ≡ b.timers ++ a.timers). subst (Each IsPlain) (sym is) (Each-append IsPlain b.timers a.timers t s))
-      act.order)
+  -- one that sees nothing and notes nothing sends no contents
+  mover-none : (i : ℕ) (x : Mover) → SaysOfContents (setting_of m) (conn m x.c) i (mover_move (Node i) x) → SentNone x.messages
+  mover-none i x says = ⊎_elim
+      (λ (none : SentNone x.messages). none)
+      (λ (some : Fetches (setting_of m) (conn m x.c).c i [] ⊎ Brings (setting_of m) (conn m x.c).c i (mover_move (Node i) x)).
+      ⊎_elim
+      (λ (f : Fetches (setting_of m) (conn m x.c).c i []). absurd (let no : [] ≡ packet_seen (Node f.from) (Node i) f.bytes = f.came in cc))
+      (λ (b : Brings (setting_of m) (conn m x.c).c i (mover_move (Node i) x)). absurd (let no : [] ≡ rec.Read i b.from (conn m x.c).c b.r b.path ∷ [] = b.notes in cc))
+      some)
+      says.messages
+
+  each-good : (w : Machine) (e : Event) (place : Place) (notes : List Rec) (xs : List Mover) → ActsOnEach m w e place notes xs → Each (λ x. Owes (setting_of m) (conn m x.c) (mover_move place x)) xs
+      → Good m (told w e (behind e) place (each_out notes xs))
+  each-good w e Front notes xs act owes = others-good w e Front (each_out notes xs) tt (each-act m w e Front notes xs act)
+  each-good w e (Client d) notes xs act owes = others-good w e (Client d) (each_out notes xs) tt (each-act m w e (Client d) notes xs act)
+  each-good w e (Node i) notes xs act owes =
+      let o : Out = each_out notes xs in
+      let N : ℕ = length (segments_sent w (Node i) o) + 1 in
+      let none : SentNone o.messages = each-flat (λ s. IsNone s.1) (λ x. x.messages) xs
+      (Each-weaker (λ x. Owes (setting_of m) (conn m x.c) (mover_move (Node i) x)) (λ x. SentNone x.messages) (λ x h. mover-none i x (h (held x.c)).1) xs owes) in
+      any-good w e (Node i) o (each-act m w e (Node i) notes xs act) tt (all-may m (all_rows m w e (Node i) o) (sent_records N (Node i) o.messages) (none-plain N (Node i) o.messages none))
+
+  -- ---- each shape
 
   shapes-good : Shapes m (Owes (setting_of m)) IsEither
   unfolding clocked
   shapes-good = record {
     one = λ w e place o c heads ns p act owes. one-good w e o c heads ns p place act (owes (held c)).1;
-    two = λ w e place a b rows c d heads p r act does too. inr (two-good w e place a b rows c d heads p r act);
+    two = λ w e a b z rows c d heads ns p r act does too. inr (others-good w e Front (both_out a b z rows) tt (two-act m w e a b z rows c d heads ns p r act));
+    each = λ w e place notes xs act owes. inr (each-good w e place notes xs act owes);
     nobody = λ k l at there. inr (passed-good m m (event.Deliver k) (rec.Got k ∷ []) refl (tt, tt));
     loses = λ k l at there. inr (passed-good m (record m { net = lose_at (k - 1) m.net }) (event.Lose k) (rec.Lost k ∷ []) refl (tt, tt));
     clocks = λ ms. inr (passed-good m (record m { now = m.now + ms }) (event.Clock ms) (rec.Clock (record { 0 = m.now + ms }) ∷ []) refl (tt, tt));
