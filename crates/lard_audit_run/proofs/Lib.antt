@@ -1,0 +1,8 @@
+mod Apart
+mod Back
+mod Causes
+pub mod Ending
+mod Going
+mod Passing
+mod Reading
+mod Whole
