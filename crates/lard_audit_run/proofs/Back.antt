@@ -213,10 +213,10 @@ key_checked c key keys e = go (is_in_range key (value_of c key)) refl e where
   go true t h = (t, h)
   go false t h = cc
 
-abbrev heading_with : Config → Heading
+abbrev pub heading_with : Config → Heading
 heading_with c = record { nodes = c.nodes; low = c.low; high = c.high; age = c.age; idle = c.idle; over = c.over; miss = c.miss; cache = c.cache; stream = c.stream }
 
-wide : (c : Config) → config_check c ≡ Ok tt → IsWide (heading_with c)
+pub wide : (c : Config) → config_check c ≡ Ok tt → IsWide (heading_with c)
 wide c e =
     let first = key_checked c Nodes (Low ∷ High ∷ Age ∷ Idle ∷ Over ∷ Miss ∷ Cache ∷ Stream ∷ []) e in
     let second = key_checked c Low (High ∷ Age ∷ Idle ∷ Over ∷ Miss ∷ Cache ∷ Stream ∷ []) first.1 in

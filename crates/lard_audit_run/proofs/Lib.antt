@@ -3,6 +3,7 @@ mod Back
 mod Causes
 pub mod Ending
 mod Going
+mod One
 mod Passing
 mod Reading
 mod Whole

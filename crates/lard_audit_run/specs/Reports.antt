@@ -36,3 +36,7 @@ SoundReportsPass = (text : List ℕ) → ((n : ℕ) × (audited text ≡ Sound n
 -- and has as many records as it is said to have
 abbrev pub RecordsAreCounted : Type 0
 RecordsAreCounted = (text : List ℕ) (r : IsSoundReport text) → length text ≤ 2 ^ 30 → audited text ≡ Sound (length r.journal)
+
+-- a text is one report: of one configuration, one list of files and one of records
+abbrev pub IsOneReport : Type 0
+IsOneReport = (text : List ℕ) (r s : IsSoundReport text) → (r.config ≡ s.config) × (r.files ≡ s.files) × (r.journal ≡ s.journal)
