@@ -1,12 +1,11 @@
 -- The books that are kept are those of the ledger, and one record more is noted.
-use Rattle.std.proofs.Common.{◌≡◌, ℕ, ◌+◌, ◌<◌, Bool, true, false, not, ◌&&◌, ◌||◌, nat_eq, nat_lt, cond, List, [], ◌∷◌, ◌++◌, length, Option, Some, None, IfSome, is_some, refl, sym, ap, subst, ◌∙◌, arith}
+use Rattle.std.proofs.Common.{◌≡◌, ℕ, ◌<◌, Bool, true, false, not, ◌&&◌, ◌||◌, nat_eq, nat_lt, List, [], ◌∷◌, ◌++◌, Option, Some, None, IfSome, refl, sym, ap, subst, ◌∙◌}
 use Rattle.std.proofs.lemmas.Bool.{and_parts, cond_both, eqb-true}
 use Rattle.std.specs.FinMap as map
 use Rattle.std.specs.List.{filter}
 use Rattle.lard_base.specs.Config.{room_of}
 use Rattle.lard_base.specs.declared.config.Config.{Config}
 use Rattle.lard_base.specs.declared.ids.Millis.{Millis}
-use Rattle.lard_costs.specs.Later.{later_choice}
 use Rattle.lard_counts.specs.Ledger.{Ledger, admitted, blank, is_in, ledger_step}
 use Rattle.lard_dispatch.specs.Calls.{joined, reduced}
 use Rattle.lard_journal.specs.declared.rec.Rec.{Rec}
@@ -16,9 +15,9 @@ use Rattle.lard_loads.specs.Tally as tally
 use Rattle.lard_sets.specs.Sets.{touched}
 use Rattle.lard_sets.specs.declared.sets.ServerSet.{ServerSet}
 use Rattle.lard_audit.specs.Audit.{AreBooks}
-use Rattle.lard_audit.specs.Sound.{due_by, first_at, is_first_choice, is_first_of, keeps_admission, keeps_choice, keeps_clock, keeps_later, keeps_room}
+use Rattle.lard_audit.specs.Sound.{due_by, is_first_of, keeps_admission, keeps_choice, keeps_clock, keeps_later, keeps_room}
 use Rattle.lard_audit.specs.Books.{AreSound, Books, blank_books, books_step, count_in, is_inside, is_it}
-use Rattle.lard_audit.proofs.Counting.{AreIn, Standings, any-times, has_home, in-admitted, in-assigned, in-begin, in-released, in-same}
+use Rattle.lard_audit.proofs.Counting.{AreIn, any-times, has_home, in-admitted, in-assigned, in-begin, in-released, in-same}
 
 inside-same : (b : Books) (l : Ledger) → AreBooks b l → (c : ℕ) → is_in l c ≡ is_inside b c
 inside-same b l h c = any-times c l.ins (is_inside b c) (h.each c)

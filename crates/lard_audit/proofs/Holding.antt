@@ -1,5 +1,5 @@
 -- The holders that are kept are those of the records, and one record more is noted.
-use Rattle.std.proofs.Common.{◌≡◌, ℕ, Bool, true, nat_eq, nat_lt, ◌&&◌, cond, List, [], ◌∷◌, ◌++◌, Option, Some, None, is_none, refl, sym, ap, ◌∙◌}
+use Rattle.std.proofs.Common.{◌≡◌, ℕ, nat_eq, nat_lt, ◌&&◌, cond, List, [], ◌∷◌, ◌++◌, Option, Some, None, is_none, refl, sym, ap, ◌∙◌}
 use Rattle.lard_base.specs.declared.place.Place.{Place}
 use Rattle.lard_base.specs.declared.place.Place.TheVariants.{Front, Node, Client}
 use Rattle.lard_history.specs.Journal.{epoch_step, last_epoch, owner, owner_step}

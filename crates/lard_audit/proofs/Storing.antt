@@ -1,14 +1,13 @@
 -- The nodes that are kept are those of the records, and one record more is noted.
-use Rattle.std.proofs.Common.{◌≡◌, ◌≢◌, ℕ, zero, suc, ◌+◌, ◌-◌, ◌≤◌, Bool, true, false, not, ◌&&◌, nat_eq, cond, List, [], ◌∷◌, ◌++◌, length, map, remove, replicate, slice_get, slice_set, Option, Some, None, is_some, refl, sym, ap, subst, ◌∙◌, arith}
-use Rattle.std.proofs.lemmas.Bool.{eq-eqb, eqb-true}
+use Rattle.std.proofs.Common.{◌≡◌, ◌≢◌, ℕ, zero, suc, ◌-◌, ◌≤◌, Bool, true, false, not, ◌&&◌, nat_eq, cond, List, [], ◌∷◌, ◌++◌, map, remove, replicate, slice_get, slice_set, Option, Some, None, is_some, refl, sym, ap, subst, ◌∙◌, arith}
+use Rattle.std.proofs.lemmas.Bool.{eq-eqb}
 use Rattle.std.proofs.lemmas.List.{length-replicate, map-append}
 use Rattle.std.specs.Option.{option_map}
 use Rattle.indexmap.proofs.SetLemmas.{map-remove}
-use Rattle.lard_answers.specs.Answers.{FilesAt}
 use Rattle.lard_base.specs.declared.event.Event.{Event}
 use Rattle.lard_base.specs.declared.event.Event.TheVariants as event
 use Rattle.lard_cache.specs.Recency.{Recency, after_hit, after_put, has}
-use Rattle.lard_counts.specs.Stores.{Queue, Waiting, at_step, bytes_in, cache_of, cache_step, cached, jobs, jobs_step, no_jobs, queue_of, size_of, without_waiting, waiting_at}
+use Rattle.lard_counts.specs.Stores.{Queue, Waiting, at_step, bytes_in, cache_of, cache_step, cached, jobs, jobs_step, no_jobs, queue_of, size_of, without_waiting}
 use Rattle.lard_history.proofs.Seeing.{by_number, other_number}
 use Rattle.lard_journal.specs.declared.rec.Rec.{Rec}
 use Rattle.lard_journal.specs.declared.rec.Rec.TheVariants as rec
@@ -193,7 +192,7 @@ module _ (sizes : List (List ℕ × ℕ)) (limit : ℕ) (nodes : List Node) (J :
   nodes-more named (rec.Read k m c r path) reads at keeps = go (number_at named k) refl keeps where
     go : (o : Option ℕ) → number_at named k ≡ o → is_job (job_at (jobs_at nodes k) o) m c r path ≡ true
         → IsNodeOf (files_of sizes) limit (changed nodes k (read_by (number_or_0 named) path (size_or_0 (size_in sizes path)))) (J ++ rec.Read k m c r path ∷ []) n
-    go None e no = let f : false ≡ true = no in absurd cc
+    go None e is = let f : false ≡ true = is in absurd cc
     go (Some j) e is = read-more k m c r (number_or_0 named) path (size_or_0 (size_in sizes path)) at.0 (reads k j e ∙ sym (number-read named k j e)) (size-found sizes path)
   nodes-more named (rec.Event i e) reads at keeps = aside (rec.Event i e) nodes refl refl refl
   nodes-more named r reads at keeps = aside r nodes refl refl refl

@@ -1,8 +1,7 @@
 -- Which audit is that of a report.
-use Rattle.std.specs.Prelude.{◌≡◌, ℕ, ◌+◌, ◌-◌, ◌≤◌, Bool, nat_eq, nat_le, nat_lt, ◌&&◌, if◌then◌else◌, List, [], ◌∷◌, map, Option, Some, None, is_some, slice_get}
+use Rattle.std.specs.Prelude.{◌≡◌, ℕ, ◌+◌, ◌-◌, ◌≤◌, nat_eq, nat_le, nat_lt, ◌&&◌, if◌then◌else◌, List, [], ◌∷◌, map, Option, Some, None, is_some, slice_get}
 use Rattle.lard_answers.specs.Answers.{FilesAt}
 use Rattle.lard_base.specs.declared.config.Config.{Config}
-use Rattle.lard_base.specs.declared.place.Place.{Place}
 use Rattle.lard_counts.specs.Ledger.{Ledger, admitted, ledger}
 use Rattle.lard_counts.specs.Stores.{cache_of, jobs, queue_of}
 use Rattle.lard_history.specs.Journal.{goal_of, is_lost, last_epoch, owner, sent_count}

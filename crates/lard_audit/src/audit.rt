@@ -45,14 +45,19 @@ impl Audit {
         ensures { IfOk result (λ a. IsAuditOf a cfg [] []) }
     {
         let bytes = cfg.cache;
+        let packets = Packets::new(alloc);
+        let owners = Owners::new(alloc);
+        let books = Books::new(alloc, cfg)?;
+        let nodes = Nodes::new(alloc, bytes)?;
+        let targets = Targets::new(alloc);
         Ok(Audit {
             alloc,
-            packets: Packets::new(alloc),
-            owners: Owners::new(alloc),
-            books: Books::new(alloc, cfg)?,
-            nodes: Nodes::new(alloc, bytes)?,
+            packets,
+            owners,
+            books,
+            nodes,
             named: None,
-            targets: Targets::new(alloc),
+            targets,
         })
     }
 

@@ -80,11 +80,9 @@ impl Nodes {
     pub fn new(alloc: Global, bytes: u32) -> Result<Nodes, NoMemory>
         ensures { IfOk result (λ n. n ≡ replicate 64 (idle bytes)) }
     {
-        let mut all = Vec::new(alloc);
-        for _ in 0..64 {
-            all.push(Node::new(alloc, bytes)?)?;
-        }
-        Ok(Nodes { all })
+        Ok(Nodes {
+            all: idle_nodes(alloc, 64, bytes)?,
+        })
     }
 
     /// Whether a path is in the cache of a node.
@@ -126,6 +124,17 @@ impl Nodes {
     {
         read_at(&mut self.all, n.number() as usize - 1, j, path, size)
     }
+}
+
+/// So many nodes with empty caches for files of so many bytes, and no jobs.
+fn idle_nodes(alloc: Global, count: u32, bytes: u32) -> Result<Vec<Node>, NoMemory>
+    ensures { IfOk result (λ all. all.items ≡ replicate count (idle bytes)) }
+{
+    let mut all = Vec::new(alloc);
+    for _ in 0..count {
+        all.push(Node::new(alloc, bytes)?)?;
+    }
+    Ok(all)
 }
 
 /// A path comes to the front at the node at a place.
