@@ -1,5 +1,6 @@
 //! The rules that a report is judged by, and why a record is refused.
 
+use thiserror::Error;
 
 /// A rule of a report, in the order in which a record is judged by them.
 #[derive(Clone, Copy, Debug, PartialEq, Eq)]
@@ -21,10 +22,12 @@ pub enum Rule {
 }
 
 /// Why a record is not taken.
-#[derive(Clone, Copy, Debug, PartialEq, Eq)]
+#[derive(Clone, Copy, Debug, PartialEq, Eq, Error)]
 pub enum AuditFault {
     /// The first rule that the record breaks.
+    #[error("breaks {0:?}")]
     Broken(Rule),
     /// Memory ran out.
+    #[error("memory ran out")]
     NoMemory,
 }
