@@ -20,31 +20,34 @@ pub record Reading (left left_now : Option (List ℕ)) (held : Held) (s : Progre
   pub consumed : Consumes left left_now text
   pub count : length text ≡ held.read
   pub bound : held.read ≤ MAX_INPUT_BYTES + 1
+  pub most : held.most ≡ MAX_INPUT_BYTES
   pub going : Going text held.rest s old now
 
-pub reading_first : (left old : Option (List ℕ)) (held : Held) (s : Progress) → held ≡ record { rest = []; read = 0 } → s ≡ begin → Reading left left held s old old
-reading_first left old held s h e = subst (λ (k : Held). Reading left left k s old old) (sym h) (record { text = []; consumed = Consumes-nil left; count = refl; bound = omega arith; going = going_first s old e })
+pub reading_first : (left old : Option (List ℕ)) (held : Held) (s : Progress) → held ≡ record { rest = []; read = 0; most = MAX_INPUT_BYTES } → s ≡ begin → Reading left left held s old old
+reading_first left old held s h e = subst (λ (k : Held). Reading left left k s old old) (sym h) (record { text = []; consumed = Consumes-nil left; count = refl; bound = omega arith; most = refl; going = going_first s old e })
 
 module _ (left mid now old new : Option (List ℕ)) (held more : Held) (s : Progress) where
   -- more is read
-  pub reading_more : Reading left mid held s old new → TakesIn mid now held.rest more.rest → more.read + length held.rest ≡ held.read + length more.rest → more.read ≤ MAX_INPUT_BYTES + 1 → Reading left now more s old new
-  reading_more r t count bound = record {
+  pub reading_more : Reading left mid held s old new → TakesIn mid now held.rest more.rest → more.read + length held.rest ≡ held.read + length more.rest → more.read ≤ held.most + 1 → more.most ≡ held.most → Reading left now more s old new
+  reading_more r t count bound most = record {
     text = r.text ++ t.taken;
     consumed = Consumes-trans left mid now r.text t.taken r.consumed t.consumed;
     count = let grown : length more.rest ≡ length held.rest + length t.taken = ap length t.text ∙ length-append held.rest t.taken in omega (arith, grown, count, r.count, length-append r.text t.taken);
-    bound = bound;
+    bound = subst (λ n. more.read ≤ n + 1) r.most bound;
+    most = most ∙ r.most;
     going = subst (λ (rest : List ℕ). Going (r.text ++ t.taken) rest s old new) (sym t.text) (going_more r.text held.rest t.taken s old new r.going);
   }
 
 module _ (left left_now old now : Option (List ℕ)) (held : Held) (s : Progress) (r : Reading left left_now held s old now) where
   -- a line is passed
-  pub reading_on : (at : ℕ) (next : Held) (t : Progress) (new : Option (List ℕ)) → position is_feed held.rest ≡ Some at → next ≡ record { rest = drop (at + 1) held.rest; read = held.read }
+  pub reading_on : (at : ℕ) (next : Held) (t : Progress) (new : Option (List ℕ)) → position is_feed held.rest ≡ Some at → next ≡ record { rest = drop (at + 1) held.rest; read = held.read; most = held.most }
       → (passed s (take at held.rest) ≡ Ok t) × Appends now new (gain s (take at held.rest)) → Reading left left_now next t old new
   reading_on at next t new is e h = subst (λ (k : Held). Reading left left_now k t old new) (sym e) (record {
     text = r.text;
     consumed = r.consumed;
     count = r.count;
     bound = r.bound;
+    most = r.most;
     going = going_on r.text held.rest s old now r.going at is t new h;
   })
 
@@ -62,15 +65,15 @@ module _ (left left_now old now : Option (List ℕ)) (held : Held) (s : Progress
 
   module _ (none : position is_feed held.rest ≡ None) where
     -- the input ends
-    pub reading_end : (status : Status) → IsAtEnd left_now ⊎ (held.read ≡ MAX_INPUT_BYTES + 1) → status ≡ ending s held.rest → Reads status left left_now old now
+    pub reading_end : (status : Status) → IsAtEnd left_now ⊎ (held.read ≡ held.most + 1) → status ≡ ending s held.rest → Reads status left left_now old now
     reading_end status how e = ended_as status now (going_end r.text held.rest s old now r.going none left_now (full how) status e) where
-      full : IsAtEnd left_now ⊎ (held.read ≡ MAX_INPUT_BYTES + 1) → IsAtEnd left_now ⊎ (length r.text ≡ MAX_INPUT_BYTES + 1)
+      full : IsAtEnd left_now ⊎ (held.read ≡ held.most + 1) → IsAtEnd left_now ⊎ (length r.text ≡ MAX_INPUT_BYTES + 1)
       full (inl end) = inl end
-      full (inr most) = inr (r.count ∙ most)
+      full (inr most) = inr (r.count ∙ most ∙ ap (λ n. n + 1) r.most)
 
     -- the source fails
-    pub reading_failed : held.read ≤ MAX_INPUT_BYTES → Reads ReadFault left left_now old now
-    reading_failed small = ended_as ReadFault now (going_failed r.text held.rest s old now r.going none left_now (subst (λ n. n ≤ MAX_INPUT_BYTES) (sym r.count) small))
+    pub reading_failed : held.read ≤ held.most → Reads ReadFault left left_now old now
+    reading_failed small = ended_as ReadFault now (going_failed r.text held.rest s old now r.going none left_now (omega (arith, small, r.count, r.most)))
 
 none-wrote : (old : Option (List ℕ)) → WrotePrefix old old (report_of (whole []).0)
 unfolding whole

@@ -15,6 +15,7 @@ use crate::generating::generate;
 use crate::replay::Replay;
 use crate::status::Status;
 use crate::words::{Command, asked};
+use lard_base::limits::MAX_INPUT_BYTES;
 use lard_base::{InputFault, NoMemory, Sink, Source};
 use lard_journal::report_tells_all;
 use lard_lines::Lines;
@@ -65,7 +66,7 @@ fn replay<S: Source, K: Sink>(alloc: Global, source: &mut S, sink: &mut K) -> St
     ensures no_read_fault { ¬ (result ≡ Status.ReadFault) → S.faults source.new ≡ S.faults source.old }
     ensures faults { EndsCount (K.faults sink.old) (K.faults sink.new) result }
 {
-    let mut lines = match Lines::new(alloc) {
+    let mut lines = match Lines::new(alloc, MAX_INPUT_BYTES) {
         Ok(lines) => lines,
         Err(NoMemory) => return Status::NoMemory,
     };
@@ -89,7 +90,7 @@ fn replay_lines<S: Source, K: Sink>(
     requires begins { seen replay.old ≡ begin }
     requires usable { replay.old.world.spoiled ≡ false }
     requires agenda { IsAgendaOf replay.old.agenda replay.old.world.machine.journal }
-    requires unread { lines.old ≡ record { rest = []; read = 0 } }
+    requires unread { lines.old ≡ record { rest = []; read = 0; most = MAX_INPUT_BYTES } }
     ensures reads { Reads result (S.left source.old) (S.left source.new) (K.written sink.old) (K.written sink.new) }
     ensures read_fault { result ≡ Status.ReadFault → Rose (S.faults source.old) (S.faults source.new) }
     ensures no_read_fault { ¬ (result ≡ Status.ReadFault) → S.faults source.new ≡ S.faults source.old }

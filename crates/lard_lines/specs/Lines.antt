@@ -2,10 +2,11 @@
 use Rattle.std.specs.Prelude.{ℕ, Bool, List, nat_eq}
 use Rattle.std.specs.List.{slice_split}
 
--- What was read of a source and not passed yet, and how many bytes were read of it in all.
+-- What was read of a source and not passed yet, how many bytes were read of it in all, and how many it may have.
 pub record Held : Type 0 where
   pub rest : List ℕ
   pub read : ℕ
+  pub most : ℕ
 
 -- a line feed
 abbrev pub is_feed : ℕ → Bool

@@ -11,7 +11,7 @@ fn a_line_and_what_follows_it(rt: HostRuntime) -> Result<(), Fail> {
     let mut failing = Calls::new(alloc);
     failing.push(3)?;
     let mut source = MemSource::new(text, failing);
-    let mut lines = Lines::new(alloc)?;
+    let mut lines = Lines::new(alloc, 1 << 26)?;
     assert_eq!(rt; lines.find_line(&mut source), Ok(Some(2)));
     assert_eq!(rt; &lines.rest()[..2], b"go".as_slice());
     lines.pass(2);

@@ -12,6 +12,7 @@ loop-found-init g c = record {
   taken = takes_none _ _;
   count = refl;
   bound = c.rest.ensures.bound;
+  most = refl;
   faults = refl;
 }
 

@@ -1,0 +1,9 @@
+mod Apart
+mod Back
+mod Causes
+pub mod Ending
+mod Going
+mod One
+mod Passing
+mod Reading
+mod Whole

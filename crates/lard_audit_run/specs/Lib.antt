@@ -1,0 +1,5 @@
+pub mod Audited
+pub mod Causes
+pub mod Reports
+pub mod Runs
+pub mod Seen
