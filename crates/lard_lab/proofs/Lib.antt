@@ -1,12 +1,12 @@
-mod Beginning
+pub mod Beginning
 mod Chosen
 mod Entries
 mod Following
 mod Kept
 mod Choosing
 mod Loads
-mod Reported
+pub mod Reported
 mod Rooms
-mod Sizes
+pub mod Sizes
 mod Soundness
 mod Subtraces

@@ -1,10 +1,10 @@
 -- The sizes of files, and that servers are nodes, stay as requests are assigned.
-use Rattle.std.proofs.Common.{◌≡◌, ℕ, Bool, true, false, List, [], ◌∷◌, map, Option, Some, None, IfSome, cond, refl, ap}
+use Rattle.std.proofs.Common.{◌≡◌, ℕ, Bool, true, false, List, [], ◌∷◌, map, Option, Some, None, IfSome, cond, refl, sym, ap, subst}
 use Rattle.std.specs.Map.{lookup}
 use Rattle.std.specs.Str.{bytes_eq}
 use Rattle.lard_lab.specs.declared.targets.Target.{Target}
 use Rattle.lard_lab.specs.Report.{File}
-use Rattle.lard_lab.specs.Targets.{fresh, target_at, with_target}
+use Rattle.lard_lab.specs.Targets.{AreFresh, fresh, target_at, with_target}
 
 -- the size of a target that is found
 abbrev pub size_found : Option Target → Option ℕ
@@ -49,4 +49,12 @@ fresh-each P [] q each = tt
 fresh-each P (f ∷ files) q each = go (bytes_eq q f.0) (fresh-each P files q each) where
   go : (b : Bool) → IfSome (target_at (fresh_all files) q) P → IfSome (cond {A = Option Target} b (Some (fresh f.1)) (target_at (fresh_all files) q)) P
   go true h = each f.1
+  go false h = h
+
+-- the same of targets by themselves
+pub fresh-found : (P : Target → Type 0) (targets : List (List ℕ × Target)) (q : List ℕ) → ((size : ℕ) → P (fresh size)) → AreFresh targets → IfSome (target_at targets q) P
+fresh-found P [] q each all = tt
+fresh-found P (t ∷ ts) q each all = go (bytes_eq q t.0) (fresh-found P ts q each all.1) where
+  go : (b : Bool) → IfSome (target_at ts q) P → IfSome (cond {A = Option Target} b (Some t.1) (target_at ts q)) P
+  go true h = subst P (sym all.0) (each t.1.size)
   go false h = h

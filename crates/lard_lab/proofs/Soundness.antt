@@ -12,8 +12,9 @@ use Rattle.lard_policy.specs.declared.first.FirstChoice.{FirstChoice}
 use Rattle.lard_lab.specs.declared.policy.Policy.{Policy}
 use Rattle.lard_lab.specs.declared.targets.Target.{Target}
 use Rattle.lard_lab.specs.Desk.{Desk, assigned, begun, chosen_for, done_with, is_open, later_by, passed_over}
-use Rattle.lard_lab.specs.Sound.{IsSound}
-use Rattle.lard_lab.specs.Targets.{fresh, target_at}
+use Rattle.lard_lab.specs.Sound.{IsKept, IsSound}
+use Rattle.lard_lab.specs.Targets.{AreFresh, fresh, target_at}
+use Rattle.lard_lab.proofs.Sizes.{fresh-found}
 use Rattle.lard_lab.proofs.Kept.{kept_at, kept-added, kept-chosen, kept-later, kept-written}
 
 not_at : (q k : ℕ) → q ≢ k → eq_by_cmp nat_cmp q k ≡ false
@@ -30,14 +31,14 @@ removed-none m k q none = get-remove nat_cmp_total m k q ∙ go (eq_by_cmp nat_c
   go true = refl
   go false = none
 
-pub begun-sound : (policy : Policy) (cfg : Config) → config_check cfg ≡ Ok tt → IsSound (begun policy cfg)
-begun-sound policy cfg usable = record {
+pub begun-with-sound : (policy : Policy) (cfg : Config) (targets : List (List ℕ × Target)) → config_check cfg ≡ Ok tt → AreFresh targets → IsSound (record (begun policy cfg) { targets = targets })
+begun-with-sound policy cfg targets usable all = record {
   usable = usable;
   nodes = refl;
   few = omega arith;
   none = get-empty nat_cmp 0;
   free = λ i h. get-empty nat_cmp i;
-  kept = λ path. tt;
+  kept = λ path. fresh-found (IsKept cfg.nodes 0) targets path (λ size. record { server = tt; modified = omega arith }) all;
 }
 
 pub added-sound : (d : Desk) (path : List ℕ) (size : ℕ) → IsSound d → IsSound (record d { targets = d.targets ++ (path, fresh size) ∷ [] })

@@ -29,6 +29,10 @@ coded_state = code_by _ (coded× coded_desk coded_stores) (λ s. (s.desk, s.stor
 abbrev pub opened : Policy → Config → State
 opened policy cfg = record { desk = begun policy cfg; stores = untouched cfg.nodes cfg.cache }
 
+-- files that were added before, and no request
+abbrev pub opened_with : Policy → Config → List (List ℕ × Target) → State
+opened_with policy cfg targets = record { desk = record (begun policy cfg) { targets = targets }; stores = untouched cfg.nodes cfg.cache }
+
 -- one file more
 abbrev pub filed : State → List ℕ → ℕ → State
 filed s path size = record s { desk = record s.desk { targets = s.desk.targets ++ (path, fresh size) ∷ [] } }

@@ -1,6 +1,7 @@
 -- The targets of a trace: pairs of a path and what is kept of it, in the order in which the files were added.
-use Rattle.std.specs.Prelude.{ℕ, List, map, length, sum_by, Option, None, is_some, Result, Vec}
+use Rattle.std.specs.Prelude.{◌≡◌, ℕ, List, map, length, sum_by, Option, None, is_some, Result, Vec}
 use Rattle.std.specs.declared.alloc.Global.{Global}
+use Rattle.std.specs.List.{AllByRecursion}
 use Rattle.std.specs.Str.{bytes_eq}
 use Rattle.std.specs.Map.{lookup, set_value}
 use Rattle.lard_files.specs.Files.{first_fault}
@@ -27,6 +28,10 @@ add_check targets path size = first_fault (is_some (target_at targets path)) (le
 -- no request was for it yet
 abbrev pub fresh : ℕ → Target
 fresh size = record { size = size; server = None; set = no_servers }
+
+-- no request was for any of them yet
+abbrev pub AreFresh : List (List ℕ × Target) → Type 0
+AreFresh targets = AllByRecursion (λ t. t.1 ≡ fresh t.1.size) targets
 
 -- this is kept of a path, where it is that of a file
 abbrev pub with_target : List (List ℕ × Target) → List ℕ → Target → List (List ℕ × Target)

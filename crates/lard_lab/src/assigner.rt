@@ -6,7 +6,7 @@ ghost use Rattle.lard_files.specs.Files.{Answers};
 ghost use Rattle.lard_loads.specs.Tally.{load};
 ghost use Rattle.lard_policy.specs.First.{is_overloaded};
 ghost use Rattle.lard_lab.specs.Desk.{answer_at, assigned, begun, choice_at, choice_by, chosen_for, done_with, is_full, is_open, joined, later_by, passed_over, plain, reduced, served_by};
-ghost use Rattle.lard_lab.specs.Targets.{add_check, fresh, target_at};
+ghost use Rattle.lard_lab.specs.Targets.{AreFresh, add_check, fresh, target_at};
 
 use crate::policy::{Policy, hash_of};
 use crate::targets::{Target, Targets};
@@ -56,6 +56,20 @@ impl Assigner {
         requires { config_check config ≡ Ok tt }
         ensures { IfOk result (λ a. a ≡ begun policy config) }
     {
+        Assigner::with_targets(alloc, policy, config, Targets::new(alloc))
+    }
+
+    /// No request, and files that were added, for none of which a request was. The configuration passes its check.
+    pub fn with_targets(
+        alloc: Global,
+        policy: Policy,
+        config: Config,
+        targets: Targets,
+    ) -> Result<Assigner, NoMemory>
+        requires usable { config_check config ≡ Ok tt }
+        requires fresh { AreFresh targets }
+        ensures { IfOk result (λ a. a ≡ record (begun policy config) { targets = targets }) }
+    {
         let Ok(()) = config.check() else {
             unreachable!();
         };
@@ -68,7 +82,7 @@ impl Assigner {
             time: Millis(0),
             made: 0,
             loads,
-            targets: Targets::new(alloc),
+            targets,
         })
     }
 

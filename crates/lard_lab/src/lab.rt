@@ -4,15 +4,15 @@ ghost use Rattle.std.specs.Prelude.{◌≡◌, ◌+◌, ◌<◌, ◌≤◌, Ok, 
 ghost use Rattle.lard_base.specs.Config.{config_check};
 ghost use Rattle.lard_files.specs.Files as files;
 ghost use Rattle.lard_lab.specs.Desk.{passed_over};
-ghost use Rattle.lard_lab.specs.Targets.{add_check, target_at};
+ghost use Rattle.lard_lab.specs.Targets.{AreFresh, add_check, target_at};
 ghost use Rattle.lard_lab.specs.Text.{request_line};
-ghost use Rattle.lard_lab.specs.Lab.{Answers, KeepsTime, after, fault_of, filed, opened, outcome_by, path_fault, requested, requested_by, told, told_of, totals_text};
+ghost use Rattle.lard_lab.specs.Lab.{Answers, KeepsTime, after, fault_of, filed, opened, opened_with, outcome_by, path_fault, requested, requested_by, told, told_of, totals_text};
 
 use crate::assigner::{Assigner, MAX_REQUESTS};
 use crate::backends::Backends;
 use crate::event::{LabEvent, LabFault};
 use crate::policy::Policy;
-use crate::targets::Target;
+use crate::targets::{Target, Targets};
 use crate::text::{request_line, totals};
 use lard_base::{Bytes, Config, NoMemory, NodeId, Path};
 use lard_files::FileFault;
@@ -51,6 +51,24 @@ impl Lab {
         Ok(Lab {
             alloc,
             assigner: Assigner::new(alloc, policy, config)?,
+            backends: Backends::new(alloc, config.nodes, config.cache)?,
+        })
+    }
+
+    /// No request, and files that were added before, for none of which a request was. Else as `new`.
+    pub fn with_targets(
+        alloc: Global,
+        policy: Policy,
+        config: Config,
+        targets: Targets,
+    ) -> Result<Lab, NoMemory>
+        requires usable { config_check config ≡ Ok tt }
+        requires fresh { AreFresh targets }
+        ensures { IfOk result (λ lab. lab ≡ opened_with policy config targets) }
+    {
+        Ok(Lab {
+            alloc,
+            assigner: Assigner::with_targets(alloc, policy, config, targets)?,
             backends: Backends::new(alloc, config.nodes, config.cache)?,
         })
     }

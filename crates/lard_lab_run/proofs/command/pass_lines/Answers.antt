@@ -1,0 +1,51 @@
+-- Each line is passed before the next is read, and the lab tells of all that was read.
+use Rattle.std.proofs.Common.{◌≡◌, ℕ, ◌+◌, ◌-◌, ◌<◌, List, take, Ok, Err, refl, sym, ◌∙◌, subst, arith}
+use Rattle.std.specs.Io.KnownBytes.{Appends}
+use Rattle.lard_base.specs.declared.limits.TheConstants.{MAX_INPUT_BYTES}
+use Rattle.lard_lab_run.specs.Seen.{lab_seen}
+use Rattle.lard_lab_run.specs.Trial.{Finishes, PassesInLab, end_gain, lab_ending, lab_gain, lab_passed}
+use Rattle.lard_lab_run.proofs.Passing.{passed-read}
+use Rattle.lard_lab_run.proofs.Pieces.{Reading, reading_end, reading_failed, reading_first, reading_more, reading_on, reading_starved, reading_stop}
+use Rattle.lard_lab_run.proofs.command.pass_lines.Goals as goal
+
+pub loop-len-init : goal.loop-len-init
+loop-len-init g c = record { reading = reading_first _ _ _ _ _ c.requires.unread c.requires.begins; read_faults = refl; faults = refl }
+
+pub loop-len-smaller : goal.loop-len-smaller
+loop-len-smaller g c = less where
+  less : MAX_INPUT_BYTES + 1 - c.pass.new.self.read < MAX_INPUT_BYTES + 1 - c.loop-len.trial.read
+  less = let counted = (passed-read (lab_seen c.loop-len.trial) (lab_seen c.pass.new.self) _ c.in-Ok.ensures.passed.0).1 in omega (arith, counted, c.loop-len.invariant.reading.going.sound.read)
+
+pub loop-len-preserved : goal.loop-len-preserved
+loop-len-preserved g c = record {
+  reading = reading_on _ _ _ _ _ c.find_line.new.self (lab_seen c.loop-len.trial) more c.in-Ok-Some.len c.pass-in-Ok.new.self (lab_seen c.pass.new.self) _ (sym c.in-Ok-Some.ensures.found ∙ c.in-Ok-Some.field-0-is) c.pass-in-Ok.ensures
+      (subst (λ (rest : List ℕ). (lab_passed (lab_seen c.loop-len.trial) (take c.in-Ok-Some.len rest) ≡ Ok (lab_seen c.pass.new.self)) × Appends (g.K.Sink.written c.loop-len.sink) (g.K.Sink.written c.pass.new.sink) (lab_gain (lab_seen c.loop-len.trial) (take c.in-Ok-Some.len rest)))
+      c.rest.ensures.value c.in-Ok.ensures.passed);
+  read_faults = c.find_line.ensures.same (λ e. cc) ∙ c.loop-len.invariant.read_faults;
+  faults = c.in-Ok.ensures.faults ∙ c.loop-len.invariant.faults;
+} where
+  more : Reading c.args.policy (g.S.Source.left c.args.source.now) (g.S.Source.left c.find_line.new.source) c.find_line.new.self (lab_seen c.loop-len.trial) (g.K.Sink.written c.args.sink.now) (g.K.Sink.written c.loop-len.sink)
+  more = reading_more _ _ _ _ _ _ _ _ _ c.loop-len.invariant.reading c.find_line.ensures.taken c.find_line.ensures.count c.find_line.ensures.bound
+
+pub returns-in-Err-clause-reads : goal.returns-in-Err-clause-reads
+returns-in-Err-clause-reads g c = reading_stop _ _ _ _ _ c.find_line.new.self (lab_seen c.loop-len.trial) more c.in-Ok-Some.len c.in-Err.end (lab_seen c.pass.new.self) _ (sym c.in-Ok-Some.ensures.found ∙ c.in-Ok-Some.field-0-is)
+    (subst (λ (rest : List ℕ). PassesInLab (lab_passed (lab_seen c.loop-len.trial) (take c.in-Ok-Some.len rest)) (lab_gain (lab_seen c.loop-len.trial) (take c.in-Ok-Some.len rest)) (g.K.Sink.written c.loop-len.sink) (g.K.Sink.written c.pass.new.sink) (lab_seen c.pass.new.self) (Err c.in-Err.end))
+    c.rest.ensures.value c.in-Err.ensures.passed) where
+      more : Reading c.args.policy (g.S.Source.left c.args.source.now) (g.S.Source.left c.find_line.new.source) c.find_line.new.self (lab_seen c.loop-len.trial) (g.K.Sink.written c.args.sink.now) (g.K.Sink.written c.loop-len.sink)
+      more = reading_more _ _ _ _ _ _ _ _ _ c.loop-len.invariant.reading c.find_line.ensures.taken c.find_line.ensures.count c.find_line.ensures.bound
+
+pub returns-in-Ok-None-clause-reads : goal.returns-in-Ok-None-clause-reads
+returns-in-Ok-None-clause-reads g c = reading_end _ _ _ _ _ c.find_line.new.self (lab_seen c.loop-len.trial) more (sym c.in-Ok-None.ensures.found ∙ c.in-Ok-None.field-0-is) c.end.result _ (c.in-Ok-None.ensures.ended c.in-Ok-None.field-0-is)
+    (subst (λ (rest : List ℕ). Finishes (lab_ending (lab_seen c.loop-len.trial) rest) (end_gain (lab_seen c.loop-len.trial) rest) (g.K.Sink.written c.loop-len.sink) (g.K.Sink.written c.end.new.sink) c.end.result) c.rest-in-Ok-None.ensures.value c.end.ensures.ended) where
+      more : Reading c.args.policy (g.S.Source.left c.args.source.now) (g.S.Source.left c.find_line.new.source) c.find_line.new.self (lab_seen c.loop-len.trial) (g.K.Sink.written c.args.sink.now) (g.K.Sink.written c.loop-len.sink)
+      more = reading_more _ _ _ _ _ _ _ _ _ c.loop-len.invariant.reading c.find_line.ensures.taken c.find_line.ensures.count c.find_line.ensures.bound
+
+pub returns-in-Err-Failed-clause-reads : goal.returns-in-Err-Failed-clause-reads
+returns-in-Err-Failed-clause-reads g c = reading_failed _ _ _ _ _ c.find_line.new.self (lab_seen c.loop-len.trial) more c.in-Err-Failed.ensures.err c.in-Err-Failed.ensures.within where
+  more : Reading c.args.policy (g.S.Source.left c.args.source.now) (g.S.Source.left c.find_line.new.source) c.find_line.new.self (lab_seen c.loop-len.trial) (g.K.Sink.written c.args.sink.now) (g.K.Sink.written c.loop-len.sink)
+  more = reading_more _ _ _ _ _ _ _ _ _ c.loop-len.invariant.reading c.find_line.ensures.taken c.find_line.ensures.count c.find_line.ensures.bound
+
+pub returns-in-Err-NoMemory-clause-reads : goal.returns-in-Err-NoMemory-clause-reads
+returns-in-Err-NoMemory-clause-reads g c = reading_starved _ _ _ _ _ c.find_line.new.self (lab_seen c.loop-len.trial) more where
+  more : Reading c.args.policy (g.S.Source.left c.args.source.now) (g.S.Source.left c.find_line.new.source) c.find_line.new.self (lab_seen c.loop-len.trial) (g.K.Sink.written c.args.sink.now) (g.K.Sink.written c.loop-len.sink)
+  more = reading_more _ _ _ _ _ _ _ _ _ c.loop-len.invariant.reading c.find_line.ensures.taken c.find_line.ensures.count c.find_line.ensures.bound
