@@ -201,10 +201,34 @@ ROWS = [  # a trace as the words of `made`, a policy, and its lines behind the h
     (("nodes 2, low 9", "/a 1", "/a /b"), "rr", "1m", "line 7: no such file"),
 ]
 
+HEAD_OF_TWO = "lab rr nodes 2 low 25 high 65 age 20000 cache 10\n"
+LAB_REFUSED = [  # a text, what is written of it by rr, the line on standard error, and the status
+    ("", "", "line 1: not a line of the schedule", 2),
+    ("lab 1", "", "line 1: not a line of the schedule", 2),
+    ("lard 1\ngo\n", "", "line 1: not a line of the schedule", 2),
+    ("lab 1\nnodes 2\n", "", "line 3: not a line of the schedule", 2),
+    ("lab 1\nidle 5\ngo\n", "", "line 2: not a line of the schedule", 2),
+    ("lab 1\nnodes 2\nnodes 2\ngo\n", "", "line 3: not a line of the schedule", 2),
+    ("lab 1\nfile /a 1\nnodes 2\ngo\n", "", "line 3: not a line of the schedule", 2),
+    ("lab 1\nfile /a?b 1\ngo\n", "", "line 2: not a line of the schedule", 2),
+    ("lab 1\nfile /a 1048577\ngo\n", "", "line 2: not a line of the schedule", 2),
+    ("lab 1\nnodes 65\ngo\n", "", "line 2: nodes out of range: 65", 2),
+    ("lab 1\nlow 66\ngo\n", "", "line 3: low 66 above high 65", 2),
+    ("lab 1\nnodes 1\nlow 1\ngo\n", "", "line 4: no connection can be admitted", 2),
+    ("lab 1\nfile /a 1\nfile /a 2\ngo\n", "", "line 3: file repeated", 2),
+    ("lab 1\n" + "".join(f"file /{at} 1048576\n" for at in range(65)) + "go\n", "", "line 66: files too large: 68157440", 2),
+    ("lab 1\ncache 10\ngo\ngo\n", HEAD_OF_TWO, "line 4: not a line of the schedule", 2),
+    ("lab 1\ncache 10\nfile /a 6\ngo\nreq /a\nreq /a?\n", HEAD_OF_TWO + "1 /a n1 miss\n", "line 6: no such file", 2),
+    ("lab 1\ncache 10\nfile /a 6\ngo\nreq /a\nreq  /a\n", HEAD_OF_TWO + "1 /a n1 miss\n", "line 6: not a line of the schedule", 2),
+    ("lab 1\ncache 10\nfile /a 6\ngo\nreq /a\nreq /a", HEAD_OF_TWO + "1 /a n1 miss\n", "line 6: not a line of the schedule", 2),
+    ("lab 1\ncache 10\nfile /a 6\ngo\nreq /a\ndone 01\n", HEAD_OF_TWO + "1 /a n1 miss\n", "line 6: not a line of the schedule", 2),
+    ("lab 1\ncache 10\nfile /a 6\ngo\nreq /a\nclock 4294967296\n", HEAD_OF_TWO + "1 /a n1 miss\n", "line 6: not a line of the schedule", 2),
+]
+
 # ---- tables of tools/policies
 
 HEADINGS = """3 requests of 2 files in 1 trace
-cache 10 bytes at each node, low 25, high 65, age 20,000 ms; BY
+cache 10 bytes at each node, low 25, high 65, age 20,000 ms; by lardsim lab
 
 nodes  policy   requests       hits     full  misses  greatest load over mean
 """
@@ -245,7 +269,7 @@ MISUSES = [  # words, and the line on standard error
     ("tools/policies x --nodes 2,2", "policies: --nodes 2,2: 2 is none of 1 to 64, or stands there twice"),
     ("tools/policies x --policy rr,", "policies: --policy rr,: an empty word is none of rr to one, or stands there twice"),
     ("tools/policies x --window 0", "policies: --window 0: not a number from 1 to 16,384"),
-    ("tools/policies README.md --model", "policies: README.md: line 1: not a line of a trace"),
+    ("tools/policies README.md", "policies: README.md: line 1: not a line of a trace"),
 ]
 REFUSED = [  # a trace, options, and the last line on standard error
     (("nodes 2, low 9", "/a 1", "/a /b"), "", "policies: TRACE: line 7: no such file"),

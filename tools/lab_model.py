@@ -1,6 +1,6 @@
 """The policy lab by its definitions, in Python and apart from the program: what tools/check-lab compares `lardsim lab` with.
 
-Nothing here is proved. tools/policies uses it only where no program that knows the command is there, and says so.
+Nothing here is proved, and no tool for users calls it.
 
     lines, refused = run("lard", lab_trace.parse(text, name))
 

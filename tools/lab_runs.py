@@ -1,13 +1,12 @@
 """Runs of the policy lab and their figures: what tools/policies prints and draws.
 
-A run is one policy over one trace at one number of nodes, by `lardsim lab POLICY` or, where no program is given, by the model
-in tools/lab_model.py. Its figures can be added to those of other runs.
+A run is one policy over one trace at one number of nodes, by `lardsim lab POLICY`. Its figures can be added to those of other
+runs.
 """
 
 import re
 import subprocess
 
-import lab_model
 import lab_trace
 
 REQUEST = re.compile(r"([1-9]\d*) (/[!-~]*) (?:n([1-9]\d?) (hit|miss)|full)", re.ASCII)
@@ -36,16 +35,16 @@ def fitted(trace, changes, window):
     return lab_trace.Trace(config, trace.files, lab_trace.without_full(events, most)[0])
 
 
+def call(program, policy, trace):
+    """The lines that the program writes of a trace, and what it says on standard error, which is nothing where it is done."""
+    done = subprocess.run([program, "lab", policy], input=trace.text().encode("ascii"), capture_output=True, check=False)
+    said = done.stderr.decode().strip()
+    return done.stdout.decode("ascii").splitlines(), said or (f"status {done.returncode}" if done.returncode else "")
+
+
 def run(program, policy, trace):
     """The lines of a run."""
-    if program is None:
-        lines, refused = lab_model.run(policy, trace)
-        said = f"line {refused[0]}: {refused[1]}" if refused else ""
-    else:
-        done = subprocess.run([program, "lab", policy], input=trace.text().encode("ascii"), capture_output=True, check=False)
-        lines, said = done.stdout.decode("ascii").splitlines(), done.stderr.decode().strip()
-        if done.returncode and not said:
-            said = f"status {done.returncode}"
+    lines, said = call(program, policy, trace)
     if said:
         raise RunError(f"lab {policy}: {said}")
     return lines

@@ -1,13 +1,17 @@
 -- What the words ask for is one thing, and what its run says.
-use Rattle.std.proofs.Common.{◌≡◌, ◌⊎◌, inl, inr, ℕ, List, ◌∷◌, [], Option, Some, refl, sym, ◌∙◌, subst, arith}
+use Rattle.std.proofs.Common.{◌≡◌, ◌⊎◌, inl, inr, ℕ, List, ◌∷◌, [], true, false, Option, Some, refl, sym, ap, ◌∙◌, subst, arith}
+use Rattle.std.specs.Prelude.{bytes_eq}
 use Rattle.std.proofs.lemmas.Fmt.{decimal_injective}
 use Rattle.lard_app.specs.declared.status.Status.{Status}
 use Rattle.lard_app.specs.declared.status.Status.TheVariants.{Done, Usage, Refused, ReadFault, WriteFault, NoMemory, Limit}
 use Rattle.lard_app.specs.Generate.{Generated, Prints, run_of}
 use Rattle.lard_app.specs.Run.{Ended, Reads}
+use Rattle.lard_lab.specs.declared.policy.Policy.{Policy}
+use Rattle.lard_lab.specs.declared.policy.Policy.TheVariants.{Rr, Hash, Lard, LardR}
+use Rattle.lard_lab.specs.Policy.{policy_word}
 use Rattle.lard_app.specs.declared.words.Command.{Command}
 use Rattle.lard_app.specs.declared.words.Command.TheVariants as command
-use Rattle.lard_app.specs.Words.{AreGenerate, AreReplay, IsOne}
+use Rattle.lard_app.specs.Words.{AreGenerate, AreLab, AreReplay, IsOne}
 use Rattle.lard_summary.specs.Lines.{summary}
 
 -- what was found
@@ -16,6 +20,41 @@ are-replay words k is h = subst (λ (j : Command). IsOne words (Some j)) is h
 
 pub are-generate : (words : List (List ℕ)) (k : Command) (seed clients : ℕ) → k ≡ command.Generate seed clients → IsOne words (Some k) → AreGenerate words seed clients
 are-generate words k seed clients is h = subst (λ (j : Command). IsOne words (Some j)) is h
+
+pub are-lab : (words : List (List ℕ)) (k : Command) (policy : Policy) → k ≡ command.Lab policy → IsOne words (Some k) → AreLab words policy
+are-lab words k policy is h = subst (λ (j : Command). IsOne words (Some j)) is h
+
+-- one word is not two, nor are two words three
+pub no-replay-lab : (words : List (List ℕ)) (policy : Policy) → AreReplay words → ¬ (AreLab words policy)
+no-replay-lab words policy r l = let both = sym r ∙ l in cc
+
+pub no-lab-generate : (words : List (List ℕ)) (policy : Policy) (seed clients : ℕ) → AreLab words policy → ¬ (AreGenerate words seed clients)
+no-lab-generate words policy seed clients l g = let both = sym l ∙ g.are in cc
+
+two : (a b c d : List ℕ) → ◌≡◌ {A = List (List ℕ)} (a ∷ b ∷ []) (c ∷ d ∷ []) → b ≡ d
+two a b c d h = cc
+
+policy-same : (p q : Policy) → policy_word p ≡ policy_word q → p ≡ q
+policy-same Rr Rr e = refl
+policy-same Rr Hash e = let both : true ≡ false = ap (λ (w : List ℕ). bytes_eq w (policy_word Rr)) e in cc
+policy-same Rr Lard e = let both : true ≡ false = ap (λ (w : List ℕ). bytes_eq w (policy_word Rr)) e in cc
+policy-same Rr LardR e = let both : true ≡ false = ap (λ (w : List ℕ). bytes_eq w (policy_word Rr)) e in cc
+policy-same Hash Rr e = let both : true ≡ false = ap (λ (w : List ℕ). bytes_eq w (policy_word Hash)) e in cc
+policy-same Hash Hash e = refl
+policy-same Hash Lard e = let both : true ≡ false = ap (λ (w : List ℕ). bytes_eq w (policy_word Hash)) e in cc
+policy-same Hash LardR e = let both : true ≡ false = ap (λ (w : List ℕ). bytes_eq w (policy_word Hash)) e in cc
+policy-same Lard Rr e = let both : true ≡ false = ap (λ (w : List ℕ). bytes_eq w (policy_word Lard)) e in cc
+policy-same Lard Hash e = let both : true ≡ false = ap (λ (w : List ℕ). bytes_eq w (policy_word Lard)) e in cc
+policy-same Lard Lard e = refl
+policy-same Lard LardR e = let both : true ≡ false = ap (λ (w : List ℕ). bytes_eq w (policy_word Lard)) e in cc
+policy-same LardR Rr e = let both : true ≡ false = ap (λ (w : List ℕ). bytes_eq w (policy_word LardR)) e in cc
+policy-same LardR Hash e = let both : true ≡ false = ap (λ (w : List ℕ). bytes_eq w (policy_word LardR)) e in cc
+policy-same LardR Lard e = let both : true ≡ false = ap (λ (w : List ℕ). bytes_eq w (policy_word LardR)) e in cc
+policy-same LardR LardR e = refl
+
+-- two words are of one policy
+pub same-policy : (words : List (List ℕ)) (p q : Policy) → AreLab words p → AreLab words q → p ≡ q
+same-policy words p q l m = policy-same p q (two _ _ _ _ (sym l ∙ m))
 
 -- one word is not three
 pub not-both : (words : List (List ℕ)) (seed clients : ℕ) → AreReplay words → ¬ (AreGenerate words seed clients)

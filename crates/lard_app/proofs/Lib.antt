@@ -16,6 +16,7 @@ mod Halting
 mod Happened
 mod Keeping
 mod Knows
+mod Labeled
 mod Lawful
 mod Numbering
 mod Numbers

@@ -1,6 +1,7 @@
 pub mod Causes
 pub mod Generate
 pub mod Happened
+pub mod Lab
 pub mod Replay
 pub mod Run
 pub mod Seen

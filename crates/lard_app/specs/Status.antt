@@ -10,7 +10,7 @@ use Rattle.lard_rules.specs.declared.fault.Refusal.TheVariants.{NotSent, WasLost
 use Rattle.lard_rules.specs.declared.fault.What.{What}
 use Rattle.lard_rules.specs.declared.fault.What.TheVariants.{Input, Packets, PacketBytes, Records, Answers, Requests, Stream}
 use Rattle.lard_app.specs.declared.status.Why.{Why}
-use Rattle.lard_app.specs.declared.status.Why.TheVariants.{Syntax, Config, File, Untimely}
+use Rattle.lard_app.specs.declared.status.Why.TheVariants.{Syntax, Config, File, Untimely, NoFile, NotOpen}
 use Rattle.lard_app.specs.declared.status.Status.{Status}
 use Rattle.lard_app.specs.declared.status.Status.TheVariants.{Done, Usage, Refused, ReadFault, WriteFault, NoMemory, Limit}
 
@@ -55,6 +55,8 @@ why_text line Syntax = line_prefix line ++ codes "not a line of the schedule"
 why_text line (Config fault) = with_fault (line_prefix line) fault
 why_text line (File fault) = with_file_fault (line_prefix line) fault
 why_text line (Untimely reason) = with_refusal (line_prefix line) reason
+why_text line NoFile = line_prefix line ++ codes "no such file"
+why_text line (NotOpen number) = line_prefix line ++ codes "request " ++ decimal number ++ codes " is not open"
 
 abbrev pub what_word : What → List ℕ
 what_word Input = codes "input"
@@ -68,7 +70,7 @@ what_word Stream = codes "stream"
 -- what is printed to standard error, without the line feed
 abbrev pub line_text : Status → List ℕ
 line_text Done = []
-line_text Usage = codes "usage: lardsim replay | generate SEED CLIENTS"
+line_text Usage = codes "usage: lardsim replay | generate SEED CLIENTS | lab POLICY"
 line_text (Refused line why) = why_text line why
 line_text ReadFault = codes "read fault"
 line_text WriteFault = codes "write fault"

@@ -3,6 +3,8 @@ use Rattle.std.specs.Prelude.{◌≡◌, ℕ, ◌<◌, ◌≤◌, ◌^◌, List,
 use Rattle.std.specs.String.{string_bytes}
 use Rattle.std.specs.declared.string.String.{String}
 use Rattle.std.specs.declared.alloc.Global.{Global}
+use Rattle.lard_lab.specs.declared.policy.Policy.{Policy}
+use Rattle.lard_lab.specs.Policy.{policy_word}
 use Rattle.lard_app.specs.declared.words.Command.{Command}
 use Rattle.lard_app.specs.declared.words.Command.TheVariants as command
 
@@ -18,6 +20,10 @@ pub record AreGenerate (words : List (List ℕ)) (seed clients : ℕ) : Type 0 w
   pub some : 1 ≤ clients
   pub few : clients ≤ 2000
 
+-- the words of the lab under a policy
+abbrev pub AreLab : List (List ℕ) → Policy → Type 0
+AreLab words policy = words ≡ codes "lab" ∷ policy_word policy ∷ []
+
 -- the bytes of each word
 abbrev pub bytes_of : List (String Global) → List (List ℕ)
 bytes_of words = map string_bytes words
@@ -28,20 +34,29 @@ IsReplay words = AreReplay (bytes_of words)
 abbrev pub IsGenerate : List (String Global) → ℕ → ℕ → Type 0
 IsGenerate words seed clients = AreGenerate (bytes_of words) seed clients
 
+abbrev pub IsLab : List (String Global) → Policy → Type 0
+IsLab words policy = AreLab (bytes_of words) policy
+
 -- they ask for nothing that there is
-abbrev pub IsNeither : List (String Global) → Type 0
-IsNeither words = (¬ (IsReplay words)) × ((seed clients : ℕ) → ¬ (IsGenerate words seed clients))
+abbrev pub IsNone : List (String Global) → Type 0
+IsNone words = (¬ (IsReplay words)) × ((seed clients : ℕ) → ¬ (IsGenerate words seed clients)) × ((policy : Policy) → ¬ (IsLab words policy))
 
 -- ---- what calls find
 
 -- the command that words are, if they are one
 abbrev pub IsOne : List (List ℕ) → Option Command → Type 0
-IsOne words None = (¬ (AreReplay words)) × ((seed clients : ℕ) → ¬ (AreGenerate words seed clients))
+IsOne words None = (¬ (AreReplay words)) × ((seed clients : ℕ) → ¬ (AreGenerate words seed clients)) × ((policy : Policy) → ¬ (AreLab words policy))
 IsOne words (Some command.Replay) = AreReplay words
 IsOne words (Some (command.Generate seed clients)) = AreGenerate words seed clients
+IsOne words (Some (command.Lab policy)) = AreLab words policy
 
 abbrev pub Asks : List (String Global) → Option Command → Type 0
 Asks words found = IsOne (bytes_of words) found
+
+-- the policy that a word names, if it does
+abbrev pub IsPolicy : List ℕ → Option Policy → Type 0
+IsPolicy word None = (policy : Policy) → ¬ (word ≡ policy_word policy)
+IsPolicy word (Some policy) = word ≡ policy_word policy
 
 -- the number below 2^64 that a word writes in decimal, if it does
 abbrev pub IsNumber : List ℕ → Option ℕ → Type 0

@@ -1,5 +1,5 @@
 //! The top call `run`: it reads a schedule, replays it through the core, and writes the report; or it replays a generated schedule
-//! and writes four lines of what is counted. `flush_report` passes on what a sink of standard output still holds back behind it.
+//! and writes four lines of what is counted; or it runs a trace through a policy of the lab. `flush_report` passes on what a sink of standard output still holds back behind it.
 //!
 //! It stands at the top of the path. `run` reads its words and the input, the reader of `lard_schedule` makes an item
 //! of each line, the world of `lard_world` does the step of an event, or `lard_settle` the steps of a settle, and their
@@ -10,6 +10,7 @@ mod commands;
 mod flush;
 mod generating;
 mod happening;
+mod labs;
 mod replay;
 mod status;
 #[cfg(test)]

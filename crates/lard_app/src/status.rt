@@ -22,6 +22,10 @@ pub enum Why {
     File(FileFault),
     /// It is an event that can't happen as things stand: it names what is not there, or what is there already.
     Untimely(Refusal),
+    /// It requests a path that no file of the trace has.
+    NoFile,
+    /// It says that the request with this number is done, which is not open.
+    NotOpen(u32),
 }
 
 /// How a run ended. Lines are counted from 1.
@@ -67,7 +71,10 @@ impl Status {
         match self {
             Status::Done => return owned(alloc, ""),
             Status::Usage => {
-                return owned(alloc, "usage: lardsim replay | generate SEED CLIENTS");
+                return owned(
+                    alloc,
+                    "usage: lardsim replay | generate SEED CLIENTS | lab POLICY",
+                );
             }
             Status::Refused { line, why } => return refusal(alloc, *line, *why),
             Status::ReadFault => return owned(alloc, "read fault"),
@@ -101,6 +108,8 @@ fn refusal(alloc: Global, line: u64, why: Why) -> Result<String, NoMemory>
         Why::Config(fault) => return faulty(text, fault),
         Why::File(fault) => return not_added(text, fault),
         Why::Untimely(reason) => return untimely(text, reason),
+        Why::NoFile => return ended(text, "no such file"),
+        Why::NotOpen(number) => return not_open(text, number),
     }
 }
 
@@ -163,6 +172,14 @@ fn untimely(text: String, reason: Refusal) -> Result<String, NoMemory>
         Refusal::NoNode { n, nodes } => return no_node(text, n, nodes),
         Refusal::NoJob { n, j, len } => return no_job(text, n, j, len),
     }
+}
+
+/// A text, and then that this request is not open.
+fn not_open(text: String, number: u32) -> Result<String, NoMemory>
+    ensures { IfOk result (λ longer. string_bytes longer ≡ string_bytes text ++ codes "request " ++ decimal number ++ codes " is not open") }
+{
+    let longer = counted(text, "request ", u64::from(number))?;
+    ended(longer, " is not open")
 }
 
 /// A text, and then that this packet is not among those that were sent.

@@ -1,10 +1,11 @@
 //! What the words ask for.
 
 ghost use Rattle.std.specs.Prelude.{◌≤◌, ◌↔◌, [], ◌∷◌, IsTrue};
-ghost use Rattle.lard_app.specs.Words.{Asks, IsCount, IsNumber, IsOne};
+ghost use Rattle.lard_app.specs.Words.{Asks, IsCount, IsNumber, IsOne, IsPolicy};
 
 use itoa::Buffer;
 use lard_generate::MAX_CLIENTS;
+use lard_lab::Policy;
 
 /// What the words ask for.
 #[derive(Clone, Copy, Debug, PartialEq, Eq)]
@@ -13,6 +14,8 @@ pub enum Command {
     Replay,
     /// The generated schedule of this seed and of so many clients is to be replayed.
     Generate { seed: u64, clients: u32 },
+    /// A trace is to be read and run through this policy.
+    Lab(Policy),
 }
 
 /// What the words ask for; `None` where there is no such command.
@@ -21,6 +24,7 @@ pub fn asked(words: &[String]) -> Option<Command>
 {
     match words {
         [word] => replay(word.as_str()),
+        [word, policy] => lab(word.as_str(), policy.as_str()),
         [word, seed, clients] => generate(word.as_str(), seed.as_str(), clients.as_str()),
         _ => None,
     }
@@ -32,6 +36,35 @@ fn replay(word: &str) -> Option<Command>
 {
     if word == "replay" {
         return Some(Command::Replay);
+    }
+    None
+}
+
+/// A command of two words.
+fn lab(word: &str, name: &str) -> Option<Command>
+    ensures { IsOne (word.now ∷ name.now ∷ []) result }
+{
+    if word != "lab" {
+        return None;
+    }
+    Some(Command::Lab(policy(name)?))
+}
+
+/// The policy that this word names.
+fn policy(word: &str) -> Option<Policy>
+    ensures { IsPolicy word.now result }
+{
+    if word == "rr" {
+        return Some(Policy::Rr);
+    }
+    if word == "hash" {
+        return Some(Policy::Hash);
+    }
+    if word == "lard" {
+        return Some(Policy::Lard);
+    }
+    if word == "lardr" {
+        return Some(Policy::LardR);
     }
     None
 }

@@ -19,32 +19,36 @@ pub record Reading (policy : Policy) (left left_now : Option (List ℕ)) (held :
   pub consumed : Consumes left left_now text
   pub count : length text ≡ held.read
   pub bound : held.read ≤ MAX_INPUT_BYTES + 1
+  pub most : held.most ≡ MAX_INPUT_BYTES
   pub going : Going policy text held.rest s old now
 
-pub reading_first : (policy : Policy) (left old : Option (List ℕ)) (held : Held) (s : LabProgress) → held ≡ record { rest = []; read = 0 } → s ≡ lab_begin policy → Reading policy left left held s old old
+pub reading_first : (policy : Policy) (left old : Option (List ℕ)) (held : Held) (s : LabProgress) → held ≡ record { rest = []; read = 0; most = MAX_INPUT_BYTES } → s ≡ lab_begin policy → Reading policy left left held s old old
 reading_first policy left old held s h e =
-    subst (λ (k : Held). Reading policy left left k s old old) (sym h) (record { text = []; consumed = Consumes-nil left; count = refl; bound = omega arith; going = going_first policy s old e })
+    subst (λ (k : Held). Reading policy left left k s old old) (sym h) (record { text = []; consumed = Consumes-nil left; count = refl; bound = omega arith; most = refl; going = going_first policy s old e })
 
 module _ (policy : Policy) (left mid now old new : Option (List ℕ)) (held more : Held) (s : LabProgress) where
   -- more is read
-  pub reading_more : Reading policy left mid held s old new → TakesIn mid now held.rest more.rest → more.read + length held.rest ≡ held.read + length more.rest → more.read ≤ MAX_INPUT_BYTES + 1 → Reading policy left now more s old new
-  reading_more r t count bound = record {
+  pub reading_more : Reading policy left mid held s old new → TakesIn mid now held.rest more.rest → more.read + length held.rest ≡ held.read + length more.rest → more.read ≤ held.most + 1 → more.most ≡ held.most
+      → Reading policy left now more s old new
+  reading_more r t count bound most = record {
     text = r.text ++ t.taken;
     consumed = Consumes-trans left mid now r.text t.taken r.consumed t.consumed;
     count = let grown : length more.rest ≡ length held.rest + length t.taken = ap length t.text ∙ length-append held.rest t.taken in omega (arith, grown, count, r.count, length-append r.text t.taken);
-    bound = bound;
+    bound = subst (λ n. more.read ≤ n + 1) r.most bound;
+    most = most ∙ r.most;
     going = subst (λ (rest : List ℕ). Going policy (r.text ++ t.taken) rest s old new) (sym t.text) (going_more policy r.text held.rest t.taken s old new r.going);
   }
 
 module _ (policy : Policy) (left left_now old now : Option (List ℕ)) (held : Held) (s : LabProgress) (r : Reading policy left left_now held s old now) where
   -- a line is passed
-  pub reading_on : (at : ℕ) (next : Held) (t : LabProgress) (new : Option (List ℕ)) → position is_feed held.rest ≡ Some at → next ≡ record { rest = drop (at + 1) held.rest; read = held.read }
+  pub reading_on : (at : ℕ) (next : Held) (t : LabProgress) (new : Option (List ℕ)) → position is_feed held.rest ≡ Some at → next ≡ record { rest = drop (at + 1) held.rest; read = held.read; most = held.most }
       → (lab_passed s (take at held.rest) ≡ Ok t) × Appends now new (lab_gain s (take at held.rest)) → Reading policy left left_now next t old new
   reading_on at next t new is e h = subst (λ (k : Held). Reading policy left left_now k t old new) (sym e) (record {
     text = r.text;
     consumed = r.consumed;
     count = r.count;
     bound = r.bound;
+    most = r.most;
     going = going_on policy r.text held.rest s old now r.going at is t new h;
   })
 
@@ -62,15 +66,15 @@ module _ (policy : Policy) (left left_now old now : Option (List ℕ)) (held : H
 
   module _ (none : position is_feed held.rest ≡ None) where
     -- the input ends
-    pub reading_end : (end : LabEnd) (new : Option (List ℕ)) → IsAtEnd left_now ⊎ (held.read ≡ MAX_INPUT_BYTES + 1) → Finishes (lab_ending s held.rest) (end_gain s held.rest) now new end → LabReads policy end left left_now old new
+    pub reading_end : (end : LabEnd) (new : Option (List ℕ)) → IsAtEnd left_now ⊎ (held.read ≡ held.most + 1) → Finishes (lab_ending s held.rest) (end_gain s held.rest) now new end → LabReads policy end left left_now old new
     reading_end end new how e = ended_as end new (going_end policy r.text held.rest s old now r.going none left_now new (full how) end e) where
-      full : IsAtEnd left_now ⊎ (held.read ≡ MAX_INPUT_BYTES + 1) → IsAtEnd left_now ⊎ (length r.text ≡ MAX_INPUT_BYTES + 1)
+      full : IsAtEnd left_now ⊎ (held.read ≡ held.most + 1) → IsAtEnd left_now ⊎ (length r.text ≡ MAX_INPUT_BYTES + 1)
       full (inl end) = inl end
-      full (inr most) = inr (r.count ∙ most)
+      full (inr most) = inr (r.count ∙ most ∙ ap (λ n. n + 1) r.most)
 
     -- the source fails
-    pub reading_failed : held.read ≤ MAX_INPUT_BYTES → LabReads policy ReadFault left left_now old now
-    reading_failed small = ended_as ReadFault now (going_failed policy r.text held.rest s old now r.going none left_now (subst (λ n. n ≤ MAX_INPUT_BYTES) (sym r.count) small))
+    pub reading_failed : held.read ≤ held.most → LabReads policy ReadFault left left_now old now
+    reading_failed small = ended_as ReadFault now (going_failed policy r.text held.rest s old now r.going none left_now (omega (arith, small, r.count, r.most)))
 
 none-wrote : (policy : Policy) (old : Option (List ℕ)) → WrotePrefix old old (lab_whole policy []).1
 unfolding lab_whole

@@ -2,6 +2,7 @@
 
 ghost use Rattle.std.specs.Prelude.{◌≡◌, []};
 ghost use Rattle.lard_base.specs.Causes.{Rose};
+ghost use Rattle.lard_base.specs.declared.limits.TheConstants.{MAX_INPUT_BYTES};
 ghost use Rattle.lard_lab_run.specs.Run.{IsSettledLab, LabReads};
 ghost use Rattle.lard_lab_run.specs.Seen.{lab_seen};
 ghost use Rattle.lard_lab_run.specs.Told.{LabRan};
@@ -9,6 +10,7 @@ ghost use Rattle.lard_lab_run.specs.Trial.{EndsLabCount, lab_begin};
 
 use crate::end::LabEnd;
 use crate::trial::Trial;
+use lard_base::limits::MAX_INPUT_BYTES;
 use lard_base::{InputFault, NoMemory, Sink, Source};
 use lard_lab::Policy;
 use lard_lines::Lines;
@@ -29,7 +31,7 @@ pub fn run_lab<S: Source, K: Sink>(
     // Where no count of faults rose, the input alone decides how the lab ends, unless memory runs out.
     ensures complete { ¬ Rose (S.faults source.old) (S.faults source.new) → ¬ Rose (K.faults sink.old) (K.faults sink.new) → IsSettledLab policy result (S.left source.old) }
 {
-    let mut lines = match Lines::new(alloc) {
+    let mut lines = match Lines::new(alloc, MAX_INPUT_BYTES) {
         Ok(lines) => lines,
         Err(NoMemory) => return LabEnd::NoMemory,
     };
@@ -50,7 +52,7 @@ fn pass_lines<S: Source, K: Sink>(
     sink: &mut K,
 ) -> LabEnd
     requires begins { lab_seen trial.old ≡ lab_begin policy }
-    requires unread { lines.old ≡ record { rest = []; read = 0 } }
+    requires unread { lines.old ≡ record { rest = []; read = 0; most = MAX_INPUT_BYTES } }
     ensures reads { LabReads policy result (S.left source.old) (S.left source.new) (K.written sink.old) (K.written sink.new) }
     ensures read_fault { result ≡ LabEnd.ReadFault → Rose (S.faults source.old) (S.faults source.new) }
     ensures no_read_fault { ¬ (result ≡ LabEnd.ReadFault) → S.faults source.new ≡ S.faults source.old }

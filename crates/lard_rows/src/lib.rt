@@ -8,6 +8,8 @@
 mod held_once;
 #[cfg(test)]
 mod hostile;
+#[cfg(test)]
+mod lab;
 pub mod later;
 pub mod limits;
 pub mod moves;

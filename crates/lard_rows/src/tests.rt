@@ -420,7 +420,7 @@ fn paths_at_their_greatest_length(rt: HostRuntime) -> Result<(), Fail> {
 }
 
 /// Words that ask for nothing that there is.
-const NO_COMMANDS: [&str; 13] = [
+const NO_COMMANDS: [&str; 17] = [
     "",
     "replay x",
     "--help",
@@ -434,6 +434,10 @@ const NO_COMMANDS: [&str; 13] = [
     "generate 7 +20",
     "generate -1 20",
     "generate 18446744073709551616 20",
+    "lab",
+    "lab LARD",
+    "lab lardx",
+    "lab rr x",
 ];
 
 #[test]

@@ -22,6 +22,7 @@ lardsim: replays schedules through a content-aware web cluster behind one addres
 
 usage: lardsim replay
        lardsim generate SEED CLIENTS
+       lardsim lab POLICY
        lardsim --help
        lardsim --version
 
@@ -31,18 +32,21 @@ generate    makes a large schedule of a number below 2^64 with 1 to 2000
             clients, replays it, and writes four lines of what is counted:
             the responses, the bytes that the clients accepted, the packets
             and the records, and whether anything was left (open) or not
+lab         reads a trace of requests from standard input, runs it through a
+            policy, rr, hash, lard or lardr, and writes the node of each
+            request, hits and loads
 
 exit statuses, each with a line on standard error:
   0  done: the input was read to its end, and all was written
   1  usage: the words are no command with its arguments
-  2  a line of the schedule was refused; the report of the steps before it stands
+  2  a line of the input was refused; the report of the lines before it stands
   3  the input could not be read
   4  the output could not be written
   5  memory ran out
-  6  a limit was reached; the report of the steps before it stands
+  6  a limit was reached; the report of the lines before it stands
 
-The lines of a schedule are described in docs/SCHEDULE.md, and those of a
-report in docs/REPORT.md. The manual page: man -l docs/lardsim.1
+The lines of a schedule are described in docs/SCHEDULE.md, those of a report
+in docs/REPORT.md, and those of the lab in docs/LAB.md. The manual page: man -l docs/lardsim.1
 ";
 
 fn main(rt: HostRuntime) -> ExitCode {

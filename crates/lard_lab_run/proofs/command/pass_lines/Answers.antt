@@ -1,6 +1,6 @@
 -- Each line is passed before the next is read, and the lab tells of all that was read.
-use Rattle.std.proofs.Common.{◌≡◌, ℕ, ◌+◌, ◌-◌, ◌<◌, List, take, Ok, Err, refl, sym, ◌∙◌, subst, arith}
-use Rattle.std.specs.Io.KnownBytes.{Appends}
+use Rattle.std.proofs.Common.{◌≡◌, ◌⊎◌, ℕ, ◌+◌, ◌-◌, ◌<◌, ◌≤◌, List, take, Ok, Err, refl, sym, ◌∙◌, subst, arith}
+use Rattle.std.specs.Io.KnownBytes.{Appends, IsAtEnd}
 use Rattle.lard_base.specs.declared.limits.TheConstants.{MAX_INPUT_BYTES}
 use Rattle.lard_lab_run.specs.Seen.{lab_seen}
 use Rattle.lard_lab_run.specs.Trial.{Finishes, PassesInLab, end_gain, lab_ending, lab_gain, lab_passed}
@@ -25,27 +25,27 @@ loop-len-preserved g c = record {
   faults = c.in-Ok.ensures.faults ∙ c.loop-len.invariant.faults;
 } where
   more : Reading c.args.policy (g.S.Source.left c.args.source.now) (g.S.Source.left c.find_line.new.source) c.find_line.new.self (lab_seen c.loop-len.trial) (g.K.Sink.written c.args.sink.now) (g.K.Sink.written c.loop-len.sink)
-  more = reading_more _ _ _ _ _ _ _ _ _ c.loop-len.invariant.reading c.find_line.ensures.taken c.find_line.ensures.count c.find_line.ensures.bound
+  more = reading_more _ _ _ _ _ _ _ _ _ c.loop-len.invariant.reading c.find_line.ensures.taken c.find_line.ensures.count c.find_line.ensures.bound c.find_line.ensures.most
 
 pub returns-in-Err-clause-reads : goal.returns-in-Err-clause-reads
 returns-in-Err-clause-reads g c = reading_stop _ _ _ _ _ c.find_line.new.self (lab_seen c.loop-len.trial) more c.in-Ok-Some.len c.in-Err.end (lab_seen c.pass.new.self) _ (sym c.in-Ok-Some.ensures.found ∙ c.in-Ok-Some.field-0-is)
     (subst (λ (rest : List ℕ). PassesInLab (lab_passed (lab_seen c.loop-len.trial) (take c.in-Ok-Some.len rest)) (lab_gain (lab_seen c.loop-len.trial) (take c.in-Ok-Some.len rest)) (g.K.Sink.written c.loop-len.sink) (g.K.Sink.written c.pass.new.sink) (lab_seen c.pass.new.self) (Err c.in-Err.end))
     c.rest.ensures.value c.in-Err.ensures.passed) where
       more : Reading c.args.policy (g.S.Source.left c.args.source.now) (g.S.Source.left c.find_line.new.source) c.find_line.new.self (lab_seen c.loop-len.trial) (g.K.Sink.written c.args.sink.now) (g.K.Sink.written c.loop-len.sink)
-      more = reading_more _ _ _ _ _ _ _ _ _ c.loop-len.invariant.reading c.find_line.ensures.taken c.find_line.ensures.count c.find_line.ensures.bound
+      more = reading_more _ _ _ _ _ _ _ _ _ c.loop-len.invariant.reading c.find_line.ensures.taken c.find_line.ensures.count c.find_line.ensures.bound c.find_line.ensures.most
 
 pub returns-in-Ok-None-clause-reads : goal.returns-in-Ok-None-clause-reads
-returns-in-Ok-None-clause-reads g c = reading_end _ _ _ _ _ c.find_line.new.self (lab_seen c.loop-len.trial) more (sym c.in-Ok-None.ensures.found ∙ c.in-Ok-None.field-0-is) c.end.result _ (c.in-Ok-None.ensures.ended c.in-Ok-None.field-0-is)
+returns-in-Ok-None-clause-reads g c = reading_end _ _ _ _ _ c.find_line.new.self (lab_seen c.loop-len.trial) more (sym c.in-Ok-None.ensures.found ∙ c.in-Ok-None.field-0-is) c.end.result _ (subst (λ n. IsAtEnd (g.S.Source.left c.find_line.new.source) ⊎ (c.find_line.new.self.read ≡ n + 1)) (sym c.find_line.ensures.most) (c.in-Ok-None.ensures.ended c.in-Ok-None.field-0-is))
     (subst (λ (rest : List ℕ). Finishes (lab_ending (lab_seen c.loop-len.trial) rest) (end_gain (lab_seen c.loop-len.trial) rest) (g.K.Sink.written c.loop-len.sink) (g.K.Sink.written c.end.new.sink) c.end.result) c.rest-in-Ok-None.ensures.value c.end.ensures.ended) where
       more : Reading c.args.policy (g.S.Source.left c.args.source.now) (g.S.Source.left c.find_line.new.source) c.find_line.new.self (lab_seen c.loop-len.trial) (g.K.Sink.written c.args.sink.now) (g.K.Sink.written c.loop-len.sink)
-      more = reading_more _ _ _ _ _ _ _ _ _ c.loop-len.invariant.reading c.find_line.ensures.taken c.find_line.ensures.count c.find_line.ensures.bound
+      more = reading_more _ _ _ _ _ _ _ _ _ c.loop-len.invariant.reading c.find_line.ensures.taken c.find_line.ensures.count c.find_line.ensures.bound c.find_line.ensures.most
 
 pub returns-in-Err-Failed-clause-reads : goal.returns-in-Err-Failed-clause-reads
-returns-in-Err-Failed-clause-reads g c = reading_failed _ _ _ _ _ c.find_line.new.self (lab_seen c.loop-len.trial) more c.in-Err-Failed.ensures.err c.in-Err-Failed.ensures.within where
+returns-in-Err-Failed-clause-reads g c = reading_failed _ _ _ _ _ c.find_line.new.self (lab_seen c.loop-len.trial) more c.in-Err-Failed.ensures.err (subst (λ n. c.find_line.new.self.read ≤ n) (sym c.find_line.ensures.most) c.in-Err-Failed.ensures.within) where
   more : Reading c.args.policy (g.S.Source.left c.args.source.now) (g.S.Source.left c.find_line.new.source) c.find_line.new.self (lab_seen c.loop-len.trial) (g.K.Sink.written c.args.sink.now) (g.K.Sink.written c.loop-len.sink)
-  more = reading_more _ _ _ _ _ _ _ _ _ c.loop-len.invariant.reading c.find_line.ensures.taken c.find_line.ensures.count c.find_line.ensures.bound
+  more = reading_more _ _ _ _ _ _ _ _ _ c.loop-len.invariant.reading c.find_line.ensures.taken c.find_line.ensures.count c.find_line.ensures.bound c.find_line.ensures.most
 
 pub returns-in-Err-NoMemory-clause-reads : goal.returns-in-Err-NoMemory-clause-reads
 returns-in-Err-NoMemory-clause-reads g c = reading_starved _ _ _ _ _ c.find_line.new.self (lab_seen c.loop-len.trial) more where
   more : Reading c.args.policy (g.S.Source.left c.args.source.now) (g.S.Source.left c.find_line.new.source) c.find_line.new.self (lab_seen c.loop-len.trial) (g.K.Sink.written c.args.sink.now) (g.K.Sink.written c.loop-len.sink)
-  more = reading_more _ _ _ _ _ _ _ _ _ c.loop-len.invariant.reading c.find_line.ensures.taken c.find_line.ensures.count c.find_line.ensures.bound
+  more = reading_more _ _ _ _ _ _ _ _ _ c.loop-len.invariant.reading c.find_line.ensures.taken c.find_line.ensures.count c.find_line.ensures.bound c.find_line.ensures.most
