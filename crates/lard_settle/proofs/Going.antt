@@ -46,7 +46,7 @@ module _ (m : Machine) (e : Event) (es : List Event) where
 
 -- an inner step that is done takes no record back, and keeps the numbers of the run
 pub inner-front : (m n : Machine) (e : Event) → inner_step m e ≡ Ok n → IsFrontOf m.journal n.journal
-inner-front m n e is = let on = inner-goes-on m n e is in (on.more, on.journal)
+inner-front m n e is = let on = inner-goes-on m n e is in (on.more, on.journal, on.begins)
 
 pub inner-config : (m n : Machine) (e : Event) → inner_step m e ≡ Ok n → n.config ≡ m.config
 inner-config m n e is = (inner-goes-on m n e is).config
