@@ -2,7 +2,7 @@
 //! the dispatcher's choice, passes on what its client says from then on, and knows of its end.
 //!
 //! It stands above the table of the front end's connections, the dispatcher and what a place does with an endpoint, and
-//! follows `front_step` of `lard_rules`. `begin`, `step` and `finish` are its calls; what they stand on is private.
+//! follows `front_step` of `lard_rules`. `place::begin`, `step::step` and `place::finish` are its calls; what they stand on is private.
 #![tactic(auto)]
 
 mod admitting;
@@ -12,15 +12,12 @@ mod handing;
 mod hearing;
 mod joining;
 mod passing;
-mod place;
+pub mod place;
 mod placing;
 mod reading;
 mod receiving;
 mod releasing;
 mod seats;
-mod step;
+pub mod step;
 mod told;
 mod turns;
-
-pub use place::{begin, finish};
-pub use step::{Setting, step};

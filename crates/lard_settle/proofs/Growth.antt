@@ -11,7 +11,7 @@ use Rattle.lard_journal.specs.declared.rec.Rec.TheVariants as rec
 use Rattle.lard_rules.specs.declared.fault.What.{What}
 use Rattle.lard_settling.specs.declared.settled.Settled.{Settled}
 use Rattle.lard_settling.specs.Settling.{BeginsByMark, IsFrontOf, Stop, all_inner, closed_by, come, completed_since, completions, counted, deliveries, fired_since, firings, is_mark, is_quiet, left, nodes_complete, outcome, round, rounds_from, settled, settled_from, takes}
-use Rattle.lard_settling.specs.Steps.{closing, inner_step, settle_begun}
+use Rattle.lard_settling.specs.Steps.{closing, inner_step, settle_begun, settle_closed}
 
 -- ---- fronts
 
@@ -100,9 +100,12 @@ closes : (done count : ℕ) → is_mark (closing done count) ≡ true
 closes done zero = refl
 closes done (suc count) = refl
 
+pub closed-front : (m : Machine) (done count : ℕ) → IsFrontOf m.journal (settle_closed m done count).journal
+closed-front m done count = (closing done count ∷ [], refl, closes done count)
+
 pub closed-grows : (J : List Rec) (x : Result (Machine × ℕ) Stop) → RoundsGrow J x → IsFrontOf J (outcome (closed_by x))
 closed-grows J (Err stop) h = h
-closed-grows J (Ok (n, done)) h = front-over J n.journal (n.journal ++ closing done (left n) ∷ []) h (closing done (left n) ∷ [], refl, closes done (left n))
+closed-grows J (Ok (n, done)) h = front-over J n.journal (n.journal ++ closing done (left n) ∷ []) h (closed-front n done (left n))
 
 pub settled-from-grows : (m : Machine) (rounds : ℕ) → IsFrontOf m.journal (outcome (settled_from m rounds))
 settled-from-grows m rounds = go (all_inner m (takes m)) (all-grow (takes m) m) where

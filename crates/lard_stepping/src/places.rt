@@ -28,12 +28,12 @@ pub fn front_acts(
     ensures sound { OnOk result (IsSound machine.new) }
     ensures err { OnErr result (machine.new.journal ≡ machine.old.journal) }
 {
-    let setting = lard_front::Setting {
+    let setting = lard_front::step::Setting {
         files: &machine.files,
         stream: machine.config.stream,
         now: Millis(machine.now),
     };
-    let out = lard_front::step(&mut machine.front, alloc, &setting, input)?;
+    let out = lard_front::step::step(&mut machine.front, alloc, &setting, input)?;
     tell(machine, alloc, event, own, Place::Front, out)
 }
 

@@ -53,7 +53,7 @@ impl World {
         ensures machine { IfOk result (λ world. world.machine ≡ start config files) }
         ensures usable { IfOk result (λ world. world.spoiled ≡ false) }
     {
-        let front = lard_front::begin(alloc, config)?;
+        let front = lard_front::place::begin(alloc, config)?;
         match begin_nodes(alloc, config.nodes, config.cache) {
             Ok(nodes) => {
                 return Ok(World {
@@ -73,7 +73,7 @@ impl World {
                 });
             }
             Err(fault) => {
-                lard_front::finish(front);
+                lard_front::place::finish(front);
                 return Err(fault);
             }
         }
@@ -227,7 +227,7 @@ impl World {
             journal,
         } = machine;
         spend_clients(clients);
-        lard_front::finish(front);
+        lard_front::place::finish(front);
         spend_nodes(nodes);
         journal
     }
