@@ -1,5 +1,5 @@
 -- The tests of the rules decide what they say.
-use Rattle.std.proofs.Common.{◌≡◌, ◌↔◌, ℕ, ◌+◌, ◌<◌, ◌≤◌, Bool, true, false, not, ◌&&◌, nat_eq, nat_le, nat_lt, List, Option, Some, None, is_none, is_some, refl, sym, ap, subst, ◌∙◌, arith}
+use Rattle.std.proofs.Common.{◌≡◌, ℕ, ◌+◌, ◌<◌, ◌≤◌, Bool, true, false, not, ◌&&◌, nat_eq, nat_le, nat_lt, List, Option, Some, None, is_none, is_some, refl, sym, ap, ◌∙◌, arith}
 use Rattle.std.proofs.lemmas.Bool.{and_parts, eq-eqb, eqb-true}
 use Rattle.std.proofs.lemmas.Bool.Decides.{nat_tests}
 use Rattle.std.proofs.lemmas.Slice.Eq.{bytes_eq-Decides}
@@ -200,21 +200,24 @@ choice-means cfg l _ = nothing
 
 -- ---- caches, disks and the clock
 
+abbrev some_job : ℕ → ℕ → ℕ → List ℕ → Option Waiting
+some_job m c r path = Some (m, c, r, path)
+
 no-job : (w : Waiting) → None ≡ Some w → false ≡ true
 no-job w e = cc
 
 job-is : (o : Option Waiting) (m c r : ℕ) (path : List ℕ) → Tells (is_job o m c r path) (o ≡ Some (m, c, r, path))
 job-is None m c r path = ((λ e. (let no : false ≡ true = e in absurd cc)), no-job (m, c, r, path))
 job-is (Some (a, b, d, p)) m c r path = (forth, back) where
-  forth : ((nat_eq a m && nat_eq b c) && (nat_eq d r && bytes_eq p path)) ≡ true → Some (a, b, d, p) ≡ Some (m, c, r, path)
+  forth : ((nat_eq a m && nat_eq b c) && (nat_eq d r && bytes_eq p path)) ≡ true → some_job a b d p ≡ some_job m c r path
   forth e =
       let one = and_parts (nat_eq a m && nat_eq b c) (nat_eq d r && bytes_eq p path) e in
       let two = and_parts (nat_eq a m) (nat_eq b c) one.0 in
       let three = and_parts (nat_eq d r) (bytes_eq p path) one.1 in
-      ap (λ (k : ℕ). Some (k, b, d, p)) (eqb-true a m two.0) ∙ ap (λ (k : ℕ). Some (m, k, d, p)) (eqb-true b c two.1)
-      ∙ ap (λ (k : ℕ). Some (m, c, k, p)) (eqb-true d r three.0) ∙ ap (λ (q : List ℕ). Some (m, c, r, q)) ((bytes_eq-Decides p path).0 three.1)
+      ap (λ (k : ℕ). some_job k b d p) (eqb-true a m two.0) ∙ ap (λ (k : ℕ). some_job m k d p) (eqb-true b c two.1)
+      ∙ ap (λ (k : ℕ). some_job m c k p) (eqb-true d r three.0) ∙ ap (some_job m c r) ((bytes_eq-Decides p path).0 three.1)
 
-  back : Some (a, b, d, p) ≡ Some (m, c, r, path) → ((nat_eq a m && nat_eq b c) && (nat_eq d r && bytes_eq p path)) ≡ true
+  back : some_job a b d p ≡ some_job m c r path → ((nat_eq a m && nat_eq b c) && (nat_eq d r && bytes_eq p path)) ≡ true
   back e =
       ap (λ (o : Option Waiting). is_job o m c r path) e
       ∙ both (nat_eq m m && nat_eq c c) (nat_eq r r && bytes_eq path path) (both (nat_eq m m) (nat_eq c c) (same_number m) (same_number c)) (both (nat_eq r r) (bytes_eq path path) (same_number r) ((bytes_eq-Decides path path).1 refl))

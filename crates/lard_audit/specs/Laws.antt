@@ -4,15 +4,13 @@ use Rattle.lard_base.specs.Config.{room_of}
 use Rattle.lard_base.specs.declared.config.Config.{Config}
 use Rattle.lard_cache.specs.Recency.{has}
 use Rattle.lard_costs.specs.Later.{later_choice}
-use Rattle.lard_costs.specs.declared.later.LaterChoice.{LaterChoice}
 use Rattle.lard_counts.specs.Ledger.{Ledger, admitted, is_in, ledger}
-use Rattle.lard_counts.specs.Stores.{Waiting, cached, jobs, waiting_at}
+use Rattle.lard_counts.specs.Stores.{cached, jobs, waiting_at}
 use Rattle.lard_history.specs.Journal.{goal_of, is_lost, sent_count}
 use Rattle.lard_history.specs.Laws.{MayOwn, MaySend}
 use Rattle.lard_journal.specs.declared.rec.Rec.{Rec}
 use Rattle.lard_journal.specs.declared.rec.Rec.TheVariants as rec
 use Rattle.lard_loads.specs.Tally.{home, open_shares}
-use Rattle.lard_policy.specs.declared.first.FirstChoice.{FirstChoice}
 use Rattle.lard_sets.specs.Sets.{set_of}
 use Rattle.lard_audit.specs.Sound.{broken, due_behind, files_of, first_at, job_behind, last_of, size_in}
 
