@@ -1,0 +1,5 @@
+mod Behind
+mod Homes
+mod Files
+mod Keeping
+mod Sounding
