@@ -27,23 +27,23 @@ MayPair None (rec.AssignedFirst c r path n add remove) = ⊥
 MayPair None _ = Unit {0}
 MayPair (Some c) r = is_first_of c r ≡ true
 
-abbrev due_of : Due → Option ℕ
+abbrev pub due_of : Due → Option ℕ
 due_of Nothing = None
 due_of (First c) = Some c
 due_of (Later c) = None
 
 -- what is due behind a record
-abbrev due_next : Rec → Due
+abbrev pub due_next : Rec → Due
 due_next (rec.Admitted c) = First c
 due_next (rec.BatchOver c) = Later c
 due_next _ = Nothing
 
-next-is : (r : Rec) → due_of (due_next r) ≡ due_by r
+pub next-is : (r : Rec) → due_of (due_next r) ≡ due_by r
 next-is (rec.Admitted c) = refl
 next-is (rec.BatchOver c) = refl
 next-is _ = refl
 
-pairs-one : (d : Due) (r : Rec) (rs : List Rec) → ArePaired d (r ∷ rs) → MayPair (due_of d) r × ArePaired (due_next r) rs
+pub pairs-one : (d : Due) (r : Rec) (rs : List Rec) → ArePaired d (r ∷ rs) → MayPair (due_of d) r × ArePaired (due_next r) rs
 pairs-one Nothing (rec.Admitted c) rs h = (tt, h)
 pairs-one Nothing (rec.BatchOver c) rs h = (tt, h)
 pairs-one Nothing (rec.AssignedFirst c r path n add remove) rs h = absurd h

@@ -106,7 +106,7 @@ choice-kept cfg l _ homes h = refl
 -- ---- caches and disks
 
 -- the job that an event directly before names
-job-named : (before : Option Rec) (e : Event) (n : ℕ) → event_in before ≡ Some e → job_behind before n ≡ job_by n e
+pub job-named : (before : Option Rec) (e : Event) (n : ℕ) → event_in before ≡ Some e → job_behind before n ≡ job_by n e
 job-named (Some (rec.Event i d)) e n is = let same : d ≡ e = cc in ap (job_by n) same
 job-named (Some (rec.Inner d)) e n is = let same : d ≡ e = cc in ap (job_by n) same
 job-named None e n is = let no : None ≡ Some e = is in absurd cc

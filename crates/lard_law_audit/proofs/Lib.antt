@@ -3,3 +3,5 @@ mod Homes
 mod Files
 mod Keeping
 mod Sounding
+mod Lifting
+mod Settled

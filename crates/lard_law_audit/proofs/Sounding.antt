@@ -24,18 +24,18 @@ use Rattle.lard_loads.specs.Tally.{home}
 
 module _ (config : Config) (files : List (List ℕ × List ℕ)) where
   -- What the laws say of a record that stands behind these.
-  record Stands (past : List Rec) (r : Rec) : Type 0 where
-    network : MayInNetwork past r
-    owns : MayOwn past r
-    sends : MaySend past r
-    admits : MayAdmit config (ledger config past) r
-    pairs : PairsAt past r
-    assigns : MayAssign config (ledger config past) r
-    homes : HomesIn past
-    stores : MayStore (file_at files) config.cache past r
-    reads : ReadsAt past r
-    tells : MayTime past r
-    now : (ledger config past).now.0 ≡ time_of past
+  pub record Stands (past : List Rec) (r : Rec) : Type 0 where
+    pub network : MayInNetwork past r
+    pub owns : MayOwn past r
+    pub sends : MaySend past r
+    pub admits : MayAdmit config (ledger config past) r
+    pub pairs : PairsAt past r
+    pub assigns : MayAssign config (ledger config past) r
+    pub homes : HomesIn past
+    pub stores : MayStore (file_at files) config.cache past r
+    pub reads : ReadsAt past r
+    pub tells : MayTime past r
+    pub now : (ledger config past).now.0 ≡ time_of past
 
   -- each by itself, and so all at once
   all-stand : (past rs : List Rec) → EachMay MayInNetwork past rs → EachMay MayOwn past rs → EachMay MaySend past rs → EachMay (λ past r. MayAdmit config (ledger config past) r) past rs → EachMay PairsAt past rs
@@ -52,7 +52,7 @@ module _ (config : Config) (files : List (List ℕ × List ℕ)) where
   each-moment P J past [] is h = tt
   each-moment P J past (r ∷ rs) is h = (h past (r ∷ rs) (sym is), each-moment P J (past ++ r ∷ []) rs (append_assoc past (r ∷ []) rs ∙ is) h)
 
-  homes-told : (past : List Rec) → HomesIn past → (c : ℕ) → is_some (home (ledger config past).loads c) ≡ true → is_in (ledger config past) c ≡ true
+  pub homes-told : (past : List Rec) → HomesIn past → (c : ℕ) → is_some (home (ledger config past).loads c) ≡ true → is_in (ledger config past) c ≡ true
   homes-told past h c some = let told = stands-so config past c in told.0 ∙ h.homes c (sym (ap is_some told.1) ∙ some)
 
   keeps-all : (past : List Rec) (r : Rec) → Stands past r → broken config (sizes files) past r ≡ None
@@ -68,12 +68,14 @@ module _ (config : Config) (files : List (List ℕ × List ℕ)) where
       let clock : keeps_clock l.now r ≡ true = clock-kept past l r s.now s.tells in
       λ i. first_broken (network i) (own i) (sender i) (admission i) (choice i) (cache i) (clock i)
 
-  sound : (J : List Rec) → IsLawful config (file_at files) J → IsSound config (sizes files) J
-  sound J h =
+  pub each-stands : (J : List Rec) → IsLawful config (file_at files) J → EachMay Stands [] J
+  each-stands J h =
       let pairs : EachMay PairsAt [] J = pairs-each [] J Nothing refl h.nodes in
-      each_weaker Stands (λ past r. broken config (sizes files) past r ≡ None) keeps-all [] J
-      (all-stand [] J h.network h.ownership h.sole_sender h.admission pairs h.choices (homes-in J pairs) h.stores (reads-behind (file_at files) config.cache J h.stores h.disks) h.clock
-      (each-moment (λ past. (ledger config past).now.0 ≡ time_of past) J [] J refl (λ past rest is. (h.servers past rest is).2)))
+      all-stand [] J h.network h.ownership h.sole_sender h.admission pairs h.choices (homes-in J pairs) h.stores (reads-behind (file_at files) config.cache J h.stores h.disks) h.clock
+      (each-moment (λ past. (ledger config past).now.0 ≡ time_of past) J [] J refl (λ past rest is. (h.servers past rest is).2))
+
+  sound : (J : List Rec) → IsLawful config (file_at files) J → IsSound config (sizes files) J
+  sound J h = each_weaker Stands (λ past r. broken config (sizes files) past r ≡ None) keeps-all [] J (each-stands J h)
 
 pub lawful-sound : LawfulIsSound
 lawful-sound config files J h = sound config files J h

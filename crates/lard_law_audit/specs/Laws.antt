@@ -8,6 +8,8 @@ use Rattle.lard_journal.specs.declared.rec.Rec.{Rec}
 use Rattle.lard_laws.specs.Lawful.{IsLawful}
 use Rattle.lard_rules.specs.declared.machine.Machine.{Machine}
 use Rattle.lard_rules.specs.Machine.{IsReached}
+use Rattle.lard_settling.specs.Order.{SettlesInOrder}
+use Rattle.lard_settling.specs.Written.{written_out}
 
 -- how long each file is, which is all that an audit knows of it
 abbrev pub sizes : List (List ℕ × List ℕ) → List (List ℕ × ℕ)
@@ -20,3 +22,7 @@ LawfulIsSound = (config : Config) (files : List (List ℕ × List ℕ)) (J : Lis
 -- So does that of every run of the machine, with a configuration that may be used.
 abbrev pub RunsAreSound : Type 0
 RunsAreSound = (config : Config) (files : List (List ℕ × List ℕ)) (m : Machine) → config_check config ≡ Ok tt → IsReached config files m → IsSound config (sizes files) m.journal
+
+-- And so does a journal whose settles stand in order, where it is lawful with them written out.
+abbrev pub SettledIsSound : Type 0
+SettledIsSound = (config : Config) (files : List (List ℕ × List ℕ)) (J : List Rec) → SettlesInOrder J → IsLawful config (file_at files) (written_out J) → IsSound config (sizes files) J

@@ -4,11 +4,16 @@
 //! nothing stands on it.
 #![tactic(auto)]
 
-ghost use Rattle.lard_law_audit.specs.Laws.{LawfulIsSound, RunsAreSound};
+ghost use Rattle.lard_law_audit.specs.Laws.{LawfulIsSound, RunsAreSound, SettledIsSound};
 
 /// A lawful journal is sound: an audit that knows the configuration and how long the files are finds that each of its records keeps all
 /// rules. So is the journal of every run without settles.
 pub fn runs_are_sound()
     ensures lawful { LawfulIsSound }
     ensures runs { RunsAreSound }
+{}
+
+/// A journal whose settles stand in order is sound, where it is lawful with these written out.
+pub fn settled_runs_are_sound()
+    ensures { SettledIsSound }
 {}
