@@ -13,8 +13,7 @@ use Rattle.lard_law_connections.specs.PolicyLaws.{ArePaired, Due}
 use Rattle.lard_law_connections.specs.PolicyLaws.Due.{First, Later, Nothing}
 use Rattle.lard_settling.proofs.Folds.{unmarked-written, written-append}
 use Rattle.lard_settling.proofs.Plain.{is_mark}
-use Rattle.lard_settling.specs.Order.{AllStand, IsInStep, MayStand, Phase, phase_at, phase_step}
-use Rattle.lard_settling.specs.Order.{Phase as phase}
+use Rattle.lard_settling.specs.Order.{AllStand, Begun, IsInStep, MayStand, Nothing as Closed, Phase, phase_at, phase_step}
 use Rattle.lard_settling.specs.Written.{is_settle, steps_with, written_from, written_out, written_rec}
 
 -- ---- with a record more
@@ -84,7 +83,7 @@ event-same past k (event.Settle rounds) inside = absurd inside
 event-same past k e inside = behind-both past (rec.Event k e) (rec.Event (fold steps_with 0 past + 1) e) refl refl
 
 one-same : (p : Phase) (past : List Rec) (r : Rec) → MayStand p r → IsSame (phase_step p r) (past ++ r ∷ [])
-one-same p past (rec.Event k e) h = event-same past k e
+one-same p past (rec.Event k e) h inside = event-same past k e inside
 one-same p past (rec.Inner e) h inside = behind-both past (rec.Inner e) (rec.Event (fold steps_with 0 past + 1) e) refl refl
 one-same p past (rec.Settled done) h inside = absurd inside
 one-same p past (rec.Unsettled done left) h inside = absurd inside
@@ -94,8 +93,8 @@ same-all : (p : Phase) (past rs : List Rec) → IsSame p past → AllStand p rs 
 same-all p past [] same h = tt
 same-all p past (r ∷ rs) same h = ((λ plain. same (plain-stands p r plain h.0)), same-all (phase_step p r) (past ++ r ∷ []) rs (one-same p past r h.0) h.1)
 
-pub same-each : (J : List Rec) → AllStand phase.Nothing J → EachMay SameAt [] J
-same-each J h = same-all phase.Nothing [] J (λ inside. absurd inside) h
+pub same-each : (J : List Rec) → AllStand Closed J → EachMay SameAt [] J
+same-each J h = same-all Closed [] J (λ inside. absurd inside) h
 
 -- ---- first assignments
 
@@ -105,11 +104,11 @@ none-due p c i [] out h pairs = pairs
 none-due p c i (rec.Event k e ∷ rs) out h pairs = go e h.1 pairs (λ q. none-due q c i rs) where
   go : (d : Event) → AllStand (phase_at d) rs → ArePaired (First c) (cond (is_settle d) [] (rec.Event (i + 1) d ∷ []) ++ written_from (cond (is_settle d) i (i + 1)) rs)
       → ((q : Phase) → (IsInStep q → ⊥) → AllStand q rs → ArePaired (First c) (written_from i rs) → ⊥) → ⊥
-  go (event.Settle rounds) s more later = later (phase.Begun rounds) (λ inside. inside) s more
+  go (event.Settle rounds) s more later = later (Begun rounds) (λ inside. inside) s more
   go d s more later = more
 none-due p c i (rec.Inner e ∷ rs) out h pairs = pairs
-none-due p c i (rec.Settled done ∷ rs) out h pairs = none-due phase.Nothing c i rs (λ inside. inside) h.1 pairs
-none-due p c i (rec.Unsettled done left ∷ rs) out h pairs = none-due phase.Nothing c i rs (λ inside. inside) h.1 pairs
+none-due p c i (rec.Settled done ∷ rs) out h pairs = none-due Closed c i rs (λ inside. inside) h.1 pairs
+none-due p c i (rec.Unsettled done left ∷ rs) out h pairs = none-due Closed c i rs (λ inside. inside) h.1 pairs
 none-due p c i (r ∷ rs) out h pairs = out h.0
 
 -- a record of a settle's own, where nothing is due
@@ -164,18 +163,18 @@ pairs-all p past (rec.Event k e ∷ rs) i d is h pairs = go e h.1 pairs (λ q j 
   go : (g : Event) → AllStand (phase_at g) rs → ArePaired d (cond (is_settle g) [] (rec.Event (i + 1) g ∷ []) ++ written_from (cond (is_settle g) i (i + 1)) rs)
       → ((q : Phase) (j : ℕ) → Unit {0} → (f : Due) → due_of f ≡ due_behind (last_of (past ++ rec.Event k e ∷ [])) → AllStand q rs → ArePaired f (written_from j rs) → Pairs (past ++ rec.Event k e ∷ []) rs)
       → Pairs past (rec.Event k e ∷ rs)
-  go (event.Settle rounds) s more later = left-pairs past rs (written_from i rs) d (rec.Event k e) is refl tt (λ c. none-due (phase.Begun rounds) c i rs (λ inside. inside) s) more (λ f eq ws. later (phase.Begun rounds) i tt f eq s ws)
+  go (event.Settle rounds) s more later = left-pairs past rs (written_from i rs) d (rec.Event k e) is refl tt (λ c. none-due (Begun rounds) c i rs (λ inside. inside) s) more (λ f eq ws. later (Begun rounds) i tt f eq s ws)
   go g s more later = step-pairs past rs (written_from (i + 1) rs) d (i + 1) g (rec.Event k e) is refl (λ o. swapped o g) more (λ f eq ws. later (phase_at g) (i + 1) tt f eq s ws) where
     swapped : (o : Option ℕ) (g : Event) → MayPair o (rec.Event (i + 1) g) → MayPair o (rec.Event k e)
     swapped None g h = tt
     swapped (Some c) g h = h
 pairs-all p past (rec.Inner e ∷ rs) i d is h pairs = step-pairs past rs (written_from (i + 1) rs) d (i + 1) e (rec.Inner e) is refl (λ o. inner o (i + 1) e) pairs
     (λ f eq ws. pairs-all (phase_step p (rec.Inner e)) (past ++ rec.Inner e ∷ []) rs (i + 1) f eq h.1 ws)
-pairs-all p past (rec.Settled done ∷ rs) i d is h pairs = left-pairs past rs (written_from i rs) d (rec.Settled done) is refl tt (λ c. none-due phase.Nothing c i rs (λ inside. inside) h.1) pairs
-    (λ f eq ws. pairs-all phase.Nothing (past ++ rec.Settled done ∷ []) rs i f eq h.1 ws)
-pairs-all p past (rec.Unsettled done left ∷ rs) i d is h pairs = left-pairs past rs (written_from i rs) d (rec.Unsettled done left) is refl tt (λ c. none-due phase.Nothing c i rs (λ inside. inside) h.1) pairs
-    (λ f eq ws. pairs-all phase.Nothing (past ++ rec.Unsettled done left ∷ []) rs i f eq h.1 ws)
+pairs-all p past (rec.Settled done ∷ rs) i d is h pairs = left-pairs past rs (written_from i rs) d (rec.Settled done) is refl tt (λ c. none-due Closed c i rs (λ inside. inside) h.1) pairs
+    (λ f eq ws. pairs-all Closed (past ++ rec.Settled done ∷ []) rs i f eq h.1 ws)
+pairs-all p past (rec.Unsettled done left ∷ rs) i d is h pairs = left-pairs past rs (written_from i rs) d (rec.Unsettled done left) is refl tt (λ c. none-due Closed c i rs (λ inside. inside) h.1) pairs
+    (λ f eq ws. pairs-all Closed (past ++ rec.Unsettled done left ∷ []) rs i f eq h.1 ws)
 pairs-all p past (r ∷ rs) i d is h pairs = plain-pairs past rs (written_from i rs) d r is pairs (λ f eq ws. pairs-all (phase_step p r) (past ++ r ∷ []) rs i f eq h.1 ws)
 
-pub pairs-settled : (J : List Rec) → AllStand phase.Nothing J → ArePaired Nothing (written_out J) → EachMay PairsAt [] J
-pairs-settled J h pairs = pairs-all phase.Nothing [] J 0 Nothing refl h pairs
+pub pairs-settled : (J : List Rec) → AllStand Closed J → ArePaired Nothing (written_out J) → EachMay PairsAt [] J
+pairs-settled J h pairs = pairs-all Closed [] J 0 Nothing refl h pairs
