@@ -5,3 +5,4 @@ mod Keeping
 mod Sounding
 mod Lifting
 mod Settled
+mod Running

@@ -1,29 +1,25 @@
 -- A journal whose settles stand in order is sound, where it is lawful with them written out: each test looks up folds, which say the same
 -- of both, and what stands directly before.
-use Rattle.std.proofs.Common.{◌≡◌, ℕ, Bool, true, false, not, ◌&&◌, is_some, List, [], ◌∷◌, ◌++◌, Option, Some, None, refl, sym, ap, ◌∙◌, subst}
+use Rattle.std.proofs.Common.{◌≡◌, ℕ, Bool, true, false, not, ◌&&◌, is_some, List, [], ◌∷◌, ◌++◌, Option, None, refl, sym, ap, ◌∙◌, subst}
 use Rattle.lard_audit.specs.Sound.{broken, due_behind, files_of, first_broken, is_job, job_at, job_behind, keeps_admission, keeps_cache, keeps_choice, keeps_clock, keeps_network, keeps_owner, keeps_sender, last_of, may_arrive}
 use Rattle.lard_base.specs.Config.{room_of}
 use Rattle.lard_base.specs.declared.config.Config.{Config}
 use Rattle.lard_base.specs.declared.event.Event.{Event}
 use Rattle.lard_counts.specs.Ledger.{Ledger, admitted, blank, is_in, ledger, ledger_step}
-use Rattle.lard_counts.specs.Stores.{Queue, Waiting, cache_of, cache_step, cached, jobs, jobs_step, no_jobs}
+use Rattle.lard_counts.specs.Stores.{Queue, Waiting, cache_step, cached, jobs, jobs_step, no_jobs}
 use Rattle.lard_cache.specs.Recency.{Recency}
-use Rattle.lard_files.specs.Files.{file_at}
-use Rattle.lard_history.specs.Journal.{epoch_step, goal_of, goal_step, is_lost, last_epoch, lost_step, owner, owner_step, sent_count, sent_step}
+use Rattle.lard_history.specs.Journal.{epoch_step, goal_step, last_epoch, lost_step, owner, owner_step, sent_count, sent_step}
 use Rattle.lard_history.specs.Laws.{EachMay}
-use Rattle.lard_history.proofs.Each.{each_weaker}
 use Rattle.lard_journal.specs.declared.rec.Rec.{Rec}
 use Rattle.lard_journal.specs.declared.rec.Rec.TheVariants as rec
 use Rattle.lard_law_audit.specs.Laws.{SettledIsSound, sizes}
-use Rattle.lard_law_audit.proofs.Behind.{MayPair, PairsAt, event_in}
-use Rattle.lard_law_audit.proofs.Homes.{HomesIn, homes-in}
+use Rattle.lard_law_audit.proofs.Behind.{PairsAt, event_in}
 use Rattle.lard_law_audit.proofs.Keeping.{admission-kept, cache-kept, choice-kept, clock-kept, job-named, network-kept, owner-kept, sender-kept}
 use Rattle.lard_law_audit.proofs.Lifting.{Lift, SameAt, lift-each, pairs-settled, same-each}
 use Rattle.lard_law_audit.proofs.Sounding.{Stands, each-stands, homes-told}
 use Rattle.lard_law_connections.specs.PolicyLaws.{MayAdmit}
-use Rattle.lard_settling.proofs.Folds.{TakesSteps, fold-written}
+use Rattle.lard_settling.proofs.Folds.{fold-written}
 use Rattle.lard_settling.proofs.Plain.{is_mark}
-use Rattle.lard_settling.specs.Order.{SettlesInOrder}
 use Rattle.lard_settling.specs.Written.{written_out}
 
 module _ (config : Config) (files : List (List ℕ × List ℕ)) (past : List Rec) where
