@@ -21,7 +21,7 @@ use Rattle.lard_history.specs.Laws.{MayInNetwork, MayOwn, MaySend, MayTime, Owne
 use Rattle.lard_history.proofs.Seeing.{same_number}
 use Rattle.lard_journal.specs.declared.rec.Rec.{Rec}
 use Rattle.lard_journal.specs.declared.rec.Rec.TheVariants as rec
-use Rattle.lard_law_audit.specs.Laws.{sizes}
+use Rattle.lard_law_audit.specs.Laws.{file_lengths}
 use Rattle.lard_law_audit.proofs.Behind.{MayPair, ReadsBehind, event-last, event_in}
 use Rattle.lard_law_audit.proofs.Files.{cached-same, size-there}
 use Rattle.lard_law_connections.specs.PolicyLaws.{MayAdmit, MayAssign}
@@ -123,7 +123,7 @@ module _ (files : List (List ℕ × List ℕ)) (limit : ℕ) (past : List Rec) w
   named_at n = job_at (jobs past n) (job_behind (last_of past) n)
 
   pub cache-kept : (r : Rec) → ReadsBehind (last_of past) r → MayStore (file_at files) limit past r
-      → keeps_cache (sizes files) (cached (files_of (sizes files)) limit past) named_at r ≡ true
+      → keeps_cache (file_lengths files) (cached (files_of (file_lengths files)) limit past) named_at r ≡ true
   cache-kept (rec.Hit n path) reads h = ap (λ (es : List (List ℕ × ℕ)). has es path) (cached-same files limit past n) ∙ h
   cache-kept (rec.Queued n m c r path) reads h = and_from _ _ (ap (λ (es : List (List ℕ × ℕ)). not (has es path)) (cached-same files limit past n) ∙ ap not h.0) (size-there files path ∙ h.1)
   cache-kept (rec.Read n m c r path) reads h =

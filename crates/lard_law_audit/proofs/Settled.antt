@@ -12,7 +12,7 @@ use Rattle.lard_history.specs.Journal.{epoch_step, goal_step, last_epoch, lost_s
 use Rattle.lard_history.specs.Laws.{EachMay}
 use Rattle.lard_journal.specs.declared.rec.Rec.{Rec}
 use Rattle.lard_journal.specs.declared.rec.Rec.TheVariants as rec
-use Rattle.lard_law_audit.specs.Laws.{SettledIsSound, sizes}
+use Rattle.lard_law_audit.specs.Laws.{SettledIsSound, file_lengths}
 use Rattle.lard_law_audit.proofs.Behind.{PairsAt, event_in}
 use Rattle.lard_law_audit.proofs.Keeping.{admission-kept, cache-kept, choice-kept, clock-kept, job-named, network-kept, owner-kept, sender-kept}
 use Rattle.lard_law_audit.proofs.Lifting.{Lift, SameAt, lift-each, pairs-settled, same-each}
@@ -50,8 +50,8 @@ module _ (config : Config) (files : List (List ℕ × List ℕ)) (past : List Re
   jobs-same : (n : ℕ) → jobs w n ≡ jobs past n
   jobs-same n = ap (λ (q : Queue). q.list) (fold-written (jobs_step n) (record { events = λ a i k e. refl; inner = λ a i e. refl; settles = λ a i rounds. refl; settled = λ a rounds. refl; unsettled = λ a rounds left. refl }) no_jobs 0 past)
 
-  cached-same : (n : ℕ) → cached (files_of (sizes files)) config.cache w n ≡ cached (files_of (sizes files)) config.cache past n
-  cached-same n = ap (λ (x : Recency). x.entries) (fold-written (cache_step (files_of (sizes files)) n) (record { events = λ a i k e. refl; inner = λ a i e. refl; settles = λ a i rounds. refl; settled = λ a rounds. refl; unsettled = λ a rounds left. refl })
+  cached-same : (n : ℕ) → cached (files_of (file_lengths files)) config.cache w n ≡ cached (files_of (file_lengths files)) config.cache past n
+  cached-same n = ap (λ (x : Recency). x.entries) (fold-written (cache_step (files_of (file_lengths files)) n) (record { events = λ a i k e. refl; inner = λ a i e. refl; settles = λ a i rounds. refl; settled = λ a rounds. refl; unsettled = λ a rounds left. refl })
       (record { entries = []; limit = config.cache }) 0 past)
 
   abbrev named_by : List Rec → ℕ → Option Waiting
@@ -59,9 +59,9 @@ module _ (config : Config) (files : List (List ℕ × List ℕ)) (past : List Re
 
   -- the caches and disks of the written journal let the same stand
   cache-both : (r : Rec) → event_in (last_of past) ≡ event_in (last_of w) → Stands config files w r
-      → keeps_cache (sizes files) (cached (files_of (sizes files)) config.cache w) (named_by w) r ≡ keeps_cache (sizes files) (cached (files_of (sizes files)) config.cache past) (named_by past) r
-  cache-both (rec.Hit n path) same s = λ i. keeps_cache (sizes files) (λ n. cached-same n i) (named_by w) (rec.Hit n path)
-  cache-both (rec.Queued n m c r path) same s = λ i. keeps_cache (sizes files) (λ n. cached-same n i) (named_by w) (rec.Queued n m c r path)
+      → keeps_cache (file_lengths files) (cached (files_of (file_lengths files)) config.cache w) (named_by w) r ≡ keeps_cache (file_lengths files) (cached (files_of (file_lengths files)) config.cache past) (named_by past) r
+  cache-both (rec.Hit n path) same s = λ i. keeps_cache (file_lengths files) (λ n. cached-same n i) (named_by w) (rec.Hit n path)
+  cache-both (rec.Queued n m c r path) same s = λ i. keeps_cache (file_lengths files) (λ n. cached-same n i) (named_by w) (rec.Queued n m c r path)
   cache-both (rec.Read n m c r path) same s =
       let e : Event = s.reads.0 in
       let job : job_behind (last_of w) n ≡ job_behind (last_of past) n = job-named (last_of w) e n s.reads.1 ∙ sym (job-named (last_of past) e n (same ∙ s.reads.1)) in
@@ -69,7 +69,7 @@ module _ (config : Config) (files : List (List ℕ × List ℕ)) (past : List Re
   cache-both _ same s = refl
 
   -- a record that is no mark
-  plain-keeps : (r : Rec) → Stands config files w r → PairsAt past r → event_in (last_of past) ≡ event_in (last_of w) → broken config (sizes files) past r ≡ None
+  plain-keeps : (r : Rec) → Stands config files w r → PairsAt past r → event_in (last_of past) ≡ event_in (last_of w) → broken config (file_lengths files) past r ≡ None
   unfolding broken
   plain-keeps r s pairs same =
       let network : keeps_network (sent_count past) (may_arrive past) r ≡ true = sym (λ i. keeps_network (sent-same i) (λ k. arrive-same k i) r) ∙ network-kept w r s.network in
@@ -79,12 +79,12 @@ module _ (config : Config) (files : List (List ℕ × List ℕ)) (past : List Re
       admission-kept config l (due_behind (last_of past)) r pairs (subst (λ (k : Ledger). MayAdmit config k r) ledger-same s.admits) in
       let choice : keeps_choice config l.now l.loads l.sets (is_in l) r ≡ true =
       subst (λ (k : Ledger). keeps_choice config k.now k.loads k.sets (is_in k) r ≡ true) ledger-same (choice-kept config (ledger config w) r (homes-told config files w s.homes) s.assigns) in
-      let cache : keeps_cache (sizes files) (cached (files_of (sizes files)) config.cache past) (named_by past) r ≡ true = sym (cache-both r same s) ∙ cache-kept files config.cache w r s.reads s.stores in
+      let cache : keeps_cache (file_lengths files) (cached (files_of (file_lengths files)) config.cache past) (named_by past) r ≡ true = sym (cache-both r same s) ∙ cache-kept files config.cache w r s.reads s.stores in
       let clock : keeps_clock l.now r ≡ true = subst (λ (k : Ledger). keeps_clock k.now r ≡ true) ledger-same (clock-kept w (ledger config w) r s.now s.tells) in
       λ i. first_broken (network i) (own i) (sender i) (admission i) (choice i) (cache i) (clock i)
 
   -- a record that begins a step, or that a settle tells of itself, has to keep one rule alone
-  mark-keeps : (r : Rec) → is_mark r ≡ true → PairsAt past r → broken config (sizes files) past r ≡ None
+  mark-keeps : (r : Rec) → is_mark r ≡ true → PairsAt past r → broken config (file_lengths files) past r ≡ None
   unfolding broken
   mark-keeps (rec.Event i e) mark pairs = λ j. first_broken true true true (admission-kept config l (due_behind (last_of past)) (rec.Event i e) pairs tt j) true true true
   mark-keeps (rec.Inner e) mark pairs = λ j. first_broken true true true (admission-kept config l (due_behind (last_of past)) (rec.Inner e) pairs tt j) true true true
@@ -92,14 +92,14 @@ module _ (config : Config) (files : List (List ℕ × List ℕ)) (past : List Re
   mark-keeps (rec.Unsettled rounds left) mark pairs = λ j. first_broken true true true (admission-kept config l (due_behind (last_of past)) (rec.Unsettled rounds left) pairs tt j) true true true
   mark-keeps _ mark pairs = let no : false ≡ true = mark in absurd cc
 
-  keeps : (r : Rec) → Lift (Stands config files) past r → PairsAt past r → SameAt past r → broken config (sizes files) past r ≡ None
+  keeps : (r : Rec) → Lift (Stands config files) past r → PairsAt past r → SameAt past r → broken config (file_lengths files) past r ≡ None
   keeps r s pairs same = go (is_mark r) refl where
-    go : (b : Bool) → is_mark r ≡ b → broken config (sizes files) past r ≡ None
+    go : (b : Bool) → is_mark r ≡ b → broken config (file_lengths files) past r ≡ None
     go true mark = mark-keeps r mark pairs
     go false plain = plain-keeps r (s plain) pairs (same plain)
 
 all-sound : (config : Config) (files : List (List ℕ × List ℕ)) (past rs : List Rec) → EachMay (Lift (Stands config files)) past rs → EachMay PairsAt past rs → EachMay SameAt past rs
-    → EachMay (λ past r. broken config (sizes files) past r ≡ None) past rs
+    → EachMay (λ past r. broken config (file_lengths files) past r ≡ None) past rs
 all-sound config files past [] s p q = tt
 all-sound config files past (r ∷ rs) s p q = (keeps config files past r s.0 p.0 q.0, all-sound config files (past ++ r ∷ []) rs s.1 p.1 q.1)
 

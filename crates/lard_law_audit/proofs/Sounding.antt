@@ -10,7 +10,7 @@ use Rattle.lard_history.specs.Journal.{last_epoch, owner, sent_count, time_of}
 use Rattle.lard_history.specs.Laws.{EachMay, MayInNetwork, MayOwn, MaySend, MayTime}
 use Rattle.lard_history.proofs.Each.{each_weaker}
 use Rattle.lard_journal.specs.declared.rec.Rec.{Rec}
-use Rattle.lard_law_audit.specs.Laws.{LawfulIsSound, RunsAreSound, sizes}
+use Rattle.lard_law_audit.specs.Laws.{LawfulIsSound, RunsAreSound, file_lengths}
 use Rattle.lard_law_audit.proofs.Behind.{PairsAt, ReadsAt, pairs-each, reads-behind}
 use Rattle.lard_law_audit.proofs.Homes.{HomesIn, homes-in}
 use Rattle.lard_law_audit.proofs.Keeping.{admission-kept, cache-kept, choice-kept, clock-kept, network-kept, owner-kept, sender-kept}
@@ -55,7 +55,7 @@ module _ (config : Config) (files : List (List ℕ × List ℕ)) where
   pub homes-told : (past : List Rec) → HomesIn past → (c : ℕ) → is_some (home (ledger config past).loads c) ≡ true → is_in (ledger config past) c ≡ true
   homes-told past h c some = let told = stands-so config past c in told.0 ∙ h.homes c (sym (ap is_some told.1) ∙ some)
 
-  keeps-all : (past : List Rec) (r : Rec) → Stands past r → broken config (sizes files) past r ≡ None
+  keeps-all : (past : List Rec) (r : Rec) → Stands past r → broken config (file_lengths files) past r ≡ None
   unfolding broken
   keeps-all past r s =
       let l : Ledger = ledger config past in
@@ -64,7 +64,7 @@ module _ (config : Config) (files : List (List ℕ × List ℕ)) where
       let sender : keeps_sender (owner past) r ≡ true = sender-kept past r s.sends in
       let admission : keeps_admission (due_behind (last_of past)) (room_of config) (admitted l) (is_in l) r ≡ true = admission-kept config l (due_behind (last_of past)) r s.pairs s.admits in
       let choice : keeps_choice config l.now l.loads l.sets (is_in l) r ≡ true = choice-kept config l r (homes-told past s.homes) s.assigns in
-      let cache : keeps_cache (sizes files) (cached (files_of (sizes files)) config.cache past) (λ n. job_at (jobs past n) (job_behind (last_of past) n)) r ≡ true = cache-kept files config.cache past r s.reads s.stores in
+      let cache : keeps_cache (file_lengths files) (cached (files_of (file_lengths files)) config.cache past) (λ n. job_at (jobs past n) (job_behind (last_of past) n)) r ≡ true = cache-kept files config.cache past r s.reads s.stores in
       let clock : keeps_clock l.now r ≡ true = clock-kept past l r s.now s.tells in
       λ i. first_broken (network i) (own i) (sender i) (admission i) (choice i) (cache i) (clock i)
 
@@ -74,8 +74,8 @@ module _ (config : Config) (files : List (List ℕ × List ℕ)) where
       all-stand [] J h.network h.ownership h.sole_sender h.admission pairs h.choices (homes-in J pairs) h.stores (reads-behind (file_at files) config.cache J h.stores h.disks) h.clock
       (each-moment (λ past. (ledger config past).now.0 ≡ time_of past) J [] J refl (λ past rest is. (h.servers past rest is).2))
 
-  sound : (J : List Rec) → IsLawful config (file_at files) J → IsSound config (sizes files) J
-  sound J h = each_weaker Stands (λ past r. broken config (sizes files) past r ≡ None) keeps-all [] J (each-stands J h)
+  sound : (J : List Rec) → IsLawful config (file_at files) J → IsSound config (file_lengths files) J
+  sound J h = each_weaker Stands (λ past r. broken config (file_lengths files) past r ≡ None) keeps-all [] J (each-stands J h)
 
 pub lawful-sound : LawfulIsSound
 lawful-sound config files J h = sound config files J h
