@@ -1,20 +1,20 @@
 -- What comes of an event, a step or a settle: numbers, files and records stay; and what it leaves that ended inside.
-use Rattle.std.proofs.Common.{◌≡◌, ◌⊎◌, inl, inr, ℕ, ◌+◌, ◌<◌, false, List, [], ◌∷◌, ◌++◌, length, Option, Some, None, Result, Ok, Err, refl, sym, ap, ◌∙◌, subst, append_assoc, append-nil, arith, length-append}
+use Rattle.std.proofs.Common.{◌≡◌, ◌⊎◌, inl, inr, ℕ, ◌+◌, ◌<◌, false, List, [], ◌∷◌, ◌++◌, length, Option, Some, None, Result, Ok, Err, refl, sym, ap, ◌∙◌, subst, append-nil, arith, length-append}
 use Rattle.lard_base.specs.declared.event.Event.{Event}
 use Rattle.lard_base.specs.declared.event.Event.TheVariants as event
 use Rattle.lard_rules.specs.declared.fault.StepFault.{StepFault}
 use Rattle.lard_rules.specs.declared.fault.StepFault.TheVariants as fault
 use Rattle.lard_rules.specs.declared.machine.Machine.{Machine}
 use Rattle.lard_rules.specs.Machine.{limit_reached, machine_step, passed, unless_limit}
-use Rattle.lard_settle.proofs.Runs.{GoesOn, step-goes-on}
+use Rattle.lard_settle.proofs.Growth.{closed-front, front-over}
+use Rattle.lard_settle.proofs.Runs.{GoesOn, inner-goes-on, step-goes-on}
 use Rattle.lard_history.proofs.Each.{Each}
-use Rattle.lard_journal.specs.Inner.{turned_at}
 use Rattle.lard_journal.specs.declared.rec.Rec.{Rec}
 use Rattle.lard_journal.specs.declared.rec.Rec.TheVariants as rec
 use Rattle.lard_rules.specs.declared.fault.What.{What}
 use Rattle.lard_settling.specs.Events.{event_step, stepped_from}
 use Rattle.lard_settling.specs.Settling.{Stop, completions, deliveries, firings, left, takes}
-use Rattle.lard_settling.specs.Steps.{as_inner, inner_given, inner_step, settle_begun, settle_closed}
+use Rattle.lard_settling.specs.Steps.{settle_begun, settle_closed}
 use Rattle.lard_settling.specs.Written.{is_settle}
 use Rattle.lard_app.specs.Replay.{came}
 use Rattle.lard_law_settles.proofs.Events.{begun-is, either-kind, plain-step}
@@ -23,35 +23,17 @@ use Rattle.lard_law_settles.proofs.Inside.{KeptInside, SettleLands, settle-lands
 -- ---- a journal that goes on
 
 goes-over : (m n k : Machine) → GoesOn m n → GoesOn n k → GoesOn m k
-goes-over m n k h g = record {
-  config = g.config ∙ h.config;
-  files = g.files ∙ h.files;
-  more = h.more ++ g.more;
-  journal = g.journal ∙ ap (λ (J : List Rec). J ++ g.more) h.journal ∙ append_assoc m.journal h.more g.more;
-}
+goes-over m n k h g =
+    let front = front-over m.journal n.journal k.journal (h.more, h.journal, h.begins) (g.more, g.journal, g.begins) in record {
+      config = g.config ∙ h.config;
+      files = g.files ∙ h.files;
+      more = front.0;
+      journal = front.1;
+      begins = front.2;
+    }
 
 goes-nowhere : (m : Machine) → GoesOn m m
-goes-nowhere m = record { config = refl; files = refl; more = []; journal = sym (append-nil m.journal) }
-
-turned-on : (J more : List Rec) → (next : List Rec) × (turned_at (length J) (J ++ more) ≡ J ++ next)
-turned-on [] more = (turned_at 0 more, refl)
-turned-on (r ∷ J) more = let h = turned-on J more in (h.0, ap (λ (l : List Rec). r ∷ l) h.1)
-
-pub inner-goes : (m n : Machine) (e : Event) → inner_step m e ≡ Ok n → GoesOn m n
-unfolding inner_step
-inner-goes m n e = go (machine_step m e) refl where
-  go : (x : Result Machine StepFault) → machine_step m e ≡ x → inner_given m x ≡ Ok n → GoesOn m n
-  go (Err f) is made = cc
-  go (Ok k) is made =
-      let on : GoesOn m k = step-goes-on m k e is in
-      let next = turned-on m.journal on.more in
-      let same : as_inner m k ≡ n = cc in
-      subst (GoesOn m) same (record {
-        config = on.config;
-        files = on.files;
-        more = next.0;
-        journal = ap (λ (J : List Rec). turned_at (length m.journal) J) on.journal ∙ next.1;
-      })
+goes-nowhere m = record { config = refl; files = refl; more = []; journal = sym (append-nil m.journal); begins = tt }
 
 -- one that has not begun was stopped by a limit
 pub begun-not : (m : Machine) (rounds : ℕ) (f : StepFault) → settle_begun m rounds ≡ Err f → (w : What) × (limit_reached m ≡ Some w) × (fault.Limit w ≡ f)
@@ -68,8 +50,10 @@ every (e ∷ es) = (tt, every es)
 -- all that inner steps lead to goes on
 goes-inside : (b : Machine) (most : ℕ) → KeptInside (GoesOn b) (λ e. Unit {0}) most
 goes-inside b most = record {
-  inner = λ m n e p q is. goes-over b m n p (inner-goes m n e is);
-  closes = λ m done p le. goes-over b m (settle_closed m done (left m)) p (record { config = refl; files = refl; more = _; journal = refl });
+  inner = λ m n e p q is. goes-over b m n p (inner-goes-on m n e is);
+  closes = λ m done p le.
+      let front = closed-front m done (left m) in
+      goes-over b m (settle_closed m done (left m)) p (record { config = refl; files = refl; more = front.0; journal = front.1; begins = front.2 });
   takes = λ m p. every (takes m);
   deliveries = λ m p. every (deliveries m);
   completions = λ m n p. every (completions m n);
@@ -97,7 +81,7 @@ module _ (m : Machine) (rounds : ℕ) where
         over (Err stop) (inr h) = inr h.0
 
   from-begun : (n : Machine) → GoesOn begun n → GoesOn m n
-  from-begun n g = goes-over m begun n (record { config = refl; files = refl; more = rec.Event (m.events + 1) (event.Settle rounds) ∷ []; journal = refl }) g
+  from-begun n g = goes-over m begun n (record { config = refl; files = refl; more = rec.Event (m.events + 1) (event.Settle rounds) ∷ []; journal = refl; begins = refl }) g
 
   begun-longer : (n : Machine) → GoesOn begun n → length m.journal < length n.journal
   begun-longer n g =
