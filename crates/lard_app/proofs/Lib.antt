@@ -1,6 +1,6 @@
 pub mod Adding
 mod Asking
-mod Audits
+mod Audited
 mod Blames
 mod Causes
 mod Endings

@@ -52,6 +52,7 @@ with_refusal text (Used c) = text ++ codes "client " ++ decimal c ++ codes " ope
 with_refusal text (NoNode n nodes) = text ++ codes "node " ++ decimal n ++ codes " above " ++ decimal nodes
 with_refusal text (NoJob n j len) = text ++ codes "job " ++ decimal j ++ codes " of " ++ decimal len ++ codes " at node " ++ decimal n
 
+-- the word of a rule
 abbrev pub rule_word : Rule → List ℕ
 rule_word Network = codes "network"
 rule_word Owner = codes "owner"

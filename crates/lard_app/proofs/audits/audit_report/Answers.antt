@@ -4,7 +4,7 @@ use Rattle.lard_audit_run.specs.declared.verdict.Verdict.{Verdict}
 use Rattle.lard_app.specs.declared.status.Status.{Status}
 use Rattle.lard_app.specs.Audit.{IsAuditSettled, audit_status}
 use Rattle.lard_app.specs.Replay.{EndsCount}
-use Rattle.lard_app.proofs.Audits.{verdict-counts, verdict-read, verdict-settled}
+use Rattle.lard_app.proofs.Audited.{verdict-counts, verdict-read, verdict-settled}
 use Rattle.lard_app.proofs.Faults.{fault-rose}
 use Rattle.lard_app.proofs.audits.audit_report.Goals as goal
 

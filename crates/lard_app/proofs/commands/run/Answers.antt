@@ -1,10 +1,10 @@
 -- A replay says what it read and wrote, a generated run what was counted, and other words nothing.
-use Rattle.std.proofs.Common.{◌≡◌, ◌⊎◌}
+use Rattle.std.proofs.Common.{◌≡◌, ◌⊎◌, subst}
 use Rattle.lard_app.specs.declared.status.Status.TheVariants.{NoMemory}
 use Rattle.lard_app.specs.Generate.{Generated, run_of}
 use Rattle.lard_app.specs.Words.{bytes_of}
 use Rattle.lard_app.proofs.Asking.{are-audit, are-generate, are-lab, are-replay, generated-not-read, generated-not-usage, generated-settled, no-audit-generate, no-audit-lab, no-lab-generate, no-replay-audit, no-replay-lab, not-both, of-words, reads-not-usage, same-policy}
-use Rattle.lard_app.proofs.Audits.{audits-not-usage}
+use Rattle.lard_app.proofs.Audited.{audits-not-usage}
 use Rattle.lard_app.proofs.Faults.{fault-rose, no_fault-same}
 use Rattle.lard_lab.specs.declared.policy.Policy.{Policy}
 use Rattle.lard_app.specs.Lab.{IsLabSettled, Labs}

@@ -1,4 +1,4 @@
-use Rattle.std.proofs.Common.{◌≡◌, ◌⊎◌, ℕ, ◌+◌, ◌≤◌, List, take, Ok, Err, refl, sym, ap, ◌∙◌, subst, arith}
+use Rattle.std.proofs.Common.{◌≡◌, ◌⊎◌, ℕ, ◌+◌, ◌≤◌, List, take, Ok, Err, refl, sym, ◌∙◌, subst, arith}
 use Rattle.std.specs.Io.KnownBytes.{IsAtEnd}
 use Rattle.lard_audit_run.specs.Audited.{begin, ending, passed}
 use Rattle.lard_audit_run.specs.Seen.{Passes}
@@ -58,12 +58,12 @@ returns-in-Ok-None-clause-judged g c =
     let more = (reading_more _ _ _ _ _ _ c.loop-len.invariant.course.2 c.find_line.ensures.taken c.find_line.ensures.count c.find_line.ensures.bound c.find_line.ensures.most) in
     reading_end _ _ c.find_line.new.self s more (sym c.in-Ok-None.ensures.found ∙ c.in-Ok-None.field-0-is) c.end.result
     (subst (λ n. IsAtEnd (g.S.Source.left c.find_line.new.source) ⊎ (c.find_line.new.self.read ≡ n + 1)) (sym c.find_line.ensures.most) (c.in-Ok-None.ensures.ended c.in-Ok-None.field-0-is))
-    (c.end.ensures s here ∙ ap (ending s) c.rest-in-Ok-None.ensures.value)
+    (subst (λ (rest : List ℕ). c.end.result ≡ ending s rest) c.rest-in-Ok-None.ensures.value (c.end.ensures s here))
 
 pub returns-in-Ok-None-clause-read_fault : goal.returns-in-Ok-None-clause-read_fault
 returns-in-Ok-None-clause-read_fault g c = λ e.
     let s = c.loop-len.invariant.course.0 in
-    let here = c.loop-len.invariant.course.1 in absurd (ending_no_read s _ (sym (c.end.ensures s here) ∙ e))
+    let here = c.loop-len.invariant.course.1 in absurd (ending_no_read s c.rest-in-Ok-None.result.now (sym (c.end.ensures s here) ∙ e))
 
 pub returns-in-Err-Failed-clause-judged : goal.returns-in-Err-Failed-clause-judged
 returns-in-Err-Failed-clause-judged g c =
