@@ -7,7 +7,6 @@ use Rattle.lard_base.specs.Config.{config_check, range_check}
 use Rattle.lard_base.specs.declared.config.ConfigFault.{ConfigFault}
 use Rattle.lard_base.specs.declared.config.Key.{Key}
 use Rattle.lard_base.specs.declared.event.Event.{Event}
-use Rattle.lard_rules.specs.declared.fault.Refusal.{Refusal}
 use Rattle.lard_rules.specs.declared.fault.StepFault.{StepFault}
 use Rattle.lard_rules.specs.declared.fault.StepFault.TheVariants as fault
 use Rattle.lard_rules.specs.declared.machine.Machine.{Machine}
@@ -26,7 +25,7 @@ use Rattle.lard_app.specs.declared.status.Status.{Status}
 use Rattle.lard_app.specs.declared.status.Status.TheVariants.{Done, Usage, Refused, ReadFault, WriteFault, NoMemory, Limit}
 use Rattle.lard_app.specs.declared.status.Why.{Why}
 use Rattle.lard_app.specs.declared.status.Why.TheVariants as why
-use Rattle.lard_app.specs.Causes.{AddsNone, EndsLine, IsUnfit, MayNotAdd, MayNotCome, Reaches, Refuses, Stands, Tries}
+use Rattle.lard_app.specs.Causes.{AddsNone, EndsLine, IsUnfit, MayNotAdd, Reaches, Refuses, Stands, Tries}
 use Rattle.lard_app.specs.Replay.{Progress, begun, config_set, counted, ended_by, file_ends, filed, followed, found, is_past, item_taken, moved, passed, taken}
 use Rattle.lard_app.proofs.Blames.{Blames, event-blames, reaches-stop, unreached, untimely-stops}
 use Rattle.lard_app.proofs.Knows.{Knows}

@@ -68,7 +68,7 @@ pub keeps-all : (a : Audit) (r : Rec) → broken_at a r ≡ None → Keeps a r
 unfolding broken_at
 keeps-all a r h = all-kept _ _ _ _ _ _ _ h
 
-seven : (a b c d e f g a2 b2 c2 d2 e2 f2 g2 : Bool) → a ≡ a2 → b ≡ b2 → c ≡ c2 → d ≡ d2 → e ≡ e2 → f ≡ f2 → g ≡ g2 → first_broken a b c d e f g ≡ first_broken a2 b2 c2 d2 e2 f2 g2
+pub seven : (a b c d e f g a2 b2 c2 d2 e2 f2 g2 : Bool) → a ≡ a2 → b ≡ b2 → c ≡ c2 → d ≡ d2 → e ≡ e2 → f ≡ f2 → g ≡ g2 → first_broken a b c d e f g ≡ first_broken a2 b2 c2 d2 e2 f2 g2
 seven a b c d e f g a2 b2 c2 d2 e2 f2 g2 s t u v w x y =
     ap (λ z. first_broken z b c d e f g) s ∙ ap (λ z. first_broken a2 z c d e f g) t ∙ ap (λ z. first_broken a2 b2 z d e f g) u ∙ ap (λ z. first_broken a2 b2 c2 z e f g) v
     ∙ ap (λ z. first_broken a2 b2 c2 d2 z f g) w ∙ ap (λ z. first_broken a2 b2 c2 d2 e2 z g) x ∙ ap (first_broken a2 b2 c2 d2 e2 f2) y

@@ -111,7 +111,7 @@ same-first x n add remove e =
 pub at-most : (a k : ℕ) → nat_le a k ≡ true → a ≤ k
 at-most a k e = grind (arith, nat_tests, e)
 
-less : (a k : ℕ) → nat_lt a k ≡ true → a < k
+pub less : (a k : ℕ) → nat_lt a k ≡ true → a < k
 less a k e = grind (arith, nat_tests, e)
 
 -- what a later assignment knows that keeps the rule

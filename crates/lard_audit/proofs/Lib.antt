@@ -4,5 +4,6 @@ pub mod Following
 pub mod Holding
 pub mod Keeping
 pub mod Kept
+pub mod Meaning
 pub mod Sending
 pub mod Storing

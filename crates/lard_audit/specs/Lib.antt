@@ -1,5 +1,6 @@
 pub mod Audit
 pub mod Books
+pub mod Laws
 pub mod Network
 pub mod Nodes
 pub mod Queue

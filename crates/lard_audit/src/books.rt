@@ -1,6 +1,6 @@
 //! Who is in, how loaded each node is, and who serves what.
 
-ghost use Rattle.std.specs.Prelude.{◌≡◌, ◌<◌, ◌≤◌, [], Ok, Some, None, true, IfOk, IfSome, OnOk, OnErr};
+ghost use Rattle.std.specs.Prelude.{◌≡◌, ◌<◌, ◌≤◌, Ok, Some, None, true, IfOk, OnOk, OnErr};
 ghost use Rattle.lard_base.specs.Config.{config_check, room_of};
 ghost use Rattle.lard_dispatch.specs.Calls.{joined, reduced};
 ghost use Rattle.lard_journal.specs.declared.rec.Rec.TheVariants as rec;
@@ -9,7 +9,7 @@ ghost use Rattle.lard_costs.specs.Later.{later_choice};
 ghost use Rattle.lard_loads.specs.Tally.{admitted, batch_ended, connected, home, open_shares, released, shared};
 ghost use Rattle.lard_policy.specs.declared.first.FirstChoice.{FirstChoice};
 ghost use Rattle.lard_sets.specs.Sets.{has_place, set_of, touched};
-ghost use Rattle.lard_audit.specs.Sound.{due_by, first_at, is_first_choice, is_first_of, is_later_choice, is_same, keeps_admission, keeps_choice, keeps_clock, keeps_later, keeps_room};
+ghost use Rattle.lard_audit.specs.Sound.{first_at, is_first_choice, is_first_of, is_later_choice, is_same, keeps_admission, keeps_choice, keeps_clock, keeps_later, keeps_room};
 ghost use Rattle.lard_audit.specs.Books.{AreSound, Books, blank_books, count_in, is_inside, is_it};
 
 use lard_base::{Config, ConnId, Millis, NoMemory, NodeId, Path};

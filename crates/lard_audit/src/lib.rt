@@ -7,6 +7,7 @@
 
 mod audit;
 mod books;
+pub mod laws;
 mod nodes;
 mod owners;
 mod packets;

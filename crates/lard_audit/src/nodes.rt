@@ -1,11 +1,10 @@
 //! The caches and the disks of all nodes that there can be.
 
-ghost use Rattle.std.specs.Prelude.{◌≡◌, ◌+◌, ◌-◌, ◌<◌, ◌≤◌, [], Some, None, map, length, replicate, slice_get, IfOk, OnOk, OnErr};
+ghost use Rattle.std.specs.Prelude.{◌≡◌, ◌-◌, ◌<◌, length, replicate, slice_get, IfOk, OnOk, OnErr};
 ghost use Rattle.lard_cache.specs.Recency.{has};
 ghost use Rattle.lard_counts.specs.Stores.{waiting_at};
-ghost use Rattle.lard_audit.specs.Sound.{is_job, job_at, keeps_cache};
+ghost use Rattle.lard_audit.specs.Sound.{is_job};
 ghost use Rattle.lard_audit.specs.Nodes.{changed, entries_at, hit_by, idle, jobs_at, queued_by, read_by, set_node};
-ghost use Rattle.lard_audit.specs.Queue.{told};
 
 use crate::queue::{Job, Queue};
 use lard_base::{ConnId, NoMemory, NodeId, Path};

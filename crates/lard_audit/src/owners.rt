@@ -4,7 +4,7 @@ ghost use Rattle.std.specs.Prelude.{◌≡◌, [], Some, None, nat_eq, OnOk, OnE
 ghost use Rattle.indexmap.specs.IndexMap.{insert_entry};
 ghost use Rattle.lard_history.specs.Journal.{is_place};
 ghost use Rattle.lard_audit.specs.Sound.{is_owner, keeps_owner, keeps_sender, may_send};
-ghost use Rattle.lard_audit.specs.Network.{epoch_in, holder, nobody, owner_in};
+ghost use Rattle.lard_audit.specs.Network.{epoch_in, holder, owner_in};
 
 use crate::register::Register;
 use lard_base::{ConnId, Epoch, NoMemory, Place};

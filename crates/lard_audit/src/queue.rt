@@ -1,6 +1,6 @@
 //! The jobs that wait at a disk.
 
-ghost use Rattle.std.specs.Prelude.{◌≡◌, ◌+◌, ◌-◌, ◌<◌, ◌≤◌, ◌^◌, [], ◌∷◌, ◌++◌, map, length, Some, OnOk, OnErr};
+ghost use Rattle.std.specs.Prelude.{◌≡◌, ◌+◌, ◌-◌, ◌<◌, ◌^◌, [], ◌∷◌, ◌++◌, map, Some, OnOk, OnErr};
 ghost use Rattle.lard_counts.specs.Stores.{waiting_at};
 ghost use Rattle.lard_audit.specs.Sound.{is_job};
 ghost use Rattle.lard_audit.specs.Queue.{told, without_job};

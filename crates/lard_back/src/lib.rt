@@ -2,7 +2,7 @@
 //! and answers what other nodes ask for.
 //!
 //! It stands above the tables of a node, its cache and its disk, and what is done with the requests of one stay, and follows the
-//! rules of `lard_rules`. `step` is all that a node does with what comes to it. `lard_stepping` calls it.
+//! rules of `lard_rules`. `begin`, `step` and `finish` are its calls; what they stand on is private.
 #![tactic(auto)]
 
 mod acting;
@@ -10,13 +10,12 @@ mod firing;
 mod hand;
 mod hearing;
 mod offers;
-pub mod place;
+mod place;
 mod reads;
-pub mod rules;
+mod rules;
 mod sends;
-pub mod stores;
+mod stores;
 mod timers;
 
 pub use acting::Setting;
-pub use hand::At;
 pub use place::{begin, finish, step};

@@ -2,22 +2,22 @@
 //! the dispatcher's choice, passes on what its client says from then on, and knows of its end.
 //!
 //! It stands above the table of the front end's connections, the dispatcher and what a place does with an endpoint, and
-//! follows `front_step` of `lard_rules`: `step::step` is its public call.
+//! follows `front_step` of `lard_rules`. `place::begin`, `step::step` and `place::finish` are its calls; what they stand on is private.
 #![tactic(auto)]
 
-pub mod admitting;
-pub mod asking;
+mod admitting;
+mod asking;
 mod ended;
-pub mod handing;
-pub mod hearing;
-pub mod joining;
-pub mod passing;
+mod handing;
+mod hearing;
+mod joining;
+mod passing;
 pub mod place;
-pub mod placing;
-pub mod reading;
-pub mod receiving;
-pub mod releasing;
-pub mod seats;
+mod placing;
+mod reading;
+mod receiving;
+mod releasing;
+mod seats;
 pub mod step;
-pub mod told;
-pub mod turns;
+mod told;
+mod turns;

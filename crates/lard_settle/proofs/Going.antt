@@ -46,10 +46,15 @@ module _ (m : Machine) (e : Event) (es : List Event) where
 
 -- an inner step that is done takes no record back, and keeps the numbers of the run
 pub inner-front : (m n : Machine) (e : Event) → inner_step m e ≡ Ok n → IsFrontOf m.journal n.journal
-inner-front m n e is = let on = inner-goes-on m n e is in (on.more, on.journal)
+inner-front m n e is = let on = inner-goes-on m n e is in (on.more, on.journal, on.begins)
 
 pub inner-config : (m n : Machine) (e : Event) → inner_step m e ≡ Ok n → n.config ≡ m.config
 inner-config m n e is = (inner-goes-on m n e is).config
+
+-- a step that is not done leaves the journal
+pub undone-front : (given : Result Machine StepFault) (m new : Machine) (fault : StepFault) → Steps given m new (Err fault) → IsFrontOf m.journal new.journal
+undone-front given m new NoMemory h = subst (IsFrontOf m.journal) (sym h) (front-same m.journal)
+undone-front given m new _ h = subst (λ (n : Machine). IsFrontOf m.journal n.journal) (sym h.0) (front-same m.journal)
 
 -- without memory for the list of events none of them is done
 pub none-done : (m : Machine) (es : List Event) → Does (all_inner m es) m (Err NoMemory)

@@ -4,43 +4,35 @@ use Rattle.lard_base.specs.declared.event.Event.{Event}
 use Rattle.lard_base.specs.declared.event.Event.TheVariants as event
 use Rattle.lard_rules.specs.declared.fault.StepFault.{StepFault}
 use Rattle.lard_rules.specs.declared.machine.Machine.{Machine}
-use Rattle.lard_rules.specs.Machine.{limit_reached, machine_step, passed, unless_limit}
-use Rattle.lard_world.proofs.Runs.{GoesOn, step-goes-on}
-use Rattle.lard_journal.specs.Inner.{turned_at}
+use Rattle.lard_rules.specs.Machine.{limit_reached, passed, unless_limit}
+use Rattle.lard_world.proofs.Runs.{inner-goes-on}
 use Rattle.lard_journal.specs.declared.rec.Rec.{Rec}
 use Rattle.lard_journal.specs.declared.rec.Rec.TheVariants as rec
 use Rattle.lard_rules.specs.declared.fault.What.{What}
 use Rattle.lard_settling.specs.declared.settled.Settled.{Settled}
-use Rattle.lard_settling.specs.Settling.{IsFrontOf, Stop, all_inner, closed_by, come, completed_since, completions, counted, deliveries, fired_since, firings, is_quiet, left, nodes_complete, outcome, round, rounds_from, settled, settled_from, takes}
-use Rattle.lard_settling.specs.Steps.{as_inner, closing, inner_given, inner_step, settle_begun}
+use Rattle.lard_settling.specs.Settling.{BeginsByMark, IsFrontOf, Stop, all_inner, closed_by, come, completed_since, completions, counted, deliveries, fired_since, firings, is_mark, is_quiet, left, nodes_complete, outcome, round, rounds_from, settled, settled_from, takes}
+use Rattle.lard_settling.specs.Steps.{closing, inner_step, settle_begun, settle_closed}
 
 -- ---- fronts
 
 pub front-same : (J : List Rec) → IsFrontOf J J
-front-same J = ([], sym (append-nil J))
+front-same J = ([], sym (append-nil J), tt)
+
+begins-over : (rs ss : List Rec) → BeginsByMark rs → BeginsByMark ss → BeginsByMark (rs ++ ss)
+begins-over [] ss h k = k
+begins-over (r ∷ rs) ss h k = h
 
 pub front-over : (J K L : List Rec) → IsFrontOf J K → IsFrontOf K L → IsFrontOf J L
-front-over J K L h k = (h.0 ++ k.0, k.1 ∙ ap (λ (l : List Rec). l ++ k.0) h.1 ∙ append_assoc J h.0 k.0)
+front-over J K L h k = (h.0 ++ k.0, k.1 ∙ ap (λ (l : List Rec). l ++ k.0) h.1 ∙ append_assoc J h.0 k.0, begins-over h.0 k.0 h.2 k.2)
 
 -- ---- inner steps
-
-turned-front : (J more : List Rec) → IsFrontOf J (turned_at (length J) (J ++ more))
-turned-front [] more = (turned_at 0 more, refl)
-turned-front (r ∷ J) more = let h = turned-front J more in (h.0, ap (λ (l : List Rec). r ∷ l) h.1)
 
 -- what a call comes to, to its end or not
 abbrev pub Grows : List Rec → Result Machine Stop → Type 0
 Grows J x = IsFrontOf J (come x)
 
 pub inner-grows : (m n : Machine) (e : Event) → inner_step m e ≡ Ok n → IsFrontOf m.journal n.journal
-unfolding inner_step
-inner-grows m n e = go (machine_step m e) refl where
-  go : (x : Result Machine StepFault) → machine_step m e ≡ x → inner_given m x ≡ Ok n → IsFrontOf m.journal n.journal
-  go (Ok k) is made =
-      let on : GoesOn m k = step-goes-on m k e is in
-      let same : as_inner m k ≡ n = cc in
-      subst (λ (q : Machine). IsFrontOf m.journal q.journal) same (subst (λ (J : List Rec). IsFrontOf m.journal (turned_at (length m.journal) J)) (sym on.journal) (turned-front m.journal on.more))
-  go (Err fault) is made = cc
+inner-grows m n e is = let on = inner-goes-on m n e is in (on.more, on.journal, on.begins)
 
 pub all-grow : (es : List Event) (m : Machine) → Grows m.journal (all_inner m es)
 unfolding all_inner
@@ -104,9 +96,16 @@ rounds-grow (suc more) done m = test (rounds-grow more (done + 1)) (is_quiet m) 
   test later true = front-same m.journal
   test later false = go later (round m) (round-grows m)
 
+closes : (done count : ℕ) → is_mark (closing done count) ≡ true
+closes done zero = refl
+closes done (suc count) = refl
+
+pub closed-front : (m : Machine) (done count : ℕ) → IsFrontOf m.journal (settle_closed m done count).journal
+closed-front m done count = (closing done count ∷ [], refl, closes done count)
+
 pub closed-grows : (J : List Rec) (x : Result (Machine × ℕ) Stop) → RoundsGrow J x → IsFrontOf J (outcome (closed_by x))
 closed-grows J (Err stop) h = h
-closed-grows J (Ok (n, done)) h = front-over J n.journal (n.journal ++ closing done (left n) ∷ []) h (closing done (left n) ∷ [], refl)
+closed-grows J (Ok (n, done)) h = front-over J n.journal (n.journal ++ closing done (left n) ∷ []) h (closed-front n done (left n))
 
 pub settled-from-grows : (m : Machine) (rounds : ℕ) → IsFrontOf m.journal (outcome (settled_from m rounds))
 settled-from-grows m rounds = go (all_inner m (takes m)) (all-grow (takes m) m) where
@@ -118,7 +117,7 @@ pub begun-grows : (m n : Machine) (rounds : ℕ) → settle_begun m rounds ≡ O
 unfolding settle_begun
 begun-grows m n rounds = go (limit_reached m) where
   go : (o : Option What) → unless_limit o (Ok (passed m (event.Settle rounds) [])) ≡ Ok n → IsFrontOf m.journal n.journal
-  go None is = let same : passed m (event.Settle rounds) [] ≡ n = cc in subst (λ (q : Machine). IsFrontOf m.journal q.journal) same (rec.Event (m.events + 1) (event.Settle rounds) ∷ [], refl)
+  go None is = let same : passed m (event.Settle rounds) [] ≡ n = cc in subst (λ (q : Machine). IsFrontOf m.journal q.journal) same (rec.Event (m.events + 1) (event.Settle rounds) ∷ [], refl, refl)
   go (Some what) is = cc
 
 -- the journal of a settle, done or not, begins with that before it

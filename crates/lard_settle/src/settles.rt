@@ -17,10 +17,10 @@ use std::alloc::Global;
 
 /// Settles: first each client that holds takes; then rounds of inner steps, at most so many, until no timer runs but
 /// those that are stalled and no job waits. A fault of a step ends it, and the world is as the steps before have left
-/// it. If memory ran out, its journal is a front of what it would have been. With as many rounds as the bound of the
-/// journal nothing is left, where no packet was put on the way in a client's name and each client wrote fewer than
-/// 16,383 bytes. However it ends, no record is taken back. Before it, and behind it where it was done, the world is not
-/// spoiled and the agenda is one of its journal.
+/// it. If memory ran out, its journal is a front of what it would have been, at a step's end. With as many rounds as
+/// the bound of the journal nothing is left, where no packet was put on the way in a client's name and each client
+/// wrote fewer than 16,383 bytes. However it ends, no record is taken back. Before it, and behind it where it was done,
+/// the world is not spoiled and the agenda is one of its journal.
 pub fn settle(
     world: &mut World,
     agenda: &mut Agenda,

@@ -14,17 +14,10 @@ use Rattle.lard_law_view.proofs.Timers.{IsTimerAt}
 use Rattle.lard_history.proofs.Each.{Each, Each-append, Each-weaker}
 use Rattle.lard_journal.specs.declared.rec.Rec.{Rec}
 use Rattle.lard_journal.specs.declared.rec.Rec.TheVariants as rec
+pub use Rattle.lard_settling.specs.Settling.{is_mark}
 use Rattle.lard_rules.specs.Sent.{sent_records}
 use Rattle.lard_rules.specs.declared.places.Out.{Out}
 use Rattle.lard_law_view.proofs.OwnRecords.{behind}
-
--- it begins a step, or closes a settle
-abbrev pub is_mark : Rec → Bool
-is_mark (rec.Event i e) = true
-is_mark (rec.Inner e) = true
-is_mark (rec.Settled rounds) = true
-is_mark (rec.Unsettled rounds left) = true
-is_mark _ = false
 
 abbrev pub AreUnmarked : List Rec → Type 0
 AreUnmarked rs = Each (λ r. is_mark r ≡ false) rs

@@ -1,5 +1,5 @@
 -- What a settle does: rounds of inner steps, until nothing is left to do or so many rounds were done.
-use Rattle.std.specs.Prelude.{◌≡◌, ℕ, zero, suc, ◌+◌, ◌==◌, ◌&&◌, Bool, true, nat_eq, if◌then◌else◌, List, [], ◌∷◌, ◌++◌, filter, length, map, replicate, Result, Ok, Err}
+use Rattle.std.specs.Prelude.{◌≡◌, ℕ, zero, suc, ◌+◌, ◌==◌, ◌&&◌, Bool, true, false, nat_eq, if◌then◌else◌, List, [], ◌∷◌, ◌++◌, filter, length, map, replicate, Result, Ok, Err}
 use Rattle.lard_agenda.specs.Agenda.{agenda_of, due, holders, on_way, rests, timers_left}
 use Rattle.lard_base.specs.declared.event.Event.{Event}
 use Rattle.lard_base.specs.declared.event.Event.TheVariants as event
@@ -9,6 +9,7 @@ use Rattle.lard_rules.specs.declared.fault.StepFault.{StepFault}
 use Rattle.lard_rules.specs.declared.fault.StepFault.TheVariants.{NoMemory}
 use Rattle.lard_rules.specs.declared.machine.Machine.{Machine}
 use Rattle.lard_journal.specs.declared.rec.Rec.{Rec}
+use Rattle.lard_journal.specs.declared.rec.Rec.TheVariants as rec
 use Rattle.lard_settling.specs.declared.settled.Settled.{Settled}
 use Rattle.lard_settling.specs.declared.settled.Settled.TheVariants.{Open, Quiet}
 use Rattle.lard_settling.specs.Left.{is_holder, jobs_at, jobs_from}
@@ -106,16 +107,29 @@ settled m rounds = elim (settle_begun m rounds) [ Err fault ↦ Err (m, fault) |
 
 -- ---- what a call does
 
--- the one begins with the other
+-- it begins a step, or closes a settle
+abbrev pub is_mark : Rec → Bool
+is_mark (rec.Event i e) = true
+is_mark (rec.Inner e) = true
+is_mark (rec.Settled rounds) = true
+is_mark (rec.Unsettled rounds left) = true
+is_mark _ = false
+
+-- nothing, or what begins so
+abbrev pub BeginsByMark : List Rec → Type 0
+BeginsByMark [] = Unit {0}
+BeginsByMark (r ∷ rs) = is_mark r ≡ true
+
+-- K begins with J, and J ends where a step of K does: what stands behind it begins the next one, or closes the settle.
 abbrev pub IsFrontOf : List Rec → List Rec → Type 0
-IsFrontOf J K = (more : List Rec) × (K ≡ J ++ more)
+IsFrontOf J K = (more : List Rec) × (K ≡ J ++ more) × BeginsByMark more
 
 -- the journal that steps come to, all of them or not
 abbrev pub come : Result Machine Stop → List Rec
 come (Ok n) = n.journal
 come (Err stop) = stop.0.journal
 
--- The steps were done, or came to one that is not done; where memory ran out, the journal is a front of what it would have been.
+-- The steps were done, or came to one that is not done; where memory ran out, the journal is a front of what it would have been, at a step's end.
 abbrev pub Does : Result Machine Stop → Machine → Result (Unit {0}) StepFault → Type 0
 Does given new (Ok _) = given ≡ Ok new
 Does given new (Err NoMemory) = IsFrontOf new.journal (come given)
@@ -137,7 +151,7 @@ abbrev pub outcome : Result (Machine × Settled) Stop → List Rec
 outcome (Ok (n, s)) = n.journal
 outcome (Err stop) = stop.0.journal
 
--- The settle was done, or came to a step that is not done; where memory ran out, the journal is a front of what it would have been.
+-- The settle was done, or came to a step that is not done; where memory ran out, the journal is a front of what it would have been, at a step's end.
 abbrev pub Settles : Result (Machine × Settled) Stop → Machine → Result Settled StepFault → Type 0
 Settles given new (Ok s) = given ≡ Ok (new, s)
 Settles given new (Err NoMemory) = IsFrontOf new.journal (outcome given)

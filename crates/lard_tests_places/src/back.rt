@@ -5,52 +5,84 @@ ghost use Rattle.std.specs.Prelude.{◌≡◌, ◌≤◌, OnOk};
 ghost use Rattle.lard_back.specs.Sound.{IsNodeSound};
 ghost use Rattle.lard_base.specs.declared.limits.TheConstants.{MAX_STREAM_BYTES};
 
-use lard_back::rules::{completed, content, forward, tagged};
-use lard_back::stores::fetch;
-use lard_back::{At, Setting, begin, finish, step};
-use lard_base::{Bytes, ConnId, EndpointParts, Epoch, NoMemory, NodeId, Path, Place};
+use lard_back::{Setting, begin, finish, step};
+use lard_base::{Bytes, ConnId, EndpointParts, Epoch, NoMemory, NodeId, Nodes, Path, Place};
 use lard_files::Files;
 use lard_message::{Body, Message, encode};
-use lard_rules::{BackIn, NodeState, Out};
+use lard_rules::{BackIn, NodeState};
 use lard_segment::{Dir, Flags, Segment};
 use lard_seq::Seq;
 use lard_serving::packet;
 use std::alloc::Global;
 use std::test::Fail;
 
-/// Whether a step has no record and no message.
-fn is_empty(out: &Out) -> bool {
-    out.notes.len() == 0 && out.messages.len() == 0
-}
+/// How many records, messages, segments and records of timers a step has.
+type Told = (usize, usize, usize, usize);
 
-/// Whether all that may come for a connection is dropped.
-fn drops_all(
+/// What a node does with what comes to it.
+fn does(
     state: &mut NodeState,
     alloc: Global,
     setting: &Setting<'_>,
-    at: &At,
-) -> Result<bool, NoMemory>
-    requires node { at.now.n ≡ setting.now.n }
+    input: BackIn,
+) -> Result<Told, NoMemory>
     requires sound { IsNodeSound state.old }
     requires stream { setting.now.stream ≤ MAX_STREAM_BYTES }
+    ensures sound { OnOk result (IsNodeSound state.new) }
 {
     if state.disk.len() > 8 {
         return Err(NoMemory);
     }
-    let segment = forward(state, alloc, setting, at, b"none")?;
-    if state.disk.len() > 8 {
+    let out = step(state, alloc, setting, input)?;
+    let (notes, messages) = (out.notes.len(), out.messages.len());
+    Ok((notes, messages, out.segments.len(), out.timers.len()))
+}
+
+/// The same, where a place says this of a connection that stays in its second epoch.
+fn hears(
+    state: &mut NodeState,
+    alloc: Global,
+    setting: &Setting<'_>,
+    from: Place,
+    c: ConnId,
+    body: Body,
+) -> Result<Told, NoMemory>
+    requires sound { IsNodeSound state.old }
+    requires stream { setting.now.stream ≤ MAX_STREAM_BYTES }
+    ensures sound { OnOk result (IsNodeSound state.new) }
+{
+    if !body.is_of_table() {
         return Err(NoMemory);
     }
-    let tag = tagged(state, alloc, setting, at, 1, &[])?;
-    if state.disk.len() > 8 {
-        return Err(NoMemory);
-    }
-    let file = content(state, alloc, setting, at, at.n, 1)?;
-    if state.disk.len() > 8 {
-        return Err(NoMemory);
-    }
-    let job = completed(state, alloc, setting, at, 1)?;
-    Ok(is_empty(&segment) && is_empty(&tag) && is_empty(&file) && is_empty(&job))
+    let epoch = Epoch(2);
+    let message = Message { c, epoch, body };
+    let bytes = encode(alloc, &message)?;
+    does(state, alloc, setting, BackIn::Message { from, bytes })
+}
+
+/// All that may come for a connection that is not here.
+fn drops_all(
+    state: &mut NodeState,
+    alloc: Global,
+    setting: &Setting<'_>,
+    c: ConnId,
+) -> Result<[Told; 4], NoMemory>
+    requires sound { IsNodeSound state.old }
+    requires stream { setting.now.stream ≤ MAX_STREAM_BYTES }
+    ensures sound { OnOk result (IsNodeSound state.new) }
+{
+    let front = Place::Front;
+    let bytes = Bytes::from_slice(alloc, b"none")?;
+    let segment = hears(state, alloc, setting, front, c, Body::Forward(bytes))?;
+    let mut nodes = Nodes::new(alloc);
+    nodes.push(setting.n)?;
+    let number = 1;
+    let tag = hears(state, alloc, setting, front, c, Body::Tag { number, nodes })?;
+    let (r, bytes) = (1, Bytes::from_slice(alloc, b"alpha")?);
+    let other = Place::Node(setting.n);
+    let file = hears(state, alloc, setting, other, c, Body::Content { r, bytes })?;
+    let timer = does(state, alloc, setting, BackIn::Timer(c))?;
+    Ok([segment, tag, file, timer])
 }
 
 /// A Fetch of request `r` for `/a`: how many records and messages it brings, and how many jobs the disk has then.
@@ -58,33 +90,48 @@ fn asks(
     state: &mut NodeState,
     alloc: Global,
     setting: &Setting<'_>,
-    at: &At,
+    c: ConnId,
     r: u32,
 ) -> Result<(usize, usize, u32), NoMemory>
-    requires node { at.now.n ≡ setting.now.n }
+    requires sound { IsNodeSound state.old }
+    requires stream { setting.now.stream ≤ MAX_STREAM_BYTES }
+    ensures sound { OnOk result (IsNodeSound state.new) }
 {
-    if state.disk.len() > 8 {
-        return Err(NoMemory);
-    }
     let path = Path::from_slice(alloc, b"/a")?;
-    let out = fetch(state, alloc, setting, at.n, at, r, path)?;
-    Ok((out.notes.len(), out.messages.len(), state.disk.len()))
+    let other = Place::Node(setting.n);
+    let (notes, messages, _, _) = hears(state, alloc, setting, other, c, Body::Fetch { r, path })?;
+    Ok((notes, messages, state.disk.len()))
 }
 
-/// The same twice, before and behind the path in the cache.
+/// The same twice, before the disk has read it and behind that.
 fn asks_again(
     state: &mut NodeState,
     alloc: Global,
     setting: &Setting<'_>,
-    at: &At,
+    c: ConnId,
 ) -> Result<[(usize, usize, u32); 3], NoMemory>
-    requires node { at.now.n ≡ setting.now.n }
+    requires sound { IsNodeSound state.old }
+    requires stream { setting.now.stream ≤ MAX_STREAM_BYTES }
 {
-    let first = asks(state, alloc, setting, at, 1)?;
-    let again = asks(state, alloc, setting, at, 1)?;
-    let path = Path::from_slice(alloc, b"/a")?;
-    state.cache.put(&path, 5)?;
-    Ok([first, again, asks(state, alloc, setting, at, 2)?])
+    let first = asks(state, alloc, setting, c, 1)?;
+    let again = asks(state, alloc, setting, c, 1)?;
+    let (_notes, _messages, _segments, _timers) = does(state, alloc, setting, BackIn::Disk(1))?;
+    Ok([first, again, asks(state, alloc, setting, c, 2)?])
+}
+
+/// Both, one after the other.
+fn drops_and_asks(
+    state: &mut NodeState,
+    alloc: Global,
+    setting: &Setting<'_>,
+    c: ConnId,
+) -> Result<([Told; 4], [(usize, usize, u32); 3]), NoMemory>
+    requires sound { IsNodeSound state.old }
+    requires stream { setting.now.stream ≤ MAX_STREAM_BYTES }
+{
+    let dropped = drops_all(state, alloc, setting, c)?;
+    let asked = asks_again(state, alloc, setting, c)?;
+    Ok((dropped, asked))
 }
 
 #[test]
@@ -98,17 +145,12 @@ fn nothing_is_here_and_a_file_is_read_once(rt: HostRuntime) -> Result<(), Fail> 
         files: &files,
         stream: 1000,
     };
-    let at = At {
-        n,
-        c,
-        epoch: Epoch(2),
-    };
     let mut state = begin(rt.alloc(), 100).ok().ok_or("memory")?;
-    let dropped = drops_all(&mut state, rt.alloc(), &setting, &at);
-    let asked = asks_again(&mut state, rt.alloc(), &setting, &at);
+    let told = drops_and_asks(&mut state, rt.alloc(), &setting, c);
     finish(state);
-    assert_eq!(rt; dropped.ok(), Some(true));
-    assert_eq!(rt; asked.ok(), Some([(1, 0, 1), (0, 0, 1), (1, 1, 1)]));
+    let (dropped, asked) = told.ok().ok_or("memory")?;
+    assert_eq!(rt; dropped, [(0, 0, 0, 0); 4]);
+    assert_eq!(rt; asked, [(1, 0, 1), (0, 0, 1), (1, 1, 0)]);
     Ok(())
 }
 
@@ -145,68 +187,35 @@ fn parts(alloc: Global) -> Result<EndpointParts, NoMemory> {
     })
 }
 
-/// How many records, messages, segments and records of timers a step has.
-type Told = (usize, usize, usize, usize);
-
-/// What a node does with what comes to it.
-fn does(
-    state: &mut NodeState,
-    alloc: Global,
-    setting: &Setting<'_>,
-    input: BackIn,
-) -> Result<Told, NoMemory>
-    requires sound { IsNodeSound state.old }
-    requires stream { setting.now.stream ≤ MAX_STREAM_BYTES }
-    ensures sound { OnOk result (IsNodeSound state.new) }
-{
-    if state.disk.len() > 8 {
-        return Err(NoMemory);
-    }
-    let out = step(state, alloc, setting, input)?;
-    let (notes, messages) = (out.notes.len(), out.messages.len());
-    Ok((notes, messages, out.segments.len(), out.timers.len()))
-}
-
-/// The same, where the front end says this.
-fn hears(
-    state: &mut NodeState,
-    alloc: Global,
-    setting: &Setting<'_>,
-    at: &At,
-    body: Body,
-) -> Result<Told, NoMemory>
-    requires sound { IsNodeSound state.old }
-    requires stream { setting.now.stream ≤ MAX_STREAM_BYTES }
-    ensures sound { OnOk result (IsNodeSound state.new) }
-{
-    if !body.is_of_table() {
-        return Err(NoMemory);
-    }
-    let message = Message {
-        c: at.c,
-        epoch: at.epoch,
-        body,
-    };
-    let bytes = encode(alloc, &message)?;
-    let from = Place::Front;
-    does(state, alloc, setting, BackIn::Message { from, bytes })
-}
-
 /// A connection is offered twice, and its file is read.
 fn stays(
     state: &mut NodeState,
     alloc: Global,
     setting: &Setting<'_>,
-    at: &At,
+    c: ConnId,
 ) -> Result<[Told; 4], NoMemory>
     requires sound { IsNodeSound state.old }
     requires stream { setting.now.stream ≤ MAX_STREAM_BYTES }
     ensures sound { OnOk result (IsNodeSound state.new) }
 {
-    let new = hears(state, alloc, setting, at, Body::Offer(parts(alloc)?))?;
-    let again = hears(state, alloc, setting, at, Body::Offer(parts(alloc)?))?;
+    let new = hears(
+        state,
+        alloc,
+        setting,
+        Place::Front,
+        c,
+        Body::Offer(parts(alloc)?),
+    )?;
+    let again = hears(
+        state,
+        alloc,
+        setting,
+        Place::Front,
+        c,
+        Body::Offer(parts(alloc)?),
+    )?;
     let read = does(state, alloc, setting, BackIn::Disk(1))?;
-    let fired = does(state, alloc, setting, BackIn::Timer(at.c))?;
+    let fired = does(state, alloc, setting, BackIn::Timer(c))?;
     Ok([new, again, read, fired])
 }
 
@@ -215,16 +224,16 @@ fn ends(
     state: &mut NodeState,
     alloc: Global,
     setting: &Setting<'_>,
-    at: &At,
+    c: ConnId,
 ) -> Result<[Told; 4], NoMemory>
     requires sound { IsNodeSound state.old }
     requires stream { setting.now.stream ≤ MAX_STREAM_BYTES }
 {
-    let reset = Body::Forward(packet(alloc, &RESET, at.c, Dir::ToCluster)?);
-    let ended = hears(state, alloc, setting, at, reset)?;
-    let again = does(state, alloc, setting, BackIn::Timer(at.c))?;
-    let known = hears(state, alloc, setting, at, Body::EndedAck)?;
-    let quiet = does(state, alloc, setting, BackIn::Timer(at.c))?;
+    let reset = Body::Forward(packet(alloc, &RESET, c, Dir::ToCluster)?);
+    let ended = hears(state, alloc, setting, Place::Front, c, reset)?;
+    let again = does(state, alloc, setting, BackIn::Timer(c))?;
+    let known = hears(state, alloc, setting, Place::Front, c, Body::EndedAck)?;
+    let quiet = does(state, alloc, setting, BackIn::Timer(c))?;
     Ok([ended, again, known, quiet])
 }
 
@@ -233,13 +242,13 @@ fn stays_and_ends(
     state: &mut NodeState,
     alloc: Global,
     setting: &Setting<'_>,
-    at: &At,
+    c: ConnId,
 ) -> Result<([Told; 4], [Told; 4]), NoMemory>
     requires sound { IsNodeSound state.old }
     requires stream { setting.now.stream ≤ MAX_STREAM_BYTES }
 {
-    let here = stays(state, alloc, setting, at)?;
-    let over = ends(state, alloc, setting, at)?;
+    let here = stays(state, alloc, setting, c)?;
+    let over = ends(state, alloc, setting, c)?;
     Ok((here, over))
 }
 
@@ -254,13 +263,8 @@ fn a_connection_stays_and_ends(rt: HostRuntime) -> Result<(), Fail> {
         files: &files,
         stream: 1000,
     };
-    let at = At {
-        n,
-        c,
-        epoch: Epoch(2),
-    };
     let mut state = begin(rt.alloc(), 100).ok().ok_or("memory")?;
-    let told = stays_and_ends(&mut state, rt.alloc(), &setting, &at);
+    let told = stays_and_ends(&mut state, rt.alloc(), &setting, c);
     finish(state);
     let (here, over) = told.ok().ok_or("memory")?;
     assert_eq!(rt;

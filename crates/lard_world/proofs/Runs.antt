@@ -21,7 +21,7 @@ use Rattle.lard_stepping.specs.Sound.{IsSet, IsSound}
 use Rattle.lard_world.specs.World.{is_short}
 use Rattle.lard_stepping.proofs.Sound.{closed_sound}
 use Rattle.lard_files.specs.Files.{file_at}
-use Rattle.lard_journal.specs.Inner.{turned_at}
+use Rattle.lard_journal.specs.Inner.{inner_of, turned_at}
 use Rattle.lard_journal.specs.declared.rec.Rec.{Rec}
 use Rattle.lard_journal.specs.declared.rec.Rec.TheVariants as rec
 use Rattle.lard_rules.specs.declared.front.FrontState.{FrontState}
@@ -44,6 +44,7 @@ use Rattle.lard_segment.specs.declared.segment.Dir.TheVariants.{ToClient}
 use Rattle.lard_segment.specs.Segment.{decoded}
 use Rattle.lard_law_settles.specs.Enough.{RestsWithEnough}
 use Rattle.lard_law_settles.proofs.EnoughLaw.{settles-rest}
+use Rattle.lard_settling.specs.Settling.{BeginsByMark, IsFrontOf, is_mark}
 use Rattle.lard_settling.specs.Steps.{as_inner, inner_given, inner_step, settle_begun, settle_closed}
 use Rattle.lard_settling.specs.Written.{IsWrittenOut, written_out}
 use Rattle.lard_settling.proofs.Written.{given-done, written}
@@ -55,6 +56,7 @@ pub record GoesOn (m n : Machine) : Type 0 where
   pub files : n.files ≡ m.files
   pub more : List Rec
   pub journal : n.journal ≡ m.journal ++ more
+  pub begins : BeginsByMark more
 
 abbrev Goes : Machine → Result Machine StepFault → Type 0
 Goes m (Ok n) = GoesOn m n
@@ -69,6 +71,7 @@ module _ (m : Machine) where
     files = files;
     more = told_rows w e own p o;
     journal = ap (λ (J : List Rec). J ++ told_rows w e own p o) journal;
+    begins = refl;
   }
 
   -- none acted
@@ -78,6 +81,7 @@ module _ (m : Machine) where
     files = files;
     more = rec.Event (w.events + 1) e ∷ own;
     journal = ap (λ (J : List Rec). J ++ rec.Event (w.events + 1) e ∷ own) journal;
+    begins = refl;
   }
 
   client-goes : (e : Event) (own : List Rec) (c iss : ℕ) (was : Bool) (given : ClientBlock × Turn) → GoesOn m (client_acted m e own c iss was given)
@@ -181,7 +185,7 @@ module _ (m : Machine) where
   happens-goes (event.Timer p c) = timer-goes p c (table.get m.clients c)
   happens-goes (event.Disk n j) = completes-goes n j
   happens-goes (event.Clock ms) = clocked-goes ms
-  happens-goes (event.Settle rounds) = record { config = refl; files = refl; more = []; journal = sym (append-nil m.journal) }
+  happens-goes (event.Settle rounds) = record { config = refl; files = refl; more = []; journal = sym (append-nil m.journal); begins = tt }
 
   unless-goes : (o : Option What) (given : Result Machine StepFault) → Goes m given → Goes m (unless_limit o given)
   unless-goes None given h = h
@@ -208,17 +212,26 @@ module _ (m n : Machine) (same : GoesOn m n) where
 step-written : (m n : Machine) (e : Event) → IsRun m → HasRule e → machine_step m e ≡ Ok n → IsWrittenOut m.config m.files n
 step-written m n e r rule is = (written m.config m.files).steps m n e r.reached rule is
 
-turned-on : (J more : List Rec) → (rows : List Rec) × (turned_at (length J) (J ++ more) ≡ J ++ rows)
-turned-on [] more = (turned_at 0 more, refl)
-turned-on (r ∷ J) more = let h = turned-on J more in (h.0, ap (λ (l : List Rec). r ∷ l) h.1)
+-- the record that begins a step still does as that of an inner step
+mark-turned : (r : Rec) → is_mark r ≡ true → is_mark (inner_of r) ≡ true
+mark-turned (rec.Event i e) h = refl
+mark-turned _ h = h
+
+begins-turned : (more : List Rec) → BeginsByMark more → BeginsByMark (turned_at 0 more)
+begins-turned [] h = tt
+begins-turned (r ∷ rs) h = mark-turned r h
+
+pub turned-on : (J more : List Rec) → BeginsByMark more → IsFrontOf J (turned_at (length J) (J ++ more))
+turned-on [] more h = (turned_at 0 more, refl, begins-turned more h)
+turned-on (r ∷ J) more h = let f = turned-on J more h in (f.0, ap (λ (l : List Rec). r ∷ l) f.1, f.2)
 
 pub inner-goes-on : (m n : Machine) (e : Event) → inner_step m e ≡ Ok n → GoesOn m n
 unfolding inner_step
 inner-goes-on m n e is =
     let x = given-done (as_inner m) (inner_given m) (λ k. refl) (λ fault. refl) (machine_step m e) n is in
     let on : GoesOn m x.0 = step-goes-on m x.0 e x.1 in
-    let rows = turned-on m.journal on.more in
-    subst (GoesOn m) (sym x.2) (record { config = on.config; files = on.files; more = rows.0; journal = ap (turned_at (length m.journal)) on.journal ∙ rows.1 })
+    let rows = turned-on m.journal on.more on.begins in
+    subst (GoesOn m) (sym x.2) (record { config = on.config; files = on.files; more = rows.0; journal = ap (turned_at (length m.journal)) on.journal ∙ rows.1; begins = rows.2 })
 
 begun-is : (m n : Machine) (rounds : ℕ) → settle_begun m rounds ≡ Ok n → passed m (event.Settle rounds) [] ≡ n
 unfolding settle_begun
@@ -228,7 +241,7 @@ begun-is m n rounds = go (limit_reached m) where
   go (Some what) is = cc
 
 pub begun-goes-on : (m n : Machine) (rounds : ℕ) → settle_begun m rounds ≡ Ok n → GoesOn m n
-begun-goes-on m n rounds is = subst (GoesOn m) (begun-is m n rounds is) (record { config = refl; files = refl; more = rec.Event (m.events + 1) (event.Settle rounds) ∷ []; journal = refl })
+begun-goes-on m n rounds is = subst (GoesOn m) (begun-is m n rounds is) (record { config = refl; files = refl; more = rec.Event (m.events + 1) (event.Settle rounds) ∷ []; journal = refl; begins = refl })
 
 -- ---- what a call says
 

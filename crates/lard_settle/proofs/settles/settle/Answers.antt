@@ -4,7 +4,8 @@ use Rattle.std.proofs.lemmas.Result.{err_from_is_err_and}
 use Rattle.lard_rules.specs.declared.machine.Machine.{Machine}
 use Rattle.lard_settling.specs.declared.settled.Settled.{Settled}
 use Rattle.lard_settling.specs.Settling.{Settles, Stop}
-use Rattle.lard_settle.proofs.Going.{agenda-on, begun-front, begun-on, begun-stops}
+use Rattle.lard_settling.specs.Steps.{settle_begun}
+use Rattle.lard_settle.proofs.Going.{agenda-on, begun-front, begun-on, begun-stops, undone-front}
 use Rattle.lard_settle.proofs.Enough.{settled-enough}
 use Rattle.lard_settle.proofs.Growth.{front-over}
 use Rattle.lard_settle.proofs.settles.settle.Goals as goal
@@ -13,6 +14,11 @@ pub returns-in_err-begin_settle-clause-settled : goal.returns-in_err-begin_settl
 returns-in_err-begin_settle-clause-settled c =
     let p = err_from_is_err_and c.from_residual.result c.from_residual.ensures.1 in
     rw (p.1, p.2) (begun-stops c.args.world.now.machine c.args.rounds c.begin_settle.new.self.machine c.in_err-begin_settle.field-0.0 c.in_err-begin_settle.ensures.step)
+
+pub returns-in_err-begin_settle-clause-grows : goal.returns-in_err-begin_settle-clause-grows
+returns-in_err-begin_settle-clause-grows c =
+    let m = c.args.world.now.machine in
+    undone-front (settle_begun m c.args.rounds) m c.begin_settle.new.self.machine c.in_err-begin_settle.field-0.0 c.in_err-begin_settle.ensures.step
 
 pub settle_from-requires-clause-agenda : goal.settle_from-requires-clause-agenda
 settle_from-requires-clause-agenda c =

@@ -4,7 +4,8 @@ use Rattle.std.proofs.lemmas.Result.{err_from_is_err_and}
 use Rattle.std.specs.Vec.Iter.{into_iter_items}
 use Rattle.lard_rules.specs.declared.machine.Machine.{Machine}
 use Rattle.lard_settling.specs.Settling.{Does, Stop, all_inner}
-use Rattle.lard_settle.proofs.Going.{inner-config, inner-front, inner-none, inner-on, inner-stops}
+use Rattle.lard_settling.specs.Steps.{inner_step}
+use Rattle.lard_settle.proofs.Going.{inner-config, inner-front, inner-none, inner-on, inner-stops, undone-front}
 use Rattle.lard_settle.proofs.Growth.{front-over}
 use Rattle.lard_settle.proofs.Ruled.{AreRuled}
 use Rattle.lard_settle.proofs.steps.do_all.Goals as goal
@@ -35,6 +36,13 @@ returns-in_err-inner-clause-does c =
     let p = err_from_is_err_and c.from_residual.result c.from_residual.ensures.1 in
     rw (p.1, p.2) (subst (λ (x : Result Machine Stop). Does x new (Err fault)) (sym (c.loop-event.invariant.does ∙ ap (all_inner now) left))
     (inner-stops now c.in-Some.event later new fault c.in_err-inner.ensures.step))
+
+pub returns-in_err-inner-clause-grows : goal.returns-in_err-inner-clause-grows
+returns-in_err-inner-clause-grows c =
+    let now = c.loop-event.world.machine in
+    let new = c.inner.new.self.machine in
+    front-over c.args.world.now.machine.journal now.journal new.journal c.loop-event.invariant.grows
+    (undone-front (inner_step now c.in-Some.event) now new c.in_err-inner.field-0.0 c.in_err-inner.ensures.step)
 
 pub returns-clause-does : goal.returns-clause-does
 returns-clause-does c = c.loop-event.invariant.does ∙ inner-none c.loop-event.world.machine (into_iter_items c.loop-event.event-iterator) (search rules)

@@ -1,0 +1,8 @@
+mod Behind
+mod Homes
+mod Files
+mod Keeping
+mod Sounding
+mod Lifting
+mod Settled
+mod Running

@@ -1,0 +1,22 @@
+//! That the journal of every run is one that an audit finds sound.
+//!
+//! It stands above the record of all laws, the laws of settles and the audit, and joins them: from the laws of a journal to each rule of
+//! an audit, record by record. The laws are of the journal with its settles written out, and the audit reads it as it is: what is counted,
+//! and what stands directly before a record, is the same in both. It has no code, and nothing stands on it.
+#![tactic(auto)]
+
+ghost use Rattle.lard_law_audit.specs.Laws.{LawfulIsSound, RunsAreSound, SettledIsSound, SettledRunsAreSound};
+
+/// A lawful journal is sound: an audit that knows the configuration and how long the files are finds that each of its records keeps all
+/// rules. So is the journal of every run without settles.
+pub fn runs_are_sound()
+    ensures lawful { LawfulIsSound }
+    ensures runs { RunsAreSound }
+{}
+
+/// A journal whose settles stand in order is sound, where it is lawful with these written out. So is the journal of every run with
+/// settles, wherever it ended, also inside one.
+pub fn settled_runs_are_sound()
+    ensures lawful { SettledIsSound }
+    ensures runs { SettledRunsAreSound }
+{}
