@@ -4,7 +4,7 @@
 _lardsim() {
     COMPREPLY=()
     if [ "$COMP_CWORD" = 1 ]; then
-        mapfile -t COMPREPLY < <(compgen -W 'replay generate lab --help --version' -- "$2")
+        mapfile -t COMPREPLY < <(compgen -W 'replay generate audit lab --help --version' -- "$2")
     elif [ "$COMP_CWORD" = 2 ] && [ "${COMP_WORDS[1]}" = lab ]; then
         mapfile -t COMPREPLY < <(compgen -W 'rr hash lard lardr' -- "$2")
     fi

@@ -1,6 +1,6 @@
 -- What the words ask for is one thing, and what its run says.
 use Rattle.std.proofs.Common.{◌≡◌, ◌⊎◌, inl, inr, ℕ, List, ◌∷◌, [], true, false, Option, Some, refl, sym, ap, ◌∙◌, subst, arith}
-use Rattle.std.specs.Prelude.{bytes_eq}
+use Rattle.std.specs.Prelude.{bytes_eq, codes}
 use Rattle.std.proofs.lemmas.Fmt.{decimal_injective}
 use Rattle.lard_app.specs.declared.status.Status.{Status}
 use Rattle.lard_app.specs.declared.status.Status.TheVariants.{Done, Usage, Refused, ReadFault, WriteFault, NoMemory, Limit}
@@ -11,7 +11,7 @@ use Rattle.lard_lab.specs.declared.policy.Policy.TheVariants.{Rr, Hash, Lard, La
 use Rattle.lard_lab.specs.Policy.{policy_word}
 use Rattle.lard_app.specs.declared.words.Command.{Command}
 use Rattle.lard_app.specs.declared.words.Command.TheVariants as command
-use Rattle.lard_app.specs.Words.{AreGenerate, AreLab, AreReplay, IsOne}
+use Rattle.lard_app.specs.Words.{AreAudit, AreGenerate, AreLab, AreReplay, IsOne}
 use Rattle.lard_summary.specs.Lines.{summary}
 
 -- what was found
@@ -23,6 +23,21 @@ are-generate words k seed clients is h = subst (λ (j : Command). IsOne words (S
 
 pub are-lab : (words : List (List ℕ)) (k : Command) (policy : Policy) → k ≡ command.Lab policy → IsOne words (Some k) → AreLab words policy
 are-lab words k policy is h = subst (λ (j : Command). IsOne words (Some j)) is h
+
+pub are-audit : (words : List (List ℕ)) (k : Command) → k ≡ command.Audit → IsOne words (Some k) → AreAudit words
+are-audit words k is h = subst (λ (j : Command). IsOne words (Some j)) is h
+
+one : (a b : List ℕ) → ◌≡◌ {A = List (List ℕ)} (a ∷ []) (b ∷ []) → a ≡ b
+one a b h = cc
+
+pub no-replay-audit : (words : List (List ℕ)) → AreReplay words → ¬ (AreAudit words)
+no-replay-audit words r a = let both : true ≡ false = ap (λ (w : List ℕ). bytes_eq w (codes "replay")) (one _ _ (sym r ∙ a)) in cc
+
+pub no-audit-generate : (words : List (List ℕ)) (seed clients : ℕ) → AreAudit words → ¬ (AreGenerate words seed clients)
+no-audit-generate words seed clients a g = let both = sym a ∙ g.are in cc
+
+pub no-audit-lab : (words : List (List ℕ)) (policy : Policy) → AreAudit words → ¬ (AreLab words policy)
+no-audit-lab words policy a l = let both = sym a ∙ l in cc
 
 -- one word is not two, nor are two words three
 pub no-replay-lab : (words : List (List ℕ)) (policy : Policy) → AreReplay words → ¬ (AreLab words policy)

@@ -148,6 +148,7 @@ module _ (n bytes : ℕ) (s : Progress) (k : Knows n bytes s) (line : List ℕ) 
     refused (why.Untimely reason) u = stopped_by u.0 (s.machine, fault.Refused reason) u.1 (untimely-stops s.machine k.keeps.written u.0 reason u.2)
     refused why.NoFile u = absurd u
     refused (why.NotOpen number) u = absurd u
+    refused (why.Broken rule) u = absurd u
 
     reached : (w : What) (e : Event) → Tries s line e → Reaches s.machine e w → passed s line ≡ Err (Limit (s.lines + 1) w)
     reached w e t r = let stop = reaches-stop s.machine k.keeps.written e w r in stopped_by e (stop.0, fault.Limit w) t stop.1

@@ -10,7 +10,7 @@ use Rattle.lard_schedule.specs.declared.reader.Stage.TheVariants as stage
 use Rattle.lard_schedule.proofs.Cuts.{first_part}
 use Rattle.lard_app.specs.declared.status.Status.{Status}
 use Rattle.lard_app.specs.declared.status.Status.TheVariants.{Done, Usage, Refused, ReadFault, WriteFault, NoMemory, Limit}
-use Rattle.lard_app.specs.declared.status.Why.TheVariants.{Syntax, Config, File, Untimely, NoFile, NotOpen}
+use Rattle.lard_app.specs.declared.status.Why.TheVariants.{Syntax, Config, File, Untimely, NoFile, NotOpen, Broken}
 use Rattle.lard_app.specs.Causes.{Ends, EndsRest, EndsText, Leads, bytes_in}
 use Rattle.lard_app.specs.Replay.{Progress, begin, ended_at, ending, halted, passed, replayed, whole}
 use Rattle.lard_app.proofs.Causes.{ends-line, line-ends, next_number}
@@ -77,6 +77,7 @@ module _ (n bytes : ℕ) (s : Progress) (k : Knows n bytes s) where
   ends-text last (Refused line (Untimely reason)) u = absurd u
   ends-text last (Refused line NoFile) u = absurd u
   ends-text last (Refused line (NotOpen number)) u = absurd u
+  ends-text last (Refused line (Broken rule)) u = absurd u
   ends-text last Usage u = absurd u
   ends-text last ReadFault u = absurd u
   ends-text last WriteFault u = absurd u

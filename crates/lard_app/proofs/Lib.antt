@@ -1,5 +1,6 @@
 pub mod Adding
 mod Asking
+mod Audited
 mod Blames
 mod Causes
 mod Endings

@@ -91,7 +91,6 @@ no_room : (others low : ℕ) → others + low ≤ 1 → nat_eq (others + low - 1
 no_room others low h = grind (arith, nat_tests, h)
 
 module _ (c : Config) (ranged : IsInRange c) where
-
   passes : (key : Key) (keys : List Key) → checked_from c (key ∷ keys) ≡ checked_from c keys
   passes key keys = ap (λ b. cond {A = Result (Unit {0}) ConfigFault} b (checked_from c keys) (Err (Range key (value_of c key)))) (ranged key)
 

@@ -193,6 +193,7 @@ Refuses s line (why.File fault) = AddsNone s line fault
 Refuses s line (why.Untimely reason) = (e : Event) × Tries s line e × MayNotCome s.machine e reason
 Refuses s line why.NoFile = ⊥
 Refuses s line (why.NotOpen number) = ⊥
+Refuses s line (why.Broken rule) = ⊥
 
 -- how a line ends the run, after n lines of so many bytes: it holds the byte after the limit, or it is refused, or a
 -- limit is reached

@@ -1,3 +1,4 @@
+pub mod Audit
 pub mod Causes
 pub mod Generate
 pub mod Happened

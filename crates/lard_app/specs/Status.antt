@@ -1,5 +1,7 @@
 -- The exit codes of the program, and what it says of a status.
 use Rattle.std.specs.Prelude.{ℕ, List, [], ◌++◌, codes, decimal}
+use Rattle.lard_audit.specs.declared.rule.Rule.{Rule}
+use Rattle.lard_audit.specs.declared.rule.Rule.TheVariants.{Network, Owner, Sender, Admission, Choice, Cache, Clock}
 use Rattle.lard_base.specs.Spelling.{key_word}
 use Rattle.lard_base.specs.declared.config.ConfigFault.{ConfigFault}
 use Rattle.lard_base.specs.declared.config.ConfigFault.TheVariants.{Range, LowHigh, NoRoom}
@@ -10,7 +12,7 @@ use Rattle.lard_rules.specs.declared.fault.Refusal.TheVariants.{NotSent, WasLost
 use Rattle.lard_rules.specs.declared.fault.What.{What}
 use Rattle.lard_rules.specs.declared.fault.What.TheVariants.{Input, Packets, PacketBytes, Records, Answers, Requests, Stream}
 use Rattle.lard_app.specs.declared.status.Why.{Why}
-use Rattle.lard_app.specs.declared.status.Why.TheVariants.{Syntax, Config, File, Untimely, NoFile, NotOpen}
+use Rattle.lard_app.specs.declared.status.Why.TheVariants.{Syntax, Config, File, Untimely, NoFile, NotOpen, Broken}
 use Rattle.lard_app.specs.declared.status.Status.{Status}
 use Rattle.lard_app.specs.declared.status.Status.TheVariants.{Done, Usage, Refused, ReadFault, WriteFault, NoMemory, Limit}
 
@@ -50,6 +52,16 @@ with_refusal text (Used c) = text ++ codes "client " ++ decimal c ++ codes " ope
 with_refusal text (NoNode n nodes) = text ++ codes "node " ++ decimal n ++ codes " above " ++ decimal nodes
 with_refusal text (NoJob n j len) = text ++ codes "job " ++ decimal j ++ codes " of " ++ decimal len ++ codes " at node " ++ decimal n
 
+-- the word of a rule
+abbrev pub rule_word : Rule → List ℕ
+rule_word Network = codes "network"
+rule_word Owner = codes "owner"
+rule_word Sender = codes "sender"
+rule_word Admission = codes "admission"
+rule_word Choice = codes "choice"
+rule_word Cache = codes "cache"
+rule_word Clock = codes "clock"
+
 abbrev pub why_text : ℕ → Why → List ℕ
 why_text line Syntax = line_prefix line ++ codes "not a line of the schedule"
 why_text line (Config fault) = with_fault (line_prefix line) fault
@@ -57,6 +69,7 @@ why_text line (File fault) = with_file_fault (line_prefix line) fault
 why_text line (Untimely reason) = with_refusal (line_prefix line) reason
 why_text line NoFile = line_prefix line ++ codes "no such file"
 why_text line (NotOpen number) = line_prefix line ++ codes "request " ++ decimal number ++ codes " is not open"
+why_text line (Broken rule) = line_prefix line ++ codes "breaks " ++ rule_word rule
 
 abbrev pub what_word : What → List ℕ
 what_word Input = codes "input"
@@ -70,7 +83,7 @@ what_word Stream = codes "stream"
 -- what is printed to standard error, without the line feed
 abbrev pub line_text : Status → List ℕ
 line_text Done = []
-line_text Usage = codes "usage: lardsim replay | generate SEED CLIENTS | lab POLICY"
+line_text Usage = codes "usage: lardsim replay | generate SEED CLIENTS | audit | lab POLICY"
 line_text (Refused line why) = why_text line why
 line_text ReadFault = codes "read fault"
 line_text WriteFault = codes "write fault"

@@ -24,6 +24,10 @@ pub record AreGenerate (words : List (List ℕ)) (seed clients : ℕ) : Type 0 w
 abbrev pub AreLab : List (List ℕ) → Policy → Type 0
 AreLab words policy = words ≡ codes "lab" ∷ policy_word policy ∷ []
 
+-- the word of an audit
+abbrev pub AreAudit : List (List ℕ) → Type 0
+AreAudit words = words ≡ codes "audit" ∷ []
+
 -- the bytes of each word
 abbrev pub bytes_of : List (String Global) → List (List ℕ)
 bytes_of words = map string_bytes words
@@ -37,18 +41,22 @@ IsGenerate words seed clients = AreGenerate (bytes_of words) seed clients
 abbrev pub IsLab : List (String Global) → Policy → Type 0
 IsLab words policy = AreLab (bytes_of words) policy
 
+abbrev pub IsAudit : List (String Global) → Type 0
+IsAudit words = AreAudit (bytes_of words)
+
 -- they ask for nothing that there is
 abbrev pub IsNone : List (String Global) → Type 0
-IsNone words = (¬ (IsReplay words)) × ((seed clients : ℕ) → ¬ (IsGenerate words seed clients)) × ((policy : Policy) → ¬ (IsLab words policy))
+IsNone words = (¬ (IsReplay words)) × ((seed clients : ℕ) → ¬ (IsGenerate words seed clients)) × ((policy : Policy) → ¬ (IsLab words policy)) × (¬ (IsAudit words))
 
 -- ---- what calls find
 
 -- the command that words are, if they are one
 abbrev pub IsOne : List (List ℕ) → Option Command → Type 0
-IsOne words None = (¬ (AreReplay words)) × ((seed clients : ℕ) → ¬ (AreGenerate words seed clients)) × ((policy : Policy) → ¬ (AreLab words policy))
+IsOne words None = (¬ (AreReplay words)) × ((seed clients : ℕ) → ¬ (AreGenerate words seed clients)) × ((policy : Policy) → ¬ (AreLab words policy)) × (¬ (AreAudit words))
 IsOne words (Some command.Replay) = AreReplay words
 IsOne words (Some (command.Generate seed clients)) = AreGenerate words seed clients
 IsOne words (Some (command.Lab policy)) = AreLab words policy
+IsOne words (Some command.Audit) = AreAudit words
 
 abbrev pub Asks : List (String Global) → Option Command → Type 0
 Asks words found = IsOne (bytes_of words) found

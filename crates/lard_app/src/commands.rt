@@ -9,10 +9,12 @@ ghost use Rattle.lard_app.specs.Replay.{EndsCount, begin};
 ghost use Rattle.lard_app.specs.Generate.{Generated, run_of};
 ghost use Rattle.lard_app.specs.Run.{IsSettled, Ran, Reads};
 ghost use Rattle.lard_app.specs.Seen.{seen};
-ghost use Rattle.lard_app.specs.Words.{IsGenerate, IsLab, IsNone, IsReplay};
+ghost use Rattle.lard_app.specs.Words.{IsAudit, IsGenerate, IsLab, IsNone, IsReplay};
+ghost use Rattle.lard_app.specs.Audit.{Audits, IsAuditSettled};
 ghost use Rattle.lard_app.specs.Lab.{IsLabSettled, Labs};
 ghost use Rattle.lard_lab.specs.declared.policy.Policy.{Policy};
 
+use crate::audits::audit_report;
 use crate::generating::generate;
 use crate::labs::lab;
 use crate::replay::Replay;
@@ -27,8 +29,9 @@ use std::alloc::Global;
 /// Does all that the program does for these words, which are those after its name. `replay` reads a schedule of at
 /// most 2^26 bytes from the source and writes the report of its replay to the sink; `generate` with a seed and a number of clients
 /// replays the schedule that is generated of them and writes four lines of what is counted of it; `lab` with a policy reads a
-/// trace of at most 2^26 bytes, runs it through the policy, and writes the report of that; all other words are `Usage`. `generate`
-/// and `Usage` read nothing, and nothing is written for `Usage`.
+/// trace of at most 2^26 bytes, runs it through the policy, and writes the report of that; `audit` reads a report of at most 2^30
+/// bytes, and writes how many records it has where each keeps the rules; all other words are `Usage`. `generate` and `Usage` read
+/// nothing, and nothing is written for `Usage`.
 pub fn run<S: Source, K: Sink>(
     alloc: Global,
     words: &[String],
@@ -36,12 +39,13 @@ pub fn run<S: Source, K: Sink>(
     sink: &mut K,
 ) -> Status
     ensures usage { (result ≡ Status.Usage) ↔ IsNone words.now }
-    ensures unread { ¬ IsReplay words.now → ((policy : Policy) → ¬ (IsLab words.now policy)) → Keeps (S.left source.old) (S.left source.new) }
+    ensures unread { ¬ IsReplay words.now → ((policy : Policy) → ¬ (IsLab words.now policy)) → ¬ IsAudit words.now → Keeps (S.left source.old) (S.left source.new) }
     ensures unwritten { result ≡ Status.Usage → Keeps (K.written sink.old) (K.written sink.new) }
 
     ensures replay { IsReplay words.now → Ran result (S.left source.old) (S.left source.new) (K.written sink.old) (K.written sink.new) }
     ensures generate { (seed clients : ℕ) → IsGenerate words.now seed clients → Generated seed clients result (K.written sink.old) (K.written sink.new) }
     ensures lab { (policy : Policy) → IsLab words.now policy → Labs policy result (S.left source.old) (S.left source.new) (K.written sink.old) (K.written sink.new) }
+    ensures audit { IsAudit words.now → Audits result (S.left source.old) (S.left source.new) (K.written sink.old) (K.written sink.new) }
 
     // The first fault ends the run: where it ends otherwise, the count of faults is as it was.
     ensures read_fault { result ≡ Status.ReadFault → Rose (S.faults source.old) (S.faults source.new) }
@@ -49,20 +53,23 @@ pub fn run<S: Source, K: Sink>(
     ensures write_fault { result ≡ Status.WriteFault → Rose (K.faults sink.old) (K.faults sink.new) }
     ensures no_write_fault { ¬ (result ≡ Status.WriteFault) → K.faults sink.new ≡ K.faults sink.old }
 
-    // Where no count of faults rose, the input alone decides how a replay ends, and how a lab does, and the words alone how a
-    // generated run does, unless memory runs out.
+    // Where no count of faults rose, the input alone decides how a replay, a lab and an audit end, and the words alone how a generated
+    // run does, unless memory runs out.
     ensures complete { IsReplay words.now → ¬ Rose (S.faults source.old) (S.faults source.new) → ¬ Rose (K.faults sink.old) (K.faults sink.new)
         → IsSettled result (S.left source.old) }
     ensures complete_generate { (seed clients : ℕ) → IsGenerate words.now seed clients → ¬ Rose (K.faults sink.old) (K.faults sink.new)
         → (result ≡ (run_of seed clients).1) ⊎ (result ≡ Status.NoMemory) }
     ensures complete_lab { (policy : Policy) → IsLab words.now policy → ¬ Rose (S.faults source.old) (S.faults source.new) → ¬ Rose (K.faults sink.old) (K.faults sink.new)
         → IsLabSettled policy result (S.left source.old) }
+    ensures complete_audit { IsAudit words.now → ¬ Rose (S.faults source.old) (S.faults source.new) → ¬ Rose (K.faults sink.old) (K.faults sink.new)
+        → IsAuditSettled result (S.left source.old) }
 {
     report_tells_all();
     match asked(words) {
         Some(Command::Replay) => return replay(alloc, source, sink),
         Some(Command::Generate { seed, clients }) => return generate(alloc, sink, seed, clients),
         Some(Command::Lab(policy)) => return lab(alloc, policy, source, sink),
+        Some(Command::Audit) => return audit_report(alloc, source, sink),
         None => return Status::Usage,
     }
 }

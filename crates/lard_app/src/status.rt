@@ -2,9 +2,10 @@
 
 ghost use Rattle.std.specs.Prelude.{◌≡◌, ◌++◌, IfOk, OnOk, codes, decimal};
 ghost use Rattle.std.specs.String.{string_bytes};
-ghost use Rattle.lard_app.specs.Status.{code_of, line_prefix, line_text, what_word, why_text, with_fault, with_file_fault, with_refusal};
+ghost use Rattle.lard_app.specs.Status.{code_of, line_prefix, line_text, what_word, why_text, with_fault, with_file_fault, with_refusal, rule_word};
 
 use itoa::Buffer;
+use lard_audit::Rule;
 use lard_base::{ConfigFault, Key, NoMemory};
 use lard_files::FileFault;
 use lard_rules::{Refusal, What};
@@ -26,6 +27,8 @@ pub enum Why {
     NoFile,
     /// It says that the request with this number is done, which is not open.
     NotOpen(u32),
+    /// It is a record of a report that breaks this rule, as its first.
+    Broken(Rule),
 }
 
 /// How a run ended. Lines are counted from 1.
@@ -73,7 +76,7 @@ impl Status {
             Status::Usage => {
                 return owned(
                     alloc,
-                    "usage: lardsim replay | generate SEED CLIENTS | lab POLICY",
+                    "usage: lardsim replay | generate SEED CLIENTS | audit | lab POLICY",
                 );
             }
             Status::Refused { line, why } => return refusal(alloc, *line, *why),
@@ -110,6 +113,7 @@ fn refusal(alloc: Global, line: u64, why: Why) -> Result<String, NoMemory>
         Why::Untimely(reason) => return untimely(text, reason),
         Why::NoFile => return ended(text, "no such file"),
         Why::NotOpen(number) => return not_open(text, number),
+        Why::Broken(rule) => return breaks(text, rule),
     }
 }
 
@@ -180,6 +184,29 @@ fn not_open(text: String, number: u32) -> Result<String, NoMemory>
 {
     let longer = counted(text, "request ", u64::from(number))?;
     ended(longer, " is not open")
+}
+
+/// A text, and then that this rule is broken.
+fn breaks(text: String, rule: Rule) -> Result<String, NoMemory>
+    ensures { IfOk result (λ longer. string_bytes longer ≡ string_bytes text ++ codes "breaks " ++ rule_word rule) }
+{
+    let longer = ended(text, "breaks ")?;
+    ended(longer, rule_word(rule))
+}
+
+/// The word of a rule.
+fn rule_word(rule: Rule) -> &'static str
+    ensures { result.now ≡ rule_word rule }
+{
+    match rule {
+        Rule::Network => "network",
+        Rule::Owner => "owner",
+        Rule::Sender => "sender",
+        Rule::Admission => "admission",
+        Rule::Choice => "choice",
+        Rule::Cache => "cache",
+        Rule::Clock => "clock",
+    }
 }
 
 /// A text, and then that this packet is not among those that were sent.

@@ -1,6 +1,6 @@
 //! Each public call once: what `run` writes for the shortest schedule, and the code and the line of each status.
 
-use crate::{FileFault, Refusal, Status, What, Why, flush_report, run};
+use crate::{FileFault, Refusal, Rule, Status, What, Why, flush_report, run};
 use lard_base::{Bytes, Calls, ConfigFault, Key, MemSink, MemSource, Sink, StdSink};
 use std::io::{self, Error, ErrorKind, Write};
 use std::test::Fail;
@@ -50,7 +50,7 @@ fn each_status_has_its_code_and_line(rt: HostRuntime) -> Result<(), Fail> {
         (
             Status::Usage,
             1,
-            "usage: lardsim replay | generate SEED CLIENTS",
+            "usage: lardsim replay | generate SEED CLIENTS | audit | lab POLICY",
         ),
         (
             refused(Why::Syntax),
@@ -124,6 +124,11 @@ fn each_status_has_its_code_and_line(rt: HostRuntime) -> Result<(), Fail> {
             refused(Why::Untimely(Refusal::NoJob { n: 3, j: 7, len: 2 })),
             2,
             "line 4: job 7 of 2 at node 3",
+        ),
+        (
+            refused(Why::Broken(Rule::Choice)),
+            2,
+            "line 4: breaks choice",
         ),
         (Status::ReadFault, 3, "read fault"),
         (Status::WriteFault, 4, "write fault"),

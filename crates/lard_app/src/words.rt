@@ -16,6 +16,8 @@ pub enum Command {
     Generate { seed: u64, clients: u32 },
     /// A trace is to be read and run through this policy.
     Lab(Policy),
+    /// A report is to be read and audited.
+    Audit,
 }
 
 /// What the words ask for; `None` where there is no such command.
@@ -23,7 +25,7 @@ pub fn asked(words: &[String]) -> Option<Command>
     ensures { Asks words.now result }
 {
     match words {
-        [word] => replay(word.as_str()),
+        [word] => single(word.as_str()),
         [word, policy] => lab(word.as_str(), policy.as_str()),
         [word, seed, clients] => generate(word.as_str(), seed.as_str(), clients.as_str()),
         _ => None,
@@ -31,11 +33,14 @@ pub fn asked(words: &[String]) -> Option<Command>
 }
 
 /// A command of one word.
-fn replay(word: &str) -> Option<Command>
+fn single(word: &str) -> Option<Command>
     ensures { IsOne (word.now ∷ []) result }
 {
     if word == "replay" {
         return Some(Command::Replay);
+    }
+    if word == "audit" {
+        return Some(Command::Audit);
     }
     None
 }

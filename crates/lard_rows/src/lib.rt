@@ -5,6 +5,8 @@
 #![tactic(auto)]
 
 #[cfg(test)]
+mod audit;
+#[cfg(test)]
 mod held_once;
 #[cfg(test)]
 mod hostile;

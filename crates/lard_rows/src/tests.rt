@@ -438,6 +438,8 @@ const NO_COMMANDS: [&str; 17] = [
     "lab LARD",
     "lab lardx",
     "lab rr x",
+    "audit x",
+    "AUDIT",
 ];
 
 #[test]

@@ -22,6 +22,7 @@ lardsim: replays schedules through a content-aware web cluster behind one addres
 
 usage: lardsim replay
        lardsim generate SEED CLIENTS
+       lardsim audit
        lardsim lab POLICY
        lardsim --help
        lardsim --version
@@ -32,6 +33,8 @@ generate    makes a large schedule of a number below 2^64 with 1 to 2000
             clients, replays it, and writes four lines of what is counted:
             the responses, the bytes that the clients accepted, the packets
             and the records, and whether anything was left (open) or not
+audit       reads a report from standard input, and writes how many records it
+            has, where each keeps the rules by those before it
 lab         reads a trace of requests from standard input, runs it through a
             policy, rr, hash, lard or lardr, and writes the node of each
             request, hits and loads
@@ -46,7 +49,8 @@ exit statuses, each with a line on standard error:
   6  a limit was reached; the report of the lines before it stands
 
 The lines of a schedule are described in docs/SCHEDULE.md, those of a report
-in docs/REPORT.md, and those of the lab in docs/LAB.md. The manual page: man -l docs/lardsim.1
+in docs/REPORT.md, those of the lab in docs/LAB.md, and what an
+audit judges in docs/AUDIT.md. The manual page: man -l docs/lardsim.1
 ";
 
 fn main(rt: HostRuntime) -> ExitCode {

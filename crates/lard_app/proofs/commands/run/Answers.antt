@@ -1,9 +1,10 @@
 -- A replay says what it read and wrote, a generated run what was counted, and other words nothing.
-use Rattle.std.proofs.Common.{◌≡◌, ◌⊎◌}
+use Rattle.std.proofs.Common.{◌≡◌, ◌⊎◌, subst}
 use Rattle.lard_app.specs.declared.status.Status.TheVariants.{NoMemory}
 use Rattle.lard_app.specs.Generate.{Generated, run_of}
 use Rattle.lard_app.specs.Words.{bytes_of}
-use Rattle.lard_app.proofs.Asking.{are-generate, are-lab, are-replay, generated-not-read, generated-not-usage, generated-settled, no-lab-generate, no-replay-lab, not-both, of-words, reads-not-usage, same-policy}
+use Rattle.lard_app.proofs.Asking.{are-audit, are-generate, are-lab, are-replay, generated-not-read, generated-not-usage, generated-settled, no-audit-generate, no-audit-lab, no-lab-generate, no-replay-audit, no-replay-lab, not-both, of-words, reads-not-usage, same-policy}
+use Rattle.lard_app.proofs.Audited.{audits-not-usage}
 use Rattle.lard_app.proofs.Faults.{fault-rose, no_fault-same}
 use Rattle.lard_lab.specs.declared.policy.Policy.{Policy}
 use Rattle.lard_app.specs.Lab.{IsLabSettled, Labs}
@@ -18,7 +19,7 @@ pub returns-in-Some-Replay-clause-usage : goal.returns-in-Some-Replay-clause-usa
 returns-in-Some-Replay-clause-usage g c = (λ is. absurd (reads-not-usage c.replay.result _ _ _ _ c.replay.ensures.reads is), λ none. absurd (none.0 (are-replay _ c.in-Some-Replay.field-0 c.in-Some-Replay.field-0-is c.in-Some-Replay.ensures)))
 
 pub returns-in-Some-Replay-clause-unread : goal.returns-in-Some-Replay-clause-unread
-returns-in-Some-Replay-clause-unread g c = λ other more. absurd (other (are-replay _ c.in-Some-Replay.field-0 c.in-Some-Replay.field-0-is c.in-Some-Replay.ensures))
+returns-in-Some-Replay-clause-unread g c = λ other more last. absurd (other (are-replay _ c.in-Some-Replay.field-0 c.in-Some-Replay.field-0-is c.in-Some-Replay.ensures))
 
 pub returns-in-Some-Replay-clause-unwritten : goal.returns-in-Some-Replay-clause-unwritten
 returns-in-Some-Replay-clause-unwritten g c = λ is. absurd (reads-not-usage c.replay.result _ _ _ _ c.replay.ensures.reads is)
@@ -47,6 +48,12 @@ returns-in-Some-Replay-clause-lab g c = λ p asked. absurd (no-replay-lab (bytes
 
 pub returns-in-Some-Replay-clause-complete_lab : goal.returns-in-Some-Replay-clause-complete_lab
 returns-in-Some-Replay-clause-complete_lab g c = λ p asked read written. absurd (no-replay-lab (bytes_of c.args.words.now) p (are-replay _ c.in-Some-Replay.field-0 c.in-Some-Replay.field-0-is c.in-Some-Replay.ensures) asked)
+
+pub returns-in-Some-Replay-clause-audit : goal.returns-in-Some-Replay-clause-audit
+returns-in-Some-Replay-clause-audit g c = λ asked. absurd (no-replay-audit (bytes_of c.args.words.now) (are-replay _ c.in-Some-Replay.field-0 c.in-Some-Replay.field-0-is c.in-Some-Replay.ensures) asked)
+
+pub returns-in-Some-Replay-clause-complete_audit : goal.returns-in-Some-Replay-clause-complete_audit
+returns-in-Some-Replay-clause-complete_audit g c = λ asked read written. absurd (no-replay-audit (bytes_of c.args.words.now) (are-replay _ c.in-Some-Replay.field-0 c.in-Some-Replay.field-0-is c.in-Some-Replay.ensures) asked)
 
 -- ---- a generated run
 
@@ -91,6 +98,12 @@ pub returns-in-Some-Generate-clause-complete_lab : goal.returns-in-Some-Generate
 returns-in-Some-Generate-clause-complete_lab g c = λ p asked read written.
     absurd (no-lab-generate (bytes_of c.args.words.now) p _ _ asked (are-generate _ c.in-Some-Generate.field-0 _ _ c.in-Some-Generate.field-0-is c.in-Some-Generate.ensures))
 
+pub returns-in-Some-Generate-clause-audit : goal.returns-in-Some-Generate-clause-audit
+returns-in-Some-Generate-clause-audit g c = λ asked. absurd (no-audit-generate (bytes_of c.args.words.now) _ _ asked (are-generate _ c.in-Some-Generate.field-0 _ _ c.in-Some-Generate.field-0-is c.in-Some-Generate.ensures))
+
+pub returns-in-Some-Generate-clause-complete_audit : goal.returns-in-Some-Generate-clause-complete_audit
+returns-in-Some-Generate-clause-complete_audit g c = λ asked read written. absurd (no-audit-generate (bytes_of c.args.words.now) _ _ asked (are-generate _ c.in-Some-Generate.field-0 _ _ c.in-Some-Generate.field-0-is c.in-Some-Generate.ensures))
+
 -- ---- a lab
 
 pub returns-in-Some-Lab-clause-usage : goal.returns-in-Some-Lab-clause-usage
@@ -100,7 +113,7 @@ returns-in-Some-Lab-clause-usage g c = (
 )
 
 pub returns-in-Some-Lab-clause-unread : goal.returns-in-Some-Lab-clause-unread
-returns-in-Some-Lab-clause-unread g c = λ other more. absurd (more c.in-Some-Lab.policy (are-lab _ c.in-Some-Lab.field-0 _ c.in-Some-Lab.field-0-is c.in-Some-Lab.ensures))
+returns-in-Some-Lab-clause-unread g c = λ other more last. absurd (more c.in-Some-Lab.policy (are-lab _ c.in-Some-Lab.field-0 _ c.in-Some-Lab.field-0-is c.in-Some-Lab.ensures))
 
 pub returns-in-Some-Lab-clause-unwritten : goal.returns-in-Some-Lab-clause-unwritten
 returns-in-Some-Lab-clause-unwritten g c = λ is. absurd (labs-not-usage c.in-Some-Lab.policy c.lab.result _ _ _ _ c.lab.ensures.labs is)
@@ -133,3 +146,44 @@ pub returns-in-Some-Lab-clause-complete_lab : goal.returns-in-Some-Lab-clause-co
 returns-in-Some-Lab-clause-complete_lab g c = λ p asked read written.
     subst (λ (q : Policy). IsLabSettled q c.lab.result (g.S.Source.left c.args.source.now))
     (same-policy (bytes_of c.args.words.now) c.in-Some-Lab.policy p (are-lab _ c.in-Some-Lab.field-0 _ c.in-Some-Lab.field-0-is c.in-Some-Lab.ensures) asked) (c.lab.ensures.complete read written)
+
+pub returns-in-Some-Lab-clause-audit : goal.returns-in-Some-Lab-clause-audit
+returns-in-Some-Lab-clause-audit g c = λ asked. absurd (no-audit-lab (bytes_of c.args.words.now) _ asked (are-lab _ c.in-Some-Lab.field-0 _ c.in-Some-Lab.field-0-is c.in-Some-Lab.ensures))
+
+pub returns-in-Some-Lab-clause-complete_audit : goal.returns-in-Some-Lab-clause-complete_audit
+returns-in-Some-Lab-clause-complete_audit g c = λ asked read written. absurd (no-audit-lab (bytes_of c.args.words.now) _ asked (are-lab _ c.in-Some-Lab.field-0 _ c.in-Some-Lab.field-0-is c.in-Some-Lab.ensures))
+
+-- ---- an audit
+
+pub returns-in-Some-Audit-clause-usage : goal.returns-in-Some-Audit-clause-usage
+returns-in-Some-Audit-clause-usage g c = (λ is. absurd (audits-not-usage c.audit_report.result _ _ _ _ c.audit_report.ensures.audits is), λ none. absurd (none.3 (are-audit _ c.in-Some-Audit.field-0 c.in-Some-Audit.field-0-is c.in-Some-Audit.ensures)))
+
+pub returns-in-Some-Audit-clause-unread : goal.returns-in-Some-Audit-clause-unread
+returns-in-Some-Audit-clause-unread g c = λ other more last. absurd (last (are-audit _ c.in-Some-Audit.field-0 c.in-Some-Audit.field-0-is c.in-Some-Audit.ensures))
+
+pub returns-in-Some-Audit-clause-unwritten : goal.returns-in-Some-Audit-clause-unwritten
+returns-in-Some-Audit-clause-unwritten g c = λ is. absurd (audits-not-usage c.audit_report.result _ _ _ _ c.audit_report.ensures.audits is)
+
+pub returns-in-Some-Audit-clause-replay : goal.returns-in-Some-Audit-clause-replay
+returns-in-Some-Audit-clause-replay g c = λ asked. absurd (no-replay-audit (bytes_of c.args.words.now) asked (are-audit _ c.in-Some-Audit.field-0 c.in-Some-Audit.field-0-is c.in-Some-Audit.ensures))
+
+pub returns-in-Some-Audit-clause-generate : goal.returns-in-Some-Audit-clause-generate
+returns-in-Some-Audit-clause-generate g c = λ s k asked. absurd (no-audit-generate (bytes_of c.args.words.now) s k (are-audit _ c.in-Some-Audit.field-0 c.in-Some-Audit.field-0-is c.in-Some-Audit.ensures) asked)
+
+pub returns-in-Some-Audit-clause-lab : goal.returns-in-Some-Audit-clause-lab
+returns-in-Some-Audit-clause-lab g c = λ p asked. absurd (no-audit-lab (bytes_of c.args.words.now) p (are-audit _ c.in-Some-Audit.field-0 c.in-Some-Audit.field-0-is c.in-Some-Audit.ensures) asked)
+
+pub returns-in-Some-Audit-clause-write_fault : goal.returns-in-Some-Audit-clause-write_fault
+returns-in-Some-Audit-clause-write_fault g c = fault-rose _ _ c.audit_report.result c.audit_report.ensures.faults
+
+pub returns-in-Some-Audit-clause-no_write_fault : goal.returns-in-Some-Audit-clause-no_write_fault
+returns-in-Some-Audit-clause-no_write_fault g c = no_fault-same _ _ c.audit_report.result c.audit_report.ensures.faults
+
+pub returns-in-Some-Audit-clause-complete : goal.returns-in-Some-Audit-clause-complete
+returns-in-Some-Audit-clause-complete g c = λ asked read written. absurd (no-replay-audit (bytes_of c.args.words.now) asked (are-audit _ c.in-Some-Audit.field-0 c.in-Some-Audit.field-0-is c.in-Some-Audit.ensures))
+
+pub returns-in-Some-Audit-clause-complete_generate : goal.returns-in-Some-Audit-clause-complete_generate
+returns-in-Some-Audit-clause-complete_generate g c = λ s k asked written. absurd (no-audit-generate (bytes_of c.args.words.now) s k (are-audit _ c.in-Some-Audit.field-0 c.in-Some-Audit.field-0-is c.in-Some-Audit.ensures) asked)
+
+pub returns-in-Some-Audit-clause-complete_lab : goal.returns-in-Some-Audit-clause-complete_lab
+returns-in-Some-Audit-clause-complete_lab g c = λ p asked read written. absurd (no-audit-lab (bytes_of c.args.words.now) p (are-audit _ c.in-Some-Audit.field-0 c.in-Some-Audit.field-0-is c.in-Some-Audit.ensures) asked)
