@@ -72,7 +72,7 @@ fn drops_all(
     ensures sound { OnOk result (IsNodeSound state.new) }
 {
     let front = Place::Front;
-    let bytes = Bytes::from_slice(alloc, b"none")?;
+    let bytes = Bytes::from_slice(alloc, b"the bytes of no segment")?;
     let segment = hears(state, alloc, setting, front, c, Body::Forward(bytes))?;
     let mut nodes = Nodes::new(alloc);
     nodes.push(setting.n)?;
