@@ -38,7 +38,7 @@ fn a_sound_report_has_its_records_counted(rt: HostRuntime) -> Result<(), Fail> {
     let alloc = rt.alloc();
     let (status, written) = audited(alloc, SOUND.as_bytes(), Calls::new(alloc))?;
     assert_eq!(rt; status, Status::Done);
-    assert_eq!(rt; written.as_slice(), b"records 11\n");
+    assert_eq!(rt; written.as_slice(), b"records 11\n".as_slice());
     Ok(())
 }
 
@@ -78,7 +78,7 @@ fn lines_that_end_an_audit(rt: HostRuntime) -> Result<(), Fail> {
         report.extend_from_slice(line.as_bytes())?;
         let (given, written) = audited(alloc, report.as_slice(), Calls::new(alloc))?;
         assert_eq!(rt; given, status, "at {line:?}");
-        assert!(rt; written.is_empty(), "at {line:?}");
+        assert_eq!(rt; written.len(), 0, "at {line:?}");
     }
     Ok(())
 }
@@ -90,7 +90,7 @@ fn an_audit_whose_line_cannot_be_written(rt: HostRuntime) -> Result<(), Fail> {
     failing.push(1)?;
     let (status, written) = audited(alloc, SOUND.as_bytes(), failing)?;
     assert_eq!(rt; status, Status::WriteFault);
-    assert!(rt; written.is_empty());
+    assert_eq!(rt; written.len(), 0);
     Ok(())
 }
 

@@ -420,7 +420,7 @@ fn paths_at_their_greatest_length(rt: HostRuntime) -> Result<(), Fail> {
 }
 
 /// Words that ask for nothing that there is.
-const NO_COMMANDS: [&str; 17] = [
+const NO_COMMANDS: [&str; 19] = [
     "",
     "replay x",
     "--help",
