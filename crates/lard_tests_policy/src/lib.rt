@@ -1,8 +1,11 @@
-//! Tests of the leaves of policy and stores: loads, server sets, the choices of LARD, the dispatcher, caches and disks.
+//! Tests of the leaves of policy and stores: loads, server sets, the choices of LARD, the dispatcher, caches and disks; and of the audit
+//! of a report.
 //!
 //! Each file has the tests of the crate of its name. They stand apart so that no crate is proved a second time for its tests.
 #![tactic(auto)]
 
+#[cfg(test)]
+mod audit;
 #[cfg(test)]
 mod cache;
 #[cfg(test)]
